@@ -28,8 +28,7 @@ from crnplan.words import sentence
 from planner.studies.long_run import SEEDS, SMALL, Outcome, exact_costs, outcomes_of, scenario_of as studied, table_of
 from planner.studies.long_run_items import items_of
 from planner.tests.conftest import Command
-from planner.tests.theory.chain import by_chain
-from planner.tests.theory.finite import expected
+from planner.tests.theory.chain import by_chain, expected
 from planner.tests.theory.scenarios import scenario_of
 
 KEY = ("0123456789abcdef", "fedcba9876543210", "00000000ffffffff", "ffffffff00000000")

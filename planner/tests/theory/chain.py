@@ -1,4 +1,5 @@
-"""Computes long-run figures by a Markov chain of the stock and of all that is under way, by period of arrival.
+"""Computes figures of the long run, and of the periods of a run, by a Markov chain of the stock and of all that is under
+way, by period of arrival.
 
 A period goes through docs/FORMATS.md, "What happens in a period", step by step. This shares no code with the theory.
 """
@@ -90,3 +91,23 @@ def by_chain(scenario: Scenario) -> list[float]:
     costs, mean = scenario.costs, sum(value * chance for value, chance in chances_of(scenario.demand))
     return [costs.setup * its.orders + costs.holding * its.stock + costs.backlog * its.owed, its.met / mean, its.short,
             its.stock, its.orders, its.position]
+
+
+def expected(scenario: Scenario) -> list[float]:
+    """Returns the expected cost of each period of the first policy, from the law of all states."""
+    policy, costs, draws = scenario.policies[0], scenario.costs, draws_of(scenario)
+    law: dict[State, float] = {(scenario.initial, *[0] * max(lead for _, lead, _, _ in draws)): 1.0}
+    found = []
+    for _ in range(scenario.periods):
+        after: dict[State, float] = {}
+        total = 0.0
+        for state, chance in law.items():
+            for *drawn, share in draws:
+                its, counted = period(state, (policy.s, policy.S), *drawn)
+                after[its] = after.get(its, 0.0) + chance * share
+                items = (policy.S - counted.position) * counted.orders
+                total += chance * share * (costs.setup * counted.orders + costs.unit * items
+                                           + costs.holding * counted.stock + costs.backlog * counted.owed)
+        found.append(total)
+        law = {state: chance for state, chance in after.items() if chance > 1e-14}
+    return found

@@ -65,17 +65,6 @@ def test_a_value_without_weight_is_no_demand() -> None:
     assert Depths(scenario_of(([1, 6], [0, 1]))).last(11) == 6
 
 
-@pytest.mark.parametrize("point, level", [(19, 30), (24, 30)])
-def test_twins_are_listed_once(point: int, level: int) -> None:
-    """Today's policy keeps its name, and has the reasons of its twins."""
-    scenario = scenario_of(([0, 6, 12], [6, 3, 1]), ([2], [1])).with_policies([Policy("mine", point, level)])
-    found, depths = suggestions_of(scenario), Depths(scenario)
-    behaviours = [depths.behaviour(it.policy.s, it.policy.S) for it in found.rows]
-    assert len(set(behaviours)) == len(behaviours)
-    assert found.rows[0].policy == Policy("mine", point, level)
-    assert "today's s with its best S" in found.rows[0].reasons or len(found.rows) > 2
-
-
 def test_the_best_is_a_twin_of_todays() -> None:
     scenario = scenario_of(([0, 6, 12], [6, 3, 1]), ([2], [1]))
     best = next(it.policy for it in suggestions_of(scenario).rows if "the best" in it.reasons)

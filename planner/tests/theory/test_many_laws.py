@@ -6,8 +6,6 @@ from collections.abc import Sequence
 
 import numpy as np
 import pytest
-from hypothesis import given, settings
-from hypothesis import strategies as st
 
 from crnplan.chances import Floats
 from crnplan.scenario import Costs, Policy, Scenario
@@ -15,7 +13,7 @@ from crnplan.theory import many_laws
 from crnplan.theory.lattice import NoTheory, shape_of, theory_on
 from crnplan.theory.many_laws import LawFigures, figures_of_laws, least_cost
 from planner.tests.theory.chain import by_chain
-from planner.tests.theory.scenarios import Pair, laws, scenario_of, table
+from planner.tests.theory.scenarios import Pair, scenario_of, table
 from planner.tests.theory.test_figures import CHAINS
 
 LEVELS = [(0, 0), (0, 6), (2, 5), (3, 3), (1, 8), (6, 8)]
@@ -42,20 +40,6 @@ def test_figures_are_those_of_a_chain(demand: Pair, lead: Pair, back: Pair | Non
     assert found.error is None and found.step == np.gcd.reduce(demand[0]) or back
     assert found.cost[0] == pytest.approx(expected[:, 0], abs=1e-7)
     assert found.fill[0] == pytest.approx(expected[:, 1], abs=1e-7)
-
-
-@settings(max_examples=15, deadline=None)
-@given(demand=laws(st.integers(0, 5), 3).filter(lambda it: max(it[0]) > 0), lead=laws(st.integers(1, 3), 2),
-       back=st.none() | laws(st.integers(0, 1), 2),
-       costs=st.builds(Costs, *[st.integers(0, 50)] * 2, *[st.integers(1, 50)] * 2))
-def test_figures_of_any_small_scenario(demand: Pair, lead: Pair, back: Pair | None, costs: Costs) -> None:
-    back = None if back and 2 * table(back).mean > table(demand).mean else back
-    scenario = scenario_of(demand, lead, back, costs)
-    policies = POLICIES[1:4]
-    found = figures(scenario, policies)
-    for place, policy in enumerate(policies):
-        cost, fill, *_ = by_chain(scenario.with_policies([policy]))
-        assert (found.cost[0, place], found.fill[0, place]) == pytest.approx((cost, fill), abs=1e-7)
 
 
 @pytest.mark.parametrize("lead", [([4], [1]), ([1, 2, 5], [2, 3, 1]), ([6, 9], [1, 3])], ids=str)

@@ -14,8 +14,7 @@ from hypothesis import strategies as st
 from crnplan.scenario import Costs, Policy, Scenario
 from crnplan.theory.lattice import NoTheory
 from crnplan.theory.run_effects import Runs, end_effects, start_bias, theory_of
-from planner.tests.theory.chain import by_chain
-from planner.tests.theory.finite import expected
+from planner.tests.theory.chain import by_chain, expected
 from planner.tests.theory.scenarios import Pair, scenario_of
 
 COSTS = Costs(40, 3, 2, 9)

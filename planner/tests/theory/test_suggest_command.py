@@ -20,8 +20,6 @@ DEMAND = "values = [0, 1, 2, 3, 4, 5, 6, 7, 8, 10, 12]\nweights = [4, 8, 13, 17,
 RETURNS = "values = [0, 1, 2, 3, 4, 6]\nweights = [28, 36, 21, 10, 4, 1]"
 # What is said of changes of examples/mail_order.toml that are refused, and pairs of an old and a new text.
 REFUSED = [(":14:1: the cost holding is 0, so there is no best policy", "holding = 5", "holding = 0"),
-           (":15:1: the cost backlog is 0, so there is no best policy", "backlog = 60", "backlog = 0"),
-           ("so there is nothing to order in the long run", RETURNS, DEMAND),
            (":17:1: no item is ever asked for", DEMAND, "values = [0]\nweights = [1]"),
            (" the numbers of this scenario are too far apart", DEMAND, "values = [0, 1]\nweights = [30000, 30001]",
             RETURNS, "values = [0, 1]\nweights = [1, 1]"),

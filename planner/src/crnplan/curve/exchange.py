@@ -98,11 +98,11 @@ class Items:
                      float(self.orders[chosen].sum()), float(self.cost[chosen].sum()))
 
     def least_cost(self, point: Point, dearer: Dearer = AS_IS) -> float:
-        """Returns a bound: no choice of policies with the service of a point has less setup and holding.
+        """Returns a bound: no choice of policies with the service of a point has less setup and holding; if orders or
+        stock are dearer, none with no more of them than the point.
 
-        If orders or stock are dearer, this holds of choices with no more of them than the point. It is Lagrange's bound
-        at the best of the grid's prices. At these each item's best policy is known. For costs between two variants, the
-        least is no less than what lies between theirs, since it is a concave function.
+        It is Lagrange's bound at the best of the grid's prices, at which each item's best policy is known. For costs
+        between two variants, the least is no less than what lies between theirs, since it is a concave function.
         """
         shares, extra = self._shares(dearer), self.extra[self.owner, self.variant]
         fixed, slope = np.zeros((2, len(PRICES) + 1))
@@ -255,11 +255,11 @@ class Budget:
 
 
 def chosen_by(items: Items, budget: Budget) -> Choice:
-    """Returns the choice for a budget. Raises OffCurve if no choice keeps it, and for more than the curve has.
+    """Returns the choice for a budget: on the curve if one keeps it. Raises OffCurve if none does, and for more than
+    the curve has.
 
-    If a choice on the curve keeps all of it, that is taken. If the stock value or the share lies below the curve, stock
-    is made dearer: there is less of it, with more orders, up to those that are allowed. If orders are too many, they
-    are made dearer.
+    If the stock value or the share lies below the curve, stock is made dearer: there is less of it, with more orders,
+    up to those that are allowed. If orders are too many, they are made dearer.
     """
     ladder = Ladder(items)
     values, fills = ladder.along(items.value), 1 - ladder.along(items.unmet) / items.asked
@@ -282,8 +282,8 @@ def chosen_by(items: Items, budget: Budget) -> Choice:
 
 
 def with_more_orders(items: Items, budget: Budget) -> Choice:
-    """Returns the choice with the greatest extra cost of stock with which there are few enough orders, so that all
-    orders that are allowed are used. Raises OffCurve if no choice keeps the budget."""
+    """Returns the choice with the greatest extra cost of stock with which there are few enough orders: it uses all that
+    are allowed. Raises OffCurve if no choice keeps the budget."""
     choice = _border(items.extra[:, :, 1], lambda amount: budget.kept(budget.choice(items, Dearer(stock=amount))),
                      budget.kept(budget.choice(items)), is_least=False)
     if choice is None:

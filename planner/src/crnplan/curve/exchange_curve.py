@@ -116,7 +116,6 @@ def added_up(folder: PlannedFolder, kept: Store[Candidates], names: Iterable[str
     sums, shown = np.zeros((2, 4)), list[tuple[str, int, int]]()
 
     def on_curve() -> Iterator[tuple[str, float, Candidates]]:
-        """Yields names with prices and candidates as they are added up."""
         for name in names:
             item, answer, candidates = folder.read.item(name), folder.store.answer(name), kept.answer(name)
             if isinstance(candidates, Remark):
@@ -202,7 +201,6 @@ class Drawn(Result):
 
     @property
     def named(self) -> dict[str, Point]:
-        """Returns the named points, by what they are for a reader."""
         return {self.said[name]: point for name, (point, _) in self.points.items()}
 
     @property
@@ -232,7 +230,6 @@ class Drawn(Result):
 
     @property
     def notes(self) -> str:
-        """Returns what the figures mean."""
         return "\n".join(NOTES)
 
     @property
