@@ -1,42 +1,18 @@
 """Leads a planner from a history of demand to stock decisions, with the proved simulator crnsim.
 
-The names below are the public interface. Each is imported when it is first used, so that a command starts fast.
+The names that are imported below are the public interface. Each is imported when it is first used, so that a command
+starts fast.
 """
 from __future__ import annotations
 
+import ast
 import importlib
 import sys
+from pathlib import Path
 from types import ModuleType
 from typing import TYPE_CHECKING, Any
 
 __version__ = "0.1.0"
-
-# The public names of each module.
-_NAMES = {
-    "errors": ("CrnplanError", "Failed", "Fault", "ProgramError", "Refused", "ScenarioError"),
-    "scenario": ("Costs", "Policy", "Scenario"),
-    "law": ("Law",),
-    "crnsim.long_run": ("LongRunReport",),
-    "crnsim.report": ("Report",),
-    "crnsim.program": ("find_program",),
-    "records": ("History", "read_history", "read_lead_times"),
-    "demand.checks": ("Checks", "check_history"),
-    "demand.fitted": ("FittedLaw",),
-    "demand.fitting": ("fit_demand", "fit_lead"),
-    "demand.learning": ("Prior", "learn"),
-    "decide.keys": ("check_keys",),
-    "decide.doubt": ("doubt",),
-    "decide.sensitivity": ("sensitivity",),
-    "crnsim.sweep": ("sweep",),
-    "crnsim.trajectory": ("trajectories",),
-    "api": ("Plan", "PlannedItem", "plan_item", "plan", "open_plan"),
-    "records.catalogue_reading": ("Catalogue", "read_catalogue"),
-    "curve.exchange_curve": ("exchange_curve",),
-    "pages.exports": ("report",),
-}
-_HOMES = {name: module for module, names in _NAMES.items() for name in names}
-
-__all__ = ["__version__", *_HOMES]
 
 if TYPE_CHECKING:
     from .records.catalogue_reading import Catalogue, read_catalogue
@@ -59,6 +35,11 @@ if TYPE_CHECKING:
     from .law import Law
     from .scenario import Costs, Policy, Scenario
     from .crnsim.sweep import sweep
+
+# The module of each public name, by the imports above.
+_HOMES = {name.name: node.module for node in ast.walk(ast.parse(Path(__file__).read_text("utf-8")))
+          if isinstance(node, ast.ImportFrom) and node.level for name in node.names}
+__all__ = ["__version__", *_HOMES]
 
 
 def __getattr__(name: str) -> Any:

@@ -11,6 +11,7 @@ from pathlib import Path
 from typing import TYPE_CHECKING
 
 from .crnsim.program import find_program
+from .decide.sensitivity import Moves
 from .errors import Refused, argument
 from .files import own_folder
 from .pages.catalogue_tables import catalogue_summary, decisions_of, faults_of, rejects_of
@@ -85,10 +86,10 @@ class PlannedItem(Result):
         """Returns what each policy costs and meets under the laws that the item's history allows."""
         return Figures(doubt_of(self.words), self.words.promise)
 
-    def moves(self) -> Figures:
+    def moves(self) -> Moves:
         """Returns how the best policy moves if a cost, the demand or the lead time differs, and what the chosen one
         costs then."""
-        return Figures(self.words.moves.table, self.words.moves.notes)
+        return self.words.moves
 
     def plot(self) -> Figure:
         """Returns a picture of stock, position and orders of today's and the chosen policy in one run."""

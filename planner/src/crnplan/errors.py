@@ -1,7 +1,7 @@
 """The errors of the package, each with the exit status that a command ends with.
 
-A message is one line for each thing that is wrong. It says where, what, and what to do. It names arguments by
-`argument`, so that a function shows them as they are called and a command as its options.
+A message has a line for each thing that is wrong: where, what, and what to do. It names arguments by `argument`, so
+that a function shows them as they are called and a command as its options.
 """
 from __future__ import annotations
 
@@ -12,11 +12,8 @@ from contextvars import ContextVar
 from dataclasses import dataclass
 from typing import Any, ClassVar
 
-# The signs around the name of an argument, and before its value. No text of a user has them: control characters of
-# theirs are shown as escapes.
+# The signs around the name of an argument, and before its value. Texts of users, which are escaped, have none.
 MARK, VALUE = "\x1f", "\x1e"
-
-
 # What a terminal would obey, or TOML forbids: control characters but for ends of lines and tabs, parts of characters,
 # and changes of the direction of writing.
 UNSHOWN = re.compile(r"[\x00-\x08\x0b-\x1f\x7f-\x9f\ud800-\udfff\u2028-\u202e\u2066-\u2069]")
@@ -29,7 +26,7 @@ def escaped(text: str) -> str:
 
 def argument(name: str, value: str = "") -> str:
     """Returns the name of an argument, perhaps with a value, as it stands in a message until that is shown."""
-    return f"{MARK}{name}{VALUE}{value}{MARK}" if value else f"{MARK}{name}{MARK}"
+    return f"{MARK}{name}{VALUE}{value}{MARK}"
 
 
 def as_python(name: str, value: str) -> str:
@@ -56,24 +53,15 @@ def spelt(spell: Spell) -> Iterator[None]:
         _spelling.reset(token)
 
 
-def worded(message: str, spell: Spell | None = None) -> str:
-    """Returns a message with its arguments spelt by a function of name and value (empty if there is none), by default
-    by that of the block `spelt`."""
-    parts, spell = message.split(MARK), spell or _spelling.get()
-    parts[1::2] = [spell(name, value) for name, _, value in (part.partition(VALUE) for part in parts[1::2])]
+def worded(message: str) -> str:
+    """Returns a message with its arguments spelt."""
+    parts, spell = message.split(MARK), _spelling.get()
+    parts[1::2] = [spell(*part.split(VALUE, 1)) for part in parts[1::2]]
     return "".join(parts)
 
 
-def remade(kind: type[CrnplanError], words: tuple[Any, ...], facts: dict[str, Any]) -> CrnplanError:
-    """Returns an error that was sent from another process."""
-    fault = kind.__new__(kind, *words)
-    fault.__dict__.update(facts)
-    return fault
-
-
 class CrnplanError(Exception):
-    """Any error that the package raises on purpose. Its text is meant for the user; `message` names arguments by
-    `argument`."""
+    """Any error that the package raises on purpose. Its text is meant for the user."""
 
     status: ClassVar[int] = 2
 
@@ -84,7 +72,7 @@ class CrnplanError(Exception):
 
     def __reduce__(self) -> tuple[Any, ...]:
         """Says how it is made again in another process, whatever its own `__init__` takes."""
-        return remade, (type(self), self.args, self.__dict__)
+        return Exception.__new__, (type(self), *self.args), self.__dict__
 
     @property
     def message(self) -> str:
@@ -113,8 +101,6 @@ class ProgramError(CrnplanError):
 class ProgramFailed(ProgramError, Failed):
     """The program crnsim was ended by force, or has failed for want of memory, threads or the disk."""
 
-    status = 3
-
 
 @dataclass(frozen=True)
 class Fault:
@@ -128,8 +114,8 @@ class Fault:
     @property
     def message(self) -> str:
         """Returns `FILE:LINE:COLUMN: WHAT`, without the parts that are not known, before arguments are spelt."""
-        places = [str(it) for it in (self.file, self.line, self.column) if it]
-        return ": ".join([":".join(places), self.what]) if places else self.what
+        place = ":".join(str(it) for it in (self.file, self.line, self.column) if it)
+        return f"{place}: {self.what}" if place else self.what
 
     def __str__(self) -> str:
         """Returns the message with arguments as a call of Python has them."""

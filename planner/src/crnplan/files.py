@@ -1,8 +1,8 @@
 """Writes whole files, and keeps the folders that are crnplan's.
 
-A folder is crnplan's if it holds a marker: a file with a signature and the names of the files that crnplan has made in
-the folder. Only these are overwritten or removed. Names come from the package; a name that a file states is only looked
-up. The marker is also the lock: one run at a time works in a folder.
+Such a folder holds a marker: a file with a signature and the names of the files that crnplan has made there. Only these
+are overwritten or removed. Names come from the package; one that a file states is only looked up. The marker is also
+the lock: one run at a time works in a folder.
 """
 from __future__ import annotations
 
@@ -51,29 +51,9 @@ def package_digest() -> str:
 
 
 @contextlib.contextmanager
-def new_file(path: Path, room: Path | None = None) -> Iterator[IO[str]]:
-    """Gives a file to write, which is there whole or not at all. Until then it has a random name, beside the target or
-    in another folder of the same disk, its `room`.
-
-    A symlink at the target is replaced, and not followed. Raises OSError.
-    """
-    part = (room or path.parent) / f".{secrets.token_hex(8)}.part"
-    descriptor = os.open(part, os.O_WRONLY | os.O_CREAT | os.O_EXCL | os.O_NOFOLLOW, 0o666)
-    try:
-        with open(descriptor, "w", encoding="utf-8", errors="backslashreplace", newline="") as file:
-            yield file
-            file.flush()
-            os.fsync(file.fileno())
-        os.replace(part, path)
-    except BaseException:
-        part.unlink(missing_ok=True)
-        raise
-
-
-@contextlib.contextmanager
 def faults_of(folder: Path) -> Iterator[None]:
-    """Turns errors of the file system and of SQLite into one message on a folder: Refused for a name that can't be
-    used, Failed for a disk that is full or broken, and for a store that is damaged."""
+    """Turns errors of the file system and of SQLite into Refused for a name that can't be used, and Failed for a disk
+    that is full or broken, and for a store that is damaged."""
     try:
         yield
     except BrokenPipeError:
@@ -89,6 +69,25 @@ def faults_of(folder: Path) -> Iterator[None]:
     except sqlite3.DatabaseError as fault:
         raise Failed(f"{folder}: a store in it is damaged ({fault})", "remove its .sqlite files, and run "
                      "again") from fault
+
+
+@contextlib.contextmanager
+def new_file(path: Path, room: Path | None = None) -> Iterator[IO[str]]:
+    """Gives a file to write, which is there whole or not at all. Until then it has a random name, beside the target or
+    in another folder of the same disk, its `room`. A symlink at the target is replaced, and not followed. Raises as
+    `faults_of` does."""
+    part = (room or path.parent) / f".{secrets.token_hex(8)}.part"
+    with faults_of(room.parent if room else path):
+        descriptor = os.open(part, os.O_WRONLY | os.O_CREAT | os.O_EXCL | os.O_NOFOLLOW, 0o666)
+        try:
+            with open(descriptor, "w", encoding="utf-8", errors="backslashreplace", newline="") as file:
+                yield file
+                file.flush()
+                os.fsync(file.fileno())
+            os.replace(part, path)
+        except BaseException:
+            part.unlink(missing_ok=True)
+            raise
 
 
 class Folder:
@@ -114,46 +113,37 @@ class Folder:
             os.ftruncate(self._marker, len(data))
             os.fsync(self._marker)
 
-    def claim(self, *names: str) -> None:
+    def claim(self, *names: str, in_place: bool = False) -> None:
         """Makes files and folders (whose names end with /) crnplan's, to be overwritten or removed. Raises Refused for
-        what is there and is not crnplan's."""
+        what is there and is not crnplan's, and for a symlink at what is written `in_place`."""
         new = [name for name in names if name not in self._names]
         foreign = next((name for name in new if os.path.lexists(self.path / name)), None)
         if foreign:
             raise Refused(f"{self.path / foreign}: crnplan has not made it, and would overwrite it; move it away, or "
                           "name another folder")
+        link = next((name for name in names if (self.path / name).is_symlink()), None)
+        if link and in_place:
+            raise Refused(f"{self.path / link}: it is a symlink, which is not followed; remove it")
         if new:
             self._names.update(new)
             self._keep()
 
     def subfolder(self, name: str) -> None:
-        """Makes a folder in this one, and claims it. Raises Refused for a symlink."""
-        self.claim(f"{name}/")
-        if (self.path / name).is_symlink():
-            raise Refused(f"{self.path / name}: it is a symlink, which is not followed; remove it")
+        """Makes a folder in this one, and claims it."""
+        self.claim(f"{name}/", in_place=True)
         (self.path / name).mkdir(exist_ok=True)
 
     def store(self, name: str) -> Path:
-        """Returns the path of a file of SQLite that is written in place, and claims it. Raises Refused for a
-        symlink."""
-        names = [f"{name}{end}" for end in ("", "-journal", "-wal", "-shm")]
-        self.claim(*names)
-        link = next((it for it in names if (self.path / it).is_symlink()), None)
-        if link:
-            raise Refused(f"{self.path / link}: it is a symlink, which is not followed; remove it")
+        """Returns the path of a file of SQLite that is written in place, and claims it."""
+        self.claim(*(f"{name}{end}" for end in ("", "-journal", "-wal", "-shm")), in_place=True)
         return self.path / name
 
-    @contextlib.contextmanager
-    def whole(self, name: str) -> Iterator[IO[str]]:
-        """Gives a file to write, as `new_file` does, and claims it."""
+    def write(self, name: str, text: str | Iterable[str]) -> None:
+        """Writes a text, or lines, as a whole file, and claims it. TOML has no raw control characters."""
         self.claim(name)
-        with faults_of(self.path), new_file(self.path / name, self.room()) as file:
-            yield file
-
-    def write(self, name: str, text: str) -> None:
-        """Writes a text as a whole file. TOML has no raw control characters."""
-        with self.whole(name) as file:
-            file.write(escaped(text) if name.endswith(".toml") else text)
+        lines = [text] if isinstance(text, str) else text
+        with new_file(self.path / name, self.room()) as file:
+            file.writelines(map(escaped, lines) if name.endswith(".toml") else lines)
 
     def remove(self, *names: str) -> None:
         """Removes those of the files that are crnplan's."""
@@ -161,8 +151,7 @@ class Folder:
             (self.path / name).unlink(missing_ok=True)
 
     def room(self) -> Path:
-        """Returns a folder for what is not finished, on the same disk. It is removed at the end of the run, or, if that
-        was ended by force, at the beginning of the next."""
+        """Returns a folder for what is not finished, on the same disk, which `close` removes."""
         name = next(filter(UNFINISHED.fullmatch, self._names), f"unfinished-{secrets.token_hex(8)}/")
         if name not in self._names:
             self.claim(name)
@@ -184,20 +173,20 @@ def own_folder(path: Path, kind: str, names: Iterable[str] = ()) -> Iterator[Fol
     Raises Refused for a folder that has files and no marker, that is of another kind, in which another run works, or
     that can't be written.
     """
-    with faults_of(path):
-        path.mkdir(parents=True, exist_ok=True)
-        if not os.path.lexists(path / MARKER) and any(path.iterdir()):
-            raise Refused(f"{path}: the folder is not empty, and is not one of crnplan {kind}; name a new folder")
-        marker = os.open(path / MARKER, os.O_RDWR | os.O_CREAT | os.O_NOFOLLOW | os.O_NONBLOCK, 0o666)
-    try:
-        if not stat.S_ISREG(os.fstat(marker).st_mode):
-            raise Refused(f"{path / MARKER}: it is no file; name a new folder")
-        try:
-            fcntl.flock(marker, fcntl.LOCK_EX | fcntl.LOCK_NB)
-        except BlockingIOError as fault:
-            raise Refused(f"{path}: another run of crnplan works in this folder; wait for its end, or name another "
-                          "folder") from fault
+    with contextlib.ExitStack() as stack:
         with faults_of(path):
+            path.mkdir(parents=True, exist_ok=True)
+            if not os.path.lexists(path / MARKER) and any(path.iterdir()):
+                raise Refused(f"{path}: the folder is not empty, and is not one of crnplan {kind}; name a new folder")
+            marker = os.open(path / MARKER, os.O_RDWR | os.O_CREAT | os.O_NOFOLLOW | os.O_NONBLOCK, 0o666)
+            stack.callback(os.close, marker)
+            if not stat.S_ISREG(os.fstat(marker).st_mode):
+                raise Refused(f"{path / MARKER}: it is no file; name a new folder")
+            try:
+                fcntl.flock(marker, fcntl.LOCK_EX | fcntl.LOCK_NB)
+            except BlockingIOError as fault:
+                raise Refused(f"{path}: another run of crnplan works in this folder; wait for its end, or name another "
+                              "folder") from fault
             folder = Folder(path, kind, marker)
             folder.claim(*names)
         try:
@@ -205,5 +194,3 @@ def own_folder(path: Path, kind: str, names: Iterable[str] = ()) -> Iterator[Fol
         finally:
             with contextlib.suppress(OSError):
                 folder.close()
-    finally:
-        os.close(marker)

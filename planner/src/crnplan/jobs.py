@@ -1,9 +1,7 @@
-"""Runs batches of work in this process, in others, or on the workers of a Dask cluster, and keeps each answer as it
-comes.
+"""Runs batches of work in this process, in others or on a Dask cluster, and keeps each answer as it comes.
 
-A batch that takes too long is given to another worker as well; what comes first counts. A function gives the same
-answer wherever it runs: workers of a cluster say which crnplan and which crnsim they have, and others than here are
-refused.
+A batch that takes too long is given to another worker as well; what comes first counts. An answer is the same wherever
+it comes from: workers of a cluster say which crnplan and crnsim they have, and others than here are refused.
 """
 from __future__ import annotations
 
@@ -20,6 +18,7 @@ import time
 from collections.abc import Callable, Iterable, Iterator, Mapping, Sequence
 from concurrent import futures
 from concurrent.futures.process import BrokenProcessPool
+from dataclasses import dataclass, field
 from pathlib import Path
 from typing import Any, Generic, TypeVar
 
@@ -35,21 +34,18 @@ LIMIT_SECONDS, MOST_TRIES = 900.0, 3
 WATCH_SECONDS = 0.5
 CONNECT_SECONDS, WORKER_SECONDS = 10, 30
 MOST_LINES = 10
-NO_DISTRIBUTED = f"{argument('cluster')} needs distributed, which is missing here"
-INSTALL = "install it (on Debian: apt-get install python3-distributed)"
 Answer = TypeVar("Answer")
 Key = TypeVar("Key")
 
 
 class Workers:
-    """What runs functions: the processes of a pool, or without one this process, which runs each at once. `most` is how
-    many batches may be under way."""
+    """What runs functions: a pool, or without one this process. At `most` so many batches are under way."""
 
     def __init__(self, most: int = 1, pool: futures.Executor | None = None) -> None:
         self.most, self.pool, self.is_late = most, pool, False
 
     def share(self, words: Sequence[Any]) -> Sequence[Any]:
-        """Returns words as they are sent to functions, if many of them take these."""
+        """Returns words as they are sent to many functions."""
         return words
 
     def submit(self, function: Callable[..., Any], words: Sequence[Any], late: Sequence[Any] = ()) -> Any:
@@ -66,19 +62,23 @@ class Workers:
         futures.wait(running, seconds, futures.FIRST_COMPLETED)
 
     def result(self, future: Any) -> Any:
-        """Returns the result of a future that is done. Raises what the function has raised."""
-        return future.result()
+        """Returns the result of a future that is done. Raises what the function has raised, and a stranger's error."""
+        result = future.result()
+        if isinstance(result, Refused):
+            raise result
+        return result
 
     def answers(self, function: Callable[..., Any],
                 batches: Iterable[tuple[Key, Sequence[Any]]]) -> Iterator[tuple[Key, Any]]:
-        """Yields the key of each batch of words with what a function returns for these, as it comes. Raises Failed if
-        one takes too long."""
-        rest, running = iter(batches), list[_Batch[Key]]()
+        """Yields the key of each batch of words with what a function returns for these, as it comes. Raises Failed."""
+        rest, running = itertools.starmap(_Batch[Key], batches), list[_Batch[Key]]()
         while True:
-            for key, words in itertools.islice(rest, self.most - len(running)):
-                running.append(_Batch(key, self, function, words))
+            running += itertools.islice(rest, self.most - len(running))
             if not running:
                 return
+            for batch in running:
+                if batch.due <= time.monotonic():
+                    self._give(batch, function)
             seconds = max(0.0, min(batch.due for batch in running) - time.monotonic())
             self.wait([future for batch in running for future in batch.futures], seconds)
             for batch in [*running]:
@@ -86,30 +86,29 @@ class Workers:
                 if done is not None:
                     running.remove(batch)
                     yield batch.key, self.result(done)
-                elif batch.due <= time.monotonic():
-                    batch.give()
 
-
-class _Batch(Generic[Key]):
-    """A batch that is under way: its futures, one for each worker that it was given to, and when it is due."""
-
-    def __init__(self, key: Key, workers: Workers, function: Callable[..., Any], words: Sequence[Any]) -> None:
-        self.key, self.workers, self.function, self.words = key, workers, function, words
-        self.futures: list[Any] = []
-        self.give()
-
-    def give(self) -> None:
-        """Gives it to a further worker. Raises Failed if it was given to enough of them."""
-        if len(self.futures) == MOST_TRIES:
+    def _give(self, batch: _Batch[Any], function: Callable[..., Any]) -> None:
+        """Gives a batch to a further worker. Raises Failed if enough of them have it."""
+        if len(batch.futures) == MOST_TRIES:
             raise Failed(f"a batch has taken longer than {LIMIT_SECONDS:g} seconds on each of {MOST_TRIES} workers",
                          f"{KEPT}; look at these workers, and run again")
-        self.futures.append(self.workers.submit(self.function, self.words, self.futures))
-        self.due = time.monotonic() + LIMIT_SECONDS
+        batch.futures.append(self.submit(function, batch.words, batch.futures))
+        batch.due = time.monotonic() + LIMIT_SECONDS
+
+
+@dataclass
+class _Batch(Generic[Key]):
+    """A batch that is under way: its futures, one for each worker that has it, and when it is due at the latest one."""
+
+    key: Key
+    words: Sequence[Any]
+    futures: list[Any] = field(default_factory=list)
+    due: float = 0.0
 
 
 def _begin_worker(parent: int) -> None:
-    """Prepares a worker process. It ends with its parent, and leaves an interruption to it: a handler that does nothing
-    is not handed on to the programs that it runs."""
+    """Has a worker process end with its parent, and leave an interruption to it. A handler that does nothing is not
+    handed on to the programs that it runs."""
     signal.signal(signal.SIGINT, lambda number, frame: None)
 
     def watch() -> None:
@@ -147,28 +146,22 @@ def identity(program: str) -> dict[str, str]:
     return {"crnplan": package_digest(), "crnsim": bytes_digest(Path(path).read_bytes()) if path else ""}
 
 
-def strangeness(worker: str, own: Mapping[str, str], answer: object) -> str:
-    """Returns in which way a worker of a cluster would give other figures, by its `identity` or why it has none, beside
-    what is here; nothing if it would not."""
+def stranger(worker: str, own: Mapping[str, str], answer: object) -> Refused | None:
+    """Returns the error of a worker of a cluster that would give other figures, by its `identity` or why it has none,
+    beside what is here; None if it would not."""
     what = [f"can't say which crnplan it has ({answer})"]
     if isinstance(answer, Mapping):
         others = [name for name, digest in own.items() if answer[name] != digest]
         what = [f"has another {name}" if answer[name] else f"has no {name}" for name in others]
-    return f"the worker {worker} {' and '.join(what)}, and would give other figures" if what else ""
+    return Refused(f"the worker {worker} {' and '.join(what)}, and would give other figures",
+                   f"{KEPT}; give all workers the crnplan and the crnsim of this machine") if what else None
 
 
-def check_worker(strange: str) -> None:
-    """Raises Refused if a worker would give other figures."""
-    if strange:
-        raise Refused(strange, f"{KEPT}; give all workers the crnplan and the crnsim of this machine")
-
-
-def run_as_here(function: Callable[..., Any], own: Mapping[str, str], program: str, *words: Any) -> tuple[str, Any]:
-    """Returns the strangeness of the worker of a cluster that this runs on, and what a function returns there, which is
-    not called by a stranger."""
+def run_as_here(function: Callable[..., Any], own: Mapping[str, str], program: str, *words: Any) -> Any:
+    """Returns what a function returns on the worker of a cluster that this runs on. A stranger does not call it, and
+    its error is returned: one that is raised would have the scheduler try another worker."""
     worker: Any = importlib.import_module("distributed").get_worker()
-    strange = strangeness(f"{worker.name} ({worker.address})", own, identity(program))
-    return strange, None if strange else function(*words)
+    return stranger(f"{worker.name} ({worker.address})", own, identity(program)) or function(*words)
 
 
 class Cluster(Workers):
@@ -184,7 +177,8 @@ class Cluster(Workers):
         if not self.own["crnsim"]:
             self.own["crnsim"] = next((answer["crnsim"] for answer in answers.values() if isinstance(answer, dict)), "")
         for address, answer in answers.items():
-            check_worker(strangeness(f"{workers.get(address, {}).get('id')} ({address})", self.own, answer))
+            if fault := stranger(f"{workers.get(address, {}).get('id')} ({address})", self.own, answer):
+                raise fault
 
     def share(self, words: Sequence[Any]) -> Sequence[Any]:
         shared: Sequence[Any] = self.client.scatter(words, broadcast=True)
@@ -192,11 +186,8 @@ class Cluster(Workers):
 
     def submit(self, function: Callable[..., Any], words: Sequence[Any], late: Sequence[Any] = ()) -> Any:
         """Begins to run a function on a worker, not on those where it is late, if there are others."""
-        others: list[str] = []
-        if late:
-            keys = {future.key for future in late}
-            busy = {address for address, running in self.client.processing().items() if keys & {*running}}
-            others = [address for address in self.client.scheduler_info()["workers"] if address not in busy]
+        keys, busy = {future.key for future in late}, self.client.processing() if late else {}
+        others = [address for address, running in busy.items() if not keys & {*running}]
         return self.client.submit(run_as_here, function, self.own, self.program, *words, pure=False, retries=2,
                                   workers=others or None)
 
@@ -205,15 +196,9 @@ class Cluster(Workers):
         with contextlib.suppress(distributed.TimeoutError):
             distributed.wait(running, seconds, "FIRST_COMPLETED")
 
-    def result(self, future: Any) -> Any:
-        """Returns the result of a future that is done. Raises Refused if the worker is not as this machine."""
-        strange, result = future.result()
-        check_worker(strange)
-        return result
-
 
 @contextlib.contextmanager
-def cluster(address: str, program: str = "") -> Iterator[Workers]:
+def cluster(address: str, program: str = "") -> Iterator[Cluster]:
     """Gives the workers of a Dask scheduler. `program` is what they run; they need it at the same path.
 
     Raises Refused if the scheduler can't be reached, and for workers with another crnplan or program; Failed if it is
@@ -223,7 +208,8 @@ def cluster(address: str, program: str = "") -> Iterator[Workers]:
     try:
         distributed: Any = importlib.import_module("distributed")
     except ImportError as fault:
-        raise Refused(NO_DISTRIBUTED, INSTALL) from fault
+        raise Refused(f"{argument('cluster')} needs distributed, which is missing here",
+                      "install it (on Debian: apt-get install python3-distributed)") from fault
     try:
         client = distributed.Client(address, timeout=CONNECT_SECONDS)
     except (OSError, ValueError, TypeError) as fault:  # a TypeError for tls:// without certificates
@@ -243,8 +229,8 @@ def cluster(address: str, program: str = "") -> Iterator[Workers]:
 
 def workers_of(jobs: int | None, address: str | None,
                program: str = "") -> contextlib.AbstractContextManager[Workers]:
-    """Returns the workers of a Dask scheduler, or so many processes, by default one for each processor. `program` is
-    what workers of a scheduler run, which must be the same everywhere."""
+    """Returns the workers of a Dask scheduler, which run a program, or so many processes, by default one for each
+    processor."""
     return cluster(address, program) if address else processes(jobs or os.cpu_count() or 1)
 
 
@@ -253,30 +239,25 @@ def program_digest(program: str, address: str | None) -> str:
     digest = identity(program)["crnsim"]
     if address and not digest:
         with cluster(address, program) as workers:
-            assert isinstance(workers, Cluster)
             digest = workers.own["crnsim"]
     return digest
 
 
 class Work(Generic[Answer]):
-    """Which names are to be answered, which answers are kept, and which names are left."""
+    """Which names are to be answered: `kept` is how many of them were, and `left` has the others."""
 
     def __init__(self, answers: Store[Answer], digests: Mapping[str, str]) -> None:
         """Takes for each name the digest of all that its answer depends on."""
         kept = answers.digests()
         self.answers, self.digests = answers, digests
         self.left = [name for name, digest in digests.items() if kept.get(name) != digest]
-
-    @property
-    def kept(self) -> int:
-        """Returns how many names were answered before."""
-        return len(self.digests) - len(self.left)
+        self.kept = len(digests) - len(self.left)
 
     def finish(self, function: Callable[..., list[Answer | Remark]], asked: Callable[[str], object], *words: Any,
                workers: contextlib.AbstractContextManager[Workers], shown: bool, unit: str = "items",
                batch: int = BATCH) -> None:
-        """Answers the names that are left. Workers call the function with what is `asked` of the names of a batch, and
-        with further words. No worker is started if no name is left."""
+        """Answers the names that are left, if any. Workers call the function with what is `asked` of the names of a
+        batch, and with further words."""
         done, total, names = self.kept, len(self.digests), iter(self.left)
         if done == total:
             return
@@ -298,21 +279,20 @@ class Work(Generic[Answer]):
 
 def lines(total: int, kept: int, unit: str) -> Callable[[int], None]:
     """Returns what writes a line whenever a further ninth of them is done, the first one at once."""
-    part = -1
+    ninths = set[int]()
 
     def show(done: int) -> None:
-        nonlocal part
-        if (reached := done * (MOST_LINES - 1) // total) > part:
+        if (ninth := done * (MOST_LINES - 1) // total) not in ninths:
             print(f"{done} of {total} {unit} ({kept} kept)", file=sys.stderr, flush=True)
-            part = reached
+            ninths.add(ninth)
     show(kept)
     return show
 
 
 @contextlib.contextmanager
 def progress(total: int, kept: int, shown: bool, unit: str) -> Iterator[Callable[[int], None]]:
-    """Gives a function to call with the number of units that are done, which says so on standard error: as a bar on a
-    terminal, as a few lines in a log. `kept` are there from before."""
+    """Gives a function that shows how many units are done on standard error: as a bar on a terminal, as a few lines in a
+    log. `kept` are there from before."""
     if not shown:
         yield lambda done: None
     elif not sys.stderr.isatty():

@@ -4,16 +4,16 @@ There is no arithmetic in a command: it reads its words, calls the package and p
 """
 from __future__ import annotations
 
-import contextlib
 import difflib
 import importlib
 import io
 import os
 import sys
 import traceback
-from collections.abc import Iterator
+from collections.abc import Callable
+from contextlib import redirect_stderr, redirect_stdout
 from pathlib import Path
-from typing import Any, TextIO, cast
+from typing import Any, TextIO
 
 import click
 
@@ -28,7 +28,7 @@ INTERRUPTED = 130
 # The subcommands in the order in which a planner meets them: the module of each, and its line in the list of `--help`.
 COMMANDS = {
     "item": ("plans", "Plan one item: from a history and settings to a decision."),
-    "catalogue": ("catalogues", "Plan all items: from two tables to a decision for each."),
+    "catalogue": ("plans", "Plan all items: from two tables to a decision for each."),
     "curve": ("plans", "Show how much service the whole stock can give for its value."),
     "report": ("plans", "Write the page of a planned catalogue, and of single items."),
     "history": ("histories", "Make tables of a scenario from a history."),
@@ -93,7 +93,10 @@ def _command(name: str) -> click.Command:
 
 def as_option(name: str, value: str) -> str:
     """Returns an argument of the library as the option that has its name: of the subcommand that was asked for, else of
-    `crnplan catalogue`, since pages and tables tell what that has read."""
+    `crnplan catalogue`, since pages and tables tell what that has read. The words of `crnplan item` are settings."""
+    if asked == ["item"] and name not in ("out", "program"):
+        from ..plan.settings import as_setting
+        return as_setting(name, value)
     options = (option for command in (*asked, "catalogue") for option in _command(command).params
                if isinstance(option, click.Option))
     spelling = next((option.opts[0] for option in options if option.name == name), f"--{name.replace('_', '-')}")
@@ -110,7 +113,7 @@ def note(message: str) -> None:
 def main() -> None:
     """Runs the command. Ends with status 0; 1 if the answer is no; 2 if an input or a word is refused; 3 if no input is
     to blame; 130 if interrupted."""
-    with _shown_safely(), spelt(as_option):
+    with redirect_stdout(_shown(sys.stdout)), redirect_stderr(_shown(sys.stderr)), spelt(as_option):
         try:
             result: Any = group.main(prog_name="crnplan", standalone_mode=False)
             print(end="", flush=True)
@@ -157,32 +160,22 @@ class _Shown:
         return getattr(self.stream, name)
 
     def write(self, text: str) -> int:
-        with self._dropped():
-            self.stream.write(escaped(text))
+        self._try(self.stream.write, escaped(text))
         return len(text)
 
     def flush(self) -> None:
-        with self._dropped():
-            self.stream.flush()
+        self._try(self.stream.flush)
 
-    @contextlib.contextmanager
-    def _dropped(self) -> Iterator[None]:
-        """Lets nothing be written any more if there is no reader."""
+    def _try(self, step: Callable[..., object], *words: str) -> None:
+        """Takes a step, after which nothing is written any more if there is no reader."""
         try:
-            yield
+            step(*words)
         except BrokenPipeError:
             os.dup2(os.open(os.devnull, os.O_WRONLY), self.stream.fileno())
 
 
-@contextlib.contextmanager
-def _shown_safely() -> Iterator[None]:
-    """Shows all that a command writes on its standard streams as `_Shown` does. Raises OSError if a stream is full."""
-    streams = sys.stdout, sys.stderr
-    for stream in streams:
-        if isinstance(stream, io.TextIOWrapper):
-            stream.reconfigure(errors="backslashreplace")
-    sys.stdout, sys.stderr = (stream and cast(TextIO, _Shown(stream)) for stream in streams)
-    try:
-        yield
-    finally:
-        sys.stdout, sys.stderr = streams
+def _shown(stream: TextIO | None) -> Any:
+    """Returns a standard stream as one on which all may be shown; None if it is closed."""
+    if isinstance(stream, io.TextIOWrapper):
+        stream.reconfigure(errors="backslashreplace")
+    return stream and _Shown(stream)

@@ -4,7 +4,6 @@ from __future__ import annotations
 import contextlib
 import sys
 from collections.abc import Callable, Iterable, Iterator
-from functools import partial
 from pathlib import Path
 from typing import TYPE_CHECKING, Any, TypeVar
 
@@ -24,13 +23,16 @@ from ..records.sources import Rules
 from ..scenario import Scenario
 from ..toml.documents import places_of
 from . import note
-from .words import Picture, form_options, pairs_of, program_option, scenario_argument, show, together, usage_error
+from .words import form_options, pairs_of, picture, program_option, scenario_argument, show, together
 
 if TYPE_CHECKING:
     from ..demand.fitted import FittedLaw
 
 Made = TypeVar("Made")
 VERSION = "# A scenario with the table [returns] has version = 2.\n"
+# How cells are read, and a history.
+RULES = ("delimiter", "encoding", "decimal", "date_formats", "item", "leave_out")
+WORDS = ("returns", "date", "net", "whole", "start", "end")
 # The words of `crnplan suggest` that need no history.
 OWN = ("scenario", "initial", "unit_zero", "file", "form")
 demand_option = click.option("--demand", metavar="COLUMN", type=str.strip, help="What customers asked for.")
@@ -67,58 +69,62 @@ file_options = together(
                  help="Write all faults as CSV."))
 
 
-def rules_of(asked: dict[str, Any]) -> dict[str, Any]:
-    """Returns how cells are read. Raises Refused if the words name files that can't be read together."""
-    if asked["lead"] and asked["orders"]:
-        raise Refused("say --lead or --orders, not both")
-    if [asked.get("scenario"), asked["file"], asked["orders"], asked["lead"] and asked["lead"][0]].count("-") > 1:
-        raise Refused("standard input (-) can be one file only; name the others")
-    return {name: asked[name] for name in ("delimiter", "encoding", "decimal", "date_formats", "item", "leave_out")}
+class Files(contextlib.AbstractContextManager["Files"]):
+    """The files that a command names. They are read one by one, and the faults of all are kept. At the end these go to
+    the file of --rejects, if there is one, also if they are raised."""
 
+    def __init__(self, asked: dict[str, Any]) -> None:
+        """Raises Refused if the words name files that can't be read together."""
+        if asked["lead"] and asked["orders"]:
+            raise Refused("say --lead or --orders, not both")
+        self.leads = asked["lead"] or (asked["orders"], None)
+        if [asked.get("scenario"), asked["file"], self.leads[0]].count("-") > 1:
+            raise Refused("standard input (-) can be one file only; name the others")
+        self.asked, self.read, self.faults, self.notes = asked, list[Observed](), list[Fault](), list[Fault]()
+        self.rules = {name: asked[name] for name in RULES}
 
-class Attempts:
-    """Reads files and fits laws one by one, and keeps what was read and the faults of all."""
-
-    def __init__(self) -> None:
-        self.read: list[Observed] = []
-        self.faults: list[Fault] = []
-        self.notes: list[Fault] = []
-
-    def made(self, make: Callable[[], Made]) -> Made | None:
-        """Returns what a function makes, or None if it finds faults."""
+    def made(self, make: Callable[..., Made], *words: Any, **named: Any) -> Made | None:
+        """Returns what a function makes of words, or None if it finds faults."""
         try:
-            made = make()
+            made = make(*words, **named)
         except RefusedFaults as fault:
-            self.faults.extend(fault.faults)
-            self.notes.extend(fault.notes if isinstance(fault, RefusedFiles) else ())
+            self.faults += fault.faults
+            self.notes += fault.notes if isinstance(fault, RefusedFiles) else ()
             return None
-        self.read.extend([made] if isinstance(made, Observed) else [])
+        self.read += [made] if isinstance(made, Observed) else []
         return made
 
-    def files(self, asked: dict[str, Any]) -> tuple[History | None, LeadTimes | None]:
-        """Reads the history and the lead times that are asked for; None for a file with faults, or without a file."""
-        rules = rules_of(asked)
-        words = {name: asked[name] for name in ("demand", "returns", "date", "net", "whole", "start", "end")
-                 if name in asked}
-        every = asked["every"] if asked["date"] or not asked["orders"] else None
-        history = self.made(lambda: read_history(asked["file"], every=every, **words, **rules))
-        leads: LeadTimes | None = None
-        if asked["lead"]:
-            leads = self.made(lambda: read_lead_times(asked["lead"][0], lead=asked["lead"][1], every=every,
-                                                      **rules))
-        if asked["orders"]:
-            orders = {name: asked[name] for name in ("every", "ordered", "received")}
-            leads = self.made(lambda: read_lead_times(asked["orders"], **orders, **rules))
-        return history, leads
+    def history(self, demand: str) -> History | None:
+        """Reads the history, with the demand in a column; None if it has faults."""
+        words = {name: self.asked[name] for name in WORDS if name in self.asked}
+        every = self.asked["every"] if self.asked["date"] or not self.asked["orders"] else None
+        return self.made(read_history, self.asked["file"], demand=demand, every=every, **words, **self.rules)
 
-    def sound_files(self, asked: dict[str, Any]) -> tuple[History, LeadTimes | None]:
-        """Reads the same, with the demand in the column `demand` if no other is named. Raises the faults of all."""
-        history, leads = self.files(asked | {"demand": asked["demand"] or "demand"})
-        self.end()
+    def lead_times(self) -> LeadTimes | None:
+        """Reads the lead times; None if they have faults, or without a file of them."""
+        path, column = self.leads
+        words = {name: self.asked[name] for name in ("every", "ordered", "received")}
+        return self.made(read_lead_times, path, lead=column, **words, **self.rules) if path else None
+
+    def sound(self) -> tuple[History, LeadTimes | None]:
+        """Reads both, with the demand in the column `demand` if no other is named. Raises the faults of all."""
+        history, leads = self.history(self.asked["demand"] or "demand"), self.lead_times()
+        self.check()
         assert history is not None
         return history, leads
 
-    def end(self) -> None:
+    def laws(self) -> dict[str, FittedLaw]:
+        """Returns the laws of all tables that are asked for. Raises the faults of all files and fits together."""
+        from ..demand.fitting import fit_demand, fit_lead
+        history, leads = self.history(self.asked["demand"]), self.lead_times()
+        fit, box = self.asked["fit"], self.asked["box"]
+        found = {"demand": history and self.made(fit_demand, history, method=fit, box=box),
+                 "lead": leads and self.made(fit_lead, leads, method=fit if fit == "empirical" else "auto"),
+                 "returns": history and history.returns and self.made(fit_demand, history.returns, method=fit, box=box)}
+        self.check()
+        return {name: law for name, law in found.items() if law}
+
+    def check(self) -> None:
         """Raises the faults of all together, if there are any."""
         if self.faults:
             raise RefusedFiles(self.faults, self.notes)
@@ -130,24 +136,12 @@ class Attempts:
 
     def say(self, more: Iterable[str] = ()) -> None:
         """Prints on standard error which rows were left out, what is to be said of the files, and more lines."""
-        said = (fault.message for made in self.read for fault in made.notes)
-        for line in [*printed(self.left_out), *said, *more]:
+        for line in [*printed(self.left_out), *(fault.message for made in self.read for fault in made.notes), *more]:
             note(line)
 
-
-@contextlib.contextmanager
-def attempts_of(asked: dict[str, Any]) -> Iterator[Attempts]:
-    """Gives attempts, and writes all their faults to the file of --rejects if there is one, also those that are
-    raised."""
-    attempts, path = Attempts(), asked["faults"]
-    try:
-        yield attempts
-    except RefusedFaults as fault:
-        if path:
-            write_rejects(path, [*attempts.left_out, *fault.faults])
-        raise
-    if path:
-        write_rejects(path, attempts.left_out)
+    def __exit__(self, kind: type[BaseException] | None, fault: BaseException | None, trace: object) -> None:
+        if self.asked["faults"] and (fault is None or isinstance(fault, RefusedFaults)):
+            write_rejects(self.asked["faults"], [*self.left_out, *(fault.faults if fault else ())])
 
 
 @contextlib.contextmanager
@@ -159,22 +153,6 @@ def theory_of(scenario: Scenario, path: str) -> Iterator[None]:
     except NoTheory as fault:
         place = places_of(scenario.source or "", scenario.tree).get(fault.path, (0, 0))
         raise RefusedFaults([Fault(str(fault), path.removeprefix("-"), *place)]) from None
-
-
-def laws_of(asked: dict[str, Any], attempts: Attempts) -> dict[str, FittedLaw]:
-    """Returns the laws of all tables that are asked for. Raises the faults of all files and fits together."""
-    from ..demand.fitting import fit_demand, fit_lead
-    history, leads = attempts.files(asked)
-    tables = {"demand": history, "lead": leads, "returns": history and history.returns}
-    method = "empirical" if asked["fit"] == "empirical" else "auto"
-
-    def fitted(name: str, observed: Observed) -> FittedLaw:
-        if name == "lead":
-            return fit_lead(observed, method=method)
-        return fit_demand(observed, method=asked["fit"], box=asked["box"])
-    laws = {name: attempts.made(partial(fitted, name, observed)) for name, observed in tables.items() if observed}
-    attempts.end()
-    return {name: law for name, law in laws.items() if law}
 
 
 @click.command(epilog="Example: crnplan history sales.csv --demand Menge --date Datum --every week --decimal , --net")
@@ -212,17 +190,17 @@ def history(**asked: Any) -> None:
     Dates are 2026-03-31, 31.03.2026, 31.03.26, 31/03/2026 or 03/31/2026, with or without a time of day. A date with a
     number over 12 decides whether the day or the month comes first. These options hold for all files.
     """
-    rules = rules_of(asked)
+    files = Files(asked)
     if asked["demand"] is None:
-        names = ", ".join(column_names(asked["file"], Rules(**rules))) or "none"
+        names = ", ".join(column_names(asked["file"], Rules(**files.rules))) or "none"
         raise Refused(f"{asked['file']}: say --demand with the name of a column; the columns are: {names}")
-    with attempts_of(asked) as attempts:
-        laws = laws_of(asked, attempts)
+    with files:
+        laws = files.laws()
     from ..demand.checks import check_history
     from ..demand.fitted import notes_of
-    checked = (line for made in attempts.read if isinstance(made, History)
+    checked = (line for made in files.read if isinstance(made, History)
                for line in check_history(made, season=asked["season"]).lines)
-    attempts.say([*checked, *(line for name, law in laws.items() for line in notes_of(law, name))])
+    files.say([*checked, *(line for name, law in laws.items() for line in notes_of(law, name))])
     for name, law in laws.items():
         click.echo(f"\n{VERSION if name == 'returns' else ''}{law.toml(name)}", nl=False)
 
@@ -280,15 +258,14 @@ def suggest(**asked: Any) -> None:
     of_history = [option.opts[0] for option in context.command.params if option.name and option.name not in OWN
                   and context.get_parameter_source(option.name) is not ParameterSource.DEFAULT]
     if asked["file"] is None and of_history:
-        raise usage_error(f"{of_history[0]} is that of --history: give the history of demand too")
-    rules_of(asked)
-    scenario = Scenario.read(asked["scenario"])
-    with attempts_of(asked) as attempts:
+        context.fail(f"{of_history[0]} is that of --history: give the history of demand too")
+    files, scenario = Files(asked), Scenario.read(asked["scenario"])
+    with files:
         if asked["file"]:
-            demand, lead_times = attempts.sound_files(asked)
+            demand, lead_times = files.sound()
             laws = allowed_laws(demand, box=asked["box"]).laws
             leads = allowed_leads(lead_times).laws if lead_times else ()
-    attempts.say()
+    files.say()
     with theory_of(scenario, asked["scenario"]):
         suggested = suggestions_of(scenario, laws, leads, asked["confidence"] or CONFIDENCE)
     if asked["form"]:
@@ -312,7 +289,7 @@ def suggest(**asked: Any) -> None:
               help="The same seed draws the same laws.")
 @click.option("--runs", is_flag=True, help="Run crnsim under each law too, for the coming periods.")
 @program_option
-@click.option("--plot", type=Picture(), metavar="FILE", help="Draw the regrets, as .png or .svg.")
+@click.option("--plot", callback=picture, metavar="FILE", help="Draw the regrets, as .png or .svg.")
 @form_options
 def doubt(**asked: Any) -> None:
     """Say how sure a choice among the policies of a scenario is, if the demand is known from a short history alone.
@@ -334,14 +311,13 @@ def doubt(**asked: Any) -> None:
 
     Theory's figures are rounded and unproved; crnsim's are exact and proved for its stream, and then rounded here.
     """
-    rules_of(asked)
-    scenario = Scenario.read(asked["scenario"])
+    files, scenario = Files(asked), Scenario.read(asked["scenario"])
     words = {name: asked[name] for name in ("times", "within", "seed", "box", "runs", "program")}
-    with attempts_of(asked) as attempts:
-        demand, leads = attempts.sound_files(asked)
+    with files:
+        demand, leads = files.sound()
         with theory_of(scenario, asked["scenario"]):
             doubted = doubt_of(scenario, demand, leads, **words)
-    attempts.say()
+    files.say()
     if asked["plot"]:
         from ..pages.pictures import regrets_picture, save
         save(regrets_picture(doubted), asked["plot"])

@@ -15,8 +15,8 @@ from ..errors import Refused
 from ..scenario import Scenario, read_policies
 from ..toml.documents import read_bytes
 from ..toml.scenarios import read_scenario
-from .words import (Picture, form_options, horizon_options, level_option, program_option, read_for, scenario_argument,
-                    show, show_report, usage_error, worker_options)
+from .words import (form_options, horizon_options, level_option, picture, program_option, read_for, scenario_argument,
+                    show, show_rows, worker_options)
 
 
 @click.command(epilog="Example: crnplan why scenario.toml")
@@ -70,15 +70,16 @@ def run(scenario: str, words: tuple[str, ...], horizon: int | None, stock: int |
     What crnsim computes is exact, and proved for its stream; this command and theory are not.
     """
     if not long_run and (keys, level) != (None, None):
-        raise usage_error("--keys and --level are those of --long-run")
+        click.get_current_context().fail("--keys and --level are those of --long-run")
     asked = read_for(scenario, horizon, stock, long_run, is_table=False)
     policies = [policy for word in words for policy in read_policies(word)] if words else None
     if long_run:
         from ..decide.long_run import long_run_decision
-        report = asked.long_run(policies, program=program, **{} if keys is None else {"keys": keys})
-        show(long_run_decision(report, 0.95 if level is None else level), form)
+        found = asked.long_run(policies, program=program, **{} if keys is None else {"keys": keys})
+        show(long_run_decision(found, 0.95 if level is None else level), form)
     else:
-        show_report(asked.run(policies, program=program), form)
+        report = asked.run(policies, program=program)
+        show_rows(report.table, form, report.text)
 
 
 @click.command(epilog="Example: crnplan decide report.csv --scenario scenario.toml --plot differences.svg")
@@ -91,8 +92,8 @@ def run(scenario: str, words: tuple[str, ...], horizon: int | None, stock: int |
 @level_option
 @click.option("--all", "every", is_flag=True, help="List all policies, not the first 20.")
 @form_options
-@click.option("--plot", type=Picture(), metavar="FILE.png", help="Draw the intervals, as PNG or SVG.")
-@click.option("--map", "map_path", type=Picture(), metavar="FILE.png", help="Draw the cost over s and S, as PNG or "
+@click.option("--plot", callback=picture, metavar="FILE.png", help="Draw the intervals, as PNG or SVG.")
+@click.option("--map", "map_path", callback=picture, metavar="FILE.png", help="Draw the cost over s and S, as PNG or "
               "SVG.")
 def decide(report: str, path: str | None, is_sweep: bool, replications: int | None, long_run: bool, level: float,
            every: bool, form: str | None, plot: Path | None, map_path: Path | None) -> None:
@@ -117,26 +118,23 @@ def decide(report: str, path: str | None, is_sweep: bool, replications: int | No
     unit is left out, since it adds the same to each policy in the long run. crnplan run --long-run needs no theory, and
     takes longer.
     """
+    context = click.get_current_context()
     if path is None and (is_sweep or long_run or replications is None):
-        raise usage_error("give --scenario" if is_sweep or long_run else "give --replications or --scenario")
+        context.fail("give --scenario" if is_sweep or long_run else "give --replications or --scenario")
     if long_run and (plot or map_path):
-        raise usage_error("--plot and --map show the report as it is, without --long-run")
+        context.fail("--plot and --map show the report as it is, without --long-run")
     scenario = None if path is None else Scenario.read(path)
     if scenario is not None and replications not in (None, scenario.replications):
         raise Refused(f"{path}: it has {scenario.replications} replications, not {replications}")
+    from ..decide.long_run import coming_decision, corrected_decision
     from ..decide.verdicts import check_policies, decided, read_report
-    count = scenario.replications if scenario else replications
-    assert count is not None
+    count = scenario.replications if scenario else int(replications or 0)
     rows = read_report(report, count)
     if scenario is None:
         decision = decided(rows, count, level)
     else:
-        from ..decide.long_run import coming_decision, corrected_decision
         check_policies(rows, scenario.policies, report, str(path), is_sweep)
-        if long_run:
-            show(corrected_decision(rows, scenario, level), form)
-            return
-        decision = coming_decision(rows, scenario, level)
+        decision = (corrected_decision if long_run else coming_decision)(rows, scenario, level)
     if plot or map_path:
         from ..pages.pictures import differences_picture, map_picture, save
         for file, picture_of in ((plot, differences_picture), (map_path, map_picture)):
@@ -151,13 +149,11 @@ class Keys(click.Command):
     def parse_args(self, ctx: click.Context, args: list[str]) -> list[str]:
         """Joins the words that follow `--key`, up to the next option."""
         joined: list[str] = []
-        inside = False
         for word in args:
-            if inside and joined[-1] != "--key" and not word.startswith("-"):
+            if joined[-2:-1] == ["--key"] and not word.startswith("-"):
                 joined[-1] += f" {word}"
             else:
                 joined.append(word)
-            inside = word == "--key" or inside and not word.startswith("-")
         return super().parse_args(ctx, joined)
 
 
@@ -197,7 +193,7 @@ def check(scenario: str, best: str, keys: tuple[str, ...], replications: int | N
     asked = read_for(scenario, horizon, stock, long_run, is_table=form is None)
     if long_run:
         if (replications, out) != (None, None):
-            raise usage_error("--long-run has no --replications and no --out: more keys give more")
+            click.get_current_context().fail("--long-run has no --replications and no --out: more keys give more")
         checked = check_long_run(asked, best, **options)
     else:
         replications = formats.MOST_REPLICATIONS if replications is None else replications
@@ -239,7 +235,7 @@ def sensitivity(scenario: str, horizon: int | None, stock: int | None, long_run:
 @click.argument("names", metavar="POLICY...", nargs=-1, required=True)
 @click.option("--periods", type=int, metavar="N", help=f"The first N periods; at most {MOST_DRAWN} if N is not given.")
 @program_option
-@click.option("--out", type=Picture(), metavar="FILE", help="Draw a picture, as .png or .svg.")
+@click.option("--out", callback=picture, metavar="FILE", help="Draw a picture, as .png or .svg.")
 @form_options
 def trajectory(scenario: str, names: tuple[str, ...], periods: int | None, program: str | None, out: Path | None,
                form: str | None) -> None:
@@ -256,10 +252,8 @@ def trajectory(scenario: str, names: tuple[str, ...], periods: int | None, progr
         from ..pages.pictures import save, trajectories_picture
         save(trajectories_picture(policies, drawn, asked.initial), out)
     table = table_of(policies, drawn)
-    if form:
-        print(table.csv if form == "csv" else json.dumps(table.records, indent=2) + "\n", end="")
-    elif not out:
-        print(table.text, end="")
+    if form or not out:
+        show_rows(table, form, table.text)
 
 
 @click.command(epilog="Example: crnplan sweep scenario.toml --s 6 16 1 --S 20 40 2 > sweep.csv")
@@ -286,7 +280,7 @@ def sweep(base: str, points: tuple[int, int, int], levels: tuple[int, int, int],
     """
     from ..crnsim.sweep import numbers_of, sweep as sweep_of
     report = sweep_of(Scenario.read(base), numbers_of("s", *points), numbers_of("S", *levels), progress=True, **options)
-    show_report(report, form)
+    show_rows(report.table, form, report.text)
 
 
 @click.command(epilog="Example: crnplan where")

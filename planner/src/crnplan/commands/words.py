@@ -1,6 +1,7 @@
 """Options that several commands share, and how their results are printed."""
 from __future__ import annotations
 
+import functools
 import json
 import re
 import sys
@@ -14,29 +15,23 @@ from ..errors import Refused
 from ..scenario import Scenario
 
 if TYPE_CHECKING:
-    from ..crnsim.report import Report
-    from ..table import Result
+    from ..table import DataTable, Result
 
 Decorator = Callable[[Callable[..., Any]], Callable[..., Any]]
 PICTURES = (".png", ".svg")
 
 
-class Picture(click.ParamType):
-    """The path of a picture, whose ending says its kind."""
-
-    name = "picture"
-
-    def convert(self, value: Any, param: click.Parameter | None, ctx: click.Context | None) -> Path:
-        """Returns the path. Raises Refused for another ending."""
-        if not value.lower().endswith(PICTURES):
-            raise Refused(f"{value!r} does not end with {' or '.join(PICTURES)}")
-        return Path(value)
+def picture(context: click.Context, option: click.Parameter, word: str | None) -> Path | None:
+    """Returns the path of a picture, whose ending says its kind. Raises Refused for another ending."""
+    if word is not None and not word.lower().endswith(PICTURES):
+        raise Refused(f"{word!r} does not end with {' or '.join(PICTURES)}")
+    return None if word is None else Path(word)
 
 
 def pairs_of(form: str, example: str) -> Callable[[click.Context, click.Parameter, tuple[str, ...]], dict[str, str]]:
-    """Returns the callback of an option that reads texts by name from words of a form: a pattern with two groups."""
+    """Returns the callback of an option that reads texts by name from words of a form: a pattern with two groups. It
+    raises Refused for the first word of another form."""
     def read(context: click.Context, option: click.Parameter, words: tuple[str, ...]) -> dict[str, str]:
-        """Returns the texts by their names. Raises Refused for the first word of another form."""
         pairs = {}
         for word in words:
             pair = re.fullmatch(form, word)
@@ -49,11 +44,7 @@ def pairs_of(form: str, example: str) -> Callable[[click.Context, click.Paramete
 
 def together(*options: Decorator) -> Decorator:
     """Returns a decorator that adds options to a command, in this order."""
-    def decorated(command: Callable[..., Any]) -> Callable[..., Any]:
-        for option in reversed(options):
-            command = option(command)
-        return command
-    return decorated
+    return lambda command: functools.reduce(lambda made, option: option(made), reversed(options), command)
 
 
 scenario_argument = click.argument("scenario", metavar="SCENARIO.toml", type=click.Path())
@@ -75,24 +66,20 @@ horizon_options = together(
     click.option("--long-run", is_flag=True, help="Compare costs of the long run, without the effect of the start."))
 
 
-def usage_error(what: str) -> click.UsageError:
-    """Returns the error of words that do not go together."""
-    return click.UsageError(what, click.get_current_context())
-
-
 def read_for(path: str, horizon: int | None, stock: int | None, long_run: bool, is_table: bool) -> Scenario:
     """Reads a scenario for its horizon. If that is named by periods or stock, a line on standard error says it, unless
     the output is a table for a reader: which says it in its heading."""
-    if long_run and (horizon, stock) != (None, None):
-        raise usage_error("--long-run has no --horizon and no --stock: give one or the other")
+    named = {name: value for name, value in (("periods", horizon), ("initial", stock)) if value is not None}
+    if long_run and named:
+        click.get_current_context().fail("--long-run has no --horizon and no --stock: give one or the other")
     asked = Scenario.read(path)
-    if (horizon, stock) != (None, None):
-        asked = asked.changed(periods=asked.periods if horizon is None else horizon,
-                              initial=asked.initial if stock is None else stock)
-        if not is_table:
-            from ..decide.verdicts import horizon_of
-            from ..words import sentence
-            print(f"The {sentence(horizon_of(asked))}", file=sys.stderr)
+    if not named:
+        return asked
+    asked = asked.changed(**named)
+    if not is_table:
+        from ..decide.verdicts import horizon_of
+        from ..words import sentence
+        click.echo(f"The {sentence(horizon_of(asked))}", err=True)
     return asked
 
 
@@ -101,12 +88,11 @@ def show(result: Result, form: str | None) -> None:
     if form == "csv":
         print(result.table.csv, end="")
         print(result.notes.lstrip("\n"), end="", file=sys.stderr)
-    elif form == "json":
-        print(json.dumps(result.tree, indent=2))
     else:
-        print(result.text, end="")
+        print(json.dumps(result.tree, indent=2) + "\n" if form == "json" else result.text, end="")
 
 
-def show_report(report: Report, form: str | None) -> None:
-    """Prints a report as the program writes it, or its rows as `json`, with fractions as texts."""
-    print(json.dumps(report.table.records, indent=2) + "\n" if form == "json" else report.text, end="")
+def show_rows(table: DataTable, form: str | None, text: str) -> None:
+    """Prints a table as a text that it has, or as `csv`, or its rows as `json`, with fractions as texts."""
+    print(json.dumps(table.records, indent=2) + "\n" if form == "json" else table.csv if form == "csv" else text,
+          end="")

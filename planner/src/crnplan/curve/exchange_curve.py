@@ -369,7 +369,6 @@ def exchange_curve(folder: str | Path, *, stock_value: float | None = None, fill
     with planned_folder(path) as planned, own_folder(path, CATALOGUE, (CURVE, POLICIES, LEFT_OUT)) as own:
         drawn = draw(gather(own, planned, jobs, cluster, progress), budget, confirm, program)
         for name, table in ((CURVE, drawn.table), (POLICIES, drawn.policy_table), (LEFT_OUT, drawn.left_out)):
-            with own.whole(name) as file:
-                file.writelines(table.lines)
+            own.write(name, table.lines)
         keep_curve(planned.store, [*drawn.named.items(), *(("", point) for _, point in drawn.curve)])
     return drawn

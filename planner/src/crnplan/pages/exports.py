@@ -30,23 +30,17 @@ ITEM_TABLES: Mapping[str, Callable[[ItemWords], DataTable | None]] = {
     "trajectory.csv": periods_of, "coming.csv": coming_of}
 
 
-def write_table(folder: Folder, name: str, table: DataTable) -> None:
-    """Writes a table as a whole file of a folder."""
-    with folder.whole(name) as file:
-        file.writelines(table.lines)
-
-
 def write_rejects(folder: Folder, read: Catalogued) -> None:
     """Writes what was left out as the files were read."""
-    write_table(folder, REJECTS, rejects_of(read.rejects()))
+    folder.write(REJECTS, rejects_of(read.rejects()).lines)
 
 
 def write_catalogue(folder: Folder, planned: PlannedFolder, totals: Totals, learned: Sequence[Remark],
                     missing: Sequence[str]) -> str:
     """Writes the tables, the summary and the page of a planned catalogue, and returns the summary."""
-    write_table(folder, DECISIONS, decisions_of(planned))
-    write_table(folder, EXACT, exact_of(planned))
-    write_table(folder, REJECTS, rejects_of(planned.read.rejects(faults_of(planned))))
+    folder.write(DECISIONS, decisions_of(planned).lines)
+    folder.write(EXACT, exact_of(planned).lines)
+    folder.write(REJECTS, rejects_of(planned.read.rejects(faults_of(planned))).lines)
     summary = catalogue_summary(planned, totals, learned, missing)
     folder.write(SUMMARY, summary)
     folder.write(PAGE, catalogue_page(planned, totals))
@@ -65,7 +59,7 @@ def write_item(folder: Folder, plan: ItemPlan, told: Callable[[str], None]) -> s
         told(name)
         table = table_of(words)
         if table is not None:
-            write_table(folder, name, table)
+            folder.write(name, table.lines)
     for name, text_of in texts.items():
         told(name)
         folder.write(name, text_of())

@@ -12,7 +12,6 @@ from ..crnsim.trajectory import Period
 from ..decide.doubt import WITHIN
 from ..decide.verdicts import Compared as ComparedRow
 from ..decide.sensitivity import Moves
-from ..decide_words import exactness
 from ..demand import EMPIRICAL
 from ..demand.fitted import FittedLaw, fit_remarks
 from ..errors import Fault, spelt, worded
@@ -23,7 +22,7 @@ from ..plan.settings import as_setting
 from ..records.cells import EVERY, period_name
 from ..remarks import Remark
 from ..table import Cell, Column, DataTable, number as numbers, text, whole
-from ..words import advised, sentence
+from ..words import advised, exactness, sentence
 from .page import capital, number, percent
 
 VERDICTS = {CHEAPER: "cheaper than today's policy ({})", DEARER: "dearer than today's policy ({})",

@@ -12,7 +12,7 @@ from typing import Any, TypeVar
 import numpy as np
 
 from ..errors import Fault, Refused, RefusedFaults, argument, worded
-from ..files import faults_of, new_file
+from ..files import new_file
 from ..formats import MOST_WEIGHT
 from ..table import DataTable, text, whole
 from .cells import MOST_NAMED, TOTAL, Cell, Unreadable, named_lines, other_reading, said, shown, text_of
@@ -67,7 +67,7 @@ REJECTS = (text("file", "name of the file"), whole("line", "", "line of the faul
 
 def write_rejects(path: Path, faults: Sequence[Fault]) -> None:
     """Writes all faults as CSV: file, line and column (0 if there is none), what is wrong, and the text of the row."""
-    with faults_of(path), new_file(path) as file:
+    with new_file(path) as file:
         file.writelines(DataTable(REJECTS, (
             [fault.file, fault.line, fault.column, worded(fault.what),
              fault.row.replace("\r", "\\r") if isinstance(fault, Reject) else ""] for fault in faults)).lines)
