@@ -8,6 +8,7 @@ import sys
 import time
 import typing
 from collections.abc import Iterator
+from fractions import Fraction
 from pathlib import Path
 from types import ModuleType
 
@@ -25,25 +26,16 @@ PLANNER = Path(__file__).parents[1]
 HEAVY = ("numpy", "scipy", "pandas", "matplotlib", "jinja2", "tqdm", "tomlkit", "distributed")
 
 
-def python(code: str) -> str:
-    """Returns what a new Python prints."""
-    return subprocess.run([sys.executable, "-c", code], capture_output=True, text=True, check=True, timeout=60).stdout
-
-
 @pytest.mark.parametrize("name", crn.__all__)
 def test_public_name(name: str) -> None:
-    """Imports each public name, twice, and checks that it has a docstring."""
+    """Imports each public name, twice, and checks that it has a docstring. Other names are those of modules, or none.
+    """
     found = getattr(crn, name)
     assert getattr(crn, name) is found and name in dir(crn) and not isinstance(found, ModuleType)
     assert name == "__version__" or found.__doc__
-    # A module without a public name keeps its own.
     assert importlib.import_module("crnplan.formats") is crn.formats
-
-
-def test_no_other_name() -> None:
-    """Refuses a name that there is not."""
-    with pytest.raises(AttributeError, match="module 'crnplan' has no attribute 'simulate'"):
-        getattr(crn, "simulate")
+    with pytest.raises(AttributeError, match=f"module 'crnplan' has no attribute '{name}s'"):
+        getattr(crn, f"{name}s")
 
 
 @pytest.mark.parametrize("code", [
@@ -51,7 +43,8 @@ def test_no_other_name() -> None:
     "import crnplan.commands.scenarios"])
 def test_imports_no_heavy_library(code: str) -> None:
     """Checks that the light parts import none of the libraries that take long."""
-    loaded = python(f"{code}; import sys; print(*sys.modules)").split()
+    words = [sys.executable, "-c", f"{code}; import sys; print(*sys.modules)"]
+    loaded = subprocess.run(words, capture_output=True, text=True, check=True, timeout=60).stdout.split()
     assert "crnplan" in loaded and not {it.split(".")[0] for it in loaded} & {*HEAVY}
 
 
@@ -133,3 +126,26 @@ def test_completion(crnplan: Command, monkeypatch: pytest.MonkeyPatch) -> None:
 def test_options_of_the_command_that_read() -> None:
     """A page that is written again names the options of the command that read the files."""
     assert group.get_command(click.Context(group), "report") and as_option("end", "") == "--to"
+
+
+def test_from_a_history_to_a_decision(tmp_path: Path, program: Path) -> None:
+    """Each step of a notebook gives what the next one takes, and the figures are exact."""
+    days = [(5, 3), (19, 1)]
+    rows = [f"{day:02}.{month:02}.2026;{amount},0" for month in range(1, 13) for day, amount in days]
+    (tmp_path / "movements.csv").write_text("\n".join(["Datum;Menge", *rows, ""]), "utf-8")
+    history = crn.read_history(tmp_path / "movements.csv", demand="Menge", date="Datum", every="week", decimal=",")
+    law, lead = crn.fit_demand(history), crn.fit_lead([2, 3, 2, 4])
+    part = crn.Scenario.of(law, lead, setup=4500, holding=60, backlog=900, today=(15, 30))
+    theory = part.suggest().frame
+    report = part.run(theory, program=program)
+    decision = report.decide().frame
+
+    assert sum(history.counts) == 12 * 4
+    assert law == crn.fit_demand(history, method="auto") and lead == crn.fit_lead([2, 3, 2, 4], method="auto")
+    assert list(theory["policy"])[:2] == ["today", "best"]
+    assert list(report.frame.index) == list(theory["policy"])
+    assert report._repr_html_().count("<tr>") == len(theory) + 1 and report._repr_html_().endswith("</table>\n")
+    assert isinstance(report.frame.loc["best", "per_period"], Fraction)
+    assert isinstance(int(report.frame.loc["best", "total"]), int)
+    assert set(decision.index) == set(theory["policy"])
+    assert decision.loc["best", "verdict"] in {"better", "undecided", "worse"}

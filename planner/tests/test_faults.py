@@ -12,6 +12,7 @@ import sys
 import tomllib
 from collections.abc import Callable, Sequence
 from pathlib import Path
+from unittest.mock import Mock
 
 import pytest
 
@@ -19,28 +20,27 @@ from crnplan.errors import CrnplanError, Failed, Fault, RefusedFaults
 from crnplan.files import faults_of, own_folder
 from crnplan.scenario import Scenario
 from planner.tests.conftest import Command
-from planner.tests.test_folders import CATALOGUE, ITEM, SWEEP, room
+from planner.tests.test_folders import CATALOGUE, ITEM, SWEEP, plan, room
 
-__all__ = ["room"]
+__all__ = ["plan", "room"]
 CONTROL = re.compile("[\x00-\x08\x0b-\x1f\x7f-\x9f\u2028-\u202e\u2066-\u2069]")
 REPORT = ["report", "plan"]
 
 
-def run(words: Sequence[str], program: Path, **streams: object) -> "subprocess.CompletedProcess[bytes]":
+def run(words: Sequence[str], **streams: object) -> "subprocess.CompletedProcess[bytes]":
     """Runs a command in a process of its own, perhaps on other standard streams."""
-    environment = {**os.environ, "CRNSIM": str(program)}
-    return subprocess.run([sys.executable, "-m", "crnplan", *words], env=environment, stdin=subprocess.DEVNULL,
+    return subprocess.run([sys.executable, "-m", "crnplan", *words], stdin=subprocess.DEVNULL,
                           **{"stdout": subprocess.PIPE, "stderr": subprocess.PIPE,
                              **streams})  # type: ignore[call-overload]
 
 
 @pytest.mark.parametrize("closed", [("stdout",), ("stderr",), ("stdout", "stderr")], ids=lambda it: " and ".join(it))
 @pytest.mark.parametrize("words", [CATALOGUE, ITEM, SWEEP, ["--help"], ["run", "base.toml"]], ids=lambda it: it[0])
-def test_a_reader_that_has_gone(room: Path, program: Path, words: Sequence[str], closed: Sequence[str]) -> None:
+def test_a_reader_that_has_gone(room: Path, words: Sequence[str], closed: Sequence[str]) -> None:
     """Does the whole work and ends with status 0 if what it prints is read by nobody, as by `| true`."""
     reader, writer = os.pipe()
     os.close(reader)
-    ran = run(words, program, **dict.fromkeys(closed, writer))
+    ran = run(words, **dict.fromkeys(closed, writer))
     os.close(writer)
     assert ran.returncode == 0 and b"Traceback" not in (ran.stderr or b"") and b"Broken" not in (ran.stderr or b"")
     names = {"catalogue": "decisions.csv", "item": "summary.txt", "sweep": "sweep.sqlite"}
@@ -49,28 +49,25 @@ def test_a_reader_that_has_gone(room: Path, program: Path, words: Sequence[str],
 
 @pytest.mark.parametrize("words", [SWEEP, ["--help"], ["run", "base.toml"], [*CATALOGUE, "--check"]],
                          ids=lambda it: it[0])
-def test_a_full_standard_output(room: Path, program: Path, words: Sequence[str]) -> None:
+def test_a_full_standard_output(words: Sequence[str]) -> None:
     """Ends with status 3 and a line if standard output is on a full disk."""
     with open("/dev/full", "wb") as full:
-        ran = run(words, program, stdout=full)
+        ran = run(words, stdout=full)
     lines = [line for line in ran.stderr.decode().splitlines() if line.startswith("crnplan: ")]
     assert ran.returncode == 3 and len(lines) == 1 and "No space left on device" in lines[0], ran.stderr
 
 
-@pytest.mark.parametrize("fault, part", [(MemoryError(), "out of memory"), (KeyError("x"), "a fault of crnplan itself: "
-                                                                            "KeyE"),
-                                         (RecursionError("deep"), "a fault of crnplan itself: RecursionError: deep ("),
-                                         (sqlite3.DatabaseError("malformed"), "a store in it is damaged (malformed)"),
-                                         (OSError(5, "Input/output error"), "Input/output error; what was done "
-                                          "before")])
+@pytest.mark.parametrize("fault, part", [
+    (MemoryError(), "out of memory"), (KeyError("x"), "a fault of crnplan itself: KeyE"),
+    (RecursionError("deep"), "a fault of crnplan itself: RecursionError: deep ("),
+    (sqlite3.DatabaseError("malformed"), "crnplan: a store in it is damaged (malformed)"),
+    (OSError(5, "Input/output error"), "crnplan: Input/output error; what was done before")])
 def test_faults_that_no_input_is_to_blame_for(crnplan: Command, monkeypatch: pytest.MonkeyPatch, fault: Exception,
                                               part: str) -> None:
     """Ends with status 3 and one line, whatever is raised."""
-    def raised(*words: object) -> Scenario:
-        raise fault
-    monkeypatch.setattr(Scenario, "read", raised)
+    monkeypatch.setattr(Scenario, "read", Mock(side_effect=fault))
     status, output, errors = crnplan("run", "base.toml")
-    assert (status, output, errors.count("\n")) == (3, "", 1) and f"crnplan: {part}" in errors or part in errors
+    assert (status, output, errors.count("\n")) == (3, "", 1) and errors.startswith(f"crnplan: {part}")
 
 
 def test_a_disk_that_gets_full(tmp_path: Path) -> None:
@@ -98,10 +95,10 @@ def test_an_error_of_another_process(fault: CrnplanError) -> None:
     assert type(sent) is type(fault) and (str(sent), vars(sent)) == (str(fault), vars(fault))
 
 
-def test_parts_on_a_terminal(room: Path, program: Path) -> None:
+def test_parts_on_a_terminal() -> None:
     """Names the parts of an item's plan on a terminal, before each."""
     terminal, end = os.openpty()
-    ran = run(ITEM, program, stderr=end)
+    ran = run(ITEM, stderr=end)
     os.close(end)
     lines = os.read(terminal, 4_096).decode().splitlines()
     os.close(terminal)
@@ -123,40 +120,34 @@ DAMAGES: dict[str, Callable[[Path], object]] = {
 @pytest.mark.parametrize("name, words", [("answers.sqlite", CATALOGUE), ("answers.sqlite", REPORT),
                                          ("catalogue.sqlite", REPORT), ("catalogue.sqlite", ["curve", "plan"])],
                          ids=lambda it: it if isinstance(it, str) else it[0])
-def test_a_damaged_store(room: Path, crnplan: Command, program: Path, name: str, words: Sequence[str],
-                         damage: str) -> None:
+def test_a_damaged_store(plan: Path, crnplan: Command, name: str, words: Sequence[str], damage: str) -> None:
     """Names a store that was damaged, with what to remove. Without it the plan is made again."""
-    assert crnplan(*CATALOGUE, "--program", program).status == 0
-    before = (room / "plan/decisions.csv").read_bytes()
-    DAMAGES[damage](room / "plan" / name)
+    before = (plan / "decisions.csv").read_bytes()
+    DAMAGES[damage](plan / name)
     status, _, errors = crnplan(*words)
     lines = [line for line in errors.splitlines() if line.startswith("crnplan: ")]
     assert status == 3 and len(lines) == 1 and name in lines[0] and "remove" in lines[0], errors
-    (room / "plan" / name).unlink()
-    assert crnplan(*CATALOGUE, "--program", program).status == 0
-    assert (room / "plan/decisions.csv").read_bytes() == before
+    (plan / name).unlink()
+    assert crnplan(*CATALOGUE).status == 0 and (plan / "decisions.csv").read_bytes() == before
 
 
-def test_a_store_that_cannot_be_opened(room: Path, crnplan: Command, program: Path) -> None:
+def test_a_store_that_cannot_be_opened(plan: Path, crnplan: Command) -> None:
     """Says that SQLite can't open a store, which is not damaged."""
-    assert crnplan(*CATALOGUE, "--program", program).status == 0
-    (room / "plan/answers.sqlite-wal").mkdir()
-    status, _, errors = crnplan(*CATALOGUE, "--program", program)
+    (plan / "answers.sqlite-wal").mkdir()
+    status, _, errors = crnplan(*CATALOGUE)
     assert status == 3 and "plan: " in errors and "name a folder that can be written" in errors, errors
 
 
-def test_a_plan_that_was_refused(room: Path, crnplan: Command, program: Path) -> None:
+def test_a_plan_that_was_refused(room: Path, crnplan: Command) -> None:
     """Finds no plan in a folder of which only the rows were read: one item is too few to learn from."""
-    told = crnplan(*CATALOGUE, "--borrow", "all", "--program", program)
-    assert told.status == 2 and (room / "plan/answers.sqlite").is_file()
+    assert crnplan(*CATALOGUE, "--borrow", "all").status == 2 and (room / "plan/answers.sqlite").is_file()
     told = crnplan(*REPORT)
     assert told.status == 2 and "plan: no plan is in it" in told.errors
 
 
-def test_an_answer_that_was_changed(room: Path, crnplan: Command, program: Path) -> None:
+def test_an_answer_that_was_changed(plan: Path, crnplan: Command) -> None:
     """Names a store in which one figure was changed: each answer has a digest."""
-    assert crnplan(*CATALOGUE, "--program", program).status == 0
-    base = sqlite3.connect(room / "plan/answers.sqlite", isolation_level=None)
+    base = sqlite3.connect(plan / "answers.sqlite", isolation_level=None)
     assert base.execute("UPDATE answers SET saving = saving + 1 WHERE item = 'A'").rowcount == 1
     base.close()
     for words in (REPORT, CATALOGUE):
@@ -168,15 +159,14 @@ EVIL = ("\x1b[31mred\x1b]0;title\x07", "bell\x07", "del\x7f", "\u202eright to le
 
 
 @pytest.mark.parametrize("evil", EVIL, ids=ascii)
-def test_control_characters_of_others(room: Path, crnplan: Command, program: Path, evil: str) -> None:
+def test_control_characters_of_others(room: Path, crnplan: Command, evil: str) -> None:
     """Shows none of a file's name, of headings, items and cells, and writes none into TOML."""
     path = room / f"demand {evil}.csv"
     rows = (room / "demand.csv").read_text("utf-8").splitlines()[1:]
     text = f'item,date,quantity,note {evil}\n' + "".join(f"{row},{evil}\n" for row in rows)
     path.write_text(f"{text}A,2026-06-30,n/a {evil},\n{evil},2026-06-30,4,\n", "utf-8")
     (room / "items.csv").write_text((room / "items.csv").read_text("utf-8") + f"{evil},20,1,9,1,5,20\n", "utf-8")
-    words = ["catalogue", str(path), "items.csv", "--jobs", "1"]
-    told = crnplan(*words, "--out", "plan", "--program", program, "--anyway")
+    told = crnplan("catalogue", str(path), *CATALOGUE[2:], "--anyway")
     assert told.status == 0 and not CONTROL.search(told.output + told.errors), told
     found = (room / "plan/found.toml").read_text("utf-8")
     assert not CONTROL.search(found) and tomllib.loads(found)
@@ -187,30 +177,27 @@ def test_control_characters_of_others(room: Path, crnplan: Command, program: Pat
         assert not CONTROL.search(told.output + told.errors) and "Traceback" not in told.errors, more
 
 
+NUMBER = re.compile(r"[+-][0-9.,e]*")
 FORMULAS = ("=1+1", "+cmd|' /C calc'!A0", "-2+3", "@SUM(A1)", "\t=1")
 
 
-def test_formulas_of_others(room: Path, crnplan: Command, program: Path) -> None:
+def test_formulas_of_others(room: Path, crnplan: Command) -> None:
     """Writes no cell that a spreadsheet would run, whatever items and descriptions are called."""
-    heading, first = (room / "items.csv").read_text("utf-8").splitlines()
-    items = [(f"{formula}{number}", formula) for number, formula in enumerate(FORMULAS)]
-    with (room / "items.csv").open("w", encoding="utf-8", newline="") as file:
-        csv.writer(file).writerows([[*heading.split(","), "description", "price"], [*first.split(","), "", 3],
-                                    *([name, *first.split(",")[1:], text, 3] for name, text in items)])
-    rows = (room / "demand.csv").read_text("utf-8").splitlines()
-    with (room / "demand.csv").open("a", encoding="utf-8", newline="") as file:
-        csv.writer(file).writerows([[name, *row.split(",")[1:]] for name, _ in items for row in rows[1:]])
-        csv.writer(file).writerows([[name, "2026-06-30", formula] for name, _ in items for formula in FORMULAS])
-    assert crnplan(*CATALOGUE, "--program", program).status == 0
-    assert crnplan("curve", "plan").status == 0
+    heading, first = (line.split(",") for line in (room / "items.csv").read_text("utf-8").splitlines())
+    rows = [row.split(",") for row in (room / "demand.csv").read_text("utf-8").splitlines()[1:]]
+    names = [f"{formula}{number}" for number, formula in enumerate(FORMULAS)]
+    with open("items.csv", "w", encoding="utf-8", newline="") as file:
+        csv.writer(file).writerows([[*heading, "description", "price"], [*first, "", 3], *(
+            [name, *first[1:], formula, 3] for name, formula in zip(names, FORMULAS))])
+    with open("demand.csv", "a", encoding="utf-8", newline="") as file:
+        csv.writer(file).writerows([*([name, *row[1:]] for name in names for row in rows), *(
+            [name, "2026-06-30", formula] for name in names for formula in FORMULAS)])
+    assert crnplan(*CATALOGUE).status == crnplan("curve", "plan").status == 0
     assert crnplan("history", "demand.csv", "--demand", "quantity", "--rejects", "rejects.csv").status == 2
-    number = re.compile(r"[+-][0-9.,e]*")
     for path in [*(room / "plan").glob("*.csv"), room / "rejects.csv"]:
         with path.open(encoding="utf-8", newline="") as file:
             cells = [cell for row in csv.reader(file) for cell in row]
-        run_by_it = [cell for cell in cells if cell[:1] in set("=@\t\r") or cell[:1] in set("+-")
-                     and not number.fullmatch(cell)]
-        assert cells and not run_by_it, path
+        assert cells and not [it for it in cells if it[:1] in set("=@\t\r+-") and not NUMBER.fullmatch(it)], path
 
 
 def test_settings_that_were_read_are_named(room: Path, crnplan: Command) -> None:

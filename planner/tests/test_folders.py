@@ -4,7 +4,7 @@ from __future__ import annotations
 import fcntl
 import os
 import shutil
-from collections.abc import Iterator, Sequence
+from collections.abc import Sequence
 from pathlib import Path
 
 import pytest
@@ -42,14 +42,22 @@ KEEPING = pytest.mark.parametrize("words", [CATALOGUE, ITEM, SWEEP, CHECK], ids=
 
 
 @pytest.fixture(autouse=True)
-def room(tmp_path: Path, top: Path, monkeypatch: pytest.MonkeyPatch) -> Iterator[Path]:
+def room(tmp_path: Path, top: Path, program: Path, monkeypatch: pytest.MonkeyPatch) -> Path:
     """Returns a folder with inputs of all commands, in which the test runs."""
     for name, text in (("demand.csv", DEMAND), ("items.csv", MASTERS), ("settings.toml", SETTINGS),
                        ("crnplan.toml", "[catalogue]\nperiods = 64\nreplications = 2\n")):
         (tmp_path / name).write_text(text, "utf-8")
     shutil.copy(top / "examples/two_policies.toml", tmp_path / "base.toml")
     monkeypatch.chdir(tmp_path)
-    yield tmp_path
+    monkeypatch.setenv("CRNSIM", str(program))
+    return tmp_path
+
+
+@pytest.fixture
+def plan(room: Path, crnplan: Command) -> Path:
+    """Returns the folder of a catalogue that was planned."""
+    assert crnplan(*CATALOGUE).status == 0
+    return room / "plan"
 
 
 def contents(folder: Path) -> dict[str, bytes]:
@@ -65,103 +73,97 @@ def plant(path: Path) -> None:
 
 
 @KEEPING
-@pytest.mark.parametrize("name", NAMES)
-def test_a_folder_of_others(room: Path, crnplan: Command, program: Path, words: Sequence[str], name: str) -> None:
+def test_a_folder_of_others(room: Path, crnplan: Command, words: Sequence[str]) -> None:
     """Leaves a folder as it is that has files and no marker, whatever they are called."""
-    plant(room / "plan" / name)
-    before = contents(room / "plan")
-    told = crnplan(*words, "--program", program)
-    assert contents(room / "plan") == before
-    assert told.status == 2 and "plan: the folder is not empty" in told.errors
-    assert words is not CATALOGUE or crnplan(*words, "--check").status == 0 and contents(room / "plan") == before
+    for name in NAMES:
+        plant(room / "plan" / name)
+        before = contents(room / "plan")
+        told = crnplan(*words)
+        assert told.status == 2 and "plan: the folder is not empty" in told.errors
+        assert contents(room / "plan") == before
+        shutil.rmtree(room / "plan")
 
 
-def test_check_writes_nothing(room: Path, crnplan: Command, program: Path) -> None:
-    """Writes nothing with --check: into no folder that is there, no new one, and none of an earlier plan."""
-    before = contents(room)
-    assert crnplan(*CATALOGUE, "--check").status == 0 and contents(room) == before
-    assert crnplan(*CATALOGUE[:-2], "--check").status == 0 and contents(room) == before
+def test_check_writes_nothing(room: Path, crnplan: Command) -> None:
+    """Writes nothing with --check: into no folder of others, no new one, and none of an earlier plan."""
+    plant(room / "plan/mine.csv")
+    for folder in ("plan", "new", "kept"):
+        if folder == "kept":
+            assert crnplan(*CATALOGUE[:-1], folder).status == 0
+            (room / "demand.csv").write_text(f"{DEMAND}A,2026-06-30,4\nA,2026-06-30,n/a\n", "utf-8")
+        before = contents(room)
+        assert crnplan(*CATALOGUE[:-1], folder, "--check").status == 0 and contents(room) == before
+    assert crnplan(*CATALOGUE[:-2], "--check").status == 0
     told = crnplan(*CATALOGUE[:-2])
     assert told.status == 2 and "--out is missing" in told.errors and contents(room) == before
-    assert crnplan(*CATALOGUE, "--program", program).status == 0
-    before = contents(room)
-    (room / "demand.csv").write_text(DEMAND + "A,2026-06-30,4\nA,2026-06-30,n/a\n", "utf-8")
-    told = crnplan(*CATALOGUE, "--check", "--rejects", "left.csv")
-    assert told.status == 0 and contents(room / "plan") == {
-        name.removeprefix("plan/"): data for name, data in before.items() if name.startswith("plan/")}
-    assert "n/a" in (room / "left.csv").read_text("utf-8")
+    assert crnplan(*CATALOGUE, "--check", "--rejects", "left.csv").status == 0
+    assert "n/a" in (room / "left.csv").read_text("utf-8") and len(contents(room)) == len(before) + 1
 
 
 @KEEPING
-def test_what_is_put_into_a_folder_of_ours(room: Path, crnplan: Command, program: Path, words: Sequence[str]) -> None:
-    """Leaves other files in a folder of its own, also if a file there names them, and those behind symlinks."""
-    assert crnplan(*words, "--program", program).status == 0
-    for name in ("parts/mine.csv", "notes.md", "items/mine.html"):
-        plant(room / "plan" / name)
-    plant(room / "outside")
-    steps = '{"steps": {"tables": {"inputs": "", "files": {"notes.md": "", "../outside": "", "parts/mine.csv": ""}}}}'
-    (room / "plan/state.json").write_text(steps, "utf-8")
+def test_what_is_put_into_a_folder_of_ours(room: Path, crnplan: Command, words: Sequence[str]) -> None:
+    """Leaves other files in a folder of its own, and those behind symlinks, also if a file there names them."""
+    assert crnplan(*words).status == 0
+    others = ("plan/parts/mine.csv", "plan/notes.md", "plan/items/mine.html", "outside")
+    for name in others:
+        plant(room / name)
+    (room / "plan/state.json").write_text('{"files": {"notes.md": "", "../outside": "", "parts/mine.csv": ""}}')
     replaced = [path for path in (room / "plan").iterdir() if path.suffix in (".csv", ".txt", ".toml", ".html")
-                and "marker" not in path.name and path.name not in ("state.json", "crnplan-folder.txt")]
+                and path.name != "crnplan-folder.txt"]
     for path in replaced:
         path.unlink()
         path.symlink_to(room / "outside")
-    (room / "demand.csv").write_text(DEMAND + "A,2026-06-30,4\n", "utf-8")
+    (room / "demand.csv").write_text(f"{DEMAND}A,2026-06-30,4\n", "utf-8")
     (room / "base.toml").write_text((room / "base.toml").read_text("utf-8").replace("setup = 32", "setup = 33"))
-    told = crnplan(*words, "--program", program)
+    told = crnplan(*words)
     assert told.status == 0, told.errors
-    assert all((room / name).read_text("utf-8") == PLANT for name in (
-        "outside", "plan/parts/mine.csv", "plan/notes.md", "plan/items/mine.html"))
+    assert [(room / name).read_text("utf-8") for name in others] == [PLANT] * len(others)
     assert (replaced or words is SWEEP) and not any(path.is_symlink() for path in replaced)
 
 
 @pytest.mark.parametrize("name", ["answers.sqlite", "answers.sqlite-wal", "items"])
-def test_symlinks_to_what_is_written_in_place(room: Path, crnplan: Command, program: Path, name: str) -> None:
+def test_symlinks_to_what_is_written_in_place(plan: Path, crnplan: Command, name: str) -> None:
     """Refuses a symlink at the place of a file that is not replaced whole."""
-    assert crnplan(*CATALOGUE, "--program", program).status == 0
-    assert crnplan("report", "plan", "--item", "A", "--program", program).status == 0
-    target = room / "outside"
+    report, target = ("report", "plan", "--item", "A"), plan.parent / "outside"
+    assert crnplan(*report).status == 0
     target.mkdir() if name == "items" else plant(target)
-    if (room / "plan" / name).exists():
-        os.rename(room / "plan" / name, room / "moved")
-    (room / "plan" / name).symlink_to(target)
-    words = ["report", "plan", "--item", "A"] if name == "items" else CATALOGUE
-    told = crnplan(*words, "--program", program)
+    if (plan / name).exists():
+        os.rename(plan / name, plan.parent / "moved")
+    (plan / name).symlink_to(target)
+    told = crnplan(*(report if name == "items" else CATALOGUE))
     assert told.status == 2 and "is a symlink, which is not followed" in told.errors
     assert [*target.iterdir()] == [] if name == "items" else target.read_text("utf-8") == PLANT
 
 
-def test_a_folder_of_another_kind(room: Path, crnplan: Command, program: Path) -> None:
+def test_a_folder_of_another_kind(plan: Path, crnplan: Command) -> None:
     """Refuses the folder of a catalogue for anything else, and leaves it as it is."""
-    assert crnplan(*CATALOGUE, "--program", program).status == 0
-    before = contents(room / "plan")
+    before = contents(plan)
     for words in (ITEM, SWEEP, CHECK):
-        told = crnplan(*words, "--program", program)
+        told = crnplan(*words)
         assert told.status == 2 and f"not that of a folder of crnplan {words[0]}" in told.errors
-        assert contents(room / "plan") == before
+        assert contents(plan) == before
 
 
 @KEEPING
-def test_one_run_at_a_time(room: Path, crnplan: Command, program: Path, words: Sequence[str]) -> None:
+def test_one_run_at_a_time(room: Path, crnplan: Command, words: Sequence[str]) -> None:
     """Refuses a folder in which another run works: the lock is that of the whole folder."""
-    assert crnplan(*words, "--program", program).status == 0
+    assert crnplan(*words).status == 0
     with (room / "plan/crnplan-folder.txt").open() as marker:
         fcntl.flock(marker, fcntl.LOCK_EX)
-        told = crnplan(*words, "--program", program)
+        told = crnplan(*words)
     assert told.status == 2 and "another run of crnplan works in this folder" in told.errors
 
 
-def test_a_marker_that_was_cut(room: Path, crnplan: Command, program: Path) -> None:
+def test_a_marker_that_was_cut(plan: Path, crnplan: Command) -> None:
     """Goes on if the last line of the marker was cut off, and refuses what that line named."""
-    assert crnplan(*CATALOGUE, "--program", program).status == 0
-    marker = room / "plan/crnplan-folder.txt"
+    marker = plan / "crnplan-folder.txt"
     lines = marker.read_text("utf-8").splitlines()
     lines.remove("summary.txt")
     marker.write_text("\n".join([*lines, "summa"]), "utf-8")
-    told = crnplan(*CATALOGUE, "--program", program)
+    told = crnplan(*CATALOGUE)
     assert told.status == 2 and "plan/summary.txt: crnplan has not made it" in told.errors
-    (room / "plan/summary.txt").unlink()
-    assert crnplan(*CATALOGUE, "--program", program).status == 0
+    (plan / "summary.txt").unlink()
+    assert crnplan(*CATALOGUE).status == 0
     assert "summary.txt" in marker.read_text("utf-8").splitlines()
 
 
@@ -173,12 +175,11 @@ def test_a_marker_that_is_no_file(room: Path, crnplan: Command) -> None:
     assert told.status == 2 and "plan/crnplan-folder.txt: it is no file" in told.errors
 
 
-def test_what_a_killed_run_has_left(room: Path, crnplan: Command, program: Path) -> None:
+def test_what_a_killed_run_has_left(plan: Path, crnplan: Command) -> None:
     """Removes what is not finished of a run that was ended by force, and nothing that only looks like it."""
-    assert crnplan(*CATALOGUE, "--program", program).status == 0
     for name in ("unfinished-00000000000000aa", "unfinished-00000000000000bb"):
-        plant(room / "plan" / name / "part")
-    with (room / "plan/crnplan-folder.txt").open("a") as marker:
+        plant(plan / name / "part")
+    with (plan / "crnplan-folder.txt").open("a") as marker:
         marker.write("unfinished-00000000000000aa/\n")
-    assert crnplan(*CATALOGUE, "--program", program).status == 0
-    assert sorted(it.name for it in (room / "plan").glob("unfinished-*")) == ["unfinished-00000000000000bb"]
+    assert crnplan(*CATALOGUE).status == 0
+    assert [it.name for it in plan.glob("unfinished-*")] == ["unfinished-00000000000000bb"]

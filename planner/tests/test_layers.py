@@ -1,8 +1,10 @@
-"""A module of the package imports only those that stand above it in the table of docs/ARCHITECTURE.md."""
+"""A module of the package imports only those above it in the table of docs/ARCHITECTURE.md. Each function, class and
+constant is named somewhere in the package, not only where it is made."""
 from __future__ import annotations
 
 import ast
 import re
+from collections import Counter
 from collections.abc import Iterator
 from pathlib import Path
 
@@ -11,6 +13,11 @@ import pytest
 TOP = Path(__file__).resolve().parents[2]
 SOURCE = TOP / "planner/src/crnplan"
 ROW = re.compile(r"^\| ((?:`\w+`(?:, )?)+) \|", re.MULTILINE)
+FILES = sorted(it for it in SOURCE.rglob("*.py") if it.parent != SOURCE or not it.name.startswith("__"))
+# What others call by its name, with the reason.
+CALLED = {"list_commands": "click", "get_command": "click", "format_commands": "click", "resolve_command": "click",
+          "_repr_html_": "notebooks", **dict.fromkeys(
+              ("MOST_COST", "CHECKPOINT_RULES", "MOST_CHECKPOINT_BYTES"), "the tests of the program")}
 
 
 def layers() -> list[str]:
@@ -35,9 +42,6 @@ def imported(file: Path) -> Iterator[str]:
             yield from [parts[1]] if len(parts) > 1 else [it.name for it in node.names]
 
 
-FILES = sorted(it for it in SOURCE.rglob("*.py") if it.parent != SOURCE or not it.name.startswith("__"))
-
-
 def test_table_has_all_modules() -> None:
     """The table has each module once."""
     assert sorted(layers()) == sorted({module_of(it) for it in FILES})
@@ -49,3 +53,34 @@ def test_imports_only_those_above(file: Path) -> None:
     order = layers()
     above = {*order[:order.index(module_of(file)) + 1], "__version__"}
     assert set(imported(file)) - above == set()
+
+
+def made_in(text: str) -> Iterator[str]:
+    """Yields the names of the functions, classes and constants that a module makes, but for those of Python."""
+    tree = ast.parse(text)
+    yield from (node.name for node in ast.walk(tree) if isinstance(node, (ast.FunctionDef, ast.ClassDef)))
+    for node in tree.body:
+        targets = node.targets if isinstance(node, ast.Assign) else [node.target] if isinstance(
+            node, ast.AnnAssign) else []
+        yield from (it.id for target in targets for it in ast.walk(target) if isinstance(it, ast.Name))
+
+
+def unreached(texts: dict[str, str]) -> set[str]:
+    """Returns the names that modules make and that no text has a second time."""
+    counts = Counter(word for text in texts.values() for word in re.findall(r"\w+", text))
+    return {name for file, text in texts.items() if file.endswith(".py") for name in made_in(text)
+            if counts[name] == 1 and not name.startswith("__")}
+
+
+def test_plants() -> None:
+    """Finds a function that nothing calls, a constant and a class; not what a template or another module names."""
+    texts = {"a.py": "MOST = 3\ndef one(): pass\nclass Two:\n    def three(self): pass\n", "b.py": "from a import one",
+             "c.html": "{{ its.three }}"}
+    assert unreached(texts) == {"MOST", "Two"}
+
+
+def test_all_is_reached() -> None:
+    """Nothing of the package is unreached, but for what others call."""
+    texts = {str(it.relative_to(SOURCE)): it.read_text("utf-8") for it in sorted(SOURCE.rglob("*"))
+             if it.is_file() and it.suffix != ".pyc" and it.suffix != ".csv"}
+    assert unreached(texts) - CALLED.keys() == set()

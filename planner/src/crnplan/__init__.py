@@ -15,30 +15,32 @@ from typing import TYPE_CHECKING, Any
 __version__ = "0.1.0"
 
 if TYPE_CHECKING:
-    from .records.catalogue_reading import Catalogue, read_catalogue
-    from .curve.exchange_curve import exchange_curve
-    from .api import Plan, PlannedItem, open_plan, plan, plan_item
-    from .pages.exports import report
-    from .decide.doubt import doubt
-    from .decide.keys import check_keys
-    from .decide.sensitivity import sensitivity
-    from .demand.checks import Checks, check_history
-    from .demand.fitted import FittedLaw
-    from .demand.fitting import fit_demand, fit_lead
-    from .demand.learning import Prior, learn
-    from .crnsim.program import find_program
-    from .crnsim.long_run import LongRunReport
-    from .crnsim.report import Report
-    from .crnsim.trajectory import trajectories
-    from .errors import CrnplanError, Failed, Fault, ProgramError, Refused, ScenarioError
-    from .records import History, read_history, read_lead_times
-    from .law import Law
-    from .scenario import Costs, Policy, Scenario
-    from .crnsim.sweep import sweep
+    from .errors import (CrnplanError as CrnplanError, Failed as Failed, Fault as Fault, ProgramError as ProgramError,
+                         Refused as Refused, ScenarioError as ScenarioError)
+    from .scenario import Costs as Costs, Policy as Policy, Scenario as Scenario
+    from .law import Law as Law
+    from .crnsim.long_run import LongRunReport as LongRunReport
+    from .crnsim.report import Report as Report
+    from .crnsim.program import find_program as find_program
+    from .records import History as History, read_history as read_history, read_lead_times as read_lead_times
+    from .demand.checks import Checks as Checks, check_history as check_history
+    from .demand.fitted import FittedLaw as FittedLaw
+    from .demand.fitting import fit_demand as fit_demand, fit_lead as fit_lead
+    from .demand.learning import Prior as Prior, learn as learn
+    from .decide.keys import check_keys as check_keys
+    from .decide.doubt import doubt as doubt
+    from .decide.sensitivity import sensitivity as sensitivity
+    from .crnsim.sweep import sweep as sweep
+    from .crnsim.trajectory import trajectories as trajectories
+    from .api import (Plan as Plan, PlannedItem as PlannedItem, open_plan as open_plan, plan as plan,
+                      plan_item as plan_item)
+    from .records.catalogue_reading import Catalogue as Catalogue, read_catalogue as read_catalogue
+    from .curve.exchange_curve import exchange_curve as exchange_curve
+    from .pages.exports import report as report
 
-# The module of each public name, by the imports above.
-_HOMES = {name.name: node.module for node in ast.walk(ast.parse(Path(__file__).read_text("utf-8")))
-          if isinstance(node, ast.ImportFrom) and node.level for name in node.names}
+# The module of each public name: those above that are imported as themselves, which is how checkers of types know them.
+_HOMES = {name.asname: node.module for node in ast.walk(ast.parse(Path(__file__).read_text("utf-8")))
+          if isinstance(node, ast.ImportFrom) for name in node.names if name.asname}
 __all__ = ["__version__", *_HOMES]
 
 

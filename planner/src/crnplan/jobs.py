@@ -291,8 +291,8 @@ def lines(total: int, kept: int, unit: str) -> Callable[[int], None]:
 
 @contextlib.contextmanager
 def progress(total: int, kept: int, shown: bool, unit: str) -> Iterator[Callable[[int], None]]:
-    """Gives a function that shows how many units are done on standard error: as a bar on a terminal, as a few lines in a
-    log. `kept` are there from before."""
+    """Gives a function that shows on standard error how many units are done: as a bar on a terminal, as a few lines in
+    a log. `kept` are there from before."""
     if not shown:
         yield lambda done: None
     elif not sys.stderr.isatty():

@@ -13,9 +13,11 @@ import signal
 import subprocess
 import sys
 import time
-from collections.abc import Callable, Sequence
+from collections.abc import Callable
 from pathlib import Path
 from typing import TypeVar
+
+import psutil
 
 import crnplan as crn
 
@@ -28,12 +30,12 @@ WAITING = "import distributed, sys; distributed.Client(sys.argv[1]).wait_for_wor
 Found = TypeVar("Found")
 
 
-def changed_package(room: Path, code: str) -> Path:
-    """Returns a folder with a copy of crnplan that has more code."""
+def changed_package(room: Path) -> Path:
+    """Returns a folder with a copy of crnplan that has a line more."""
     folder = room / "changed"
     shutil.copytree(Path(crn.__file__).parent, folder / "crnplan", ignore=shutil.ignore_patterns("__pycache__"))
     with (folder / "crnplan/__init__.py").open("a", encoding="utf-8") as file:
-        file.write(f"# changed\n{code}")
+        file.write("# changed\n")
     return folder
 
 
@@ -75,19 +77,14 @@ class Cluster:
 
     def have_all_ended(self) -> bool:
         """Returns whether nothing is left of all processes, which may take a moment."""
-        for _ in range(100):
-            if not self.living():
-                return True
-            time.sleep(0.05)
-        return False
+        return any(not self.living() or time.sleep(0.05) for _ in range(100))
 
     def living(self) -> int:
         """Returns how many processes live that were started, or that these have started: those of their groups."""
-        groups, found = {str(it.pid) for it in self.processes.values()}, 0
-        for path in Path("/proc").glob("[0-9]*/stat"):
-            with contextlib.suppress(OSError):
-                state, _, group = path.read_text("latin-1").rpartition(")")[2].split()[:3]
-                found += group in groups and state != "Z"
+        groups, found = {it.pid for it in self.processes.values()}, 0
+        for process in psutil.process_iter():
+            with contextlib.suppress(psutil.Error, ProcessLookupError):
+                found += os.getpgid(process.pid) in groups and process.status() != psutil.STATUS_ZOMBIE
         return found
 
     def wait_until(self, what: str, happened: Callable[[], Found], during: str = "") -> Found:
@@ -116,16 +113,15 @@ class Cluster:
         except (OSError, ValueError):
             return ""
 
-    def open(self, workers: Sequence[str] = WORKERS, **of_leaving: str) -> None:
-        """Starts the scheduler and workers, and waits until they know each other. The worker that leaves has some
-        variables of its own."""
+    def open(self) -> None:
+        """Starts the scheduler and the workers, and waits until they know each other."""
         here = ["--host", LOOPBACK, "--no-dashboard", "--dashboard-address", f"{LOOPBACK}:0"]
         self.start("scheduler", "-m", "distributed.cli.dask_scheduler", *here, "--port", "0", "--scheduler-file",
                    "scheduler.json", "--idle-timeout", f"{SECONDS}s")
         self.address = self.wait_until("the scheduler's address", self.scheduler_address, "scheduler")
-        for name in workers:
-            self.join(name, **(of_leaving if name == "leaves" else {}))
-        self.wait_for(len(workers))
+        for name in WORKERS:
+            self.join(name)
+        self.wait_for(len(WORKERS))
 
     def join(self, name: str, **others: str) -> None:
         """Starts a worker, with some variables of its own."""

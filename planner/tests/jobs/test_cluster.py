@@ -1,12 +1,12 @@
 """Tests of work on a cluster: workers that end, hang, or are not as this machine; a scheduler that ends or is not
-there.
-"""
+there."""
 from __future__ import annotations
 
+import os
 import sys
 from collections.abc import Iterator, Sequence
 from pathlib import Path
-from typing import NamedTuple
+from typing import Any
 from unittest.mock import Mock
 
 import pytest
@@ -14,7 +14,7 @@ import pytest
 import crnplan as crn
 from crnplan import jobs
 from planner.tests.conftest import Answer, Command
-from planner.tests.decide.answers import priced
+from planner.tests.decide.answers import changed, priced
 from planner.tests.jobs.clusters import LOOPBACK, SECONDS, WORKERS, Cluster, changed_package
 from planner.tests.jobs.test_sweep import kept
 
@@ -42,21 +42,16 @@ echo "$CRNSIM_WORKER ends" >> "{room}/taken"
 """
 
 
-class Taken(NamedTuple):
-    """How many runs a worker has begun, and how many it has ended."""
-
-    begun: int
-    ended: int
-
-
 @pytest.fixture
 def cluster(room: Path, program: Path) -> Iterator[Cluster]:
     """Opens a cluster with a base and a program that waits. Ends it, and checks that nothing of it is left."""
     (room / "base.toml").write_text(priced(room / "examples/two_policies.toml", 3), "utf-8")
     (room / "holding").write_text(HOLDING.format(room=room, program=program), "utf-8")
     (room / "holding").chmod(0o755)
-    (room / "program").symlink_to(program)
+    (room / "bin").mkdir()
+    (room / "bin/crnsim").symlink_to(program)
     opened = Cluster(room)
+    opened.environment["PATH"] = f"{room / 'bin'}:{os.environ['PATH']}"
     try:
         opened.open()
         yield opened
@@ -66,60 +61,57 @@ def cluster(room: Path, program: Path) -> Iterator[Cluster]:
     assert opened.have_all_ended()
 
 
-def taken(room: Path, worker: str) -> Taken:
-    """Returns what a worker has done."""
+def taken(room: Path, worker: str) -> tuple[int, int]:
+    """Returns how many runs a worker has begun, and how many it has ended."""
     lines = (room / "taken").read_text("utf-8").splitlines() if (room / "taken").exists() else []
-    return Taken(lines.count(f"{worker} begins"), lines.count(f"{worker} ends"))
+    return lines.count(f"{worker} begins"), lines.count(f"{worker} ends")
 
 
-def start(cluster: Cluster, name: str, *words: str) -> None:
-    """Starts a sweep over the cluster."""
-    sweep = ["-m", "crnplan", "sweep", "base.toml", *GRID, "--cluster", cluster.address]
-    cluster.start(name, *sweep, *words)
+def start(cluster: Cluster, *words: str) -> None:
+    """Starts a sweep over the cluster, of two workers or three."""
+    cluster.start("sweep", "-m", "crnplan", "sweep", "base.toml", *GRID, "--cluster", cluster.address, *words)
 
 
-def ended(cluster: Cluster, name: str) -> Answer:
+def ended(cluster: Cluster) -> Answer:
     """Returns how a sweep over the cluster has ended."""
-    status = cluster.wait_for_end(name)
-    return Answer(status, *((cluster.room / f"{name}.{it}").read_text("utf-8") for it in ("out", "errors")))
+    status = cluster.wait_for_end("sweep")
+    return Answer(status, *((cluster.room / f"sweep.{it}").read_text("utf-8") for it in ("out", "errors")))
 
 
 def test_a_worker_that_leaves_changes_nothing(cluster: Cluster, room: Path, crnplan: Command) -> None:
     """Ends a worker in the middle of its second run, when the other one is in the middle of its own."""
-    start(cluster, "sweep", "--program", "./holding", "--out", "kept_by_cluster")
-    cluster.wait_until("the second run of each", lambda: all(taken(room, it).begun == 2 for it in WORKERS), "sweep")
+    start(cluster, "--program", "./holding", "--out", "kept_by_cluster")
+    cluster.wait_until("the second run of each", lambda: all(taken(room, it)[0] == 2 for it in WORKERS), "sweep")
     cluster.end("leaves")
     (room / "go_on").touch()
-    told = ended(cluster, "sweep")
+    told = ended(cluster)
     here = crnplan("sweep", "base.toml", *GRID, "--out", "kept_here")
     assert (told.status, told.output) == (0, here.output) == here[:2], told.errors[-1000:]
-    stays, leaves = (taken(room, it) for it in WORKERS)
-    assert leaves == (2, 1) and stays.begun == stays.ended >= SCENARIOS - 1
+    begun, finished = taken(room, "stays")
+    assert taken(room, "leaves") == (2, 1) and begun == finished >= SCENARIOS - 1
     by_cluster = kept(room / "kept_by_cluster")
     assert len(by_cluster) == SCENARIOS and by_cluster == kept(room / "kept_here")
 
 
 def test_a_fault_of_the_base(cluster: Cluster, room: Path) -> None:
     """Checks that a fault of the base is reported, and a failing program by its line."""
-    start(cluster, "failing", "--program", "/bin/false")
-    told = ended(cluster, "failing")
-    assert told[:2] == (2, "") and "no output, status 1" in told.errors
     text = (room / "base.toml").read_text("utf-8")
-    (room / "base.toml").write_text(text.replace("initial = 60", "initial = -1"), "utf-8")
-    start(cluster, "fault")
-    told = ended(cluster, "fault")
-    assert told[:2] == (2, "") and "fault 6" in told.errors
+    for initial, part in ((60, "no output, status 1"), (-1, "fault 6")):
+        (room / "base.toml").write_text(changed(text, "initial = 60", f"initial = {initial}"), "utf-8")
+        start(cluster, "--program", "/bin/false")
+        told = ended(cluster)
+        assert told[:2] == (2, "") and part in told.errors
 
 
 def test_a_scheduler_that_ends(cluster: Cluster, room: Path) -> None:
     """Ends the scheduler in the middle of a sweep: what is done is kept and said, with status 3. Then begins one whose
     scheduler is not there, with status 2."""
-    for name, status in (("cut", 3), ("nobody", 2)):
-        start(cluster, name, "--program", "./holding", "--out", "kept")
-        if name == "cut":
-            cluster.wait_until("two reports", lambda: len(kept(room / "kept")) == 2, name)
+    for status in (3, 2):
+        start(cluster, "--program", "./holding", "--out", "kept")
+        if status == 3:
+            cluster.wait_until("two reports", lambda: len(kept(room / "kept")) == 2, "sweep")
             cluster.end("scheduler")
-        told = ended(cluster, name)
+        told = ended(cluster)
         assert told[:2] == (status, "") and f"crnplan: --cluster {cluster.address}: " in told.errors, told
         assert "2 of 8 scenarios are done and kept; run again to go on" in told.errors
     assert len(kept(room / "kept")) == 2 and "Traceback" not in told.errors
@@ -129,20 +121,19 @@ def test_a_scheduler_that_ends(cluster: Cluster, room: Path) -> None:
 def test_a_batch_that_hangs(cluster: Cluster, room: Path, monkeypatch: pytest.MonkeyPatch, hangs: str) -> None:
     """Gives a batch that takes too long to another worker, where the result is the same. If it hangs on all of them,
     the sweep ends and says so."""
-    here = crn.sweep(crn.Scenario.read(room / "base.toml"), range(50, 62), range(70, 80), program=room / "holding")
-    (room / "taken").unlink()
-    (room / "holding").write_text(HANGING.format(room=room, program=room / "program", hangs=hangs), "utf-8")
-    monkeypatch.setattr(jobs, "LIMIT_SECONDS", 1.0)
-
-    def swept() -> str:
-        """Returns the report of the sweep over the cluster."""
+    def swept(**more: Any) -> str:
+        """Returns the report of the same sweep."""
         return crn.sweep(crn.Scenario.read(room / "base.toml"), range(50, 62), range(70, 80), program=room / "holding",
-                         cluster=cluster.address, out=room / "kept").text
+                         **more).text
+    here, others = swept(), {"cluster": cluster.address, "out": room / "kept"}
+    (room / "taken").unlink()
+    (room / "holding").write_text(HANGING.format(room=room, program=room / "bin/crnsim", hangs=hangs), "utf-8")
+    monkeypatch.setattr(jobs, "LIMIT_SECONDS", 1.0)
     if hangs == "both":
         with pytest.raises(crn.Failed, match="has taken longer than 1 seconds on each of 3 workers"):
-            swept()
+            swept(**others)
     else:
-        assert swept() == here.text and taken(room, "leaves").ended < taken(room, "leaves").begun
+        assert swept(**others) == here and taken(room, "leaves")[1] < taken(room, "leaves")[0]
 
 
 @pytest.mark.parametrize("late, wanted", [([], None), (["one"], ["b", "c"]), (["one", "two", "three"], None)])
@@ -171,39 +162,54 @@ def test_a_worker_says_whether_it_is_as_here(monkeypatch: pytest.MonkeyPatch) ->
     worker.name = "late"
     monkeypatch.setitem(sys.modules, "distributed", Mock(get_worker=lambda: worker))
     own, called = jobs.identity(""), Mock(return_value=2)
-    assert jobs.run_as_here(called, own, "", "word") == ("", 2)
-    strange, result = jobs.run_as_here(called, {**own, "crnplan": "other"}, "", "word")
-    assert f"late (tcp://{LOOPBACK}:1) has another crnplan" in strange and result is None
+    assert jobs.run_as_here(called, own, "", "word") == 2
+    fault = jobs.run_as_here(called, {**own, "crnplan": "other"}, "", "word")
+    assert isinstance(fault, crn.Refused) and f"late (tcp://{LOOPBACK}:1) has another crnplan" in str(fault)
     called.assert_called_once_with("word")
 
 
 def test_a_stranger_that_comes_later(cluster: Cluster, room: Path) -> None:
     """Refuses a worker with another crnplan that joins in the middle, and keeps what the others did."""
-    start(cluster, "sweep", "--program", "./holding", "--out", "kept")
+    start(cluster, "--program", "./holding", "--out", "kept")
     cluster.wait_until("two reports", lambda: len(kept(room / "kept")) == 2, "sweep")
-    cluster.join("late", PYTHONPATH=str(changed_package(room, "")))
+    cluster.join("late", PYTHONPATH=str(changed_package(room)))
     cluster.wait_for(3)
     cluster.end("leaves")
     (room / "go_on").touch()
-    told = ended(cluster, "sweep")
+    told = ended(cluster)
     assert told[:2] == (2, "") and "the worker late (tcp://" in told.errors and "has another crnplan" in told.errors
     assert len(kept(room / "kept")) >= 2
 
 
-def test_missing_distributed_is_refused(room: Path, crnplan: Command, monkeypatch: pytest.MonkeyPatch) -> None:
-    """Checks that a sweep over a cluster without distributed says how to get it."""
-    monkeypatch.setitem(sys.modules, "distributed", None)
-    told = crnplan("sweep", "examples/two_policies.toml", *GRID, "--cluster", LOOPBACK)
-    assert told[:2] == (2, "") and "needs distributed, which is missing here; install it (on Debian" in told.errors
+@pytest.mark.parametrize("part", ["crnsim", "crnplan"])
+def test_a_stranger_from_the_beginning(cluster: Cluster, room: Path, part: str) -> None:
+    """Refuses a worker with another program or crnplan, and no other, before anything is run. Without it, all is."""
+    (room / "other").mkdir()
+    (room / "other/crnsim").write_text(f"#!/bin/sh\nexec '{room}/bin/crnsim'\n")
+    (room / "other/crnsim").chmod(0o755)
+    cluster.join("late", **({"PATH": f"{room / 'other'}:{os.environ['PATH']}"} if part == "crnsim" else
+                            {"PYTHONPATH": str(changed_package(room))}))
+    cluster.wait_for(3)
+    for status, reports in ((2, 0), (0, SCENARIOS)):
+        start(cluster, "--program", "crnsim", "--out", "kept")
+        told = ended(cluster)
+        assert told.status == status and len(kept(room / "kept")) == reports, told
+        assert (f"the worker late (tcp://" in told.errors and f"has another {part}" in told.errors) == (status == 2)
+        assert "stays" not in told.errors and "Traceback" not in told.errors
+        cluster.end("late")
 
 
-def test_tls_without_certificates(room: Path, crnplan: Command, program: Path, monkeypatch: pytest.MonkeyPatch) -> None:
-    """Refuses an address that needs certificates if Dask has none, in one line."""
+@pytest.mark.parametrize("address, part", [
+    (LOOPBACK, "needs distributed, which is missing here; install it (on Debian"),
+    (f"tls://{LOOPBACK}:1", f"--cluster tls://{LOOPBACK}:1: TLS expects")])
+def test_no_way_to_a_cluster(room: Path, crnplan: Command, monkeypatch: pytest.MonkeyPatch, address: str,
+                             part: str) -> None:
+    """Refuses a cluster without distributed, and an address that needs certificates, in a line that says what to do."""
     monkeypatch.setenv("DASK_CONFIG", str(room / "no_settings"))
-    words = ["--cluster", f"tls://{LOOPBACK}:1", "--program", program]
-    told = crnplan("sweep", "examples/two_policies.toml", *GRID, *words)
-    assert told[:2] == (2, "") and told.errors.count("\n") == 1
-    assert "--cluster tls://127.0.0.1:1: TLS expects" in told.errors
+    if address == LOOPBACK:
+        monkeypatch.setitem(sys.modules, "distributed", None)
+    told = crnplan("sweep", "examples/two_policies.toml", *GRID, "--cluster", address)
+    assert told[:2] == (2, "") and told.errors.count("\n") == 1 and part in told.errors
 
 
 pytestmark = pytest.mark.timeout(2 * SECONDS)

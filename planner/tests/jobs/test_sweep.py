@@ -17,7 +17,7 @@ import numpy as np
 import pytest
 
 import crnplan as crn
-from crnplan.jobs import lines, progress
+from crnplan.jobs import progress
 from planner.tests.conftest import Command
 from planner.tests.decide.answers import changed, priced
 
@@ -26,8 +26,7 @@ GRID = ["--s", "10", "60", "10", "--S", "40", "90", "10", "--jobs", "1", "--prog
 PAIRS = [(s, S) for s in range(10, 61, 10) for S in range(40, 91, 10) if s <= S and (s, S) != (20, 40)]
 SCENARIOS = 3
 # Ten scenarios without the base: 150 pairs.
-WORDS = ["sweep", "examples/two_policies.toml", "--s", "1", "10", "1", "--S", "41", "55", "1", "--jobs", "1"]
-TEN = 10
+TEN = ["sweep", "examples/two_policies.toml", "--s", "1", "10", "1", "--S", "41", "55", "1", "--jobs", "1"]
 
 
 @pytest.fixture
@@ -42,11 +41,10 @@ def base(room: Path, program: Path) -> Path:
 
 @pytest.fixture
 def runs(room: Path) -> Callable[[], int]:
-    """Returns a function that tells how often the program has been run since it was asked last."""
+    """Returns a function that returns how often the program has been run since it was asked last."""
     counted = [0]
 
     def count() -> int:
-        """Returns the number of new runs."""
         path = room / "runs"
         counted.append(len(path.read_text("utf-8")) if path.exists() else 0)
         return counted[-1] - counted[-2]
@@ -67,7 +65,7 @@ def test_the_table_has_the_programs_rows_by_rank(base: Path, room: Path, crnplan
 
 @pytest.mark.parametrize("jobs", [1, 3])
 def test_any_number_of_runs_at_a_time_gives_the_same_bytes(base: Path, crnplan: Command, jobs: int) -> None:
-    """Compares sweeps with other numbers of runs at a time, by the command and by the function."""
+    """Compares sweeps with other numbers of runs at a time, by the command and, in silence, by the function."""
     words = ["--s", "1", "60", "3", "--S", "60", "90", "3"]
     one = crnplan("sweep", base, *words, "--jobs", "2")
     assert one.status == 0 and crnplan("sweep", base, *words, "--jobs", jobs).output == one.output
@@ -116,62 +114,44 @@ def test_a_damaged_store_is_named(base: Path, room: Path, crnplan: Command, chan
 
 
 def test_another_base_is_run_again(base: Path, crnplan: Command, runs: Callable[[], int]) -> None:
-    """Checks that reports of another scenario are not taken, and that the folder may return to the first one."""
-    text = base.read_text("utf-8")
-    tables = []
-    for setup in (32, 33, 32):
-        base.write_text(text.replace("setup = 32", f"setup = {setup}"), "utf-8")
+    """Takes no reports of another scenario. Comments and the spelling of numbers change nothing."""
+    text, tables = base.read_text("utf-8"), []
+    for setup, expected in (("32", SCENARIOS), ("3_2", 0), ("33", SCENARIOS), ("32", SCENARIOS)):
+        base.write_text(f"# {setup}\n{changed(text, 'setup = 32', f'setup = {setup}')}", "utf-8")
         tables.append(crnplan("sweep", base, *GRID, "--out", "kept").output)
-        assert runs() == SCENARIOS
-    assert tables[0] == tables[2] != tables[1]
+        assert runs() == expected
+    assert tables[0] == tables[1] == tables[3] != tables[2]
 
 
-def test_comments_of_the_base_change_nothing(base: Path, crnplan: Command, runs: Callable[[], int]) -> None:
-    """Checks that a base with another comment and another spelling of the same numbers is the same sweep."""
-    table = crnplan("sweep", base, *GRID, "--out", "kept").output
-    base.write_text("# another comment\n" + base.read_text("utf-8").replace("setup = 32", "setup = 3_2"), "utf-8")
-    assert runs() == SCENARIOS and crnplan("sweep", base, *GRID, "--out", "kept").output == table and runs() == 0
-
-
-def refused(told: tuple[int, str, str], part: str) -> bool:
-    """Returns whether a sweep has ended with status 2, no table, and this part of its last line."""
-    return told[:2] == (2, "") and part in told[2].splitlines()[-1]
-
-
-def test_a_base_with_a_fault_is_refused(base: Path, crnplan: Command) -> None:
-    """Checks that a fault of the base is reported before anything is run."""
-    base.write_text(base.read_text("utf-8").replace("initial = 60", "initial = -1"), "utf-8")
-    assert refused(crnplan("sweep", base, *GRID), "fault 6")
-
-
-def test_reports_of_two_bases_are_refused(base: Path, room: Path, program: Path, crnplan: Command) -> None:
-    """Checks that a program which gives the base another row in one report than in the others is refused."""
-    (room / "counting").write_text(f"""#!/bin/sh
-if [ -e "{room}/second" ]; then "{program}" | sed 's/^A,20,40,222,/A,20,40,223,/'; else "{program}"; fi
-touch "{room}/second"
-""", "utf-8")
-    assert refused(crnplan("sweep", base, *GRID), "not the same row")
-
-
-def test_a_failing_program_is_refused(base: Path, room: Path, program: Path, crnplan: Command) -> None:
-    """Checks that a program that writes a report and fails is refused."""
-    (room / "counting").write_text(COUNTING.format(room=room, program=program, how="") + "exit 5\n", "utf-8")
+@pytest.mark.parametrize(("then", "status", "part"), [
+    ('| if [ -e second ]; then sed "s/^A,20,40,222,/A,20,40,223,/"; else cat; fi; touch second', 2, "not the same row"),
+    ("; exit 5", 3, "status 5")], ids=["another base", "a failure"])
+def test_programs_are_refused(base: Path, room: Path, program: Path, crnplan: Command, then: str, status: int,
+                              part: str) -> None:
+    """Refuses a program that gives the base another row in one report, and one that fails after a report."""
+    (room / "counting").write_text(f'#!/bin/sh\n"{program}" {then}\n', "utf-8")
     told = crnplan("sweep", base, *GRID)
-    assert told[:2] == (3, "") and "status 5" in told.errors
+    assert told[:2] == (status, "") and part in told.errors.splitlines()[-1]
 
 
-@pytest.mark.parametrize(("words", "part"), [
-    (["--s", "9", "3", "1", "--S", "9", "9", "1"], "--s: FROM and TO are 0 to 1,000,000 and rise, and STEP is at"),
-    (["--s", "1", "3", "1", "--S", "9", "1000001", "1"], "--S: FROM and TO are 0 to 1,000,000"),
-    (["--s", "1", "3", "0", "--S", "9", "9", "1"], "STEP is at least 1"),
-    (["--s", "20", "20", "1", "--S", "40", "40", "1"], "the grid has no pair with s <= S beside the base"),
-    (["--s", "50", "60", "1", "--S", "40", "40", "1"], "the grid has no pair with s <= S beside the base"),
-    (["--s", "1", "3", "1", "--S", "9", "9", "1", "--program", "./nobody"], "there is no program ./nobody"),
-    (["--s", "1", "3", "1", "--S", "9", "9", "1", "--out", "base.toml"], "base.toml: File exists; name a folder")],
-    ids=["from above to", "too large", "no step", "the base alone", "no pair", "no program", "no folder"])
-def test_words_are_refused(base: Path, crnplan: Command, words: list[str], part: str) -> None:
-    """Checks what is said of grids, programs and folders that cannot be used."""
-    assert refused(crnplan("sweep", "base.toml", *words), part)
+NINE = ["--s", "1", "3", "1", "--S", "9", "9", "1"]
+
+
+@pytest.mark.parametrize(("words", "old", "new", "part"), [
+    (["--s", "9", "3", "1", *NINE[4:]], "", "", "--s: FROM and TO are 0 to 1,000,000 and rise, and STEP is at least 1"),
+    ([*NINE[:6], "1000001", "1"], "", "", "--S: FROM and TO are 0 to 1,000,000"),
+    (["--s", "1", "3", "0", *NINE[4:]], "", "", "STEP is at least 1"),
+    (["--s", "20", "20", "1", "--S", "40", "40", "1"], "", "", "the grid has no pair with s <= S beside the base"),
+    (["--s", "50", "60", "1", "--S", "40", "40", "1"], "", "", "the grid has no pair with s <= S beside the base"),
+    ([*NINE, "--program", "./nobody"], "", "", "there is no program ./nobody"),
+    ([*NINE, "--out", "base.toml"], "", "", "base.toml: File exists; name a folder"),
+    (NINE, "initial = 60", "initial = -1", "fault 6"),
+    (NINE, 'name = "A"', 'name = "s1_S9"', "the base is called s1_S9")])
+def test_sweeps_are_refused(base: Path, crnplan: Command, words: list[str], old: str, new: str, part: str) -> None:
+    """Checks what is said of grids, programs, folders and bases that cannot be used."""
+    base.write_text(changed(base.read_text("utf-8"), *[old, new] * bool(old)), "utf-8")
+    told = crnplan("sweep", "base.toml", *words)
+    assert told[:2] == (2, "") and part in told.errors.splitlines()[-1]
 
 
 @pytest.mark.parametrize(("s", "S", "message"), [
@@ -183,12 +163,6 @@ def test_levels_of_the_function_are_refused(base: Path, s: list[int], S: list[in
         crn.sweep(crn.Scenario.read(base), s, S, program="./counting")
 
 
-def test_a_base_with_the_name_of_a_pair_is_refused(base: Path, crnplan: Command) -> None:
-    """Checks that no two policies of a report have one name."""
-    base.write_text(changed(base.read_text("utf-8"), 'name = "A"', 'name = "s1_S9"'), "utf-8")
-    assert refused(crnplan("sweep", base, "--s", "1", "3", "1", "--S", "9", "9", "1"), "the base is called s1_S9")
-
-
 def test_json_has_the_fields_of_the_report(base: Path, crnplan: Command) -> None:
     """Compares the data with the table, cell by cell."""
     heading, *rows = csv.reader(crnplan("sweep", base, *GRID).output.splitlines())
@@ -197,54 +171,37 @@ def test_json_has_the_fields_of_the_report(base: Path, crnplan: Command) -> None
     assert [["-" if it is None else str(it) for it in record.values()] for record in data] == rows
 
 
-def read_part(terminal: int) -> bytes:
-    """Returns what comes next from a terminal; nothing if its other side is closed."""
-    try:
-        return os.read(terminal, 4096)
-    except OSError:
-        return b""
-
-
 def test_a_log_has_a_line_for_each_ninth(crnplan: Command) -> None:
     """Checks the lines of a sweep whose standard error is no terminal."""
-    told = crnplan(*WORDS)
-    wanted = [f"{done} of {TEN} scenarios (0 kept)" for done in (0, 2, 3, 4, 5, 6, 7, 8, 9, 10)]
+    told = crnplan(*TEN)
+    wanted = [f"{done} of 10 scenarios (0 kept)" for done in (0, 2, 3, 4, 5, 6, 7, 8, 9, 10)]
     assert told.status == 0 and told.errors.splitlines() == wanted and "\r" not in told.errors
-
-
-def test_a_log_of_many_scenarios_has_at_most_ten_lines(crnplan: Command) -> None:
-    """Checks that the number of lines does not grow with that of the scenarios."""
-    told = crnplan(*WORDS[:2], "--s", "1", "40", "1", "--S", "41", "100", "1")
-    shown = told.errors.splitlines()
-    assert told.status == 0 and "\r" not in told.errors
-    assert 2 <= len(shown) <= 10 and shown[-1].startswith("160 of 160 ")
 
 
 @pytest.mark.parametrize("total", [1, 2, 8, 9, 10, 11, 100, 12345])
 def test_lines_begin_and_end(capsys: pytest.CaptureFixture[str], total: int) -> None:
     """Checks the first and the last line, and that there are at most ten, for each kept number of a few."""
     for kept in {0, total // 2, total}:
-        show = lines(total, kept, "scenarios")
-        for done in range(kept + 1, total + 1):
-            show(done)
+        with progress(total, kept, True, "scenarios") as show:
+            for done in range(kept + 1, total + 1):
+                show(done)
         shown = capsys.readouterr().err.splitlines()
         assert shown[0] == f"{kept} of {total} scenarios ({kept} kept)" and len(shown) <= 10
         assert shown[-1] == f"{total} of {total} scenarios ({kept} kept)"
+    with progress(total, 0, False, "scenarios") as show:
+        show(total)
+    assert capsys.readouterr() == ("", "")
 
 
 def test_a_terminal_has_a_bar(room: Path) -> None:
     """Runs a sweep whose standard error is a terminal."""
     ours, theirs = pty.openpty()
-    with subprocess.Popen([sys.executable, "-m", "crnplan", *WORDS], stdin=subprocess.DEVNULL,
+    with subprocess.Popen([sys.executable, "-m", "crnplan", *TEN], stdin=subprocess.DEVNULL,
                           stdout=subprocess.DEVNULL, stderr=theirs) as process:
         os.close(theirs)
-        shown = b"".join(iter(lambda: read_part(ours), b"")).decode()
+        shown = b""
+        with contextlib.suppress(OSError):  # the other side is closed
+            while part := os.read(ours, 4096):
+                shown += part
     os.close(ours)
-    assert process.returncode == 0 and "100%" in shown and "10/10" in shown and "0 kept" in shown
-
-
-def test_the_function_is_silent(capsys: pytest.CaptureFixture[str]) -> None:
-    """Checks that nothing is shown unless it is asked for."""
-    with progress(3, 0, False, "items") as show:
-        show(3)
-    assert capsys.readouterr() == ("", "")
+    assert process.returncode == 0 and all(it in shown for it in (b"100%", b"10/10", b"0 kept"))

@@ -5,28 +5,23 @@ import contextlib
 import sys
 from collections.abc import Callable, Iterable, Iterator
 from pathlib import Path
-from typing import TYPE_CHECKING, Any, TypeVar
+from typing import Any, TypeVar
 
 import click
 from click.core import ParameterSource
 
-from ..decide.doubt import TIMES, WITHIN, doubt as doubt_of
+import crnplan as crn
+from ..decide.doubt import TIMES, WITHIN
 from ..demand import FAMILIES, METHODS
-from ..errors import Fault, Refused, RefusedFaults
-from ..law import Law
-from ..records import History, read_history, read_lead_times
+from ..errors import RefusedFaults
 from ..records.cells import DECIMALS, EVERY
 from ..records.reading import RefusedFiles, printed, write_rejects
 from ..records.histories import column_names
 from ..records.observed import LeadTimes, Observed
 from ..records.sources import Rules
-from ..scenario import Scenario
 from ..toml.documents import places_of
 from . import note
 from .words import form_options, pairs_of, picture, program_option, scenario_argument, show, together
-
-if TYPE_CHECKING:
-    from ..demand.fitted import FittedLaw
 
 Made = TypeVar("Made")
 VERSION = "# A scenario with the table [returns] has version = 2.\n"
@@ -76,11 +71,11 @@ class Files(contextlib.AbstractContextManager["Files"]):
     def __init__(self, asked: dict[str, Any]) -> None:
         """Raises Refused if the words name files that can't be read together."""
         if asked["lead"] and asked["orders"]:
-            raise Refused("say --lead or --orders, not both")
+            raise crn.Refused("say --lead or --orders, not both")
         self.leads = asked["lead"] or (asked["orders"], None)
         if [asked.get("scenario"), asked["file"], self.leads[0]].count("-") > 1:
-            raise Refused("standard input (-) can be one file only; name the others")
-        self.asked, self.read, self.faults, self.notes = asked, list[Observed](), list[Fault](), list[Fault]()
+            raise crn.Refused("standard input (-) can be one file only; name the others")
+        self.asked, self.read, self.faults, self.notes = asked, list[Observed](), list[crn.Fault](), list[crn.Fault]()
         self.rules = {name: asked[name] for name in RULES}
 
     def made(self, make: Callable[..., Made], *words: Any, **named: Any) -> Made | None:
@@ -94,35 +89,35 @@ class Files(contextlib.AbstractContextManager["Files"]):
         self.read += [made] if isinstance(made, Observed) else []
         return made
 
-    def history(self, demand: str) -> History | None:
+    def history(self, demand: str) -> crn.History | None:
         """Reads the history, with the demand in a column; None if it has faults."""
         words = {name: self.asked[name] for name in WORDS if name in self.asked}
         every = self.asked["every"] if self.asked["date"] or not self.asked["orders"] else None
-        return self.made(read_history, self.asked["file"], demand=demand, every=every, **words, **self.rules)
+        return self.made(crn.read_history, self.asked["file"], demand=demand, every=every, **words, **self.rules)
 
     def lead_times(self) -> LeadTimes | None:
         """Reads the lead times; None if they have faults, or without a file of them."""
         path, column = self.leads
         words = {name: self.asked[name] for name in ("every", "ordered", "received")}
-        return self.made(read_lead_times, path, lead=column, **words, **self.rules) if path else None
+        return self.made(crn.read_lead_times, path, lead=column, **words, **self.rules) if path else None
 
-    def sound(self) -> tuple[History, LeadTimes | None]:
+    def sound(self) -> tuple[crn.History, LeadTimes | None]:
         """Reads both, with the demand in the column `demand` if no other is named. Raises the faults of all."""
         history, leads = self.history(self.asked["demand"] or "demand"), self.lead_times()
         self.check()
         assert history is not None
         return history, leads
 
-    def laws(self) -> dict[str, FittedLaw]:
+    def laws(self) -> dict[str, crn.FittedLaw]:
         """Returns the laws of all tables that are asked for. Raises the faults of all files and fits together."""
-        from ..demand.fitting import fit_demand, fit_lead
         history, leads = self.history(self.asked["demand"]), self.lead_times()
-        fit, box = self.asked["fit"], self.asked["box"]
-        found = {"demand": history and self.made(fit_demand, history, method=fit, box=box),
-                 "lead": leads and self.made(fit_lead, leads, method=fit if fit == "empirical" else "auto"),
-                 "returns": history and history.returns and self.made(fit_demand, history.returns, method=fit, box=box)}
+        returned, words = history and history.returns, {"method": self.asked["fit"], "box": self.asked["box"]}
+        of_leads = "empirical" if words["method"] == "empirical" else "auto"
+        laws = {"demand": history and self.made(crn.fit_demand, history, **words),
+                "lead": leads and self.made(crn.fit_lead, leads, method=of_leads),
+                "returns": returned and self.made(crn.fit_demand, returned, **words)}
         self.check()
-        return {name: law for name, law in found.items() if law}
+        return {name: law for name, law in laws.items() if law}
 
     def check(self) -> None:
         """Raises the faults of all together, if there are any."""
@@ -130,7 +125,7 @@ class Files(contextlib.AbstractContextManager["Files"]):
             raise RefusedFiles(self.faults, self.notes)
 
     @property
-    def left_out(self) -> list[Fault]:
+    def left_out(self) -> list[crn.Fault]:
         """Returns the faults of all rows that were left out."""
         return [fault for made in self.read for fault in made.faults]
 
@@ -145,14 +140,14 @@ class Files(contextlib.AbstractContextManager["Files"]):
 
 
 @contextlib.contextmanager
-def theory_of(scenario: Scenario, path: str) -> Iterator[None]:
+def theory_of(scenario: crn.Scenario, path: str) -> Iterator[None]:
     """Raises RefusedFaults with the place in a scenario for what theory can't compute."""
     from ..theory.lattice import NoTheory
     try:
         yield
     except NoTheory as fault:
         place = places_of(scenario.source or "", scenario.tree).get(fault.path, (0, 0))
-        raise RefusedFaults([Fault(str(fault), path.removeprefix("-"), *place)]) from None
+        raise RefusedFaults([crn.Fault(str(fault), path.removeprefix("-"), *place)]) from None
 
 
 @click.command(epilog="Example: crnplan history sales.csv --demand Menge --date Datum --every week --decimal , --net")
@@ -193,13 +188,12 @@ def history(**asked: Any) -> None:
     files = Files(asked)
     if asked["demand"] is None:
         names = ", ".join(column_names(asked["file"], Rules(**files.rules))) or "none"
-        raise Refused(f"{asked['file']}: say --demand with the name of a column; the columns are: {names}")
+        raise crn.Refused(f"{asked['file']}: say --demand with the name of a column; the columns are: {names}")
     with files:
         laws = files.laws()
-    from ..demand.checks import check_history
     from ..demand.fitted import notes_of
-    checked = (line for made in files.read if isinstance(made, History)
-               for line in check_history(made, season=asked["season"]).lines)
+    checked = (line for made in files.read if isinstance(made, crn.History)
+               for line in crn.check_history(made, season=asked["season"]).lines)
     files.say([*checked, *(line for name, law in laws.items() for line in notes_of(law, name))])
     for name, law in laws.items():
         click.echo(f"\n{VERSION if name == 'returns' else ''}{law.toml(name)}", nl=False)
@@ -254,12 +248,12 @@ def suggest(**asked: Any) -> None:
     from ..demand.posterior import allowed_laws, allowed_leads
     from ..theory.many_laws import CONFIDENCE
     from ..theory.suggestions import suggestions_of
-    context, laws, leads = click.get_current_context(), tuple[Law, ...](), tuple[Law, ...]()
+    context, laws, leads = click.get_current_context(), tuple[crn.Law, ...](), tuple[crn.Law, ...]()
     of_history = [option.opts[0] for option in context.command.params if option.name and option.name not in OWN
                   and context.get_parameter_source(option.name) is not ParameterSource.DEFAULT]
     if asked["file"] is None and of_history:
         context.fail(f"{of_history[0]} is that of --history: give the history of demand too")
-    files, scenario = Files(asked), Scenario.read(asked["scenario"])
+    files, scenario = Files(asked), crn.Scenario.read(asked["scenario"])
     with files:
         if asked["file"]:
             demand, lead_times = files.sound()
@@ -311,12 +305,12 @@ def doubt(**asked: Any) -> None:
 
     Theory's figures are rounded and unproved; crnsim's are exact and proved for its stream, and then rounded here.
     """
-    files, scenario = Files(asked), Scenario.read(asked["scenario"])
+    files, scenario = Files(asked), crn.Scenario.read(asked["scenario"])
     words = {name: asked[name] for name in ("times", "within", "seed", "box", "runs", "program")}
     with files:
         demand, leads = files.sound()
         with theory_of(scenario, asked["scenario"]):
-            doubted = doubt_of(scenario, demand, leads, **words)
+            doubted = crn.doubt(scenario, demand, leads, **words)
     files.say()
     if asked["plot"]:
         from ..pages.pictures import regrets_picture, save

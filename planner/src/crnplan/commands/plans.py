@@ -10,13 +10,12 @@ from typing import Any
 
 import click
 
-from ..curve.exchange_curve import exchange_curve
+import crnplan as crn
 from ..demand import METHODS
-from ..errors import Refused
 from ..files import Folder, new_file, own_folder
 from ..pages.catalogue_page import file_of
 from ..pages.catalogue_tables import counted_rows, reasons_of, rejects_of
-from ..pages.exports import CATALOGUE_FILES, FOUND, report as write_report
+from ..pages.exports import CATALOGUE_FILES, FOUND
 from ..plan.catalogue import Lost, plan_into
 from ..plan.item import plan_item
 from ..plan.question import Settings
@@ -138,7 +137,7 @@ def catalogue(**asked: Any) -> int:
         click.echo(f"# settings are from {path}", err=True)
     words, settings = words_of(asked, config)
     if not asked["only_read"] and asked["out"] is None:
-        raise Refused("--out is missing; name the folder for the plan, or say --check to only read the files")
+        raise crn.Refused("--out is missing; name the folder for the plan, or say --check to only read the files")
     with (tempfile.TemporaryDirectory(prefix="crnplan-") as room, own_folder(
             Path(room) if asked["only_read"] else asked["out"], CATALOGUE, CATALOGUE_FILES) as folder):
         read = Catalogue(read_into(folder, {kind: asked[kind] for kind in ("demand", "items", "orders")}, words))
@@ -246,7 +245,7 @@ def curve(folder: Path, stock_value: float | None, fill: float | None, orders: f
 
     All of it is by theory. --confirm has crnsim count the stock of a sample of items at each named point.
     """
-    drawn = exchange_curve(folder, stock_value=stock_value, fill=fill, orders=orders, jobs=jobs, cluster=cluster,
+    drawn = crn.exchange_curve(folder, stock_value=stock_value, fill=fill, orders=orders, jobs=jobs, cluster=cluster,
                            program=program, confirm=confirm, progress=True)
     if plot:
         from ..pages.pictures import exchange_picture, save
@@ -268,6 +267,6 @@ def report(folder: Path, items: tuple[str, ...], program: str | None) -> None:
 
     A page is one file that asks for no other. It can be sent, printed and read without a network.
     """
-    page = write_report(folder, items, program=program)
+    page = crn.report(folder, items, program=program)
     for path in (*(file_of(folder, name) for name in items), page):
         click.echo(path)

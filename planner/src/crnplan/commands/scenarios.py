@@ -8,11 +8,11 @@ from typing import Any
 
 import click
 
-from .. import __version__, formats
+import crnplan as crn
+from .. import formats
 from ..crnsim.program import program_and_reason, writes_known_report
-from ..crnsim.trajectory import MOST_DRAWN, chosen, shown_periods, table_of, trajectories
-from ..errors import Refused
-from ..scenario import Scenario, read_policies
+from ..crnsim.trajectory import MOST_DRAWN, chosen, shown_periods, table_of
+from ..scenario import read_policies
 from ..toml.documents import read_bytes
 from ..toml.scenarios import read_scenario
 from .words import (form_options, horizon_options, level_option, picture, program_option, read_for, scenario_argument,
@@ -123,9 +123,9 @@ def decide(report: str, path: str | None, is_sweep: bool, replications: int | No
         context.fail("give --scenario" if is_sweep or long_run else "give --replications or --scenario")
     if long_run and (plot or map_path):
         context.fail("--plot and --map show the report as it is, without --long-run")
-    scenario = None if path is None else Scenario.read(path)
+    scenario = None if path is None else crn.Scenario.read(path)
     if scenario is not None and replications not in (None, scenario.replications):
-        raise Refused(f"{path}: it has {scenario.replications} replications, not {replications}")
+        raise crn.Refused(f"{path}: it has {scenario.replications} replications, not {replications}")
     from ..decide.long_run import coming_decision, corrected_decision
     from ..decide.verdicts import check_policies, decided, read_report
     count = scenario.replications if scenario else int(replications or 0)
@@ -188,7 +188,7 @@ def check(scenario: str, best: str, keys: tuple[str, ...], replications: int | N
     --out FOLDER keeps what was run: key_1.toml and key_1.csv for the first key, and pooled.csv with several keys, the
     report of all replications. FOLDER is new, empty, or of an earlier check.
     """
-    from ..decide.keys import check_keys, check_long_run
+    from ..decide.keys import check_long_run
     options["keys"] = [key.split() for key in keys]
     asked = read_for(scenario, horizon, stock, long_run, is_table=form is None)
     if long_run:
@@ -197,7 +197,7 @@ def check(scenario: str, best: str, keys: tuple[str, ...], replications: int | N
         checked = check_long_run(asked, best, **options)
     else:
         replications = formats.MOST_REPLICATIONS if replications is None else replications
-        checked = check_keys(asked, best, replications=replications, out=out, **options)
+        checked = crn.check_keys(asked, best, replications=replications, out=out, **options)
     show(checked, form)
     return 0 if checked.holds else 1
 
@@ -226,8 +226,7 @@ def sensitivity(scenario: str, horizon: int | None, stock: int | None, long_run:
     warns of it). With --long-run they are those of the long run, as crnplan run --long-run has it, without unit.
     """
     asked = read_for(scenario, horizon, stock, long_run, is_table=form is None)
-    from ..decide.sensitivity import sensitivity as sensitivity_of
-    show(sensitivity_of(asked, long_run=long_run, program=program), form)
+    show(crn.sensitivity(asked, long_run=long_run, program=program), form)
 
 
 @click.command(epilog="Example: crnplan trajectory examples/spare_part.toml today both --out stock.svg")
@@ -245,9 +244,9 @@ def trajectory(scenario: str, names: tuple[str, ...], periods: int | None, progr
     review, "net_demand" its demand less what customers return, "stock" and "position" (stock and all that is on order)
     are those at its end. All figures are exact and come from the program. SCENARIO.toml may be -, for standard input.
     """
-    asked = Scenario.read(scenario)
+    asked = crn.Scenario.read(scenario)
     policies, count = chosen(asked, names), shown_periods(asked, periods, out is not None)
-    drawn = trajectories(asked.with_policies(policies), count, program=program)
+    drawn = crn.trajectories(asked.with_policies(policies), count, program=program)
     if out:
         from ..pages.pictures import save, trajectories_picture
         save(trajectories_picture(policies, drawn, asked.initial), out)
@@ -278,8 +277,9 @@ def sweep(base: str, points: tuple[int, int, int], levels: tuple[int, int, int],
 
     How many scenarios are done goes to standard error: on a terminal as a bar, in a log as some ten lines.
     """
-    from ..crnsim.sweep import numbers_of, sweep as sweep_of
-    report = sweep_of(Scenario.read(base), numbers_of("s", *points), numbers_of("S", *levels), progress=True, **options)
+    from ..crnsim.sweep import numbers_of
+    sides = numbers_of("s", *points), numbers_of("S", *levels)
+    report = crn.sweep(crn.Scenario.read(base), *sides, progress=True, **options)
     show_rows(report.table, form, report.text)
 
 
@@ -293,7 +293,7 @@ def where(program: str | None) -> int:
     differs; 2 if there is no program, or if it fails.
     """
     path, reason = program_and_reason(program)
-    print(f"crnplan {__version__}\n{path} ({reason})")
+    print(f"crnplan {crn.__version__}\n{path} ({reason})")
     right = writes_known_report(path)
     print(f"its report on a small scenario {'is right' if right else 'differs from the known one'}")
     return 0 if right else 1

@@ -7,15 +7,12 @@ import re
 import sys
 from collections.abc import Callable
 from pathlib import Path
-from typing import TYPE_CHECKING, Any
+from typing import Any
 
 import click
 
-from ..errors import Refused
-from ..scenario import Scenario
-
-if TYPE_CHECKING:
-    from ..table import DataTable, Result
+import crnplan as crn
+from ..table import DataTable, Result
 
 Decorator = Callable[[Callable[..., Any]], Callable[..., Any]]
 PICTURES = (".png", ".svg")
@@ -24,7 +21,7 @@ PICTURES = (".png", ".svg")
 def picture(context: click.Context, option: click.Parameter, word: str | None) -> Path | None:
     """Returns the path of a picture, whose ending says its kind. Raises Refused for another ending."""
     if word is not None and not word.lower().endswith(PICTURES):
-        raise Refused(f"{word!r} does not end with {' or '.join(PICTURES)}")
+        raise crn.Refused(f"{word!r} does not end with {' or '.join(PICTURES)}")
     return None if word is None else Path(word)
 
 
@@ -36,7 +33,7 @@ def pairs_of(form: str, example: str) -> Callable[[click.Context, click.Paramete
         for word in words:
             pair = re.fullmatch(form, word)
             if pair is None:
-                raise Refused(f"{option.opts[0]} {word!r} is not {option.metavar}, as {example}")
+                raise crn.Refused(f"{option.opts[0]} {word!r} is not {option.metavar}, as {example}")
             pairs[pair[1].strip()] = pair[2].strip()
         return pairs
     return read
@@ -66,13 +63,13 @@ horizon_options = together(
     click.option("--long-run", is_flag=True, help="Compare costs of the long run, without the effect of the start."))
 
 
-def read_for(path: str, horizon: int | None, stock: int | None, long_run: bool, is_table: bool) -> Scenario:
+def read_for(path: str, horizon: int | None, stock: int | None, long_run: bool, is_table: bool) -> crn.Scenario:
     """Reads a scenario for its horizon. If that is named by periods or stock, a line on standard error says it, unless
     the output is a table for a reader: which says it in its heading."""
     named = {name: value for name, value in (("periods", horizon), ("initial", stock)) if value is not None}
     if long_run and named:
         click.get_current_context().fail("--long-run has no --horizon and no --stock: give one or the other")
-    asked = Scenario.read(path)
+    asked = crn.Scenario.read(path)
     if not named:
         return asked
     asked = asked.changed(**named)
