@@ -1,5 +1,4 @@
-"""Computes figures of the long run, and of the periods of a run, by a Markov chain of the stock and of all that is under
-way, by period of arrival.
+"""Computes figures of the long run, and of a run's periods, by a Markov chain of the stock and all that is under way.
 
 A period goes through docs/FORMATS.md, "What happens in a period", step by step. This shares no code with the theory.
 """
