@@ -46,7 +46,6 @@ def scenario(two_policies: str) -> Scenario:
 
 @pytest.mark.parametrize("path", EXAMPLES, ids=lambda path: path.stem)
 def test_read_and_written(path: Path) -> None:
-    """Compares the tree of a file with tomllib's, and what is written with the file, or with its tree."""
     text = path.read_text("utf-8")
     read = Scenario.read(path)
     assert read.tree == tomllib.loads(text) and read.toml() == text
@@ -132,7 +131,6 @@ MONEY: dict[str, tuple[dict[str, Any], tuple[int, int, int, int], Fraction]] = {
 
 @pytest.mark.parametrize("name", MONEY)
 def test_money(name: str) -> None:
-    """Compares scaled costs and their scale. A scale that is not 1 is in the text as a comment."""
     amounts, costs, scale = MONEY[name]
     found = made(**amounts)
     assert (found.costs, found.scale) == (Costs(*costs), scale)
@@ -190,7 +188,6 @@ def test_wrong_changes(scenario: Scenario, changes: dict[str, Any], kind: type[E
 
 
 def test_comments_are_kept() -> None:
-    """Changes numbers, laws and levels of a text with comments, which keeps all else."""
     asked = Scenario.parse(COMMENTED)
     changed = asked.changed(initial=61, costs={"holding": 2}, demand=[3, 3, 7], policies={"A": (21, 40), "B": (60, 81)})
     wanted = (COMMENTED.replace("6_0 ", "61 ").replace("holding = 1", "holding = 2").replace("[1, 2, 3, 4]", "[3, 7]")
@@ -225,7 +222,6 @@ def test_comments_that_cannot_be_kept(monkeypatch: pytest.MonkeyPatch) -> None:
 
 @given(st.data())
 def test_changed_text_has_the_tree(data: st.DataObject) -> None:
-    """Changes random fields of a text with comments, and reads what is written."""
     law = st.dictionaries(st.integers(1, 32), st.integers(1, 99), min_size=1, max_size=4)
     pairs = st.tuples(st.integers(0, 9), st.integers(9, 20))
     fields: dict[str, st.SearchStrategy[Any]] = {
@@ -276,7 +272,6 @@ def test_policies_of_words(tmp_path: Path) -> None:
 
 @pytest.mark.parametrize("path", EXAMPLES, ids=lambda path: path.stem)
 def test_report_is_the_programs_field_by_field(path: Path, program: Path) -> None:
-    """Compares the table of a run with each field of the report that is kept beside the scenario."""
     report = Scenario.read(path).run(program=program)
     text = path.with_suffix(".csv").read_text("utf-8")
     assert report.text == text
@@ -312,7 +307,6 @@ def test_policies_that_cannot_be_run(scenario: Scenario) -> None:
 
 
 def test_command_run(program: Path, crnplan: Command, tmp_path: Path) -> None:
-    """Runs the command with the scenario's own policies, with others, and as JSON."""
     path = TOP / "examples/two_policies.toml"
     assert crnplan("run", path, "--program", program) == (0, path.with_suffix(".csv").read_text("utf-8"), "")
     table = tmp_path / "policies.csv"

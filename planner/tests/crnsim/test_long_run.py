@@ -12,8 +12,8 @@ import numpy as np
 import pytest
 
 from crnplan.crnsim import long_run
-from crnplan.crnsim.long_run import (COUNT_ORDERS, OWN_PERIODS, OWN_STREAMS, START_STREAM, drawn, keys_of, long_run_of,
-                                     places_of, settled, stream_words, words_of_keys)
+from crnplan.crnsim.long_run import (OWN_PERIODS, OWN_STREAMS, START_STREAM, drawn, keys_of, long_run_of, places_of,
+                                     settled, stream_words, words_of_keys)
 from crnplan.crnsim.report import report_of
 from crnplan.errors import ProgramError, Refused
 from crnplan.law import Law
@@ -51,9 +51,6 @@ def test_words_are_those_of_an_independent_cipher() -> None:
         wanted = [[word for block in range(70) for word in oracle.threefry(key_words(key), [block, stream, 0, 0])]
                   for key in keys]
         assert stream_words(words_of_keys(keys), 70, stream).tolist() == wanted
-
-
-def test_own_streams_are_not_those_of_the_program() -> None:
     assert len({0, 1, 2, *OWN_STREAMS, START_STREAM}) == 3 + 3 + 1
 
 
@@ -177,10 +174,6 @@ def test_each_key_has_a_start_of_its_own(monkeypatch: pytest.MonkeyPatch) -> Non
     starts = settled(wide, words_of_keys(keys_of(KEY, 48))).stocks[:, 0]
     assert len(set(starts.tolist())) == 48
     assert abs(starts.mean() - 500_000) < 4 * 1_000_000 / math.sqrt(12 * 48)
-
-
-def test_orders_are_counted_by_setup_alone() -> None:
-    assert COUNT_ORDERS == Costs(1, 0, 0, 0)
 
 
 @pytest.mark.parametrize("scenario, keys, message", [

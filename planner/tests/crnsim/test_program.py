@@ -34,7 +34,6 @@ def places(tmp_path: Path, monkeypatch: pytest.MonkeyPatch) -> dict[str, Path]:
 
 
 def test_order(places: dict[str, Path], monkeypatch: pytest.MonkeyPatch) -> None:
-    """Takes the places away one by one."""
     assert program_and_reason(places["named"]) == (places["named"], "named")
     for reason, path in list(places.items())[1:]:
         assert program_and_reason() == (path, reason)
@@ -48,8 +47,6 @@ def test_order(places: dict[str, Path], monkeypatch: pytest.MonkeyPatch) -> None
 
 
 def test_named(places: dict[str, Path], tmp_path: Path, monkeypatch: pytest.MonkeyPatch) -> None:
-    """Finds a plain name on PATH and a path from the working folder, and no other program if the named one is
-    missing."""
     monkeypatch.chdir(tmp_path)
     assert find_program("crnsim") == places["PATH"] and find_program("./named") == places["named"]
     with pytest.raises(ProgramError, match="program: there is no program ./missing; build crnsim, or name it with"):
@@ -69,7 +66,6 @@ FAILURES = {"a line": ("echo 'crnsim: scenario 6' >&2; exit 3", "crnsim: scenari
 
 @pytest.mark.parametrize("name", FAILURES)
 def test_failures(name: str, tmp_path: Path) -> None:
-    """Checks what is said of a run that fails: one line, with the program's own."""
     lines, message = FAILURES[name]
     path = script(tmp_path / "failing", lines)
     with pytest.raises(ProgramError, match=f"^{re.escape(f'{path}: {message}')}$"):
@@ -81,14 +77,12 @@ def test_failures(name: str, tmp_path: Path) -> None:
 
 
 def test_outputs_in_order(tmp_path: Path) -> None:
-    """Checks that the outputs of runs at a time come in the order of the texts."""
     path = script(tmp_path / "slow", 'read number; sleep 0.0$number; echo "$1 $number"')
     runs = [(f"{number}\n", f"word{number}") for number in (9, 1, 5, 0, 3, 7)]
     assert run_all(path, runs) == [f"{word} {text}" for text, word in runs]
 
 
 def test_where(program: Path, crnplan: Command, tmp_path: Path) -> None:
-    """Checks what `crnplan where` says of the program, and of programs that write something else, or nothing."""
     answer = crnplan("where", "--program", program)
     assert answer.status == 0 and f"{program} (named)\nits report on a small scenario is right\n" in answer.output
     answer = crnplan("where", "--program", script(tmp_path / "other", "cat"))
@@ -100,7 +94,6 @@ def test_where(program: Path, crnplan: Command, tmp_path: Path) -> None:
 
 
 def test_known_report_is_the_example(top: Path) -> None:
-    """Compares the scenario and the report that the package has with the example."""
     for end in ("toml", "csv"):
         kept = Path(module.__file__).with_name(f"example.{end}")
         assert kept.read_bytes() == (top / f"examples/two_policies.{end}").read_bytes()

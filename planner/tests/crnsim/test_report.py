@@ -21,7 +21,6 @@ TEXT = f"{HEADER}\n{BASE}\n{OTHER}\n"
 
 
 def test_values(two_policies: str) -> None:
-    """Compares rows, table and text with the cells."""
     rows = read_rows(TEXT)
     assert rows[1] == Row("B", 60, 80, 200, Fraction(50), -22, Fraction(-11, 2), Fraction(7, 2), Fraction(-1, 9))
     assert report_text(rows) == TEXT and read_rows(TEXT.replace("\n", "\r\n")) == rows
@@ -35,7 +34,6 @@ def test_values(two_policies: str) -> None:
 
 
 def test_no_figures(two_policies: str) -> None:
-    """Reads a report of one replication, which has no variances."""
     text = f"{HEADER}\nA,20,40,222,111/2,0,0/1,-,-\n"
     report = Report(tuple(read_rows(text)), Scenario.parse(two_policies))
     assert report.text == text and list(report.frame.loc["A"])[-2:] == [None, None]
@@ -61,7 +59,6 @@ REFUSED = {
 
 @pytest.mark.parametrize("name", REFUSED)
 def test_refused(name: str) -> None:
-    """Checks the place and the words of a fault."""
     text, message = REFUSED[name]
     with pytest.raises(Refused, match=f"^{re.escape(f'r.csv{message}')}"):
         read_rows(text, "r.csv")
@@ -78,7 +75,6 @@ def test_counts_of_the_worked_periods(program: Path, two_policies: str) -> None:
 
 @given(st.data(), st.integers(1, 4), st.integers(2, 4), st.integers(1, 3), st.integers(1, 1024))
 def test_pool_is_the_report_of_all(data: st.DataObject, count: int, keys: int, policies: int, periods: int) -> None:
-    """Compares the pool of random reports with the report of all their replications."""
     costs = st.lists(st.integers(0, 2 * 10**11 * 1024), min_size=count * keys, max_size=count * keys)
     drawn = {f"p{place}": data.draw(costs) for place in range(policies)}
     parts = [rows_of_costs({name: own[first:first + count] for name, own in drawn.items()}, periods)

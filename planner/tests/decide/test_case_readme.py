@@ -45,7 +45,6 @@ def test_the_case_is_as_its_page_says(top: Path, tmp_path: Path, environment: di
 
 @pytest.mark.parametrize("name", ["mail_order", "spare_part", "two_policies"])
 def test_the_report_of_an_example_is_stored(top: Path, program: Path, name: str) -> None:
-    """Compares the program's report of an example with the one that is stored beside it."""
     ran = subprocess.run([program], stdin=(top / f"examples/{name}.toml").open("rb"), capture_output=True)
     assert (ran.returncode, ran.stdout, ran.stderr) == (0, (top / f"examples/{name}.csv").read_bytes(), b"")
 

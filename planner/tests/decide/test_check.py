@@ -19,7 +19,7 @@ from planner.tests.decide.answers import changed, pairs_sum, priced, report_of
 
 KEYS = ["00000000000000a1", "00000000000000a2"]
 COLUMNS = ("total", "per_period", "diff_total", "diff_mean", "diff_var", "cov")
-Write = Callable[[str, str], Path]
+Canned = Callable[[list[str]], list[str]]
 
 
 def report(*rows: str) -> str:
@@ -28,15 +28,12 @@ def report(*rows: str) -> str:
     return "".join(f"{row}{',-' * (count - row.count(','))}\n" for row in [formats.HEADER, *rows])
 
 
-# A program that writes two reports, worked by hand. Costs of A and B in two replications: 10 and 11, 12 and 15 with the
-# first key; 20 and 25, 20 and 27 with the second one.
-CANNED = f"""#!/bin/sh
-if grep -q {KEYS[0]}; then cat <<END
-{report("A,20,40,22,11/4,0,0/1,0/1,2/1", "B,60,80,26,13/4,4,2/1,1/1,4/1")}END
-else cat <<END
-{report("A,20,40,40,5/1,0,0/1,0/1,0/1", "B,60,80,52,13/2,12,6/1,1/1,0/1")}END
-fi
-"""
+# Reports of two keys, worked by hand. Costs of A and B in two replications: 10 and 11, 12 and 15 with the first key; 20
+# and 25, 20 and 27 with the second one. Then the same with B as the base.
+CANNED = [report("A,20,40,22,11/4,0,0/1,0/1,2/1", "B,60,80,26,13/4,4,2/1,1/1,4/1"),
+          report("A,20,40,40,5/1,0,0/1,0/1,0/1", "B,60,80,52,13/2,12,6/1,1/1,0/1")]
+TURNED = [report("B,60,80,26,13/4,0,0/1,0/1,8/1", "A,20,40,22,11/4,-4,-2/1,1/1,4/1"),
+          report("B,60,80,52,13/2,0,0/1,0/1,2/1", "A,20,40,40,5/1,-12,-6/1,1/1,0/1")]
 # The differences are 1, 3, 5 and 7: mean 4, sum of squares about it 20, so 20/3/4 for the variance of the mean. A costs
 # 10, 12, 20, 20 and B 11, 15, 25, 27: means 31/2 and 39/2, sums about them 83 (squares) and 121 (products), over 3.
 POOLED = report("A,20,40,62,31/8,0,0/1,0/1,83/3", "B,60,80,78,39/8,16,4/1,5/3,121/3")
@@ -52,12 +49,14 @@ OWN = "5eed000000000001 0000000000000000 0000000000000000 0000000000000000"
 
 
 @pytest.fixture
-def write_program(room: Path) -> Write:
-    def write(name: str, text: str) -> Path:
-        (room / name).write_text(text, "utf-8")
-        (room / name).chmod(0o755)
-        return room / name
-    return write
+def canned(room: Path) -> Canned:
+    """Returns a function that makes words which run a program with these reports of two keys."""
+    def words_of(reports: list[str]) -> list[str]:
+        path, (first, second) = room / "canned_program", reports
+        path.write_text(f"#!/bin/sh\nif grep -q {KEYS[0]}; then cat <<END\n{first}END\nelse cat <<END\n{second}END\nfi\n")
+        path.chmod(0o755)
+        return ["--key", KEYS[0], "--key", KEYS[1], "--replications", "2", "--program", str(path)]
+    return words_of
 
 
 @pytest.fixture
@@ -78,7 +77,6 @@ def costs_of(program: Path, text: str, key: str, replications: int) -> dict[str,
 
 
 def test_two_keys_are_all_their_replications(part: Path, room: Path, program: Path, crnplan: Command) -> None:
-    """Compares two keys of five replications with the ten replications one by one, in the report and in the table."""
     text, count = part.read_text("utf-8"), 10
     parts = [costs_of(program, text, key, count // 2) for key in KEYS]
     costs = {name: parts[0][name] + parts[1][name] for name in parts[0]}
@@ -104,32 +102,22 @@ def test_two_keys_are_all_their_replications(part: Path, room: Path, program: Pa
 
 
 @pytest.mark.parametrize(("level", "row", "sentence"), VERDICTS)
-def test_two_reports_by_hand(room: Path, crnplan: Command, write_program: Write, level: str, row: str,
-                             sentence: str) -> None:
-    """Compares the pooled report, a row and the sentence with those of two reports worked by hand."""
-    words = ["--key", KEYS[0], "--key", KEYS[1], "--replications", "2", "--level", level, "--out", "canned"]
-    words += ["--program", str(write_program("canned_program", CANNED))]
+def test_two_reports_by_hand(room: Path, crnplan: Command, canned: Canned, level: str, row: str, sentence: str) -> None:
+    words = [*canned(CANNED), "--level", level, "--out", "canned"]
     told = crnplan("check", "examples/two_policies.toml", "A", *words)
     assert told.status == 0 and row.split() in [line.split() for line in told.output.splitlines()]
     assert told.output.endswith(f"\nOn these new histories {sentence}\n")
     assert (room / "canned/pooled.csv").read_text("utf-8") == POOLED
 
 
-def test_a_winner_that_does_not_hold(room: Path, crnplan: Command, write_program: Write) -> None:
-    """Checks status and sentence if another policy is better: by hand, the reports above with A and B turned."""
-    turned = [report("B,60,80,26,13/4,0,0/1,0/1,8/1", "A,20,40,22,11/4,-4,-2/1,1/1,4/1"),
-              report("B,60,80,52,13/2,0,0/1,0/1,2/1", "A,20,40,40,5/1,-12,-6/1,1/1,0/1")]
-    text = f"#!/bin/sh\nif grep -q {KEYS[0]}; then cat <<END\n{turned[0]}END\nelse cat <<END\n{turned[1]}END\nfi\n"
-    words = ["check", "examples/two_policies.toml", "B", "--key", KEYS[0], "--key", KEYS[1], "--replications", "2",
-             "--program", write_program("turned", text)]
-    told = crnplan(*words, "--level", "0.9")
-    assert told.status == 1 and not told.errors
-    assert told.output.endswith("\nOn these new histories B does not hold: A is better.\n")
-    assert crnplan(*words, "--level", "0.95").status == 0
-    data = crnplan(*words, "--level", "0.9", "--json")
+def test_a_winner_that_does_not_hold(crnplan: Command, canned: Canned) -> None:
+    words = ["check", "examples/two_policies.toml", "B", *canned(TURNED)]
+    told, data, table = (crnplan(*words, "--level", "0.9", *form) for form in ([], ["--json"], ["--csv"]))
+    sentence = "\n\nOn these new histories B does not hold: A is better.\n"
+    assert told.status == 1 and not told.errors and told.output.endswith(sentence)
     assert data.status == 1 and json.loads(data.output)["holds"] is False
-    data = crnplan(*words, "--level", "0.9", "--csv")
-    assert data.status == 1 and data.errors.endswith("\n\nOn these new histories B does not hold: A is better.\n")
+    assert table.status == 1 and table.errors.endswith(sentence)
+    assert crnplan(*words, "--level", "0.95").status == 0
 
 
 @pytest.mark.parametrize(("count", "given"), [(1, []), (3, ["--keys", "3", "--key", KEYS[0]])], ids=["one", "three"])
@@ -160,7 +148,6 @@ def test_keys_are_drawn_anew(room: Path, crnplan: Command) -> None:
 
 
 def test_the_function_is_the_command(part: Path, crnplan: Command) -> None:
-    """Compares the function with the command: text, verdict and data; with the scenario from standard input."""
     found = crn.check_keys(crn.Scenario.read(part), "both", keys=[[KEYS[0]]], replications=16)
     words = ["check", "-", "both", "--key", KEYS[0], "--replications", "16"]
     told = crnplan(*words, data=part.read_bytes())

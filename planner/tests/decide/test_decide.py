@@ -29,8 +29,6 @@ from planner.tests.decide.answers import changed, priced, report_of, rows_of_cos
 HERE = Path(__file__).parent
 CASES = tomllib.loads((HERE / "decisions.toml").read_text("utf-8"))
 COMMANDS = CASES["commands"]
-PUBLISHED_T = 1.998  # 63 degrees of freedom, 0.975
-REPLICATIONS, PERIODS, BLOCKS = 64, 104, 26
 # Changes of the report of examples/spare_part.toml, by the name of the file.
 PARTS: dict[str, Callable[[list[str]], list[str]]] = {
     "longer": lambda rows: [*rows, changed(rows[4], "both", "more")], "shorter": lambda rows: rows[:4],
@@ -96,7 +94,6 @@ def test_standard_input_is_a_report(room: Path, crnplan: Command) -> None:
 
 @pytest.mark.parametrize(("option", "count"), [(["--csv"], 122), (["--all"], 122), ([], 21)], ids=str)
 def test_lists_so_many_rows(crnplan: Command, option: list[str], count: int) -> None:
-    """Counts the lines of the table, heading included. The base is always listed."""
     told = crnplan("decide", "examples/case/sweep.csv", "--replications", "64", *option)
     lines = [line for line in told.output.split("\n\n")[0].splitlines() if "not listed" not in line]
     assert len(lines) == count and "\ntoday" in told.output
@@ -117,25 +114,6 @@ def test_json_has_the_figures_of_csv(cases_room: Path, crnplan: Command, words: 
         for text, value in zip(row, record.values()):
             digits = len(text.partition(".")[2])
             assert text == ("-" if value is None else f"{value:.{digits}f}" if isinstance(value, float) else str(value))
-
-
-def test_intervals_of_own_costs(room: Path, program: Path, crnplan: Command) -> None:
-    """Compares intervals of policies' own costs with the costs of all replications, from the last checkpoint."""
-    costs: dict[str, list[int]] = {}
-    text = (room / "examples/spare_part.toml").read_text("utf-8")
-    for row in csv.reader(report_of(program, text, "leg", str(REPLICATIONS * BLOCKS)).splitlines()):
-        if row[0] == "policy":
-            costs[row[1]] = own = []
-        elif row[0] == "cost":
-            own.append(int(row[2]))
-    table = crnplan("decide", "examples/spare_part.csv", "--replications", "64", "--csv").output.splitlines()
-    shown = {row[0]: row for row in csv.reader(table)}
-    assert len(costs) == 4
-    for name, own in costs.items():
-        half = PUBLISHED_T * statistics.stdev(own) / len(own)**0.5 / PERIODS
-        mean = statistics.mean(own) / PERIODS
-        assert len(own) == REPLICATIONS
-        assert [float(it) for it in shown[name][4:6]] == pytest.approx([mean - half, mean + half], abs=0.002)
 
 
 @pytest.mark.parametrize(("name", "unit"), [("spare_part", 5), ("mail_order", 20)])
@@ -168,7 +146,6 @@ def test_does_not_warn_without_unit(crnplan: Command) -> None:
 
 
 def test_warns_without_a_number(room: Path, write_priced: Callable[[str, str], None], crnplan: Command) -> None:
-    """Checks the warning if more comes back than is demanded, so that there is no long run."""
     write_priced("more_back", changed(priced(room / "examples/mail_order.toml", 20), "[0, 1, 2, 3, 4, 6]",
                                       "[10, 11, 12, 13, 14, 16]"))
     shown = crnplan("decide", "more_back.csv", "--scenario", "more_back.toml")
@@ -207,7 +184,6 @@ def near(ends: list[float]) -> object:
 
 @given(costs(st.integers(2, 12)), st.integers(1, 9), st.sampled_from([0.5, 0.9, 0.95, 0.99]))
 def test_intervals_are_those_of_the_costs_themselves(drawn: Costs, periods: int, level: float) -> None:
-    """Compares intervals from a report with those that scipy computes from the costs of all replications."""
     count, base = len(drawn["p0"]), drawn["p0"]
     compared = with_intervals(rows_of_costs(drawn, periods), count, level)
     assert [it.diff for it in compared] == pytest.approx(
@@ -234,7 +210,6 @@ def test_intervals_are_those_of_the_costs_themselves(drawn: Costs, periods: int,
 
 @given(costs(st.integers(2, 12)))
 def test_own_variance_is_exact(drawn: Costs) -> None:
-    """Compares the variance of a policy's own costs with that of the costs themselves, in fractions."""
     base, *others = rows_of_costs(drawn, 3)
     for row in (base, *others):
         assert own_variance(row, base, len(drawn["p0"])) == statistics.variance(map(Fraction, drawn[row.policy]))

@@ -70,7 +70,6 @@ def test_columns(by_hand: Doubt) -> None:
 
 
 def test_sentences(by_hand: Doubt) -> None:
-    """The sentences say figures of the cheapest policy, and the notes what is to be known."""
     assert by_hand.sentence == ("today is within 3% of the best of these 2 policies under 60% of the laws that this "
                                 "history allows.")
     assert by_hand.bounds.startswith("Under 90% of the laws it costs at most 30.9% more than the best of all policies, "
@@ -95,7 +94,6 @@ def test_single_policy(by_hand: Doubt) -> None:
 
 
 def test_figures_are_those_of_each_law(part: Scenario) -> None:
-    """Under each law they are those of the theory of one law."""
     found = doubt(part, HISTORY, LEADS, times=12, seed=3)
     demands, leads = allowed_laws(HISTORY, times=12, seed=3).laws, allowed_leads(LEADS, times=12, seed=3).laws
     theories = [theories_of(dataclasses.replace(part, demand=demand, lead=lead), 100)[0]
@@ -114,7 +112,6 @@ def test_figures_are_those_of_each_law(part: Scenario) -> None:
 
 
 def test_policies_and_lead_times(part: Scenario) -> None:
-    """Policies are given in any form, and lead times of the scenario hold if none were observed."""
     found = doubt(part, HISTORY, policies=[(10, 30), (15, 40), (10, 30)], times=10)
     assert sorted(found.frame.index) == ["s10_S30", "s15_S40"] and found.lead is None
     leads = doubt(part, HISTORY, [7], policies=[(10, 30), (15, 40)], times=10)
@@ -181,26 +178,20 @@ def demand(room: Path) -> Path:
     return path
 
 
-def test_command_prints_the_text(demand: Path, crnplan: Command) -> None:
-    """A file of crnplan item needs no word, and the text is that of crnplan.doubt."""
-    scenario = crn.Scenario.read(SCENARIO)
-    answer = crnplan("doubt", SCENARIO, "demand.csv", "--times", 20)
-    assert answer == (0, crn.doubt(scenario, SALES, times=20).text, "")
-    answer = crnplan("doubt", SCENARIO, "demand.csv", "--times", 20, "--lead", "leads.csv", "lead time", "--seed", 2,
-                     "--within", "0.1")
-    assert answer.output == crn.doubt(scenario, SALES, SALES_LEADS, times=20, seed=2, within=0.1).text
-    assert " is within 10% of the best of these " in answer.output
-
-
-def test_command_prints_tables(demand: Path, crnplan: Command) -> None:
-    """CSV and JSON have what is to be said beside the records."""
-    found = crn.doubt(crn.Scenario.read(SCENARIO), SALES, times=20)
-    answer = crnplan("doubt", SCENARIO, "-", "--times", 20, "--csv", data=demand.read_bytes())
-    assert answer.output == found.table.csv and answer.errors == found.notes.lstrip("\n")
-    told = json.loads(crnplan("doubt", SCENARIO, "demand.csv", "--times", 20, "--json").output)
-    assert told["policies"] == found.table.records and told["sentence"] == found.sentence and told["laws"] == 20
+def test_command(demand: Path, crnplan: Command) -> None:
+    """A file of crnplan item needs no word, and each form has what the function returns."""
+    scenario, words = crn.Scenario.read(SCENARIO), ["doubt", SCENARIO, "demand.csv", "--times", 20]
+    found, runs = (crn.doubt(scenario, SALES, times=20, runs=it) for it in (False, True))
+    assert crnplan(*words) == (0, found.text, "")
+    table = crnplan("doubt", SCENARIO, "-", "--times", 20, "--csv", data=demand.read_bytes())
+    assert table == (0, found.table.csv, found.notes.lstrip("\n"))
+    told = json.loads(crnplan(*words, "--json", "--runs").output)
+    assert told["policies"] == runs.table.records and told["sentence"] == found.sentence and told["laws"] == 20
     assert told["families"] == found.demand.families and told["lead_families"] is None
     assert told["notes"] == found.remarks
+    answer = crnplan(*words, "--lead", "leads.csv", "lead time", "--seed", 2, "--within", "0.1")
+    assert answer.output == crn.doubt(scenario, SALES, SALES_LEADS, times=20, seed=2, within=0.1).text
+    assert " is within 10% of the best of these " in answer.output
 
 
 def test_words_of_history(room: Path, crnplan: Command) -> None:
@@ -213,11 +204,6 @@ def test_words_of_history(room: Path, crnplan: Command) -> None:
     answer = crnplan("doubt", SCENARIO, *words, "--leave-out", "--times", 20)
     assert answer.output == crn.doubt(crn.Scenario.read(SCENARIO), SALES, times=20).text
     assert "days from 2026-06-01 to 2026-06-20: 20, filled with 0: 0" in answer.errors
-
-
-def test_command_runs(demand: Path, crnplan: Command) -> None:
-    told = json.loads(crnplan("doubt", SCENARIO, "demand.csv", "--times", 10, "--runs", "--json").output)
-    assert all(min(row[it] for it in ("run_cost", "law_spread", "luck_spread")) > 0 for row in told["policies"])
 
 
 def test_picture(demand: Path, crnplan: Command) -> None:
@@ -293,7 +279,6 @@ def test_stored_figures(top: Path) -> None:
 
 
 def test_summary() -> None:
-    """A summary has the mean over laws and its standard error, for each group and for all."""
     rows = pd.DataFrame({"group": ["designed", "others"], "law": ["a", "b"], "periods": 26,
                          **{it: [80.0, 90.0] for it in study.FIGURES},
                          **{f"{it}_error": [3.0, 4.0] for it in study.FIGURES}})

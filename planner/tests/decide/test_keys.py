@@ -12,14 +12,12 @@ ONE = ["00000000000000a1"]
 
 
 def test_given() -> None:
-    """Checks that one word replaces the first of the scenario's key, and that four are a key."""
     four = ["000000000000000a", "000000000000000b", "000000000000000c", "000000000000000d"]
     assert keys_of([ONE, four], None, OWN) == [(*ONE, *OWN[1:]), tuple(four)]
 
 
 @pytest.mark.parametrize("count", [None, 1, 3, 64])
 def test_drawn(count: int | None) -> None:
-    """Checks number and spelling of drawn keys, behind a given one, and that all differ from one draw to the next."""
     drawn, more = keys_of([], count, OWN), keys_of([ONE], count, OWN)
     assert len(drawn) == len(more) == (count or 1) and more[0] == (*ONE, *OWN[1:])
     assert len({*drawn, *more, OWN}) == 2 * (count or 1) + 1

@@ -259,7 +259,6 @@ def test_decide_prints_the_long_run(crnplan: Command, room: Path, program: Path)
 
 
 def test_check_in_the_long_run(crnplan: Command, room: Path, program: Path) -> None:
-    """The pooled report of two keys is that of both reports together, with the named policy as the base."""
     (room / "part.toml").write_text(PART.toml())
     words = "check", "part.toml", "more", "--long-run", "--key", "00000000000000a1", "--key", "00000000000000a2"
     found = crnplan(*words)
@@ -283,7 +282,6 @@ def test_check_of_slow_movers_pools_orders(program: Path) -> None:
 
 
 def test_sensitivity_in_the_long_run(crnplan: Command, room: Path, program: Path) -> None:
-    """Each case costs what its own scenario does, also those that one run counts for two."""
     even = replace(PART, costs=Costs(40, 3, 2, 8))
     found = sensitivity(even, long_run=True, program=program)
     cases = {"base": even, "lead_plus_1": replace(even, lead=Law((2, 4), (2, 1))),

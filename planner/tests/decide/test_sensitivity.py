@@ -61,14 +61,17 @@ def costs_of(program: Path, owing: str, case: tuple[str, str, str, int]) -> list
     return [int(row["total"]) / times / (50 * 32) for row in rows]
 
 
-@pytest.mark.parametrize("case", CASES, ids=[case[0] for case in CASES])
-def test_regrets_are_those_of_runs(program: Path, owing: str, shown: Rows, case: tuple[str, str, str, int]) -> None:
-    """Compares the regrets of both policies, in money and in percent, with a run of the changed scenario."""
-    totals = costs_of(program, owing, case)
-    for policy, total in zip("AB", totals, strict=True):
-        row = shown[policy]
-        assert float(row[case[0]]) == pytest.approx(total - min(totals), abs=1e-5)
-        assert float(row[f"{case[0]}_percent"]) == pytest.approx(100 * (total / min(totals) - 1), abs=1e-4)
+def test_regrets_are_those_of_runs(program: Path, owing: str, shown: Rows) -> None:
+    runs = {case[0]: costs_of(program, owing, case) for case in CASES}
+    for place, (policy, row) in enumerate(sorted(shown.items())):
+        above = {name: (totals[place] - min(totals), min(totals)) for name, totals in runs.items()}
+        worst = max(above, key=lambda name: above[name][0])
+        assert row["greatest_case"] == worst and above[worst][0] > 0
+        for name, (more, least) in {**above, "greatest": above[worst]}.items():
+            found = float(row[name]), float(row[f"{name}_percent"])
+            assert found == pytest.approx((more, 100 * more / least), abs=1e-4)
+    assert sorted(shown) == ["A", "B"]
+    assert [*shown] == sorted(shown, key=lambda policy: float(shown[policy]["greatest"]))
 
 
 def test_cheapest_of_each_case(top: Path, program: Path) -> None:
@@ -78,15 +81,6 @@ def test_cheapest_of_each_case(top: Path, program: Path) -> None:
     assert len({*named.values()}) > 1 and len(named) == 6
     for case, name in named.items():
         assert found.frame[case].idxmin() == name and found.frame[case].min() == 0
-
-
-def test_ranks_by_the_greatest_regret(program: Path, owing: str, shown: Rows) -> None:
-    """Compares the greatest regrets with those of all runs, and the order with them."""
-    runs = [costs_of(program, owing, case) for case in CASES]
-    greatest = {policy: max(totals[place] - min(totals) for totals in runs) for place, policy in enumerate("AB")}
-    assert min(greatest.values()) > 0
-    assert {policy: float(row["greatest"]) for policy, row in shown.items()} == pytest.approx(greatest, abs=1e-5)
-    assert list(shown) == sorted(shown, key=lambda policy: greatest[policy])
 
 
 def test_an_example_by_hand(crnplan: Command) -> None:
@@ -102,15 +96,8 @@ def test_an_example_by_hand(crnplan: Command) -> None:
     assert " ".join(row.split()).startswith(f"B 60 80 {regrets}")
 
 
-@pytest.mark.parametrize(("tenths", "weights"), [
-    (11, {1: 9, 2: 17, 3: 18, 4: 12, 5: 4}), (9, {0: 1, 1: 13, 2: 22, 3: 18, 4: 6})], ids=["up", "down"])
-def test_changes_demand_as_by_hand(tenths: int, weights: dict[int, int]) -> None:
-    assert changed_demand(Law((1, 2, 3, 4), (1, 2, 2, 1)), tenths) == Law.of(weights)
-
-
 @given(st.dictionaries(st.integers(0, 9000), st.integers(1, 900), min_size=1, max_size=7), st.sampled_from([9, 11]))
 def test_changed_demand_has_the_changed_mean(weights: dict[int, int], tenths: int) -> None:
-    """Checks the mean, which is exact if the weights are small, and that each demand moves by less than one."""
     demand = Law.of(weights)
     after = changed_demand(demand, tenths)
     assert after.mean == Fraction(sum(it * weights[it] for it in weights), sum(weights.values())) * tenths / 10
@@ -120,7 +107,6 @@ def test_changed_demand_has_the_changed_mean(weights: dict[int, int], tenths: in
 @given(st.dictionaries(st.integers(0, 9000), st.integers(1, 65_536), min_size=1, max_size=7).filter(
     lambda its: sum(its.values()) <= 65_536), st.sampled_from([9, 11]))
 def test_changed_weights_stay_in_range(weights: dict[int, int], tenths: int) -> None:
-    """Checks that large weights come to 65,536 at most, and that rounding moves the mean by less than 0.05%."""
     after = changed_demand(Law.of(weights), tenths)
     wanted = Fraction(sum(it * weights[it] for it in weights), sum(weights.values())) * tenths / 10
     assert sum(after.weights) <= 65_536 and min(after.weights) >= 1
@@ -135,7 +121,6 @@ def test_large_weights_keep_their_sum() -> None:
 
 @pytest.mark.parametrize(("old", "new", "note"), NOTES, ids=[note for *_, note in NOTES])
 def test_notes_what_is_left_out_or_rounded(room: Path, crnplan: Command, old: str, new: str, note: str) -> None:
-    """Checks the notes: with a table as CSV they go to standard error."""
     text = (room / "examples/two_policies.toml").read_text("utf-8")
     (room / "noted.toml").write_text(changed(text, old, new), "utf-8")
     told = crnplan("sensitivity", "noted.toml")

@@ -89,7 +89,6 @@ WHOLE = {"empty": (b"", 1, "missing"), "a picture": (b"\x89PNG\r\n\x1a\n\0\0", 1
 
 @pytest.mark.parametrize("name", WHOLE)
 def test_files_that_are_no_scenarios(name: str, tmp_path: Path, crnplan: Command) -> None:
-    """Checks status, length and a word of what is said of a file that is no scenario at all."""
     data, status, part = WHOLE[name]
     (tmp_path / "edited.toml").write_bytes(data)
     for answer in (crnplan("why", tmp_path / "edited.toml"), crnplan("why", "-", data=data)):
