@@ -56,12 +56,11 @@ def test_named(places: dict[str, Path], tmp_path: Path, monkeypatch: pytest.Monk
         find_program("./named")
 
 
+OF_MACHINE = "; look for memory and processes of this machine, and run again"
 FAILURES = {"a line": ("echo 'crnsim: scenario 6' >&2; exit 3", "crnsim: scenario 6; crnplan why says why"),
-            "two lines": ("echo first >&2; echo second >&2; exit 7", "first; second; look for memory and processes of "
-                          "this machine, and run again"),
-            "nothing": ("exit 4", "no output, status 4"), "a signal": ("kill -9 $$", "no output, status -9; look for "
-                                                                       "memory and "
-                         "processes of this machine, and run again")}
+            "two lines": ("echo first >&2; echo second >&2; exit 7", f"first; second{OF_MACHINE}"),
+            "nothing": ("exit 4", "no output, status 4"),
+            "a signal": ("kill -9 $$", f"no output, status -9{OF_MACHINE}")}
 
 
 @pytest.mark.parametrize("name", FAILURES)
@@ -88,9 +87,7 @@ def test_where(program: Path, crnplan: Command, tmp_path: Path) -> None:
     answer = crnplan("where", "--program", script(tmp_path / "other", "cat"))
     assert answer.status == 1 and answer.output.endswith("its report on a small scenario differs from the known one\n")
     failing = script(tmp_path / "failing", "exit 5")
-    assert crnplan("where", "--program", failing)[::2] == (3, f"crnplan: {failing}: no output, status 5; look for "
-                                                           f"memory and processes of this machine, "
-                                                              "and run again\n")
+    assert crnplan("where", "--program", failing)[::2] == (3, f"crnplan: {failing}: no output, status 5{OF_MACHINE}\n")
 
 
 def test_known_report_is_the_example(top: Path) -> None:

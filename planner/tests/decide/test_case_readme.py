@@ -10,8 +10,7 @@ from pathlib import Path
 import pytest
 
 STORED = ["scenario.toml", "notes.txt", "report.csv", "decision.txt", "sweep.csv", "why.txt", "suggested.toml",
-          "suggested.txt",
-          "long_run.txt", "check.txt", "doubt.txt"]
+          "suggested.txt", "long_run.txt", "check.txt", "doubt.txt"]
 # The page whose blocks of `sh` are run, if it is not the one in place.
 PAGE = "CASE_README"
 
@@ -41,12 +40,6 @@ def test_the_case_is_as_its_page_says(top: Path, tmp_path: Path, environment: di
     for name in STORED:
         stored = (top / "examples/case" / name).read_bytes()
         assert (tmp_path / "examples/case" / name).read_bytes() == stored != b"", name
-
-
-@pytest.mark.parametrize("name", ["mail_order", "spare_part", "two_policies"])
-def test_the_report_of_an_example_is_stored(top: Path, program: Path, name: str) -> None:
-    ran = subprocess.run([program], stdin=(top / f"examples/{name}.toml").open("rb"), capture_output=True)
-    assert (ran.returncode, ran.stdout, ran.stderr) == (0, (top / f"examples/{name}.csv").read_bytes(), b"")
 
 
 def test_each_example_has_a_report(top: Path) -> None:
