@@ -1,7 +1,5 @@
-"""The words of what checks of a history and fits say as codes with facts: for `words.WORDS`.
-
-A pair has what is said of a code, and what to do about it.
-"""
+"""The words of what checks of a history say as codes with facts, and of why an item learns from no others: for
+`words.WORDS`. A pair has what is said of a code, and what to do about it."""
 from __future__ import annotations
 
 import math
@@ -120,64 +118,15 @@ CHECKS: dict[str, Say] = {
     "season untested": lambda it: f"{'weekdays are' if it['season'] == 'weekday' else 'a season is'} tested from "
     f"{it['periods']} {it['unit']}s on"}
 
-# How a law was fitted (demand/fitted.py), and why it is that of the item alone (demand/borrowing.py).
+# Why the law of an item is that of its own history alone (demand/borrowing.py).
 ALONE = {"nothing borrowed": "nothing is borrowed", "demand in boxes": "demand is counted in boxes of {box}",
          "packs of few others": "all demands are packs of {pack}, as those of few others",
          "large sizes": "the mean size of a demand is above {most:g}",
          "large sizes in packs": "the mean size of a demand is above {most:g} packs",
          "unlike histories": "drawn histories do not look like the real one"}
-
-
-def _plural(count: int, noun: str) -> str:
-    return f"{count} {noun}{'s' * (count != 1)}"
-
-
-def _seen(facts: Facts) -> str:
-    """Returns which part of a law is from what was seen."""
-    return f", mixed with {facts['seen']:.0%} of what was seen" if facts["seen"] > 0 else ""
-
-
-def _learned(facts: Facts) -> str:
-    source = "the whole catalogue" if facts["prior"] == "all" else f"class {facts['prior']}"
-    return f"learned from {source}, with {_plural(facts['demands'], 'demand')} seen{_seen(facts)}"
-
-
-def _families(facts: Facts) -> str:
-    named = (f"{name} {weight:.0%}" for name, weight in facts.items() if name not in ("seen", "cap", "most"))
-    return f"{', '.join(named)}{_seen(facts)}; at most {facts['cap']}, as {facts['most']} is the largest demand seen"
-
-
-def _guard(facts: Facts) -> str:
-    return (f"guard: a history of {facts['family']} varies as much with chance {facts['as_much']:.2f}, as little with "
-            f"{facts['as_little']:.2f}, is as far off with {facts['as_far']:.2f}, has no larger demand with "
-            f"{facts['as_low']:.2f}, as large a one with {facts['as_high']:.2f}" + ": rejected" * (not facts["passes"]))
-
-
-def _figures(facts: Facts) -> str:
-    variance = "-" if facts["variance"] is None else f"{facts['variance']:.4g}"
-    quantiles = ", ".join(f"{name} {value}" for name, value in facts.items() if name.endswith("%"))
-    return (f"{facts['title']}: mean {facts['mean']:.4g}, variance {variance}, quantiles {quantiles}, largest "
-            f"{facts['most']}")
-
-
-FITS: dict[str, Say] = {
-    **{code: f"its law is learned from no others: {reason}" for code, reason in ALONE.items()},
-    "learned law": _learned, "guard": _guard, "families": _families, "figures of a law": _figures,
-    "law of the catalogue": "with so few demands the law is all but that of the catalogue; look at it",
-    "likelier by the catalogue": lambda it: f"the history is 10^{it['log10_bayes']:.1f} times as likely under what was "
-    f"learned as without it{': unlike the catalogue; look at it' * it['unlike']}",
-    "packs are fitted": "all demands are packs of {pack}, so packs are fitted",
-    "no family": "no family gives back this history, so it stays as it is", "family": "{family}",
-    "bulks": lambda it: f"for the family bulk, the {_plural(it['count'], 'demand')} of at least {it['least']} are "
-    "bulks",
-    "BIC": lambda it: "BIC above the least: " + ", ".join(f"{name} {value:.1f}" for name, value in it.items()),
-    "blurred lead times": "of each of the {observed} lead times seen, {side:.1%} count one period earlier, and as much "
-    "one later",
-    "few lead times": "by a study, a policy chosen after few lead times costs more than the best: {least_5:g} to "
-    "{most_5:g}% after 5, {least_10:g} to {most_10:g}% after 10, {least_20:g} to {most_20:g}% after 20"}
-
 LAWS: dict[str, tuple[Say, Say]] = {
-    **{code: (said, "") for code, said in (*CHECKS.items(), *FITS.items())},
+    **{code: (said, "") for code, said in CHECKS.items()},
+    **{code: (f"its law is learned from no others: {reason}", "") for code, reason in ALONE.items()},
     **{name: (partial(_warned, name), partial(_heeded, name)) for name in TESTS},
     "no recent demand": ("the last {periods:,} periods, after {last}, have no demand; by luck as many come with chance "
                          "{chance:.3f}", "Ask whether the item is still sold")}

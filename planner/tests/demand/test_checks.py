@@ -84,6 +84,14 @@ def test_quiet_history() -> None:
                     f"±{sizes[2]:.0%}")
 
 
+def test_words_of_what_is_seen() -> None:
+    """A sentence has what silent tests would have seen, and what they would not."""
+    sizes = {"autocorrelation": 0.3, "trend": 1.0, "weekday": 0.25, "season": math.inf}
+    assert advised(Remark("silent tests", sizes)) == (
+        "no warning is no proof: in 8 of 10 such histories the tests see an autocorrelation of 0.3, a trend from "
+        "nothing to twice the mean and a pattern of weekdays of ±25%, but not even a season of ±100%")
+
+
 def test_trend() -> None:
     """A planted trend is named by the means of the thirds, and by its slope."""
     checks = check_history(RISING)
@@ -176,6 +184,16 @@ def test_season_of_a_named_length() -> None:
             check_history([1, 2] * 10, season=wrong)  # type: ignore[arg-type]
 
 
+@pytest.mark.parametrize("length", [2, 7, 8, 10, 30, 53])
+def test_parts_of_a_season(length: int) -> None:
+    """A season of up to seven periods has as many parts, a longer one four; each has its first and its last place."""
+    season, = seasons_of(None, 1, 2 * length + 1, length)[0]
+    assert season.parts == (length if length <= 7 else 4) and season.part_of[-1] == 0
+    places = [np.flatnonzero(season.part_of[:length] == part) + 1 for part in range(season.parts)]
+    assert [season.ends(part) for part in range(season.parts)] == [(its[0], its[-1]) for its in places]
+    assert max(map(len, places)) - min(map(len, places)) <= 1
+
+
 def test_autocorrelation() -> None:
     """A planted dependence is named, with advice and with what is lost by those who do not see it."""
     checks = check_history(CHAINED)
@@ -265,6 +283,16 @@ def test_outliers() -> None:
     assert outliers_of([24, 30, 36, 30] * 10 + [540], 6) == [540]
     assert outliers_of([1] * 60 + [2], 1) == [] and outliers_of([12] * 60 + [24], 12) == []
     assert outliers_of([1] * 8 + [900], 1) == []  # too few
+    assert outliers_of([4, 5, 6, 5] * 10 + [90, 80, 85, 95], 1) == [95, 90, 85]  # at most three
+
+
+@pytest.mark.parametrize("most", range(7, 20))
+def test_decisive_demand(most: int) -> None:
+    """A demand is named that makes more than half of the variance."""
+    numbers = [4, 5, 6, 5] * 4 + [most]
+    share = (most - np.mean(numbers))**2 / (len(numbers) * np.var(numbers))
+    shares = [it.facts["share"] for it in check_history(numbers).notes if it.code == "decisive demand"]
+    assert shares == ([pytest.approx(share)] if share > 0.5 else [])
 
 
 @pytest.mark.parametrize("seed", range(12))
@@ -286,13 +314,14 @@ def test_the_least_outlier(seed: int) -> None:
     assert found == [[], [least]]
 
 
-@pytest.mark.parametrize("numbers", [[5], [0, 1], [3] * 30, [0] * 30], ids=["one", "two", "constant", "zeros"])
+@pytest.mark.parametrize("numbers", [[5], [0, 1], [3] * 30, [0] * 30, [3, 4, 9, 1, 5, 2, 6]], ids=str)
 def test_nothing_to_test(numbers: list[int]) -> None:
     """Without order there are no tests; a short history says so."""
     checks = check_history(numbers)
     assert checks.tests == checks.warnings == () and checks.level == 0.05 and len(checks.frame) == 0
     few = f"{len(numbers)} periods are too few to test whether they are independent and of one law"
     assert said(checks.unknown) == ([few] if len(numbers) < 8 else [])
+    assert check_history([3, 4, 9, 1, 5, 2, 6, 4]).tests
 
 
 @settings(max_examples=100)
@@ -371,12 +400,11 @@ def test_command(tmp_path: Path, crnplan: Command) -> None:
     assert crnplan(*words, "--season", 1).status == 2
 
 
-def test_public_name() -> None:
-    """The function of the public interface is the same, and its table has a row for each test."""
-    checks = crn.check_history(SEASONAL, season=52)
-    assert checks == check_history(SEASONAL, season=52)
-    frame = checks.frame
-    assert [*frame.index] == ["autocorrelation", "trend", "shift", "season"] and frame["warns"]["season"]
+def test_frame() -> None:
+    """The table has a row for each test."""
+    frame = crn.check_history(SEASONAL, season=52).frame
+    assert [*frame.index] == ["autocorrelation", "trend", "shift", "season"]
+    assert [*frame["warns"]] == [True, False, False, True]
     assert [*frame.columns] == ["p", "warns", "size", "least_seen", "words"]
 
 

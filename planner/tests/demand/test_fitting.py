@@ -17,12 +17,13 @@ from scipy import integrate, stats
 from crnplan.demand import FAMILIES, METHODS
 from crnplan.chances import blurred
 from crnplan.demand.families import fits_of, predictive_of
-from crnplan.demand.fitted import notes_of
+from crnplan.demand.fitted import Borrowed, Diagnostics, FittedLaw, notes_of
 from crnplan.demand.fitting import cap_of, fit_demand, fit_lead, share_of
-from crnplan.demand.sample import Sample
+from crnplan.demand.sample import Sample, Shares
 from crnplan.errors import Refused, RefusedFaults
 from crnplan.law import Law
 from crnplan.records import read_history, read_lead_times
+from crnplan.remarks import Remark
 from planner.tests.conftest import Command
 from planner.tests.demand.made import chances_of, check_law
 
@@ -53,13 +54,11 @@ def test_weights_within_range() -> None:
 
 
 def test_bulks() -> None:
-    """Projects beside steady demand are bulks, and the notes say which demands these are."""
+    """Projects beside steady demand are bulks."""
     for pack in (1, 5):
         law = fit_demand([pack * it for it in PROJECTS], method="auto")
         bulks = [pack * it for it in PROJECTS if it >= 25]
         assert law.family == "bulk" and law.diagnostics.bulks == (len(bulks), min(bulks))
-        text = f"demand: for the family bulk, the {len(bulks)} demands of at least {min(bulks)} are bulks"
-        assert text in notes_of(law, "demand")
         assert law.figures.mean == pytest.approx(pack * np.mean(PROJECTS), rel=0.1)
     assert fit_demand(PROJECTS, method="predictive").family == "bulk"
     assert fit_demand(TWO_SIZES, method="auto").diagnostics.bulks is None
@@ -191,21 +190,45 @@ def test_diagnostics() -> None:
     assert law.toml("demand") == "[demand]\nvalues = [0, 2, 6]\nweights = [2, 1, 1]\n"
 
 
-def test_notes() -> None:
-    """Notes say the families, those that the guard rejects, and the figures of the history and of the law."""
-    assert notes_of(fit_demand(ERRATIC, method="empirical"), "demand") == []
-    notes = notes_of(fit_demand(ERRATIC, method="auto"), "demand")
-    assert all(it.startswith("demand: ") for it in notes)
-    assert "%; at most " in notes[0] and notes[0].endswith(" is the largest demand seen")
-    assert "BIC above the least: " in notes[1]
-    assert [it[:18] for it in notes[2:]] == ["demand: seen: mean", "demand: law: mean "]
-    law = fit_demand(TWO_SIZES, method="auto")
-    text = "\n".join(notes_of(law, "returns"))
-    assert "returns: no family gives back this history, so it stays as it is" in text
-    assert text.count(": rejected") == text.count("returns: guard: a history of ") == len(law.diagnostics.guard) > 0
-    assert "returns: seen: mean " in text and "returns: law: " not in text
-    notes = notes_of(fit_demand([6 * it for it in POISSON], method="poisson"), "demand")
-    assert notes[:2] == ["demand: all demands are packs of 6, so packs are fitted", "demand: poisson"]
+SEEN = "seen: mean 2, variance 8, quantiles 95% 6, 99% 6, 99.9% 6, largest 6"
+LAW = "law: mean 1, variance 3, quantiles 95% 4, 99% 4, 99.9% 4, largest 4"
+STUDY = ("by a study, a policy chosen after few lead times costs more than the best: 2.3 to 4.4% after 5, 1 to 3% "
+         "after 10, 0.5 to 1.9% after 20")
+SHARES, GUARD = Shares(0.01, 0.02, 0.03, 0.04, 0.05), (
+    "varies as much with chance 0.01, as little with 0.02, is as far off with 0.03, has no larger demand with 0.04, as "
+    "large a one with 0.05")
+LIKELY = "times as likely under what was learned as without it"
+
+
+@pytest.mark.parametrize("family, method, facts, lines", [
+    ("empirical", "empirical", {}, []),
+    ("empirical", "auto", {"pack": 6}, ["all demands are packs of 6, so packs are fitted",
+                                        "no family gives back this history, so it stays as it is", SEEN]),
+    ("poisson", "poisson", {}, ["poisson", SEEN, LAW]),
+    ("poisson", "auto", {
+        "families": {"poisson": 0.62, "bulk": 0.376, "hurdle-poisson": 0.004}, "cap": 18, "share": 0.75,
+        "bulks": (2, 25), "bic": {"poisson": 10.25, "bulk": 12.5},
+        "guard": {"poisson": Shares(*[0.5] * 5), "bulk": SHARES}},
+     ["poisson 62%, bulk 38%, mixed with 25% of what was seen; at most 18, as 6 is the largest demand seen",
+      "for the family bulk, the 2 demands of at least 25 are bulks", "BIC above the least: poisson 0.0, bulk 2.2",
+      f"guard: a history of bulk {GUARD}: rejected", SEEN, LAW]),
+    ("blurred", "auto", {"side": 0.125}, [
+        "of each of the 4 lead times seen, 12.5% count one period earlier, and as much one later", STUDY, SEEN, LAW]),
+    ("empirical", "auto", {"side": 0.0}, [STUDY, SEEN]),
+    ("borrowed", "borrowed", {"borrowed": Borrowed(1, "all", None, 1.0, None, 2.04)}, [
+        "learned from the whole catalogue, with 1 demand seen", "with so few demands the law is all but that of the "
+        "catalogue; look at it", f"the history is 10^2.0 {LIKELY}", SEEN, LAW]),
+    ("borrowed", "borrowed", {"borrowed": Borrowed(2, "A", None, 0.4, SHARES, -1.3)}, [
+        "learned from class A, with 2 demands seen, mixed with 60% of what was seen",
+        f"the history is 10^-1.3 {LIKELY}: unlike the catalogue; look at it",
+        f"guard: a history of what was learned {GUARD}", SEEN, LAW]),
+    ("poisson", "auto", {"borrowed": Borrowed(4, "all", Remark("demand in boxes", {"box": 10}), guard=SHARES)}, [
+        "its law is learned from no others: demand is counted in boxes of 10",
+        f"guard: a history of what was learned {GUARD}: rejected", "poisson", SEEN, LAW])], ids=lambda it: str(it)[:20])
+def test_notes(family: str, method: str, facts: dict[str, Any], lines: list[str]) -> None:
+    """Notes say how a law was fitted, the families that the guard rejects, and figures of history and law."""
+    law = FittedLaw.made(Law((0, 4), (3, 1)), family, Diagnostics(Law((0, 2, 6), (2, 1, 1)), method, **facts))
+    assert notes_of(law, "demand") == [f"demand: {line}" for line in lines]
 
 
 @given(numbers=st.lists(st.integers(0, 120_000), min_size=1), box=st.integers(12, 1000))
@@ -260,6 +283,9 @@ def test_range_of_demand(tmp_path: Path) -> None:
         "column 'demand': entry 3, 70001, is above 10,000; count in larger boxes: box=8 or more",
         "column 'demand': entry 4, -1, is below 0; correct it"]
     assert fit_demand([10_001, 3, 70_001], method="empirical", box=8).values == (1, 1251, 8751)
+    assert fit_demand([80_000], method="empirical", box=8).values == (10_000,)
+    with pytest.raises(RefusedFaults, match="-1, is below 0; .*\n.* is above 10,000 in boxes of 8; .*: box=9 or"):
+        fit_demand([-1, 80_001], box=8)
     (tmp_path / "file.csv").write_text("at,n\n2026-03-02,9000\n2026-03-03,9000\n")
     with pytest.raises(RefusedFaults, match=":2:12: column 'n': week 2026-W10, which comes to 18000 in 2 rows, is "):
         fit_demand(read_history(tmp_path / "file.csv", demand="n", date="at", every="week"))
@@ -317,16 +343,6 @@ def test_fitted_share(numbers: Sequence[int]) -> None:
     mass, _ = integrate.quad(likelihood, 0, 0.3)
     first, _ = integrate.quad(lambda it: it * likelihood(it), 0, 0.3)
     assert fit_lead(numbers).diagnostics.side == pytest.approx(first / mass, abs=0.0002)
-
-
-def test_notes_on_lead_times() -> None:
-    """A note says what the kernel moves."""
-    assert notes_of(fit_lead([2, 3], method="empirical"), "lead") == []
-    law = fit_lead([2, 3, 2, 4], method="auto")
-    assert "lead: by a study, a policy chosen after few" in notes_of(fit_lead([3], method="auto"), "lead")[0]
-    side = f"{law.diagnostics.side:.1%}"
-    assert notes_of(law, "lead")[0] == (
-        f"lead: of each of the 4 lead times seen, {side} count one period earlier, and as much one later")
 
 
 def test_command(tmp_path: Path, crnplan: Command) -> None:

@@ -11,7 +11,7 @@ from scipy import stats
 
 from crnplan.chances import Floats, mixture
 from crnplan.demand import FAMILIES, posterior
-from crnplan.demand.families import REGISTRY, UNIFORMS, columns_of, fits_of, greatest_mean, predictive_of
+from crnplan.demand.families import REGISTRY, UNIFORMS, fits_of, greatest_mean, predictive_of
 from crnplan.demand.fitting import fit_lead
 from crnplan.demand.posterior import allowed_laws, allowed_leads, demand_laws, members_of, round_history, stratified
 from crnplan.demand.sample import Sample
@@ -25,8 +25,8 @@ SURELY = 5.0  # standard errors
 
 
 def uniform(times: int, seed: int = 1) -> Floats:
-    """Returns uniform numbers, independent of one another, for so many laws."""
-    return np.random.default_rng(seed).random((UNIFORMS, times))
+    """Returns columns of uniform numbers, independent of one another, for so many laws."""
+    return np.random.default_rng(seed).random((UNIFORMS, times, 1))
 
 
 # The families that fit each history; the smooth one varies too little for some.
@@ -39,7 +39,7 @@ def test_mean_of_drawn_laws(family: str, numbers: Sequence[int]) -> None:
     """It is the posterior predictive law, within the error of the draws."""
     sample = Sample.of(numbers)
     its, cells = REGISTRY[family], np.arange(100)
-    below = np.cumsum(its.chances(cells, *columns_of(its.drawn(sample, uniform(3000), 1.0))), axis=1)
+    below = np.cumsum(its.chances(cells, *its.drawn(sample, uniform(3000), 1.0)), axis=1)
     expected = np.zeros(10_001)
     law = predictive_of(family, sample)
     expected[:len(law)] = law
@@ -52,7 +52,7 @@ def test_laws_of_members(numbers: Sequence[int]) -> None:
     """They are scaled, and only the end of their tail is left out."""
     its = REGISTRY["hurdle-lognormal"]
     parameters = its.drawn(Sample.of(numbers), uniform(20), 1.0)
-    laws, more = its.laws(parameters, max(numbers)), its.chances(np.arange(10_001), *columns_of(parameters))
+    laws, more = its.laws(parameters, max(numbers)), its.chances(np.arange(10_001), *parameters)
     assert laws.sum(axis=1) == pytest.approx(1) and np.allclose(laws, more[:, :laws.shape[1]], rtol=1e-3)
 
 
@@ -76,7 +76,7 @@ def test_drawn_parameters(numbers: Sequence[int]) -> None:
 
     def far(drawn: Floats, law: object) -> bool:
         """Returns whether draws are surely not of a law."""
-        return bool(stats.kstest(drawn, law.cdf).pvalue < 1e-4)  # type: ignore[attr-defined]
+        return bool(stats.kstest(drawn.ravel(), law.cdf).pvalue < 1e-4)  # type: ignore[attr-defined]
     mean, = REGISTRY["poisson"].drawn(sample, uniform(2000), 1.0)
     assert not far(mean, stats.gamma(sum(numbers) + 0.5, scale=1 / len(numbers)))
     share, chance = REGISTRY["hurdle-geometric"].drawn(sample, uniform(2000), 1.0)
@@ -210,9 +210,10 @@ def test_laws_of_one_number() -> None:
 
 
 def test_strata() -> None:
-    """Each row has one number in each stratum."""
+    """Each row has one number in each stratum, in an order of its own."""
     rows = stratified(np.random.default_rng(1), 3, 50)
     assert (np.sort(np.floor(50 * rows)) == np.arange(50)).all() and len({*rows[:, 0]}) == 3
+    assert (np.abs(np.corrcoef(rows) - np.eye(3)) < 4 / np.sqrt(50)).all() and len({*np.floor(50 * rows[:, 0])}) > 1
 
 
 @pytest.mark.parametrize("numbers", [[2, 3, 2, 4], [5] * 7, [1, 1, 32, 31, 9] * 5], ids=str)

@@ -79,9 +79,8 @@ def test_laws() -> None:
 def test_stored_figures(top: Path) -> None:
     """What the package says of short records of lead times are the stored figures, and no law is missing."""
     leads = pd.read_csv(top / "planner/studies/laws_leads.csv").query("method == 'auto'").groupby("seen")["regret"]
-    for seen in (5, 10, 20):
-        found = DOUBT[f"least_{seen}"], DOUBT[f"most_{seen}"]
-        assert found == pytest.approx((leads.min()[seen], leads.max()[seen]), abs=0.051)
+    for seen, (least, most) in DOUBT.items():
+        assert (least, most) == pytest.approx((leads.min()[seen], leads.max()[seen]), abs=0.051)
     table = pd.read_csv(top / "planner/studies/laws.csv")
     assert {*table["law"]} == {*laws.LAWS} and len(table) == len(laws.LAWS) * len(laws.PERIODS) * len(laws.METHODS)
 

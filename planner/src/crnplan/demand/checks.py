@@ -169,7 +169,7 @@ def _means(season: Season, numbers: Floats) -> Floats:
 
 def _change(before: Floats, after: Floats) -> float | None:
     """Returns how much a mean is above another, as a share; None if that is 0."""
-    return float(after.mean() / before.mean()) - 1 if before.any() else None
+    return float(after.mean() / before.mean()) - 1 if before.mean() > 0 else None
 
 
 def tests_of(facts: Facts, in_full: bool = True) -> tuple[Check, ...]:
@@ -278,13 +278,12 @@ def _checked(numbers: Sequence[int], every: str | None, first: int, season: int 
     seasons, untested = seasons_of(every, first, len(numbers), season)
     facts = Facts(numbers, seasons, every, first)
     checks = Checks(len(numbers), sum(number > 0 for number in numbers), tests_of(facts, in_full))
-    unknown = [Remark("few periods", {"periods": checks.periods})] if checks.periods < LEAST_PERIODS else []
     seen = {test.name: test.least_seen for test in checks.tests
             if test.name not in checks.warned and test.least_seen is not None}
-    if seen:
-        unknown.append(Remark("silent tests", seen))
+    silent = [Remark("silent tests", seen)] if seen else []
+    few = [Remark("few periods", {"periods": len(numbers)})] if len(numbers) < LEAST_PERIODS else []
     return replace(checks, warnings=tuple(_warnings(facts, checks)), notes=tuple(_notes(facts)),
-                   unknown=(*unknown, *untested) if checks.tests else tuple(unknown))
+                   unknown=(*silent, *untested) if checks.tests else tuple(few))
 
 
 def _warnings(facts: Facts, checks: Checks) -> Iterator[Remark]:

@@ -15,7 +15,7 @@ from __future__ import annotations
 
 import math
 from abc import ABC, abstractmethod
-from collections.abc import Callable, Iterator, Mapping
+from collections.abc import Callable, Mapping
 from dataclasses import dataclass
 from typing import Any, NamedTuple
 
@@ -27,9 +27,9 @@ from ..formats import MOST_DEMAND
 from . import FAMILIES, LEAST_DEMANDS
 from .sample import Sample
 
-Parameters = tuple[Any, ...]  # of a family: numbers of a member, or arrays with one for each of several
+Parameters = tuple[Any, ...]  # of a family: numbers of a member, or columns with one for each of several
 WORSE = 10.0  # in BIC: families further behind the best are not looked at
-UNIFORMS = 5  # rows of uniform numbers, at most, for a member
+UNIFORMS = 5  # columns of uniform numbers, at most, for members
 LEAST_CHANCE = 1e-300
 FIRST_WIDTH = 128  # of drawn laws; ever more until all but a tail is there
 
@@ -85,7 +85,7 @@ class Family(ABC):
     def drawn(self, sample: Sample, uniform: Floats, counted: float = 1.0) -> Parameters:
         """Draws members from the posterior law of their parameters.
 
-        `uniform` has rows of uniform numbers, with a column for each member. Each number of the sample counts as
+        `uniform` has columns of uniform numbers, with one for each member. Each number of the sample counts as
         `counted` numbers: 1 for the posterior, less for a coarsened one.
         """
 
@@ -110,16 +110,11 @@ class Family(ABC):
         largest number that was seen."""
         width = max(FIRST_WIDTH, 2 * most)
         while True:
-            chances = self.chances(DEMANDS[:width], *columns_of(parameters))
+            chances = self.chances(DEMANDS[:width], *parameters)
             total = chances.sum(axis=1, keepdims=True)
             if width > MOST_DEMAND or total.min() > 1 - LEAST_TAIL:
                 return np.asarray(chances / total)
             width *= 2
-
-
-def columns_of(parameters: Parameters) -> Iterator[Floats]:
-    """Yields the parameters of several members as columns."""
-    return (parameter[:, None] for parameter in parameters)
 
 
 class Poisson(Family):
@@ -263,7 +258,7 @@ class Hurdle(Family):
         """Draws the share, whose posterior is a beta law, and the parameters of sizes."""
         zeros, demands = counted * sample.zeros, counted * (sample.size - sample.zeros)
         share = (special.betaincinv(zeros + 0.5, demands + 0.5, uniform[-1]) if zeros
-                 else np.zeros(uniform.shape[1]))
+                 else np.zeros_like(uniform[-1]))
         return share, *self.sizes.drawn(sample.excess, uniform[:-1], counted)
 
     def logarithms(self, values: Whole, *parameters: Any) -> Floats:
@@ -283,9 +278,9 @@ class Lognormal(Family):
 
     def predictive(self, sample: Sample) -> Floats:
         """Returns the predictive law: the logarithm has Student's law, but for the bound of the deviation."""
-        mean, deviations = self._drawn_moments(sample, (np.arange(DEVIATIONS) + 0.5) / DEVIATIONS, 1.0)
+        mean, deviations = self._drawn_moments(sample, (np.arange(DEVIATIONS)[:, None] + 0.5) / DEVIATIONS, 1.0)
         deviations *= math.sqrt(1 + 1 / sample.size)
-        below = special.ndtr((np.log(DEMANDS[1:] + 0.5) - mean) / deviations[:, None]).mean(axis=0)
+        below = special.ndtr((np.log(DEMANDS[1:] + 0.5) - mean) / deviations).mean(axis=0)
         return np.asarray(np.diff(below, prepend=0.0))
 
     def drawn(self, sample: Sample, uniform: Floats, counted: float = 1.0) -> Parameters:

@@ -15,15 +15,15 @@ from ..money import whole
 from ..records.reading import RefusedFiles
 from ..records.observed import Observed
 from ..remarks import Remark
-from ..words import advised
+from ..words import counted, sentence
 from . import EMPIRICAL, LEAST_DEMANDS
 from .sample import Shares
 
 QUANTILES = (0.95, 0.99, 0.999)
 LEAST_WEIGHT = 0.005  # of a family that is named
-# By which share the chosen policy is dearer than the best one after so many lead times, in percent, if the demand is
-# known: the least and the most of the cases of the study planner/studies/laws_leads.py.
-DOUBT = {"least_5": 2.3, "most_5": 4.4, "least_10": 1.0, "most_10": 3.0, "least_20": 0.5, "most_20": 1.9}
+# How much dearer than the best policy the chosen one is after so many lead times, in percent, if the demand is known:
+# the least and the most of the cases of the study planner/studies/laws_leads.py.
+DOUBT = {5: (2.3, 4.4), 10: (1.0, 3.0), 20: (0.5, 1.9)}
 
 
 @dataclass(frozen=True)
@@ -45,6 +45,11 @@ class Figures:
         if is_sample:
             variance = float((weights @ values**2 - law.mean**2 * size) / (size - 1)) if size > 1 else None
         return cls(mean, variance, law.values[-1], dict(zip(QUANTILES, values[places].tolist())))
+
+    def __str__(self) -> str:
+        variance = "-" if self.variance is None else f"{self.variance:.4g}"
+        quantiles = ", ".join(f"{100 * share:g}% {value}" for share, value in self.quantiles.items())
+        return f"mean {self.mean:.4g}, variance {variance}, quantiles {quantiles}, largest {self.most}"
 
 
 @dataclass(frozen=True)
@@ -174,70 +179,74 @@ def _whole_numbers(observed: Iterable[Any], what: str) -> list[int]:
     return numbers
 
 
-def fit_remarks(law: FittedLaw) -> Iterator[Remark]:
+def fit_words(law: FittedLaw) -> Iterator[str]:
     """Yields how a law was fitted; nothing of one that was asked for as it was seen."""
-    fit = law.diagnostics
+    fit, borrowed = law.diagnostics, law.diagnostics.borrowed
     if fit.method == EMPIRICAL:
         return
+    if fit.side:
+        yield (f"of each of the {fit.seen.size} lead times seen, {fit.side:.1%} count one period earlier, and as much "
+               "one later")
     if law.is_of_leads:
-        if fit.side:
-            yield Remark("blurred lead times", {"observed": fit.seen.size, "side": fit.side})
-        yield Remark("few lead times", DOUBT)
+        yield "by a study, a policy chosen after few lead times costs more than the best: " + ", ".join(
+            f"{least:g} to {most:g}% after {count}" for count, (least, most) in DOUBT.items())
         return
-    if fit.borrowed:
-        yield from _of_borrowed(fit.borrowed)
-    if fit.borrowed is None or fit.borrowed.alone:
-        yield from _of_families(law)
+    if borrowed:
+        yield from _words_of_borrowed(borrowed)
+    if borrowed is None or borrowed.alone:
+        yield from _words_of_families(law)
 
 
-def _of_borrowed(borrowed: Borrowed) -> Iterator[Remark]:
+def _words_of_borrowed(borrowed: Borrowed) -> Iterator[str]:
     if borrowed.alone:
-        yield borrowed.alone
+        yield sentence(borrowed.alone)
     else:
-        yield Remark("learned law", {"prior": borrowed.prior, "demands": borrowed.demands, "seen": 1 - borrowed.share})
+        source = "the whole catalogue" if borrowed.prior == "all" else f"class {borrowed.prior}"
+        yield f"learned from {source}, with {counted(borrowed.demands, 'demand')} seen{_mixed(borrowed.share)}"
         if borrowed.few:
-            yield Remark("law of the catalogue")
+            yield "with so few demands the law is all but that of the catalogue; look at it"
     if borrowed.log10_bayes is not None:
-        yield Remark("likelier by the catalogue", {"log10_bayes": borrowed.log10_bayes, "unlike": int(borrowed.unlike)})
+        yield (f"the history is 10^{borrowed.log10_bayes:.1f} times as likely under what was learned as without it"
+               + ": unlike the catalogue; look at it" * borrowed.unlike)
     if borrowed.guard:
-        yield _guarded("what was learned", borrowed.guard, not borrowed.alone)
+        yield _guard_words("what was learned", borrowed.guard, not borrowed.alone)
 
 
-def _of_families(law: FittedLaw) -> Iterator[Remark]:
+def _words_of_families(law: FittedLaw) -> Iterator[str]:
     fit = law.diagnostics
     if fit.pack > 1:
-        yield Remark("packs are fitted", {"pack": fit.pack})
+        yield f"all demands are packs of {fit.pack}, so packs are fitted"
     if law.family == EMPIRICAL:
-        yield Remark("no family")
+        yield "no family gives back this history, so it stays as it is"
     elif fit.families:
         named = {family: weight for family, weight in fit.families.items() if weight >= LEAST_WEIGHT}
-        yield Remark("families", {**named, "seen": 1 - fit.share, "cap": fit.cap, "most": fit.history.most})
+        yield (", ".join(f"{family} {weight:.0%}" for family, weight in named.items()) + _mixed(fit.share)
+               + f"; at most {fit.cap}, as {fit.history.most} is the largest demand seen")
         if fit.bulks and "bulk" in named:
-            yield Remark("bulks", {"count": fit.bulks[0], "least": fit.bulks[1]})
+            yield f"for the family bulk, the {counted(fit.bulks[0], 'demand')} of at least {fit.bulks[1]} are bulks"
     else:
-        yield Remark("family", {"family": law.family})
+        yield law.family
     if fit.bic:
-        yield Remark("BIC", {family: value - min(fit.bic.values()) for family, value in fit.bic.items()})
+        yield "BIC above the least: " + ", ".join(f"{family} {bic - min(fit.bic.values()):.1f}"
+                                                  for family, bic in fit.bic.items())
     # Of the families that pass, their weights say enough; `diagnostics` has the rest.
-    yield from (_guarded(family, shares, False) for family, shares in fit.guard.items() if not shares.passes)
+    yield from (_guard_words(family, shares, False) for family, shares in fit.guard.items() if not shares.passes)
 
 
-def _guarded(family: str, shares: Shares, passes: bool) -> Remark:
-    return Remark("guard", {"family": family, "passes": int(passes), **shares._asdict()})
+def _mixed(share: float) -> str:
+    return f", mixed with {1 - share:.0%} of what was seen" * (share < 1)
 
 
-def _figure_remarks(law: FittedLaw) -> Iterator[Remark]:
-    """Yields the figures of what was seen, of the law, and of that of an item alone; nothing as `fit_remarks`."""
-    fit = law.diagnostics
-    if fit.method == EMPIRICAL:
-        return
-    rows = {"seen": fit.history} | ({} if law.family == EMPIRICAL else {"law": law.figures})
-    for title, figures in rows.items():
-        quantiles = {f"{100 * share:g}%": value for share, value in figures.quantiles.items()}
-        yield Remark("figures of a law", {"title": title, "mean": figures.mean, "variance": figures.variance,
-                                          "most": figures.most, **quantiles})
+def _guard_words(family: str, shares: Shares, passes: bool) -> str:
+    return (f"guard: a history of {family} varies as much with chance {shares.as_much:.2f}, as little with "
+            f"{shares.as_little:.2f}, is as far off with {shares.as_far:.2f}, has no larger demand with "
+            f"{shares.as_low:.2f}, as large a one with {shares.as_high:.2f}" + ": rejected" * (not passes))
 
 
 def notes_of(law: FittedLaw, name: str) -> list[str]:
-    """Returns how a law was fitted and its figures, in lines under the name of a table."""
-    return [f"{name}: {advised(remark)}" for remark in (*fit_remarks(law), *_figure_remarks(law))]
+    """Returns how a law was fitted and its figures, in lines under the name of a table; none of one that was asked for
+    as it was seen."""
+    rows = {} if law.diagnostics.method == EMPIRICAL else {"seen": law.diagnostics.history}
+    if law.family != EMPIRICAL:
+        rows["law"] = law.figures
+    return [f"{name}: {line}" for line in (*fit_words(law), *(f"{title}: {its}" for title, its in rows.items()))]

@@ -125,9 +125,9 @@ def size_likelihoods(samples: Sequence[Sample]) -> Floats:
 
 
 class Cells(NamedTuple):
-    """Likelihoods of cells, the means over their points: `sizes` has a row for each history, `shares` one for each group
-    of those with as many periods and demands, whose likelihoods of the share are the same. `starts` has the row of
-    `sizes` that each group starts at, `groups` the group of each history."""
+    """Likelihoods of cells, the means over their points: `sizes` has a row for each history, `shares` one for a group.
+    A group has as many periods and demands, and so the same likelihoods of the share. `starts` has the row of `sizes`
+    that each group starts at, `groups` the group of each history."""
 
     shares: Floats
     sizes: Floats
@@ -261,7 +261,7 @@ class Prior:
             if tree["borrow"] not in BORROW or (tree["borrow"] == NONE) is bool(tree["whole"]):
                 raise ValueError("something is learned unless nothing is borrowed")
             tree["classes"] = {name: Learned.from_tree(learned) for name, learned in tree["classes"].items()}
-            tree |= {part: tree[part] and Learned.from_tree(tree[part]) for part in ("whole", "packs")}
+            tree |= {part: Learned.from_tree(tree[part]) if tree[part] else None for part in ("whole", "packs")}
             return cls(**tree)
         except (ValueError, TypeError, LookupError, AttributeError, OverflowError):
             raise Refused(f"{name}: the {KIND} is damaged", "learn it anew") from None

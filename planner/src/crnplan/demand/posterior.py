@@ -30,7 +30,7 @@ from ..errors import Refused
 from ..formats import MOST_WEIGHT
 from ..law import Law
 from ..records.observed import Observed
-from .families import UNIFORMS, Family, Fit, Parameters, columns_of, fits_of, near_of
+from .families import UNIFORMS, Family, Fit, Parameters, fits_of, near_of
 from .fitting import FEW, LEAST_LEADS, SIDES, boxes_of, counts_of, lead_law, leads_of, sides_of
 from .sample import Sample
 
@@ -93,8 +93,8 @@ def members_of(fit: Fit, packs: Sample, random: np.random.Generator) -> Members:
     What is common to a family is approximated as in the Bayesian information criterion. Source of the weights: Rubin,
     Using the SIR algorithm to simulate posterior distributions, 1988.
     """
-    parameters = fit.family.drawn(packs, stratified(random, UNIFORMS, MEMBERS), PROPOSED)
-    seen = np.maximum(fit.family.chances(packs.values, *columns_of(parameters)), LEAST_SEEN)
+    parameters = fit.family.drawn(packs, stratified(random, UNIFORMS, MEMBERS)[:, :, None], PROPOSED)
+    seen = np.maximum(fit.family.chances(packs.values, *parameters), LEAST_SEEN)
     own = np.log(seen) @ packs.counts
     periods = packs.size * CONCENTRATIONS[:, None, None]
     weights = periods * seen

@@ -13,7 +13,7 @@ from ..decide.doubt import WITHIN
 from ..decide.verdicts import Compared as ComparedRow
 from ..decide.sensitivity import Moves
 from ..demand import EMPIRICAL
-from ..demand.fitted import FittedLaw, fit_remarks
+from ..demand.fitted import FittedLaw, fit_words
 from ..errors import Fault, spelt, worded
 from ..plan.answer import CHEAPER, CHOSEN, DEARER, SAME, SERVICE, THEORY, TODAY, UNDECIDED, Figures
 from ..plan.depth import Coming, Compared, Depth
@@ -219,7 +219,7 @@ class ItemWords:
     def notes(self) -> list[str]:
         """Returns what is to be said of the history, and of how its law was fitted."""
         return [capital(note) for note in (*map(note_words, self.heard), *map(sentence, self.item.remarks),
-                                           *map(advised, fit_remarks(self.question.demand)))]
+                                           *fit_words(self.question.demand))]
 
     @property
     def over_coming_periods(self) -> str:
