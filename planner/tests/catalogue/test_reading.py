@@ -13,16 +13,16 @@ import numpy as np
 import pandas as pd
 import pytest
 
-from crnplan.records.item import Item
-from crnplan.words import sentence
-from crnplan.records.catalogue_reading import Catalogue, read_catalogue
-from crnplan.records import rows
-from crnplan.records.rows import far_above
-from crnplan.records.items import Reader, Words
-from crnplan.records.catalogue_reading import read_alone
 from crnplan.errors import Refused, RefusedFaults
 from crnplan.files import MARKER
+from crnplan.records import rows
+from crnplan.records.catalogue_reading import Catalogue, read_alone, read_catalogue
 from crnplan.records.cells import period_of
+from crnplan.records.item import Item
+from crnplan.records.items import Reader, Words
+from crnplan.records.observed import Record, record_of
+from crnplan.records.rows import far_above
+from crnplan.words import sentence
 from planner.tests.catalogue.audit import Audit, audit
 from planner.tests.catalogue.conftest import FILES
 from planner.tests.catalogue.made import ITEMS, START, TITLES, TODAY, WEEKS, Made, name_of
@@ -205,12 +205,12 @@ def test_far_above(amounts: list[int], far: int) -> None:
     assert far_above(np.array(amounts)) == far
 
 
-def read_text(folder: Path, demand: str, masters: str = "", **words: Any) -> Catalogue:
+def read_text(folder: Path, demand: str, masters: str = "", least: int = 1, **words: Any) -> Catalogue:
     """Reads a catalogue from texts."""
     masters = masters or "item,setup,holding,backlog,lead,s,S\nA,10,0.5,5,2,3,9\n"
     for name, text in (("demand.csv", demand), ("items.csv", masters)):
         (folder / name).write_text(text, "utf-8")
-    return read_catalogue(folder / "demand.csv", folder / "items.csv", today=TODAY, least=1, **words)
+    return read_catalogue(folder / "demand.csv", folder / "items.csv", today=TODAY, least=least, **words)
 
 
 ROWS = "".join(f"A,2026-{month:02}-15,3\n" for month in range(1, 11))
@@ -276,7 +276,9 @@ MASTER = {"setup": "10", "holding": "0.5", "backlog": "5", "lead": "2", "s": "3"
     ({"holding": "0.2"}, "share", "no price"), ({"lead": ""}, "", "no lead time, and no received order"),
     ({"lead": "14 pcs"}, "", "'14 pcs' is no lead time"), ({"setup": "0.123456789"}, "", "more than 8 decimals"),
     ({"s": "2.5"}, "", "'2.5' is not a whole number from 0"), ({"S": "-9"}, "", "'-9' is not a whole number from 0"),
-    ({"setup": "EUR 5 EUR"}, "", "'EUR 5 EUR' is not a number"), ({"S": "1000001"}, "", "S is above 1,000,000")])
+    ({"setup": "EUR 5 EUR"}, "", "'EUR 5 EUR' is not a number"), ({"S": "1000001"}, "", "S is above 1,000,000"),
+    ({"fill": "1"}, "", "'1' is no share between"), ({"fill": "0%"}, "", "'0%' is no share between"),
+    ({"lead": "33"}, "", "33 is not from 1 to 32"), ({"s": "10"}, "", "s = 10 is above S = 9")])
 def test_cells_of_masters_that_are_not_taken(tmp_path: Path, changes: dict[str, str], unit: str, said: str) -> None:
     """Leaves an item out for one cell of its master, and names the column and why."""
     its = {**MASTER, **changes}
@@ -284,6 +286,36 @@ def test_cells_of_masters_that_are_not_taken(tmp_path: Path, changes: dict[str, 
     rejects = read_text(tmp_path, "item,date,quantity\n" + ROWS, masters,
                         units={"items": {"holding": unit}} if unit else {}).rejects
     assert list(rejects.column) == [next(iter(changes))] and said in rejects.reason[0]
+
+
+@pytest.mark.parametrize("changes, least", [
+    ({"S": "1000000"}, 1), ({"setup": "0"}, 1), ({"setup": "0.12345678"}, 1), ({"fill": "99.99%"}, 1),
+    ({"lead": "32"}, 1), ({"s": "9"}, 1), ({"s": "0", "S": "0"}, 1), ({}, 40)])
+def test_masters_at_the_borders(tmp_path: Path, changes: dict[str, str], least: int) -> None:
+    """Takes the largest and the least value of each cell, and a record of just the periods that are needed: from 15
+    January to 15 October are 40 weeks."""
+    its = {**MASTER, **changes}
+    read = read_text(tmp_path, "item,date,quantity\n" + ROWS, f"item,{','.join(its)}\nA,{','.join(its.values())}\n",
+                     least=least)
+    assert read.counts["items"]["ready"] == 1 and not len(read.rejects)
+
+
+@pytest.mark.parametrize("every, half", [("day", 183), ("week", 26), ("month", 6)])
+def test_items_that_begin_late(every: str, half: int) -> None:
+    """An item begins with the record if it is first seen in the half year after the first period, else as it is
+    seen."""
+    record = Record(every, START, LAST, "", "")
+    first = period_of(START, every)
+    assert [record.first_of(first + late) - first for late in (0, half, half + 1)] == [0, 0, half + 1]
+
+
+@pytest.mark.parametrize("away, rows, is_far", [(366, 1, False), (367, 1, True), (367, 2, False), (-366, 1, False),
+                                                (-367, 1, True), (-367, 2, False)])
+def test_days_far_from_all_others(away: int, rows: int, is_far: bool) -> None:
+    """A day more than a year from all others is out of the record if at most one row in a thousand has it."""
+    far = START + datetime.timedelta(days=away)
+    record = record_of({START: 1999 - rows, far: rows}, "week", None, None, TODAY)
+    assert {record.first, record.last} == ({START} if is_far else {START, far})
 
 
 @pytest.mark.parametrize("setup, holding, decimals", [("10", "1", 0), ("10", "0.5", 1), ("10.25", "0.5", 2)])

@@ -17,7 +17,7 @@ from ..demand import LEAD_METHODS, METHODS
 from ..errors import Refused
 from ..formats import MOST_PERIODS, MOST_REPLICATIONS, MOST_WEIGHT
 from ..records.cells import DECIMALS, EVERY
-from ..records.columns import ROLES, unit_fault
+from ..records.columns import COLUMNS, ROLES, unit_fault
 from ..records.item import BORROW
 from ..records.items import KEEP, LEAVE_OUT
 from ..records.sources import DELIMITERS
@@ -84,7 +84,6 @@ RULES = Table({
     elsewhere={"check": "an item is no longer checked by itself: run crnplan check on scenario.toml, and remove this "
                         "table"})
 HOMES = {key: name for name, table in reversed(RULES.keys.items()) if isinstance(table, Table) for key in table.keys}
-COLUMNS = [f"{kind}.{role}" for kind, roles in ROLES.items() for role in roles]
 CATALOGUE_RULES = Table({"catalogue": Table({
     "every": Key(choice(*EVERY)), "delimiter": Key(choice(*DELIMITERS)), "encoding": TEXT,
     "decimal": Key(choice(*DECIMALS)), "date_formats": Key(texts), "from": Key(date), "to": Key(date), "net": Key(flag),

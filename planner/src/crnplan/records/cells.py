@@ -33,6 +33,11 @@ MINUS = "-\u2212"
 # A number is below 10 to this power, and a text of more letters is none.
 MOST_DIGITS, MOST_LETTERS = 15, 60
 NAMES = {".": "the point", ",": "the comma"}
+# A number by its decimal sign.
+FORMS = {sign: re.compile(
+    rf"(?P<sign>[{MINUS}+]?) *(?P<whole>[0-9]+|[1-9][0-9]{{0,2}}(?P<group>[{other}{GROUPS}])[0-9]{{3}}"
+    rf"(?:(?P=group)[0-9]{{3}})*)(?:{re.escape(sign)}(?P<part>[0-9]+))?(?P<after>-?)")
+    for sign, other in ((".", ","), (",", "."))}
 # What a number of a kind must be, each with the code of one that is not.
 NUMBER = [("digits", lambda number: abs(number) < 10**MOST_DIGITS)]
 AMOUNT = [*NUMBER, ("below 0", lambda number: number >= 0),
@@ -45,8 +50,7 @@ CHECKS: dict[str, list[tuple[str, Callable[[Fraction], bool]]]] = {
 CODES = ("AED AUD BGN BRL CAD CHF CNY CZK DKK EUR GBP HKD HUF IDR ILS INR JPY KRW MXN MYR NOK NZD PHP PLN RON RUB SAR "
          "SEK SGD THB TRY TWD UAH USD VND ZAR").split()
 SIGNS = {"€": "EUR", "£": "GBP", "₹": "INR", "zł": "PLN", "Kč": "CZK", "US$": "USD", "R$": "BRL", "元": "CNY",
-         "円": "JPY",
-         "₽": "RUB", "₺": "TRY", "₩": "KRW", "₪": "ILS", "Ft": "HUF"}
+         "円": "JPY", "₽": "RUB", "₺": "TRY", "₩": "KRW", "₪": "ILS", "Ft": "HUF"}
 CURRENCY = "|".join(map(re.escape, [*SIGNS, *CODES, "$", "¥", "kr", "Fr."]))
 MONEY = re.compile(rf"(?P<sign>[{MINUS}+]?) ?(?P<before>{CURRENCY})? ?(?P<number>.*?) ?(?P<behind>{CURRENCY})?")
 
@@ -69,7 +73,7 @@ class Unreadable(ValueError):
 
 
 def said(remark: Remark) -> str:
-    """Returns what is wrong, and what to do, as a text."""
+    """Returns what is wrong, and what to do."""
     return "; ".join(filter(None, (sentence(remark), advice(remark))))
 
 
@@ -87,17 +91,6 @@ def named_lines(lines: Sequence[int]) -> str:
     """Returns `line 3` or `lines 3, 5, 8`. Only the first lines are named."""
     text = ", ".join(map(str, lines[:MOST_NAMED])) + (", .." if len(lines) > MOST_NAMED else "")
     return f"line{'s' * (len(lines) > 1)} {text}"
-
-
-def _form(decimal: str) -> re.Pattern[str]:
-    """Returns the pattern of a number with this decimal sign."""
-    other = DECIMALS[decimal == "."]
-    groups = rf"[1-9][0-9]{{0,2}}(?:(?P<group>[{other}{GROUPS}])[0-9]{{3}})(?:(?P=group)[0-9]{{3}})*"
-    return re.compile(rf"(?P<sign>[{MINUS}+]?) *(?P<whole>[0-9]+|{groups})(?:{re.escape(decimal)}(?P<part>[0-9]+))?"
-                      rf"(?P<after>-?)")
-
-
-FORMS = {decimal: _form(decimal) for decimal in DECIMALS}
 
 
 def readings(text: str) -> dict[str, Fraction]:
@@ -178,7 +171,7 @@ class AmountReader:
     def number(self, cell: Cell, kind: str = "number", if_empty: str = "no amount") -> Fraction:
         """Returns the number of a cell, which is of a kind of CHECKS. `if_empty` is the code for an empty cell. Raises
         Unreadable."""
-        if cell == "" or cell is None:
+        if cell == "":
             raise Unreadable(if_empty)
         number = self._read(cell) if isinstance(cell, str) else exact(cell)
         if number is None:
@@ -197,19 +190,16 @@ class AmountReader:
         numbers = readings(unwrapped(text) if self.currencies is None else split_money(text)[0])
         if self.currencies and len(self.currencies) > 1:
             raise Unreadable("currencies", texts=" and ".join(repr(shown(it)) for it in self.currencies.values()))
-        if self.stated is not None:
-            numbers = {sign: number for sign, number in numbers.items() if sign == self.stated}
-        elif len({*numbers.values()}) > 1:
+        is_doubtful = len({*numbers.values()}) > 1
+        if is_doubtful and self.sign is None:
             small, large = (f"{float(number):.15g}" for number in sorted(numbers.values(), key=abs))
-            numbers = {sign: number for sign, number in numbers.items() if sign == self.sign}
-            if not numbers:
-                signs = " and ".join(repr(shown(it)) for it in self.sides.values())
-                raise Unreadable("two readings", text, large=large, small=small, signs=signs)
-        if not numbers:
-            other = DECIMALS[self.stated == "."]
-            is_other = self.stated is not None and FORMS[other].fullmatch(text) is not None
-            raise Unreadable("no number", text, other=other if is_other else None)
-        return next(iter(numbers.values()))
+            signs = " and ".join(repr(shown(it)) for it in self.sides.values())
+            raise Unreadable("two readings", text, large=large, small=small, signs=signs)
+        for sign, number in numbers.items():
+            if sign == self.sign or not self.stated and not is_doubtful:
+                return number
+        other = [sign for sign in DECIMALS if self.stated not in (None, sign) and FORMS[sign].fullmatch(text)]
+        raise Unreadable("no number", text, other=other[0] if other else None)
 
     def share(self, cell: Cell, in_percent: bool = False) -> Fraction:
         """Returns a share between 0 and 1, which may be written in percent, or be in percent. Raises Unreadable."""
@@ -224,18 +214,17 @@ class AmountReader:
         return number
 
 
-def other_reading(text: str, decimal: str | None) -> str | None:
+def other_reading(text: str, decimal: str) -> str | None:
     """Returns what a readable number would be if its sign between thousands were a decimal sign, or the other way
     round.
 
     So `1.000,000`, which is 1000 with the comma as decimal sign, is 1 if the point is one. Returns None if there is no
     such sign.
     """
-    sign = decimal or "."
-    form = FORMS[sign].fullmatch(text)
+    form = FORMS[decimal].fullmatch(text)
     if form is None:
         return None
-    whole, _, part = form["whole"].partition(DECIMALS[sign == "."])
+    whole, _, part = form["whole"].partition(DECIMALS[decimal == "."])
     if len(part) == 3:
         return f"{whole}.{part}".rstrip("0").rstrip(".")
     could_be_group = len(form["part"] or "") == 3 and re.fullmatch("[1-9][0-9]{0,2}", form["whole"]) is not None
@@ -288,8 +277,7 @@ class DateReader:
     def __init__(self, texts: Iterable[Cell] = (), patterns: Sequence[str] = ()) -> None:
         """Looks at all dates of the file. Patterns of strptime, if there are any, stand in place of the usual forms."""
         self.patterns = patterns
-        # The first date that has the day first, and the first that has the month first.
-        self.sides: dict[bool, str] = {}
+        self.sides: dict[bool, str] = {}  # the first date that has the day first, and the first that hasn't
         for text in (it for it in texts if isinstance(it, str) and "/" in it and not patterns):
             parts = SLASHED.fullmatch(TIME.sub("", text))
             if parts and (int(parts["day"]) > 12) != (int(parts["month"]) > 12):
@@ -298,7 +286,7 @@ class DateReader:
     def read(self, cell: Cell) -> tuple[datetime.date, str]:
         """Returns a date and its form, named by an example or by a pattern; one that a sheet stores is of the first.
         Raises Unreadable."""
-        if cell == "" or cell is None:
+        if cell == "":
             raise Unreadable("no date")
         if isinstance(cell, datetime.date):
             date, form = cell, "2026-03-31"

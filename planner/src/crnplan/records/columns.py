@@ -27,6 +27,7 @@ ROLES = {"demand": ["item", "date", "quantity", "returned", "measure"],
          "items": ["item", "description", "setup", "holding", "backlog", "fill", "lead", "s", "S", "stock", "price",
                    "price_for", "class", "borrow"],
          "orders": ["item", "ordered", "received"]}
+COLUMNS = [f"{kind}.{role}" for kind, roles in ROLES.items() for role in roles]
 NEEDED = {"item", "date", "quantity", "setup", "holding", "s", "S", "ordered", "received"}
 # Letters that are no letter with an accent.
 LETTERS = str.maketrans({"ł": "l", "ø": "o", "æ": "ae"})

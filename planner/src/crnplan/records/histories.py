@@ -137,32 +137,29 @@ class Movements(Reading):
             raise RefusedFaults([Fault(f"no row is from {start or 'the beginning'} to {end or 'the end'}; {CHANGE}",
                                        self.sheet.name)])
 
-    def _ends(self) -> tuple[Day, Day]:
-        """Returns the first and the last day of the record: of all items, if the rows are those of one."""
-        days = {day for day, _ in self.values["date"]}
+    def spanned(self, start: Day | None, end: Day | None, whole: bool) -> range:
+        """Returns the numbers of the periods of the record, with a note: of all items, if the rows are those of one.
+        Raises RefusedFaults for none, or for too many."""
+        every, days = self.every, {day for day, _ in self.values["date"]}
+        known = set(days)
         for cell in self.rows.columns["date"].distinct if self.rules.item else ():
             with contextlib.suppress(Unreadable):
-                days.add(self.reader.read(cell)[0])
-        return min(days), max(days)
-
-    def spanned(self, start: Day | None, end: Day | None, whole: bool) -> range:
-        """Returns the numbers of the periods of the record, with a note. Raises RefusedFaults for none, or for too
-        many."""
-        every, ends = self.every, self._ends()
-        first, last = period_of(start or ends[0], every), period_of(end or ends[1], every)
+                known.add(self.reader.read(cell)[0])
+        latest = max(known)
+        first, last = period_of(start or min(known), every), period_of(end or latest, every)
         partial = [start is None or first_day(first, every) != start,
                    end is None or first_day(last + 1, every) - datetime.timedelta(days=1) != end]
         periods = range(first + (whole and partial[0]), last + 1 - (whole and partial[1]))
         if not periods:
             raise self.refused(f"there is no {every} between the first and the last one; leave {argument('whole')} out",
                                self.used[0], "date")
-        row = next((row for row, (day, _) in zip(self.used, self.values["date"]) if day == ends[1]), None)
+        row = next((row for row, (day, _) in zip(self.used, self.values["date"]) if day == latest), None)
         is_stated = start is not None or end is not None
         wrong = too_long(len(periods), every, CHANGE if is_stated else "correct the first or the last date")
         if wrong:
             raise (RefusedFaults([Fault(wrong, self.sheet.name)]) if is_stated or row is None else
                    self.refused(wrong, row, "date"))
-        filled = len({*periods} - {period_of(day, every) for day in {day for day, _ in self.values["date"]}})
+        filled = len({*periods} - {period_of(day, every) for day in days})
         self.note(f"{every}s from {period_name(periods[0], every)} to {period_name(periods[-1], every)}: "
                   f"{len(periods)}, filled with 0: {filled}; {_ends_text(partial, whole)}")
         return periods
@@ -188,15 +185,13 @@ class Movements(Reading):
                                        "row, or leave it out", self.used[row], role))
         if unmet:
             raise RefusedFiles(self.placed(unmet), self.finish()[0])
-        rows_of: dict[int, list[int]] = {}
-        for row, number in zip(self.used, numbers.tolist()):
-            rows_of.setdefault(number, []).append(row)
+        firsts = dict(zip(reversed(numbers.tolist()), reversed(self.used)))
+        rows = np.bincount(numbers[inside], minlength=len(periods)).tolist()
 
         def cell(role: str, number: int, count: int) -> Said | None:
             """Returns the first cell of a period, and how a message names its sum."""
-            rows = rows_of.get(number, ())
-            what = f"{every} {period_name(first + number, every)}, which comes to {count} in"
-            return self.said(f"{what} {len(rows)} row{'s' * (len(rows) > 1)},", rows[0], role) if rows else None
+            what = f"{every} {period_name(first + number, every)}, which comes to {count} in {rows[number]} row"
+            return self.said(f"{what}{'s' * (rows[number] > 1)},", firsts[number], role) if rows[number] else None
         return _history(self, counts, {role: [cell(role, *it) for it in enumerate(counts[role])] for role in counts},
                         every, first)
 

@@ -17,7 +17,7 @@ from ..remarks import Remark
 from .catalogued import Reject
 from .cells import (EVERY, TOTAL, UNPRINTABLE, Cell, CellFault, Unreadable, fault, named_lines, on_one_line, period_name,
                     period_of, text_of)
-from .columns import ROLES, conversion, unit_fault
+from .columns import COLUMNS, ROLES, conversion, unit_fault
 from .item import AMOUNTS, MONEY, Item, Masters
 from .observed import Day, Numbers, ends_of, record_of, summed
 from .rows import Flags, Rows, far_above
@@ -55,17 +55,15 @@ class Words(Rules):
         for name, value in (("twice", self.twice), ("far", self.far)):
             if value not in (KEEP, LEAVE_OUT):
                 raise Refused(f"{argument(name, value)} is not {KEEP} or {LEAVE_OUT}")
-        for name, table in (("columns", self.columns), ("units", self.units), ("names", self.names)):
-            for kind, roles in table.items():
-                wrong = next((role for role in roles if role not in ROLES.get(kind, ())), None)
-                if kind not in ROLES or wrong is not None:
-                    known = ", ".join(f"{kind}.{role}" for kind in ROLES for role in ROLES[kind])
-                    place = f"{kind}.{wrong}" if wrong else kind
-                    raise Refused(f"{argument(name)}: there is no column {place}; they are {known}")
-        for kind, units in self.units.items():
-            for role, unit in units.items():
-                if reason := unit_fault(role, unit):
-                    raise Refused(f"{argument('units', f'{kind}.{role}={unit}')}: {reason}")
+        for name in ("columns", "units", "names"):
+            places = [place for kind, roles in getattr(self, name).items()
+                      for place in [f"{kind}.{role}" for role in roles] or [kind]]
+            wrong = next((place for place in places if place not in (*COLUMNS, *ROLES)), None)
+            if wrong:
+                raise Refused(f"{argument(name)}: there is no column {wrong}; they are {', '.join(COLUMNS)}")
+        for kind, role, unit in ((kind, *its) for kind, units in self.units.items() for its in units.items()):
+            if reason := unit_fault(role, unit):
+                raise Refused(f"{argument('units', f'{kind}.{role}={unit}')}: {reason}")
 
 
 class FileCounts(TypedDict):
@@ -104,7 +102,6 @@ class Moves(NamedTuple):
 
 
 def joined(remarks: Sequence[Remark]) -> Remark:
-    """Returns several remarks as one."""
     return remarks[0] if len(remarks) == 1 else Remark("several", {str(place): code for place, code in enumerate(
         it.code for it in remarks)} | {f"{place} {name}": value for place, it in enumerate(remarks)
                                        for name, value in it.facts.items()})
@@ -168,7 +165,7 @@ class Reader:
         """Reads all items. Those of totals alone are none."""
         moves_of, totals = self._moves()
         leads_of, masters_of = self._leads(), self.rows["items"].by_item(self.rows["items"].good)
-        known = {code for table in self.rows.values() for code in np.unique(table.codes("item")[table.good]).tolist()}
+        known = {code for table in self.rows.values() for code in np.unique(table.codes["item"][table.good]).tolist()}
         for item in sorted(known - totals, key=self.names.__getitem__):
             moves, masters, (leads, orders) = moves_of(item), masters_of(item).tolist(), leads_of(item)
             counts = {"demand": len(moves.lines), "items": len(masters), "orders": orders}
@@ -191,12 +188,11 @@ class Reader:
                 self.record.check(day)
             return day
         days, faults = self.rows[kind].values(role, day_of, Day.min)
-        codes, every = self.rows[kind].codes(role), self.words.every
+        codes, every = self.rows[kind].codes[role], self.words.every
         return (np.array([day.toordinal() for day in days], np.int64)[codes],
                 np.array([period_of(day, every) for day in days], np.int64)[codes], faults)
 
     def _amount(self, role: str) -> Callable[[Cell], int]:
-        """Returns what reads the amounts of movements in items."""
         factor = int(conversion(role, self.rows["demand"].sheet.columns[role].unit, self.words.every)[0])
 
         def read(cell: Cell) -> int:
@@ -216,11 +212,11 @@ class Reader:
         faults, amounts = {"date": dated}, {"returned": np.broadcast_to(np.int64(0), len(rows))}
         for role in (it for it in ("quantity", "returned") if it in rows.columns):
             values, faults[role] = rows.values(role, self._amount(role), 0)
-            amounts[role] = np.array(values, np.int64)[rows.codes(role)]
+            amounts[role] = np.array(values, np.int64)[rows.codes[role]]
         if "measure" in rows.columns and self.words.factors:
             units = rows.columns["measure"].distinct
             factors = np.array([self.words.factors.get(text_of(unit), 1) for unit in units], np.int64)
-            amounts = {role: its * factors[rows.codes("measure")] for role, its in amounts.items()}
+            amounts = {role: its * factors[rows.codes["measure"]] for role, its in amounts.items()}
         bad = rows.faulty(faults)
         totals = self._reject_moves(np.flatnonzero(rows.good & bad), faults)
         rows_of = rows.by_item(self._without_twins(rows.good & ~bad))
@@ -234,13 +230,13 @@ class Reader:
         """Rejects rows of demand with what is wrong with their cells, and returns the items that are no items: those of
         totals alone. A row is one if it looks so, and has no date."""
         rows, totals = self.rows["demand"], Counter[int]()
-        for row, item in zip(bad.tolist(), rows.codes("item")[bad].tolist()):
+        for row, item in zip(bad.tolist(), rows.codes["item"][bad].tolist()):
             is_total = rows.cell("date", row) == "" and TOTAL.match(self.names[item])
             self._reject_row("demand", row, [fault("item", self.names[item], "total")] if is_total else
                              rows.faults(row, faults))
             totals[item] += bool(is_total)
         return {item for item, count in (+totals).items() if count == len(self.named(item)) and not any(
-            item in its.codes("item")[its.good] for kind, its in self.rows.items() if kind != "demand")}
+            item in its.codes["item"][its.good] for kind, its in self.rows.items() if kind != "demand")}
 
     def _without_twins(self, good: Flags) -> Flags:
         """Names the rows that are the same as others, once for each item, and takes them out if that is wanted."""
@@ -248,7 +244,7 @@ class Reader:
         first = rows.twins()
         again: Flags = good & (first != np.arange(len(first)))
         twins_of = rows.by_item(again)
-        for item in np.unique(rows.codes("item")[again]).tolist():
+        for item in np.unique(rows.codes["item"][again]).tolist():
             mine, name = twins_of(item), self.names[item]
             lines, self.twice[item] = rows.lines[mine].tolist(), len(mine)
             twin = fault("item", name, "twin", count=len(lines), lines=named_lines(lines),
@@ -312,7 +308,7 @@ class Reader:
         rows, mine = self.rows["demand"], self.named(item)
         if "measure" not in rows.columns:
             return
-        _, places = np.unique(rows.codes("measure")[mine], return_index=True)
+        _, places = np.unique(rows.codes["measure"][mine], return_index=True)
         units = [text_of(rows.cell("measure", row)) for row in mine[np.sort(places)].tolist()]
         unknown = [(place, unit) for place, unit in zip(np.sort(places), units) if unit not in self.words.factors]
         if len(unknown) > 1:

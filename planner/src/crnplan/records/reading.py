@@ -132,7 +132,6 @@ class Reading:
         self.values: dict[str, list[Any]] = {}
 
     def text(self, role: str, row: int) -> str:
-        """Returns the text of a cell."""
         return text_of(self.rows.cell(role, row))
 
     def said(self, what: str, row: int | None = None, role: str = "") -> Said:
@@ -141,11 +140,9 @@ class Reading:
         return (line, column.place, f"column {column.name!r}: {what}") if column else (line, -1, what)
 
     def note(self, what: str, row: int | None = None, role: str = "") -> None:
-        """Adds a note on the file, on a row, or on a cell."""
         self._notes.append(self.said(what, row, role))
 
     def reject(self, what: str, row: int, role: str) -> None:
-        """Adds the fault of a cell."""
         self._faults.append(self.said(what, row, role))
 
     def refused(self, what: str, row: int, role: str) -> RefusedFaults:
@@ -153,10 +150,9 @@ class Reading:
         return RefusedFaults(self.placed([self.said(what, row, role)]))
 
     def read(self, role: str, read: Callable[[Cell], Value]) -> list[Value | None]:
-        """Returns the values of a column in the rows of use, None for each cell that can't be read; that is a
-        fault."""
+        """Returns the values of a column in the rows of use, None for a cell that can't be read, which is a fault."""
         values, faults = self.rows.values(role, read, None)
-        codes = self.rows.codes(role)[self.used].tolist()
+        codes = self.rows.codes[role][self.used].tolist()
         for row, code in zip(self.used, codes) if faults else ():
             if code in faults:
                 self.reject(said(faults[code]), row, role)
@@ -240,9 +236,8 @@ class Reading:
             self._note_amounts(role)
 
     def _note_amounts(self, role: str) -> None:
-        """Notes a last row that looks like a total, amounts far above all others, and amounts that few rows write so,
-        which another decimal sign would change."""
-        rows, numbers, decimal = self.used, self.values[role], self.rules.decimal
+        """Notes a last row that looks like a total, amounts far above all others, and rare ways of writing."""
+        rows, numbers, decimal = self.used, self.values[role], self.rules.decimal or ""
         reason = self.total_reason(rows[-1], numbers[-1], numbers[:-1]) if rows[-1] == len(self.lines) - 1 else None
         if reason:
             self.note(f"the last row looks like a total of the rows above ({reason}); if it is, remove it", rows[-1],
@@ -260,8 +255,7 @@ class Reading:
                       f"with another decimal sign it would be {other_reading(text, decimal)})", rows[place], role)
 
     def _note_twins(self) -> None:
-        """Notes rows that are the same as others. Rows of nothing but amounts can't be told apart, so they are not
-        named."""
+        """Notes rows that are the same as others, but for rows of nothing but amounts, which can't be told apart."""
         used, first = np.array(self.used), self.rows.twins()[self.used]
         again = np.flatnonzero(self.has_rest & (first != used) & np.isin(first, used)).tolist()
         if again:
@@ -271,7 +265,6 @@ class Reading:
                       "exported twice, remove them", self.used[again[0]])
 
     def _note_forms(self, role: str) -> None:
-        """Notes if the dates of a column have several forms."""
         firsts: dict[str, tuple[int, Day]] = {}
         for row, (day, form) in zip(self.used, self.values[role]):
             firsts.setdefault(form, (row, day))

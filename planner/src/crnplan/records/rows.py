@@ -8,7 +8,7 @@ from __future__ import annotations
 import sys
 from array import array
 from collections.abc import Callable, Collection, Iterator, Mapping
-from typing import TypeVar
+from typing import Any, TypeVar
 
 import numpy as np
 import numpy.typing as npt
@@ -28,8 +28,7 @@ TIMES_NEXT, TIMES_OF_FEW, LEAST_OTHERS, MOST_FAR = 30, 300, 4, 3
 
 
 class Codes(dict[Cell, int]):
-    """The distinct values of a column, by cell: a cell that is not known is read and added. At most so many cells are
-    remembered."""
+    """The codes of the distinct values of a column, by cell. At most so many cells are remembered."""
 
     def __init__(self, read: Callable[[Cell], Cell], most: int | None = None) -> None:
         super().__init__()
@@ -38,7 +37,7 @@ class Codes(dict[Cell, int]):
         self.places: dict[Cell, int] = {}
 
     def __missing__(self, cell: Cell) -> int:
-        """Returns the code of a cell that is not known."""
+        """Reads a cell that is not known, and returns its code."""
         value = self.read(cell)
         code = self.places.get(value)
         if code is None:
@@ -49,9 +48,15 @@ class Codes(dict[Cell, int]):
         return code
 
 
+def numbers_of(values: array[int]) -> npt.NDArray[Any]:
+    """Returns an array as one of numpy, which shares its memory."""
+    return np.frombuffer(values, values.typecode) if values else np.zeros(0, values.typecode)
+
+
 class Rows:
-    """The rows of a table, but for blank ones, whose lines are in `blank`. `wide` has how many cells those rows have
-    that have more than the heading, and their texts. `good` says which rows are of use: the others decide nothing."""
+    """The rows of a table, but for blank ones, whose lines are in `blank`: the line of each and, by role, the code of
+    its value. `wide` has how many cells those rows have that have more than the heading, and their texts. `good` says
+    which rows are of use: the others decide nothing."""
 
     def __init__(self, sheet: Sheet, names: Codes | None = None) -> None:
         """Reads all rows, in the columns of the table. Tables of one catalogue share the names of items. With patterns
@@ -60,58 +65,48 @@ class Rows:
         dated = bare_cell if self.patterns else dated_cell
         self.columns = {role: names if role == "item" and names is not None else
                         Codes(dated if role in DATES else bare_cell) for role in sheet.columns}
-        self._codes = {role: array("i") for role in self.columns}
-        self._lines, self._hashes = array("i"), array("q")
-        self.blank = array("i")
-        self.wide: dict[int, tuple[int, str]] = {}
-        self._fill()
+        self.blank, self.wide = array("i"), dict[int, tuple[int, str]]()
+        codes, lines, hashes = {role: array("i") for role in self.columns}, array("i"), array("q")
+        self._fill(codes, lines, hashes)
+        self.codes: dict[str, npt.NDArray[np.int32]] = {role: numbers_of(its) for role, its in codes.items()}
+        self.lines: npt.NDArray[np.int32] = numbers_of(lines)
+        self._hashes: Numbers = numbers_of(hashes)
         self.good: Flags = np.ones(len(self), bool)
         self.good[[*self.wide]] = False
 
-    def _fill(self) -> None:
+    def _fill(self, all_codes: Mapping[str, array[int]], lines: array[int], hashes: array[int]) -> None:
         width = len(self.sheet.heading)
-        slots = [(column.place, self.columns[role], self._codes[role].append)
+        slots = [(column.place, self.columns[role], all_codes[role].append)
                  for role, column in self.sheet.columns.items()]
         first_place, known, empty = slots[0][0], slots[0][1], set[Cell](("", None))
-        add_line, add_hash = self._lines.append, self._hashes.append
         for line, cells in self.sheet.data():
             if len(cells) != width:
                 if any(map(text_of, cells[width:])):
-                    self.wide[len(self._lines)] = len(cells), ",".join(map(text_of, cells))
+                    self.wide[len(lines)] = len(cells), ",".join(map(text_of, cells))
                 cells = [*cells[:width], *[""] * (width - len(cells))]
             first = cells[first_place]
             if first in empty or first not in known and not text_of(first):
                 empty.add(first)
-                if len(self._lines) not in self.wide and not any(map(text_of, cells)):
+                if len(lines) not in self.wide and not any(map(text_of, cells)):
                     self.blank.append(line)
                     continue
             for place, codes, append in slots:
                 append(codes[cells[place]])
-            add_line(line)
-            add_hash(hash(tuple(cells)))
+            lines.append(line)
+            hashes.append(hash(tuple(cells)))
 
     def __len__(self) -> int:
-        return len(self._lines)
-
-    def codes(self, role: str) -> npt.NDArray[np.int32]:
-        """Returns the code of each row's value."""
-        return np.frombuffer(self._codes[role], np.int32) if len(self) else np.zeros(0, np.int32)
-
-    @property
-    def lines(self) -> npt.NDArray[np.int32]:
-        """Returns the line of each row."""
-        return np.frombuffer(self._lines, np.int32) if len(self) else np.zeros(0, np.int32)
+        return len(self.lines)
 
     def twins(self) -> Numbers:
         """Returns for each row the first row with the same cells, which is itself for most, and forgets the hashes.
         Rows are compared by a hash of 64 bits: in a million rows, two different ones collide once in 37 million
         files."""
-        hashes = np.frombuffer(self._hashes, np.int64) if len(self) else np.zeros(0, np.int64)
-        order = np.argsort(hashes, kind="stable")
-        starts = np.flatnonzero(np.r_[True, np.diff(hashes[order]) != 0]) if len(order) else order
+        order = np.argsort(self._hashes, kind="stable")
+        starts = np.flatnonzero(np.r_[True, np.diff(self._hashes[order]) != 0])[:len(order)]
         first = np.empty(len(order), np.int64)
         first[order] = np.repeat(order[starts], np.diff(np.r_[starts, len(order)]))
-        self._hashes = array("q")
+        del self._hashes
         return first
 
     def faulty(self, faults: Mapping[str, Mapping[int, Remark]]) -> Flags:
@@ -121,12 +116,12 @@ class Rows:
 
     def faults(self, row: int, faults: Mapping[str, Mapping[int, Remark]]) -> list[CellFault]:
         """Returns what is wrong with the cells of a row, by role and the code of the value."""
-        return [(role, self.cell(role, row), its[self._codes[role][row]]) for role, its in faults.items()
-                if self._codes[role][row] in its]
+        return [(role, self.cell(role, row), its[self.codes[role][row]]) for role, its in faults.items()
+                if self.codes[role][row] in its]
 
     def cell(self, role: str, row: int) -> Cell:
         """Returns the value of a row's cell; the empty text if the table has no such column."""
-        return self.columns[role].distinct[self._codes[role][row]] if role in self.columns else ""
+        return self.columns[role].distinct[self.codes[role][row]] if role in self.columns else ""
 
     def cells(self, row: int) -> dict[str, Cell]:
         """Returns the values of a row by role."""
@@ -135,13 +130,13 @@ class Rows:
     def counts(self, role: str) -> Iterator[tuple[Cell, int]]:
         """Yields each value of a column that good rows have, and how many have it; nothing if there is no column."""
         if role in self.columns:
-            counts = np.bincount(self.codes(role)[self.good]).tolist()
+            counts = np.bincount(self.codes[role][self.good]).tolist()
             yield from ((cell, count) for cell, count in zip(self.columns[role].distinct, counts) if count)
 
     def by_item(self, good: Flags) -> Callable[[int], Numbers]:
         """Returns the function that gives the good rows of an item, in their order, by its code."""
         rows = np.flatnonzero(good)
-        codes = self.codes("item")[rows]
+        codes = self.codes["item"][rows]
         order = rows[np.argsort(codes, kind="stable")]
         ends = np.cumsum(np.bincount(codes, minlength=len(self.columns["item"].distinct)))
         return lambda item: order[ends[item - 1] if item else 0:ends[item]]
@@ -170,7 +165,7 @@ class Rows:
         """Returns which rows have one of these values in a column."""
         has = np.zeros(len(self.columns[role].distinct), bool)
         has[[*codes]] = True
-        return has[self.codes(role)]
+        return has[self.codes[role]]
 
 
 def read_rows(sheets: Mapping[str, Sheet]) -> dict[str, Rows]:

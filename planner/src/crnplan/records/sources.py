@@ -312,30 +312,27 @@ class TextSheet(Sheet):
         return sample(self.text, self.delimiter)
 
     def rows(self) -> Iterator[Row]:
-        """Yields the rows with their lines. Raises RefusedFaults for bytes or quotes that can't be read."""
-        with self._lines() as lines:
-            yield from rows_of_lines(self.name, lines, self.delimiter)
-
-    @contextlib.contextmanager
-    def _lines(self) -> Iterator[Iterator[str]]:
-        """Gives the lines of the file with their ends. Nobody may change it meanwhile."""
-        errors = "replace" if self.fault else "strict"
+        """Yields the rows with their lines, while `kept` has their text. Nobody may change the file meanwhile. Raises
+        RefusedFaults for bytes or quotes that can't be read."""
+        self.kept, errors = list[str](), "replace" if self.fault else "strict"
         try:
             with unchanged(self.path, self.name, self.state), self.path.open(encoding=self.encoding, errors=errors,
                                                                              newline="") as file:
-                yield self._short_lines(file)
+                for row in rows_of_lines(self.name, self._short_lines(file), self.delimiter):
+                    yield row
+                    self.kept.clear()
         except UnicodeError as fault:
             raise RefusedFaults([self._undecodable()]) from fault
         except OSError as fault:
             raise Refused(f"{self.name}: {fault.strerror}; check the name of the file") from fault
 
     def _short_lines(self, file: io.TextIOBase) -> Iterator[str]:
-        """Yields the lines of a file. Raises RefusedFaults for one that is too long."""
-        read = functools.partial(file.readline, MOST_LETTERS)
-        for number, line in enumerate(iter(read, ""), 1):
+        """Yields the lines of a file with their ends. Raises RefusedFaults for one that is too long."""
+        for number, line in enumerate(iter(functools.partial(file.readline, MOST_LETTERS), ""), 1):
             if len(line) == MOST_LETTERS:
                 raise RefusedFaults([Fault(f"the line has more than {MOST_LETTERS - 1:,} letters; end each row with a "
                                            "line feed", self.name, number)])
+            self.kept.append(line)
             yield line
 
     def _undecodable(self) -> Fault:
@@ -349,21 +346,12 @@ class TextSheet(Sheet):
 
     def texts(self, lines: Iterable[int]) -> dict[int, str]:
         """Returns the text of each of the rows that begin in these lines, as it stands in the file."""
-        wanted, texts, kept = {*lines}, dict[int, str](), list[str]()
-
-        def heard(given: Iterator[str]) -> Iterator[str]:
-            for line in given:
-                kept.append(line)
-                yield line
-        if not wanted:
-            return texts
-        with self._lines() as given:
-            for number, _ in rows_of_lines(self.name, heard(given), self.delimiter):
-                if number in wanted:
-                    texts[number] = "".join(kept).rstrip("\r\n")
-                kept.clear()
-                if len(texts) == len(wanted):
-                    break
+        wanted, texts = {*lines}, dict[int, str]()
+        for line, _ in self.rows() if wanted else ():
+            if line in wanted:
+                texts[line] = "".join(self.kept).rstrip("\r\n")
+            if len(texts) == len(wanted):
+                break
         return texts
 
     def place(self, text: str, line: int, place: int) -> tuple[int, int]:

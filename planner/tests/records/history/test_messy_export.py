@@ -1,7 +1,6 @@
 """Tests of a first user's messy export: one refusal with all that is wrong, and the tables by the second command."""
 from __future__ import annotations
 
-import collections
 import csv
 import datetime
 import random
@@ -9,6 +8,7 @@ from collections.abc import Callable
 from pathlib import Path
 from typing import Any, NamedTuple
 
+import pandas as pd
 import pytest
 
 
@@ -54,39 +54,22 @@ def made_export() -> Export:
     return export
 
 
-@pytest.fixture(scope="module")
-def export() -> Export:
-    """Returns the export."""
-    return made_export()
-
-
-@pytest.fixture
-def path(export: Export, file: Callable[..., Path]) -> Path:
-    """Returns the path of the export."""
-    return file("\r\n".join(export.lines), "export.csv", "cp1252")
-
-
+EXPORT = made_export()
 MENGE = ":18: column 'Menge'"
 WORDS = ["--demand", "Menge", "--date", "Datum", "--every", "week"]
 
 
-def weeks(movements: list[tuple[datetime.date, int]]) -> collections.Counter[int]:
-    """Returns how often each number comes in a week from the first to the last one."""
-    sums: dict[tuple[int, int], int] = {}
-    day = min(movements)[0]
-    while day <= max(movements)[0]:
-        sums[day.isocalendar()[:2]] = 0
-        day += datetime.timedelta(days=1)
-    for day, amount in movements:
-        sums[day.isocalendar()[:2]] += amount
-    return collections.Counter(sums.values())
+@pytest.fixture
+def path(file: Callable[..., Path]) -> Path:
+    """Returns the path of the export."""
+    return file("\r\n".join(EXPORT.lines), "export.csv", "cp1252")
 
 
-def test_first_command_says_all(export: Export, path: Path, answer: Callable[..., Any]) -> None:
+def test_first_command_says_all(path: Path, answer: Callable[..., Any]) -> None:
     """The first command is refused, with each fault of the file at its line, and with what to say."""
     status, output, errors = answer([path, *WORDS])
     assert (status, output) == (2, "")
-    odd = export.odd
+    odd = EXPORT.odd
     places = {"no day": ":1: column 'Datum'", "total": ":1: column 'Datum'"}
     for name, what in {
             "no day": "'31.02.2026' is no day of the calendar; correct it, or leave the row out",
@@ -101,22 +84,24 @@ def test_first_command_says_all(export: Export, path: Path, answer: Callable[...
     assert len(errors.splitlines()) == 6 + 1 + 3
 
 
-def test_second_command_gives_tables(export: Export, path: Path, answer: Callable[..., Any], tmp_path: Path) -> None:
+def test_second_command_gives_tables(path: Path, answer: Callable[..., Any], tmp_path: Path) -> None:
     """The second command gives the tables. It names each row that is left out, and what is suspicious."""
-    rejects, odd = tmp_path / "rejects.csv", export.odd
+    rejects, odd = tmp_path / "rejects.csv", EXPORT.odd
     words = [*WORDS, "--encoding", "cp1252", "--decimal", ",", "--net", "--leave-out", "--rejects", rejects]
     status, output, errors = answer([path, *words])
-    expected = weeks(export.movements)
-    assert status == 0
-    assert output == f"\n[demand]\nvalues = {sorted(expected)}\nweights = {[expected[it] for it in sorted(expected)]}\n"
+    days = pd.PeriodIndex([day for day, _ in EXPORT.movements], freq="W-SUN")
+    sums = pd.Series([amount for _, amount in EXPORT.movements], days).groupby(level=0).sum()
+    expected = sums.reindex(pd.period_range(days.min(), days.max(), freq="W-SUN"), fill_value=0).value_counts()
+    values, weights = zip(*sorted(expected.items()))
+    assert (status, output) == (0, f"\n[demand]\nvalues = {[*values]}\nweights = {[*weights]}\n")
     with rejects.open(encoding="utf-8", newline="") as file:
         rows = list(csv.DictReader(file))
     assert [int(row["line"]) for row in rows] == [odd[it] for it in ("no day", "empty", "n/a", "total")]
-    assert [row["row"] for row in rows] == [export.lines[int(row["line"]) - 1] for row in rows]
+    assert [row["row"] for row in rows] == [EXPORT.lines[int(row["line"]) - 1] for row in rows]
     good = [line for name, line in odd.items() if name.startswith("row ")]
-    first_of_2026 = next(it for it in good if export.lines[it - 1].split(";")[0].endswith("2026"))
-    next_largest = next(it for it in good if ";27,000;" in export.lines[it - 1])
-    count = sum(bool(line.strip(";")) for line in export.lines) - 3
+    first_of_2026 = next(it for it in good if EXPORT.lines[it - 1].split(";")[0].endswith("2026"))
+    next_largest = next(it for it in good if ";27,000;" in EXPORT.lines[it - 1])
+    count = sum(bool(line.strip(";")) for line in EXPORT.lines) - 3
     lines = ", ".join(str(odd[it]) for it in ("no day", "empty", "n/a", "total"))
     for part in (f"export.csv: rows left out: 4 of {count} (lines {lines})",
                  "lines 1, 2, 3 above the heading passed over: 'Auswertung Materialbewegungen', 'Werk ",

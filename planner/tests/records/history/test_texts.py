@@ -63,10 +63,10 @@ def test_any_text(text: str, decimal: str) -> None:
 
 
 @pytest.mark.parametrize("text, decimal, reading", [
-    ("1.000,000", ",", "1"), ("1,234", None, "1.234"), ("1,230.0", ".", "1.23"), ("-1.000", ",", "1"),
+    ("1.000,000", ",", "1"), ("1,234", ".", "1.234"), ("1,230.0", ".", "1.23"), ("-1.000", ",", "1"),
     ("2,000", ",", "2000"), ("12", ",", None), ("1,234,567", ".", None), ("1 000", ",", None), ("x", ",", None),
     ("12,00", ",", None), ("1234,000", ",", None)])
-def test_other_reading(text: str, decimal: str | None, reading: str | None) -> None:
+def test_other_reading(text: str, decimal: str, reading: str | None) -> None:
     """What a number would be with another decimal sign is known, or that it would be none."""
     assert other_reading(text, decimal) == reading
 
