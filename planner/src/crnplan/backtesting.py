@@ -12,7 +12,8 @@ from typing import TYPE_CHECKING
 from .api import Roles
 from .errors import Refused, argument
 from .files import Folder, own_folder
-from .pages.backtest_tables import (BACKTEST, SUMMARY, SUMS, VERDICTS, backtest_of, backtest_summary, first_line,
+from .pages.backtest_page import backtest_page
+from .pages.backtest_tables import (BACKTEST, PAGE, SUMMARY, SUMS, VERDICTS, backtest_of, backtest_summary, first_line,
                                     sums_table)
 from .pages.exports import write_table
 from .plan.backtest.catalogue import Tested, backtest_into
@@ -30,8 +31,8 @@ if TYPE_CHECKING:
 
 @dataclass(frozen=True)
 class Backtests(Result):
-    """What the plans of a catalogue promised on its own past, and what came. `frame` has a row for each item, `sums` one
-    for all items and for each class; `text` says what it comes to."""
+    """What the plans of a catalogue promised on its own past, and what came. `frame` has a row for each item, `sums`
+    one for all items and for each class; `text` says what it comes to."""
 
     tested: Tested = field(repr=False)
 
@@ -64,6 +65,11 @@ class Backtests(Result):
         """Returns the same below a table."""
         return self.text
 
+    @property
+    def page(self) -> str:
+        """Returns the page of the tests as HTML, which asks for no other file."""
+        return backtest_page(self.tested)
+
 
 def write_backtest(folder: Folder, settings: Settings, walk: Walk, *, jobs: int | None = None,
                    address: str | None = None, shown: bool = False) -> Backtests:
@@ -72,6 +78,7 @@ def write_backtest(folder: Folder, settings: Settings, walk: Walk, *, jobs: int 
     write_table(folder, BACKTEST, tests.table)
     write_table(folder, SUMS, sums_table(tests.tested))
     folder.write(SUMMARY, tests.text)
+    folder.write(PAGE, tests.page)
     return tests
 
 

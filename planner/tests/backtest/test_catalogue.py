@@ -17,11 +17,12 @@ from crnplan.plan.backtest.sums import TIME
 from crnplan.plan.question import NONE, Settings
 from crnplan.records.item import Item
 from planner.tests.conftest import Command, rows_of
-from planner.tests.plan.items import WEEKS, several
+from planner.tests.pages.page_reader import Page
+from planner.tests.plan.items import several
 
 ITEMS, START = 14, datetime.date(2024, 1, 1)  # a Monday
 WORDS = "--record", "40", "--every", "10", "--window", "30"
-FILES = "backtest.csv", "backtest_sums.csv", "backtest.txt"
+FILES = "backtest.csv", "backtest_sums.csv", "backtest.txt", "backtest.html"
 
 
 def write(folder: Path, items: Mapping[str, Item], later: int = 1) -> list[Path]:
@@ -111,6 +112,20 @@ def test_python_gives_the_same(words: list[Any], tmp_path: Path, crnplan: Comman
         assert tests.text == (tmp_path / "out/backtest.txt").read_text("utf-8")
         assert [*tests.sums] == [column.name for column in SUM_COLUMNS]
         assert tests.sums["class"].tolist() == ["", "a", "b"] and tests.verdict in VERDICTS.values()
+
+
+def test_page(words: list[Any], tmp_path: Path, crnplan: Command) -> None:
+    """The page says what the text says, has a row for each class, and asks for no other file."""
+    answer = crnplan(*words, "--out", tmp_path / "out", "--jobs", 1)
+    page = Page(tmp_path / "out/backtest.html")
+    page.check_alone()
+    assert answer.output.splitlines()[0] in page.words
+    sums = page.tables["Sums of all items and of each class"]
+    assert [row[0] for row in sums] == ["class", "all", "a", "b"]
+    rows = rows_of(tmp_path / "out/backtest.csv")
+    worst = [row[0] for row in page.tables["The items that missed most"][1:]]
+    assert worst and {*worst} <= {name for name, row in rows.items() if not row["left_out"]}
+    assert page.tables["The items that missed most"][1][2] == f"{float(rows[worst[0]]['promised_fill_kept']):.1%}"
 
 
 def test_level_shift_is_seen(items: Mapping[str, Item], tmp_path: Path) -> None:

@@ -44,9 +44,9 @@ def backtest(tables: Sequence[Path], orders: str | None, out: Path | None, recor
     kept plan shows what it misses without any effect of time. The verdict says whether promises hold, whether time
     breaks them, or rare large demands. It predicts single items poorly.
 
-    FOLDER gets backtest.csv (a row for each item), backtest_sums.csv (all items and each class, with errors) and
-    backtest.txt. Run again, only what has changed is tested; after an interruption it goes on. The bytes do not depend
-    on how many processes or workers there are.
+    FOLDER gets backtest.csv (a row for each item), backtest_sums.csv (all items and each class, with errors),
+    backtest.txt and backtest.html. Run again, only what has changed is tested; after an interruption it goes on. The
+    bytes do not depend on how many processes or workers there are.
     """
     walk = Walk(record, every, window)
     if len(tables) == 1:

@@ -13,7 +13,7 @@ from ..table import Cell, Column, DataTable, number, text, whole
 from ..words import advised, counted, sentence
 from .catalogue_tables import money
 
-BACKTEST, SUMS, SUMMARY = "backtest.csv", "backtest_sums.csv", "backtest.txt"
+BACKTEST, SUMS, SUMMARY, PAGE = "backtest.csv", "backtest_sums.csv", "backtest.txt", "backtest.html"
 PROMISING = POLICIES[:3]
 WORDS = {"today": "today's policy", "kept": "the plan that is kept", "refitted": "plans that are refitted",
          "smoothed": "exponential smoothing with a normal safety stock",

@@ -63,6 +63,13 @@ class Ratio:
         return float(self.above.sum() / self.below.sum())
 
     @property
+    def by_block(self) -> Floats:
+        """Returns the ratio of each block in which something stands below the line."""
+        above, below = np.bincount(self.blocks, self.above), np.bincount(self.blocks, self.below)
+        ratios: Floats = above[below > 0] / below[below > 0]
+        return ratios
+
+    @property
     def influence(self) -> Floats:
         """Returns by how much each part moves the ratio from that of all others."""
         moved: Floats = (self.above - self.value * self.below) / self.below.sum()
@@ -208,12 +215,17 @@ class Sums:
         return BOTH if rare and time else TIME if time else RARE if rare else HOLDS
 
 
+def summed(test: Backtest) -> bool:
+    """Returns whether an item is in sums: if it is asked for, and has a plan in either order. Else those in a random
+    order would be others: items that are asked for more."""
+    return test.shuffled is not None and test.mean > 0
+
+
 def sums_of(tests: Iterable[Backtest]) -> list[Sums]:
-    """Returns the sums of all items that are asked for and have a plan in either order, and of each class. Else those
-    in a random order would be others: items that are asked for more."""
+    """Returns the sums of all items, and of each class."""
     groups = defaultdict[str, list[Backtest]](list)
     for test in tests:
-        if test.shuffled is not None and test.mean > 0:
+        if summed(test):
             groups[ALL_ITEMS].append(test)
             if test.group:
                 groups[test.group].append(test)
