@@ -128,7 +128,8 @@ def test_sums_are_of_all_and_of_classes() -> None:
              *catalogue(0.05, 0.05, items=3)]
     tests += [made([0] * PERIODS, [0] * PERIODS, 90, shuffled=None), made([0] * PERIODS, [0] * PERIODS, 91, mean=0.0)]
     assert [(sums.group, sums.items) for sums in sums_of(tests)] == [(ALL_ITEMS, 26), ("a", 12), ("b", 11)]
-    assert sums_of([]) == []
+    silent = made([0] * PERIODS, [0] * PERIODS, 92, demands=(0,) * PERIODS)
+    assert sums_of([]) == sums_of([silent]) == []
 
 
 def test_records_of_other_lengths() -> None:

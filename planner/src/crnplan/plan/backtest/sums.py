@@ -60,7 +60,9 @@ class Ratio:
 
     @property
     def value(self) -> float:
-        return float(self.above.sum() / self.below.sum())
+        """Returns the ratio; nan if nothing is below the line."""
+        below = float(self.below.sum())
+        return float(self.above.sum()) / below if below else math.nan
 
     @property
     def by_block(self) -> Floats:
@@ -221,6 +223,11 @@ def summed(test: Backtest) -> bool:
     return test.shuffled is not None and test.mean > 0
 
 
+def is_asked(tests: Sequence[Backtest]) -> bool:
+    """Returns whether anything is asked for in the later periods, in time and in a random order."""
+    return any(any(test.demands) for test in tests) and any(any(test.shuffled_demands) for test in tests)
+
+
 def sums_of(tests: Iterable[Backtest]) -> list[Sums]:
     """Returns the sums of all items, and of each class."""
     groups = defaultdict[str, list[Backtest]](list)
@@ -229,4 +236,4 @@ def sums_of(tests: Iterable[Backtest]) -> list[Sums]:
             groups[ALL_ITEMS].append(test)
             if test.group:
                 groups[test.group].append(test)
-    return [Sums.of(name, groups[name]) for name in sorted(groups)]
+    return [Sums.of(name, groups[name]) for name in sorted(groups) if is_asked(groups[name])]
