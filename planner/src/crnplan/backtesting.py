@@ -2,26 +2,23 @@
 from __future__ import annotations
 
 import datetime
-import shutil
 import tempfile
 from collections.abc import Sequence
 from dataclasses import dataclass, field
 from pathlib import Path
 from typing import TYPE_CHECKING
 
-from .api import Roles
-from .errors import Refused, argument
+from .api import Roles, check_masters, take_tables
 from .files import Folder, own_folder
 from .pages.backtest_page import backtest_page
 from .pages.backtest_tables import (BACKTEST, PAGE, SUMMARY, SUMS, VERDICTS, backtest_of, backtest_summary, first_line,
                                     sums_table)
-from .pages.exports import write_table
 from .plan.backtest.catalogue import Tested, backtest_into
 from .plan.backtest.one import Walk
 from .plan.backtest.sums import ALL_ITEMS, Sums
 from .plan.question import Settings
-from .records.catalogue_reading import Catalogue, read_into
-from .records.catalogued import CATALOGUE, READ
+from .records.catalogue_reading import Catalogue
+from .records.catalogued import CATALOGUE
 from .records.items import Words
 from .table import DataTable, Result
 
@@ -75,8 +72,8 @@ def write_backtest(folder: Folder, settings: Settings, walk: Walk, *, jobs: int 
                    address: str | None = None, shown: bool = False) -> Backtests:
     """Tests the catalogue that was read into a folder, and writes its tables and its summary there."""
     tests = Backtests(backtest_into(folder, settings, walk, jobs=jobs, address=address, shown=shown))
-    write_table(folder, BACKTEST, tests.table)
-    write_table(folder, SUMS, sums_table(tests.tested))
+    folder.write(BACKTEST, tests.table.lines)
+    folder.write(SUMS, sums_table(tests.tested).lines)
     folder.write(SUMMARY, tests.text)
     folder.write(PAGE, tests.page)
     return tests
@@ -112,13 +109,7 @@ def backtest(sales: str | Path | pd.DataFrame | Catalogue, masters: str | Path |
     settings, walk = Settings(str(seed), fit, borrow, confidence), Walk(record, every, window)
     words = Words(every=period, columns=columns or {}, units=units or {}, start=start, end=end,
                   today=datetime.date.today(), date_formats=tuple(date_formats))
-    if not isinstance(sales, Catalogue) and masters is None:
-        raise Refused(f"{argument('masters')} is missing", "give a table with a row for each item")
+    check_masters(sales, masters)
     with tempfile.TemporaryDirectory(prefix="crnplan-") as room, own_folder(Path(out or room), CATALOGUE) as folder:
-        if not isinstance(sales, Catalogue):
-            read_into(folder, {"demand": sales, "items": masters, "orders": orders}, words)
-        elif sales.path.resolve() != folder.store(READ).resolve():  # it was read elsewhere
-            part = folder.room() / READ
-            shutil.copyfile(sales.path, part)
-            part.replace(folder.path / READ)
+        take_tables(folder, sales, masters, orders, words)
         return write_backtest(folder, settings, walk, jobs=jobs, address=cluster, shown=progress)

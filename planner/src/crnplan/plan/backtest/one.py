@@ -8,7 +8,6 @@ between its s and S, by chance, where its position mostly is in the long run.
 from __future__ import annotations
 
 import dataclasses
-import itertools
 import statistics
 from collections.abc import Iterable, Iterator, Sequence
 from dataclasses import dataclass

@@ -18,7 +18,7 @@ from dataclasses import dataclass
 import numpy as np
 
 from ...chances import Floats, Whole
-from ...decide.intervals import t_quantile
+from ...decide.verdicts import t_quantile
 from ..answer import TODAY
 from .one import Backtest, Outcome
 
