@@ -19,6 +19,7 @@ from ...demand.learning import Prior
 from ...errors import Refused, argument
 from ...records.item import Item
 from ...remarks import Remark
+from ...theory.long_run import LongRun
 from ..answer import Figures
 from ..one import choice_of, figures_of, or_fault
 from ..question import Levels, Question, Settings, question_of
@@ -102,6 +103,11 @@ def ratio(demands: Sequence[int], record: int) -> float | None:
     return max(demands[record:]) / before if before else None
 
 
+def chosen(question: Question, theory: LongRun) -> Figures:
+    """Returns the policy that is chosen, as theory sees it."""
+    return figures_of(question, theory, choice_of(theory, question).levels)
+
+
 class Walked:
     """An item's periods, in an order, and what its policies come to on them."""
 
@@ -119,7 +125,7 @@ class Walked:
         self.lead = Lead(float(lead.mean), float(shares @ (np.array(lead.values) - float(lead.mean))**2))
         self.rates = Rates(item.setup, 0, item.holding, item.backlog or Fraction(0))
         self.theory = self.question.theory()
-        self.plan = figures_of(self.question, self.theory, choice_of(self.theory, self.question).levels)
+        self.plan = chosen(self.question, self.theory)
 
     def _asked(self, start: int, stop: int) -> Question:
         return question_of(part_of(self.item, start, stop), self.settings, self.prior)
@@ -161,8 +167,7 @@ class Walked:
             if origin > self.walk.record:
                 try:
                     question = self._asked(start, origin)
-                    theory = question.theory()
-                    plan = figures_of(question, theory, choice_of(theory, question).levels)
+                    plan = chosen(question, question.theory())
                 except Refused:
                     pass
             plans += [plan] * (end - origin)
