@@ -3,7 +3,8 @@ from __future__ import annotations
 
 import csv
 import datetime
-from collections.abc import Iterator, Mapping
+import shutil
+from collections.abc import Mapping
 from pathlib import Path
 from typing import Any
 
@@ -22,6 +23,7 @@ from planner.tests.plan.items import several
 
 ITEMS, START = 14, datetime.date(2024, 1, 1)  # a Monday
 WORDS = "--record", "40", "--every", "10", "--window", "30"
+WALK: dict[str, Any] = {"record": 40, "every": 10, "window": 30, "jobs": 1}
 FILES = "backtest.csv", "backtest_sums.csv", "backtest.txt", "backtest.html"
 
 
@@ -54,46 +56,54 @@ def items() -> Mapping[str, Item]:
     return {item.name: item for item in several(ITEMS)}
 
 
+@pytest.fixture(scope="module")
+def made(items: Mapping[str, Item], tmp_path_factory: pytest.TempPathFactory) -> Path:
+    """Returns a folder with the two tables of a small catalogue and its test in `out`, which nobody changes."""
+    room = tmp_path_factory.mktemp("past")
+    package.backtest(*write(room, items), out=room / "out", **WALK)
+    return room
+
+
 def read(folder: Path) -> dict[str, bytes]:
     return {name: (folder / name).read_bytes() for name in FILES}
 
 
 @pytest.fixture
-def words(items: Mapping[str, Item], tmp_path: Path, monkeypatch: pytest.MonkeyPatch) -> Iterator[list[Any]]:
-    """Yields the words of the command on a small catalogue."""
+def room(made: Path, tmp_path: Path, monkeypatch: pytest.MonkeyPatch) -> Path:
+    """Returns a folder of its own with the same, where no settings are."""
     monkeypatch.chdir(tmp_path)
-    yield ["backtest", *write(tmp_path, items), *WORDS]
+    return Path(shutil.copytree(made, tmp_path / "room"))
 
 
-def test_same_bytes_whatever_the_workers(words: list[Any], tmp_path: Path, crnplan: Command) -> None:
-    """One process and two write the same bytes. Tested again, nothing is tested; after a change, one item is."""
-    answer = crnplan(*words, "--out", tmp_path / "one", "--jobs", 1)
-    assert answer.status == 0 and answer.output == (tmp_path / "one/backtest.txt").read_text("utf-8")
-    assert crnplan(*words, "--out", tmp_path / "two", "--jobs", 2).status == 0
-    assert read(tmp_path / "one") == read(tmp_path / "two")
-    again = crnplan(*words, "--out", tmp_path / "one", "--jobs", 1)
-    assert again.output == answer.output and "of 14 items" not in again.errors
-    text = (tmp_path / "items.csv").read_text("utf-8")
-    (tmp_path / "items.csv").write_text(text.replace("I-004,a,24.0", "I-004,a,25.0"), "utf-8")
-    changed = crnplan(*words, "--out", tmp_path / "one", "--jobs", 1)
-    assert "13 of 14 items (13 kept)" in changed.errors
-    before, after = (rows_of(tmp_path / name / "backtest.csv") for name in ("two", "one"))
+def test_same_bytes_whatever_the_workers(room: Path, crnplan: Command) -> None:
+    """The command writes with two processes what Python does with one, and prints the summary."""
+    answer = crnplan("backtest", room / "demand.csv", room / "items.csv", *WORDS, "--out", room / "two", "--jobs", 2)
+    assert answer.status == 0 and answer.output == (room / "out/backtest.txt").read_text("utf-8")
+    assert read(room / "two") == read(room / "out")
+
+
+def test_only_what_has_changed_is_tested_again(room: Path, crnplan: Command) -> None:
+    """Tested again, nothing is tested; after a change of a master, its item is."""
+    words = "backtest", room / "demand.csv", room / "items.csv", *WORDS, "--out", room / "out", "--jobs", 1
+    before, files = rows_of(room / "out/backtest.csv"), read(room / "out")
+    again = crnplan(*words)
+    assert again.status == 0 and read(room / "out") == files and "of 14 items" not in again.errors
+    text = (room / "items.csv").read_text("utf-8")
+    (room / "items.csv").write_text(text.replace("I-004,a,24.0", "I-004,a,25.0"), "utf-8")
+    assert "13 of 14 items (13 kept)" in crnplan(*words).errors
+    after = rows_of(room / "out/backtest.csv")
     assert [name for name in before if before[name] != after[name]] == ["I-004"]
 
 
-def test_rows_are_those_of_each_item(words: list[Any], items: Mapping[str, Item], tmp_path: Path,
-                                     crnplan: Command) -> None:
+def test_rows_are_those_of_each_item(made: Path, items: Mapping[str, Item]) -> None:
     """Each row has the figures of its item by itself, and an item that came late says why it has none."""
-    crnplan(*words, "--out", tmp_path / "out", "--jobs", 1)
-    rows = rows_of(tmp_path / "out/backtest.csv")
+    rows = rows_of(made / "out/backtest.csv")
     assert rows.keys() == items.keys()
     assert [*rows["I-001"]] == [column.name for column in BACKTEST_COLUMNS]
     assert {name for name, row in rows.items() if row["left_out"]} == {"I-013"}
-    assert rows["I-013"]["left_out"].startswith("it has 30 periods, and a test needs 50")
-    walk = Walk(40, 10, 30)
+    assert rows["I-013"]["left_out"] == "it has 30 periods, and a test needs 50. test it with a shorter record"
     for name in ("I-002", "I-003"):
-        item = items[name]
-        test = backtest_one(item, Settings(borrow=NONE, every="week"), Prior(NONE), walk)
+        test = backtest_one(items[name], Settings(borrow=NONE, every="week"), Prior(NONE), Walk(40, 10, 30))
         for policy in ("today", "kept", "refitted", "smoothed", "shuffled"):
             outcome = getattr(test, policy)
             assert rows[name][f"s_{policy}"] == str(outcome.point) and rows[name][f"S_{policy}"] == str(outcome.level)
@@ -101,54 +111,50 @@ def test_rows_are_those_of_each_item(words: list[Any], items: Mapping[str, Item]
             assert float(rows[name][f"fill_{policy}"]) == pytest.approx(outcome.fill, abs=6e-5)
 
 
-def test_python_gives_the_same(words: list[Any], tmp_path: Path, crnplan: Command) -> None:
-    """The value of a notebook has the rows, the sums and the text of the command, from tables or from a Catalogue."""
-    crnplan(*words, "--out", tmp_path / "out", "--jobs", 1)
-    walk = {"record": 40, "every": 10, "window": 30, "jobs": 1}
-    catalogue = package.read_catalogue(tmp_path / "demand.csv", tmp_path / "items.csv")
-    for tests in (package.backtest(tmp_path / "demand.csv", tmp_path / "items.csv", **walk),
-                  package.backtest(catalogue, **walk)):
-        assert tests.table.csv.encode() == (tmp_path / "out/backtest.csv").read_bytes()
-        assert tests.text == (tmp_path / "out/backtest.txt").read_text("utf-8")
-        assert [*tests.sums] == [column.name for column in SUM_COLUMNS]
-        assert tests.sums["class"].tolist() == ["", "a", "b"] and tests.verdict in VERDICTS.values()
+def test_values_of_a_notebook(room: Path) -> None:
+    """A Catalogue that was read gives the same value: rows, sums, text and page."""
+    catalogue = package.read_catalogue(room / "demand.csv", room / "items.csv")
+    tests = package.backtest(catalogue, out=room / "out", **WALK)
+    assert tests.tested.now == 0 and tests.tested.kept == ITEMS
+    assert tests.table.csv.encode() == (room / "out/backtest.csv").read_bytes()
+    assert tests.text == (room / "out/backtest.txt").read_text("utf-8")
+    assert tests.page == (room / "out/backtest.html").read_text("utf-8")
+    assert [*tests.sums] == [column.name for column in SUM_COLUMNS]
+    assert tests.sums["class"].tolist() == ["", "a", "b"] and tests.verdict in VERDICTS.values()
 
 
-def test_page(words: list[Any], tmp_path: Path, crnplan: Command) -> None:
+def test_page(made: Path) -> None:
     """The page says what the text says, has a row for each class, and asks for no other file."""
-    answer = crnplan(*words, "--out", tmp_path / "out", "--jobs", 1)
-    page = Page(tmp_path / "out/backtest.html")
+    page, text = Page(made / "out/backtest.html"), (made / "out/backtest.txt").read_text("utf-8")
     page.check_alone()
-    assert answer.output.splitlines()[0] in page.words
+    assert text.splitlines()[0] in page.words
     sums = page.tables["Sums of all items and of each class"]
     assert [row[0] for row in sums] == ["class", "all", "a", "b"]
-    rows = rows_of(tmp_path / "out/backtest.csv")
-    worst = [row[0] for row in page.tables["The items that missed most"][1:]]
-    assert worst and {*worst} <= {name for name, row in rows.items() if not row["left_out"]}
-    assert page.tables["The items that missed most"][1][2] == f"{float(rows[worst[0]]['promised_fill_kept']):.1%}"
+    rows = rows_of(made / "out/backtest.csv")
+    worst = page.tables["The items that missed most"][1:]
+    assert worst and {row[0] for row in worst} <= {name for name, row in rows.items() if not row["left_out"]}
+    assert worst[0][2] == f"{float(rows[worst[0][0]]['promised_fill_kept']):.1%}"
 
 
 def test_level_shift_is_seen(items: Mapping[str, Item], tmp_path: Path) -> None:
     """Demand that doubles after the record breaks promises, by time."""
-    tests = package.backtest(*write(tmp_path, items, later=2), record=40, every=10, window=30, jobs=1)
+    tests = package.backtest(*write(tmp_path, items, later=2), **WALK)
     assert tests.verdict == VERDICTS[TIME]
 
 
-def test_planned_folder(words: list[Any], items: Mapping[str, Item], tmp_path: Path, crnplan: Command,
-                        program: Path) -> None:
+def test_planned_folder(items: Mapping[str, Item], tmp_path: Path, crnplan: Command, program: Path) -> None:
     """A folder of crnplan catalogue is tested with the settings of its plan, and keeps its plan."""
-    out = tmp_path / "plan"
-    crnplan("catalogue", *words[1:3], "--out", out, "--seed", "other", "--jobs", 1, "--program", program)
+    tables, out = write(tmp_path, {name: items[name] for name in ("I-000", "I-001")}), tmp_path / "plan"
+    crnplan("catalogue", *tables, "--out", out, "--seed", "other", "--jobs", 1, "--program", program)
     plan = (out / "decisions.csv").read_bytes()
     assert crnplan("backtest", out, *WORDS, "--jobs", 1).status == 0
     assert (out / "decisions.csv").read_bytes() == plan
-    tests = package.backtest(*words[1:3], record=40, every=10, window=30, seed="other", jobs=1)
-    assert tests.table.csv.encode() == (out / "backtest.csv").read_bytes()
+    assert package.backtest(*tables, seed="other", **WALK).table.csv.encode() == (out / "backtest.csv").read_bytes()
 
 
 @pytest.mark.parametrize("given, said", [
     (["plan"], "no plan is in it"), (["demand.csv", "items.csv"], "two tables and --out"),
     (["plan", "--out", "other"], "leave them out")])
-def test_words_that_are_refused(words: list[Any], crnplan: Command, given: list[str], said: str) -> None:
+def test_words_that_are_refused(crnplan: Command, given: list[str], said: str) -> None:
     answer = crnplan("backtest", *given)
     assert answer.status == 2 and said in answer.errors

@@ -95,7 +95,7 @@ def test_error_is_that_of_repeated_catalogues() -> None:
 
 @pytest.mark.parametrize("share, by_chance, verdict", [
     (0.05, 0.05, HOLDS), (0.055, 0.055, HOLDS), (0.15, 0.05, TIME), (0.15, 0.15, RARE), (0.25, 0.12, BOTH),
-    (0.01, 0.01, HOLDS)])
+    (0.01, 0.01, HOLDS), (0.05, 0.0, HOLDS)])
 def test_verdicts_on_planted_pasts(share: float, by_chance: float, verdict: str) -> None:
     """The promise is to miss 5%. Twice that in time and in a random order, or in one of both, gives the verdict."""
     assert Sums.of("", catalogue(share, by_chance)).verdict == verdict

@@ -210,7 +210,7 @@ class Sums:
         if self.items < LEAST_ITEMS:
             return FEW
         rare = self.chance.low > SLACK
-        time = self.time.low > 0 and self.time.value > SLACK
+        time = self.time.low > 0 and min(self.time.value, self.missed.value) > SLACK
         if self.missed.low > SLACK and not rare and not time:  # by both together
             time = self.time.value > self.chance.value
             rare = not time
