@@ -30,6 +30,7 @@ _NAMES = {
     "crnsim.sweep": ("sweep",),
     "crnsim.trajectory": ("trajectories",),
     "api": ("Plan", "PlannedItem", "plan_item", "plan", "open_plan"),
+    "backtesting": ("Backtests", "backtest"),
     "records.catalogue_reading": ("Catalogue", "read_catalogue"),
     "curve.exchange_curve": ("exchange_curve",),
     "pages.exports": ("report",),
@@ -42,6 +43,7 @@ if TYPE_CHECKING:
     from .records.catalogue_reading import Catalogue, read_catalogue
     from .curve.exchange_curve import exchange_curve
     from .api import Plan, PlannedItem, open_plan, plan, plan_item
+    from .backtesting import Backtests, backtest
     from .pages.exports import report
     from .decide.doubt import doubt
     from .decide.keys import check_keys
