@@ -18,7 +18,8 @@ load_data <- function(name, package) {
 # Weekly counts of reported cases: a series for each disease, and each district, state or age.
 if (has("surveillance")) {
   suppressMessages(library(surveillance))
-  for (name in sub(" .*", "", data(package = "surveillance")$results[, "Item"])) {
+  names <- sub(" .*", "", data(package = "surveillance")$results[, "Item"])
+  for (name in setdiff(names, c("ha", "measles.weser"))) {  # which stand there twice
     found <- tryCatch(load_data(name, "surveillance"), error = function(fault) NULL)
     counts <- if (is(found, "sts")) observed(found) else if (is(found, "disProg")) as.matrix(found$observed) else NULL
     often <- if (is(found, "sts")) found@freq else if (is(found, "disProg")) found$freq else 0

@@ -26,8 +26,9 @@ BLOCK = 4  # periods
 NO_BLOCK = -1
 # Fewer items have no verdict.
 LEAST_ITEMS = 10
-HOLDS, TIME, RARE, BOTH, FEW = "holds", "time", "rare", "both", "few"
-# Of a promise that holds, this share at most is said to break: half of it for each part of a miss.
+VERDICTS = HOLDS, TIME, RARE, BOTH = ("holds", "time", "rare", "both")
+FEW = "few"
+# Of catalogues whose promise holds, this share at most gets another verdict: half of it for each part of a miss.
 ALARM = 0.05
 SLACK = 0.01  # of the fill: a smaller miss is none
 KEPT = "kept"
