@@ -94,7 +94,8 @@ def sensitivity_rows(scenario: crn.Scenario, program: str) -> Figures:
     kept = scenario.policies[-1]
     moves = moves_of(scenario, kept.name, (kept.s, kept.S)).moves
     return {"losses": by_frame(crn.sensitivity(scenario, program=program)),
-            "moves": {it.words: {**asdict(it), "words": None} for it in moves}}
+            "moves": {it.words: {"words": None, "s": it.s, "S": it.S, "cost": it.cost, "fill": it.fill,
+                                 "kept_cost": it.kept_cost, "kept_fill": it.kept_fill} for it in moves}}
 
 
 def doubt_rows(scenario: crn.Scenario, counts: Any, leads: Any) -> Figures:

@@ -27,7 +27,7 @@ def item_page(words: ItemWords) -> str:
         "laws": [*laws_of(words).spelt(is_shown=True)], "law_plot": plot_of_laws(words),
         "history_plot": history_plot(item.counts, words.period_names, words.every, words.question.demand, item.box),
         "stock_plot": stock_plot(stocks, depth.chosen, words.every), "regrets": regrets(words, doubted),
-        "decided": [difference(words, row.name, row.verdict, row.difference, *(row.ends or (None, None)))
+        "decided": [difference(words, row.name, row.verdict, row.difference, *row.ends)
                     for row in words.compared],
         "coming": [difference(words, row.policy, row.verdict, *words.ends_of(row)) for row in words.coming.rows]
                   if words.coming else []})

@@ -47,10 +47,9 @@ def policies_of(words: ItemWords) -> DataTable:
     rows = []
     for policy in words.compared:
         figures, run = policy.figures, policy.run
-        own, ends = policy.own_ends or (None, None), policy.ends or (None, None)
         rows.append([policy.name, figures.point, figures.level, policy.cost, policy.difference, policy.verdict,
-                     figures.cost, figures.fill, figures.short, figures.stock, figures.orders, run.cost, *own,
-                     run.difference, *ends, "; ".join(policy.reasons)])
+                     figures.cost, figures.fill, figures.short, figures.stock, figures.orders, run.cost, *policy.own_ends,
+                     run.difference, *policy.ends, "; ".join(policy.reasons)])
     return DataTable(POLICY_COLUMNS, rows, words.decimals, index="policy")
 
 

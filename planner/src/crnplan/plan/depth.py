@@ -14,7 +14,8 @@ from functools import cached_property
 from ..crnsim.report import report_of
 from ..crnsim.trajectory import Period, trajectories
 from ..decide.doubt import WITHIN, Doubt
-from ..decide.verdicts import Compared as ComparedRow, Estimate, verdict_of, with_intervals
+from ..decide.verdicts import (Compared as ComparedRow, Ends, Estimate, ends_of, t_quantile, verdict_of,
+                               with_intervals)
 from ..demand.fitted import FittedLaw
 from ..demand.posterior import AllowedLaws
 from ..errors import Refused
@@ -27,12 +28,11 @@ from ..theory.many_laws import CONFIDENCE, Promises, figures_of_laws
 from ..theory.suggestions import FILLS, Chosen, add_fills, chosen_policies
 from ..words import sentence
 from .answer import ALONE, CHOSEN, THEORY, TODAY, Answer, Figures
-from .one import LAWS, Sample, allowed_by, choice_of, figures_of, interval, quantile, sample_of
+from .one import LAWS, Sample, allowed_by, choice_of, figures_of, sample_of
 from ..decide.sensitivity import Case, Move, Moves, moves_of
 from .question import Levels, Question
 
 MOST_PERIODS = 104  # of a trajectory
-Ends = tuple[float, float] | None
 
 
 @dataclass(frozen=True)
@@ -156,16 +156,16 @@ class Depth:
     def compared(self) -> list[Compared]:
         """Returns all policies, the cheapest first."""
         settings, is_exact, rows = self.question.settings, self.answer.source == THEORY, list[Compared]()
-        half = quantile(1 - settings.level, settings.replications)
+        errors = t_quantile(1 - settings.level, settings.replications - 1)
         for (policy, reasons), run in zip(self.policies.items(), map(self._sampled, self.sample.policies)):
             figures, is_base = figures_of(self.question, self.theory, (policy.s, policy.S)), policy.name == TODAY
-            ends = None if is_base else interval(run, settings.level, settings.replications)
-            own = None if run.own_error is None else (run.cost - half * run.own_error, run.cost + half * run.own_error)
+            ends = ends_of(run.difference, None if is_base else run.error, errors)
+            own = ends_of(run.cost, run.own_error, errors)
             cost, difference = run.cost, run.difference
             if is_exact:
                 cost, difference = figures.cost, figures.cost - self.answer.today.cost
-            known = (difference, difference) if is_exact else ends or (None, None)
-            verdict = "base" if is_base else verdict_of(*known)
+            low, high = (difference, difference) if is_exact else ends
+            verdict = "base" if is_base else verdict_of(low, high)
             rows.append(Compared(policy.name, figures, cost, difference, run, own, ends, verdict, reasons))
         return sorted(rows, key=lambda row: row.difference)
 

@@ -11,7 +11,6 @@ chapter 10).
 from __future__ import annotations
 
 import dataclasses
-import functools
 import math
 from collections.abc import Callable, Iterator, Mapping, Sequence
 from dataclasses import dataclass
@@ -20,7 +19,7 @@ from typing import NamedTuple, TypeVar
 import numpy as np
 
 from ..crnsim.report import Report, report_of
-from ..decide.verdicts import Estimate as PolicyEstimate, estimates_of, t_quantile
+from ..decide.verdicts import Estimate as PolicyEstimate, ends_of, estimates_of, t_quantile
 from ..demand.borrowing import borrowed_laws
 from ..demand.learning import Prior
 from ..demand.checks import remarks_of as checked
@@ -157,20 +156,6 @@ def sample_of(question: Question, report: Report) -> Sample:
         bias.theory.exact and bias.on_lattice)
 
 
-@functools.lru_cache
-def quantile(chance: float, replications: int) -> float:
-    """Returns how many standard errors a paired difference exceeds, on either side, with this chance."""
-    return t_quantile(chance, replications - 1)
-
-
-def interval(estimate: PolicyEstimate, level: float, replications: int) -> tuple[float, float] | None:
-    """Returns both ends of the interval of a difference by itself; None if there is none."""
-    if estimate.error is None:
-        return None
-    half = quantile(1 - level, replications) * estimate.error
-    return estimate.difference - half, estimate.difference + half
-
-
 def disagreement(sample: Sample, figures: Sequence[Figures], most: float, spare: Sequence[float]) -> Remark | None:
     """Returns the first figure of a run that is further from theory than so many standard errors and what is to spare
     for its policy; None if there is none. Figures are costs, and savings against the first policy."""
@@ -208,14 +193,14 @@ def check_run(question: Question, theory: LongRun, report: Report, sample: Sampl
     """Raises Disagreement if a run is further from theory than chance allows, and so is a larger one under another key.
     Nothing is compared if theory or the bias of the start is rounded."""
     known = [figures[row.policy] for row in report.rows]
-    most = quantile(SUSPECT, report.scenario.replications)
+    most = t_quantile(SUSPECT, report.scenario.replications - 1)
     if not (theory.exact and sample.bias_is_exact and disagreement(sample, known, most, [0.0] * len(known))):
         return
     key = key_words(f"{question.settings.seed}\nagain\n{question.item.name}")
     larger = dataclasses.replace(report.scenario, key=tuple(key), replications=MOST_REPLICATIONS)
     again = sample_of(question, report_of(larger, program))
     rare = [rare_cost(question, theory, (row.s, row.S), larger) for row in report.rows]
-    fault = disagreement(again, known, quantile(CHANCE, MOST_REPLICATIONS), [cost + rare[0] for cost in rare])
+    fault = disagreement(again, known, t_quantile(CHANCE, MOST_REPLICATIONS - 1), [cost + rare[0] for cost in rare])
     if fault:
         raise Disagreement(fault)
 
@@ -224,8 +209,8 @@ def run_of(question: Question, report: Report, sample: Sample) -> Run:
     """Returns the run of today's policy and of the last one of a report, which may be the same."""
     rows, scenario, level = report.rows, report.scenario, question.settings.level
     base, chosen, is_same = sample.policies[0], sample.policies[-1], len(rows) == 1
-    ends = interval(chosen, level, scenario.replications)
-    low, high = (-ends[1], -ends[0]) if ends else (0.0, 0.0) if is_same else (None, None)
+    errors = t_quantile(1 - level, scenario.replications - 1)
+    low, high = (0.0, 0.0) if is_same else ends_of(-chosen.difference, chosen.error, errors)
     estimate = Estimate(base.cost, chosen.cost, -chosen.difference, 0.0 if is_same else chosen.error, low, high)
     return Run(" ".join(scenario.key), scenario.periods, scenario.replications, scenario.initial, question.scale,
                scenario.costs.setup, scenario.costs.holding, scenario.costs.backlog, rows[0].total, rows[-1].total,
