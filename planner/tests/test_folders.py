@@ -56,7 +56,8 @@ def room(tmp_path: Path, top: Path, program: Path, monkeypatch: pytest.MonkeyPat
 @pytest.fixture
 def plan(room: Path, crnplan: Command) -> Path:
     """Returns the folder of a catalogue that was planned."""
-    assert crnplan(*CATALOGUE).status == 0
+    told = crnplan(*CATALOGUE)
+    assert told.status == 0 and "plan: 1 items planned, 0 kept from before\n" in told.errors
     return room / "plan"
 
 
@@ -181,5 +182,6 @@ def test_what_a_killed_run_has_left(plan: Path, crnplan: Command) -> None:
         plant(plan / name / "part")
     with (plan / "crnplan-folder.txt").open("a") as marker:
         marker.write("unfinished-00000000000000aa/\n")
-    assert crnplan(*CATALOGUE).status == 0
+    told = crnplan(*CATALOGUE)
+    assert told.status == 0 and "plan: 0 items planned, 1 kept from before\n" in told.errors
     assert [it.name for it in plan.glob("unfinished-*")] == ["unfinished-00000000000000bb"]

@@ -197,13 +197,9 @@ def plan(sales: str | Path | pd.DataFrame | Catalogue, masters: str | Path | pd.
     orders: item, ordered, received. Or `sales` is a Catalogue that `read_catalogue` has read, and the other tables and
     words of reading are left out.
 
-    **How it is read.** A period is `every` day, week (ISO) or month. Columns are found by their names, or named as
-    {"demand": {"quantity": "Menge"}} in `columns`; `units` states what they count, as {"items": {"lead": "day"}}. The
-    record is that of all rows, or from `start` to `end`; rows after `today` are rejected. With `net`, quantities below
-    0 are taken off their period. Rows that stand `twice`, and items with amounts `far` above all others, are kept or
-    left out ("keep", "leave-out"). An item needs a history of `least` periods. `factors` says how many items one of a
-    unit of measure is. Files have a `delimiter`, `encoding`, `decimal` sign and `date_formats`, which are found if they
-    can be. Nothing is lost: each row and item that is left out is in `rejects`, with its place, the reason and advice.
+    **How it is read.** `read_catalogue` says what tables may be, how they are read, and what its words mean: those here
+    from `every` to `date_formats`. Nothing is lost: each row and item that is left out is in `rejects`, with its place,
+    the reason and advice.
 
     **How it is planned.** `fit` is how laws of demand are fitted (auto, predictive, empirical, or a family). Items
     `borrow` laws from one another (all, class, none; by default all if there are 100). `confidence` keeps a wanted fill

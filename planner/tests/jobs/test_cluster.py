@@ -163,9 +163,12 @@ def test_a_worker_says_whether_it_is_as_here(monkeypatch: pytest.MonkeyPatch) ->
     monkeypatch.setitem(sys.modules, "distributed", Mock(get_worker=lambda: worker))
     own, called = jobs.identity(""), Mock(return_value=2)
     assert jobs.run_as_here(called, own, "", "word") == 2
-    fault = jobs.run_as_here(called, {**own, "crnplan": "other"}, "", "word")
-    assert isinstance(fault, crn.Refused) and f"late (tcp://{LOOPBACK}:1) has another crnplan" in str(fault)
+    for others, part in (({"crnplan": "other"}, "has another crnplan"), ({"crnsim": "one"}, "has no crnsim"),
+                         ({"crnplan": "other", "crnsim": "one"}, "has another crnplan and has no crnsim")):
+        fault = jobs.run_as_here(called, {**own, **others}, "", "word")
+        assert isinstance(fault, crn.Refused) and f"late (tcp://{LOOPBACK}:1) {part}, and would" in str(fault)
     called.assert_called_once_with("word")
+    assert "late can't say which crnplan it has (gone), and would" in str(jobs.stranger("late", own, OSError("gone")))
 
 
 def test_a_stranger_that_comes_later(cluster: Cluster, room: Path) -> None:
