@@ -122,7 +122,7 @@ def test_frames(tmp_path: Path) -> None:
     ("cp1250", "indeks,data,Ilość,uwagi", "Łódź, zażółć gęślą".replace(",", "")),
     ("cp1252", "item,date,quantité,note", "qualité “supérieure” à l’été"),
     ("utf-16-le", "item,date,quantity,note", "x"),
-    ("utf-16-be", "item,date,quantity,note", "x"), ("latin-1", "Artikel,Datum,Menge,Gerät", "größer als")])
+    ("utf-16-be", "item,date,quantity,note", "größer als"), ("latin-1", "Artikel,Datum,Menge,Gerät", "größer als")])
 def test_encodings_are_named(encoding: str, heading: str, unit: str, tmp_path: Path) -> None:
     """A file that is not UTF-8 is refused with the name of its encoding, by which it is read."""
     rows = weekly([2] * WEEKS).replace("\n", f",{unit}\n")
