@@ -15,7 +15,7 @@ from hypothesis import strategies as st
 from scipy import integrate, stats
 
 from crnplan.demand import FAMILIES, METHODS
-from crnplan.chances import blurred
+from crnplan.chances import blurred, in_items
 from crnplan.demand.families import fits_of, predictive_of
 from crnplan.demand.fitted import Borrowed, Diagnostics, FittedLaw, notes_of
 from crnplan.demand.fitting import cap_of, fit_demand, fit_lead, share_of
@@ -51,6 +51,14 @@ def test_weights(chances: list[float]) -> None:
 def test_weights_within_range() -> None:
     """Demands above 10,000 count as 10,000."""
     assert Law.of_chances(np.bincount([3, 10_000, 10_399], [0.5, 0.25, 0.25])) == Law((3, 10_000), (32_768, 32_768))
+
+
+@pytest.mark.parametrize("pack, expected", [(3, {0: 0.25, 3: 0.5, 6: 0.25}), (5_001, {0: 1 / 3, 5_001: 2 / 3}),
+                                            (5_000, {0: 0.25, 5_000: 0.5, 10_000: 0.25})])
+def test_items_in_packs(pack: int, expected: dict[int, float]) -> None:
+    """A law of packs is one of items, without those above 10,000."""
+    law = in_items(np.array([0.25, 0.5, 0.25]), pack)
+    assert {int(place): law[place] for place in np.flatnonzero(law)} == pytest.approx(expected)
 
 
 def test_bulks() -> None:
