@@ -306,11 +306,11 @@ class Reader:
         if "measure" not in rows.columns:
             return
         _, places = np.unique(rows.codes["measure"][mine], return_index=True)
-        units = [text_of(rows.cell("measure", row)) for row in mine[np.sort(places)].tolist()]
-        unknown = [(place, unit) for place, unit in zip(np.sort(places), units) if unit not in self.words.factors]
+        units = {row: text_of(rows.cell("measure", row)) for row in mine[np.sort(places)].tolist()}
+        unknown = [(row, unit) for row, unit in units.items() if unit not in self.words.factors]
         if len(unknown) > 1:
-            place, unit = unknown[-1]
-            raise Left("demand", int(rows.lines[mine[place]]), fault(
+            row, unit = unknown[-1]
+            raise Left("demand", int(rows.lines[row]), fault(
                 "measure", unit, "measures", measures=" and ".join(repr(it) for _, it in unknown), text=unit))
 
     def _master(self, name: str, rows: Sequence[int], leads: Sequence[int], moves: Moves) -> tuple[Item, int]:
