@@ -9,7 +9,7 @@ import pytest
 from hypothesis import given
 from hypothesis import strategies as st
 
-from crnplan.pages.page import UNITS, Chances, Scale, number, percent, rendered, source, tick
+from crnplan.pages.page import UNITS, Scale, number, percent, rendered, source, tick
 from planner.tests.pages.page_reader import Page
 
 VALUES = st.lists(st.floats(-1e9, 1e9).filter(lambda it: it == 0 or abs(it) > 1e-6), min_size=1, max_size=5)
@@ -30,7 +30,7 @@ def test_scale_has_all_values_and_zero(values: list[float], is_whole: bool) -> N
 def test_chances_stand_in_their_order(chances: list[float]) -> None:
     """Each chance stands within the picture, ten times as large a one always as far above it, and 1 at the top. The
     least one stands in the lowest step."""
-    scale = Chances.of(min(chances))
+    scale = Scale.of_chances(min(chances))
     places = [scale.at(it) for it in sorted(chances)]
     assert 0 <= places[0] and places[-1] <= UNITS == scale.at(1) and places == sorted(places) and scale.at(0) == 0
     heights = scale.heights
