@@ -107,11 +107,12 @@ def test_plain_data(plan: crn.Plan) -> None:
     assert [it["fill_wanted"] is None for it in rows] == list(plan.decisions.fill_wanted.isna())
 
 
-def test_rows_that_are_lost(paths: list[Path], program: Path, monkeypatch: pytest.MonkeyPatch) -> None:
-    """Raises Lost if counts do not add up."""
+def test_rows_that_are_lost(paths: list[Path], program: Path, monkeypatch: pytest.MonkeyPatch, tmp_path: Path) -> None:
+    """Raises Lost if counts do not add up, and the summary says so."""
     monkeypatch.setattr(catalogue, "missing_of", lambda *_: ["items: 1 of 40 is lost"])
     with pytest.raises(catalogue.Lost, match="1 of 40 is lost"):
-        crn.plan(*paths, program=program, **SETTINGS)
+        crn.plan(*paths, out=tmp_path / "plan", program=program, **SETTINGS)
+    assert (tmp_path / "plan/summary.txt").read_text().endswith("first.\n\nLOST: items: 1 of 40 is lost\n")
 
 
 def test_rows_that_were_read_and_not_planned(tmp_path: Path, program: Path) -> None:

@@ -125,6 +125,8 @@ def test_totals(large: Path) -> None:
     assert f"{today:,.2f} today, {chosen:,.2f} chosen" in summary
     assert f"saved: {saving:,.2f} a week; by crnsim's runs " in summary
     assert f"{run:,.2f}, 0.95 interval {run - half:,.2f} to {run + half:,.2f}" in summary
+    without = sum(it.run.error is None for it in answers)
+    assert without and f"\n{without} items have no interval, since" in summary
     more = [it.saving for it in answers if it.verdict == SERVICE]
     assert more and f"of {len(more)} items. Keeping it costs {-math.fsum(more):,.2f} a week" in page.words
     verdicts = {row[0]: int(row[1].replace(",", "")) for row in page.tables["Verdicts"][1:]}

@@ -9,7 +9,8 @@ import pytest
 from hypothesis import given
 from hypothesis import strategies as st
 
-from crnplan.pages.page import UNITS, Scale, number, percent, rendered, source, tick
+from crnplan.curve.exchange import Point
+from crnplan.pages.page import UNITS, Scale, curve_ends, number, percent, rendered, source, tick
 from planner.tests.pages.page_reader import Page
 
 VALUES = st.lists(st.floats(-1e9, 1e9).filter(lambda it: it == 0 or abs(it) > 1e-6), min_size=1, max_size=5)
@@ -44,6 +45,13 @@ def test_chances_stand_in_their_order(chances: list[float]) -> None:
 def test_narrow_pages_have_room_for_marks(values: list[float], inner: list[str]) -> None:
     """If the texts at an axis are long, a narrow page shows the outer ones and 0 alone."""
     assert [text for _, text, css in Scale.of(values).marks if css == "inner"] == inner
+
+
+def test_ends_of_a_curve() -> None:
+    """The axis of stock ends at 1.35 times the greatest stock of a named point, and that of service begins 4 points
+    below the least, but at 0 at least."""
+    named = [Point(100.0, 0.9, 1.0, 1.0), Point(200.0, 0.95, 1.0, 1.0)]
+    assert curve_ends(named) == pytest.approx((270, 86)) and curve_ends([named[0]._replace(fill=0.03)])[1] == 0
 
 
 def test_scale_of_nothing() -> None:

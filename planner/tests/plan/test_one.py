@@ -95,8 +95,9 @@ def test_a_run_that_disagrees_is_a_fault(program: Path, monkeypatch: pytest.Monk
     settings = alone(periods=1_024, replications=24)
     assert isinstance(plan_batch([item_of()], settings, NONE, str(program))[0], Answer)
     monkeypatch.setattr(Question, "theory", raised(1.25))
-    with pytest.raises(Disagreement, match="differ by more than chance allows: cost of today is .* by the run"):
+    with pytest.raises(Disagreement, match="differ by more than chance allows: cost of today is .* by the run") as ours:
         answer_of(item_of(), settings, program)
+    assert ours.value.status == 3
     fault, = plan_batch([item_of()], settings, NONE, str(program))
     assert isinstance(fault, Remark) and fault.code == "disagrees"
     assert fault.facts["theory"] > 1.02 * float(fault.facts["run"])  # type: ignore[operator]

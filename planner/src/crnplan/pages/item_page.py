@@ -6,7 +6,6 @@ from collections import Counter
 from collections.abc import Iterable
 
 from ..demand.fitted import QUANTILES
-from ..plan.answer import RUN
 from ..table import DataTable
 from .catalogue_tables import DECISION_COLUMNS, decision_row, exact_of
 from .item_words import ALONE, ItemWords, laws_of
@@ -22,20 +21,19 @@ MEAN, HIGH, OF_ALONE = "of-mean", "of-high", "of-alone"
 
 def item_page(words: ItemWords) -> str:
     """Returns the page of an item as HTML."""
-    depth, item, answer, coming = words.depth, words.item, words.answer, words.coming
-    decision, = DataTable(DECISION_COLUMNS, [decision_row(item, answer)], words.decimals).cells()
-    exact, = exact_of([(item, answer)]).cells()
+    depth, pair = words.depth, (words.item, words.answer)
+    decision, = DataTable(DECISION_COLUMNS, [decision_row(*pair)], words.decimals).cells()
+    exact, = exact_of([pair]).cells()
     doubted = dict([*words.doubted.items()][:MOST_DOUBTED])
     regrets: list[Range] = [(name, 100 * row["regret"], 0.0, 100 * row["regret_90"], "")
                             for name, row in doubted.items()]
     return rendered("item.html", {
-        "words": words, "every": words.every, "money": words.money, "item": item, "answer": answer,
-        "has_backlog": words.question.has_backlog, "by_run": answer.source == RUN, "chosen": depth.chosen,
-        "scenario": depth.scenario, "scale_of": scale_of, "decision": decision, "exact": exact,
-        "laws": [*laws_of(words.question, depth.single).spelt(is_shown=True)], "doubted": doubted, "regrets": regrets,
+        "words": words, "scale_of": scale_of, "decision": decision, "exact": exact, "doubted": doubted,
+        "regrets": regrets, "laws": [*laws_of(words.question, depth.single).spelt(is_shown=True)],
         "law_plot": law_plot(words), "history_plot": history_plot(words), "stock_plot": stock_plot(words),
         "decided": [(row.name, row.difference, *row.ends, row.verdict) for row in depth.compared],
-        "coming": coming and [(row.policy, row.diff, row.low, row.high, row.verdict) for row in coming.rows]})
+        "coming": words.coming and [(row.policy, row.diff, row.low, row.high, row.verdict)
+                                    for row in words.coming.rows]})
 
 
 def scale_of(rows: Iterable[Range]) -> Scale:

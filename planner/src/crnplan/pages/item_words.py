@@ -132,12 +132,12 @@ class ItemWords:
         doubt, rows = self.depth.doubt, list[list[Cell]]()
         if doubt is None:
             return DataTable(POLICY, rows, self.decimals, index="policy")
+        columns = doubt.table.columns
         for place in doubt.order:
             name = doubt.policies[place].name
-            cost, *shares = (float(column[place]) for column in doubt.columns.values())
+            cost, *shares = (float(doubt.columns[column.name][place]) for column in columns[len(POLICY):])
             rows.append([name, *self.figures[name].levels, self.question.money(cost), *shares])
-        columns = [replace(column, written=MONEY, shown="") if column.name == "cost" else column
-                   for column in doubt.table.columns]
+        columns = [replace(column, written=MONEY, shown="") if column.name == "cost" else column for column in columns]
         return DataTable(columns, rows, self.decimals, index="policy")
 
     @cached_property
