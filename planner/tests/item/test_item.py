@@ -203,8 +203,10 @@ def test_a_wanted_fill_rate(room: Path, plan: Plan) -> None:
     """
     edit(room / "settings.toml", "backlog = 9.00\n", "")
     edit(room / "settings.toml", "0.60", "0.6125")
+    edit(room / "settings.toml", "replications = 4\n", "")
     edit(room / "settings.toml", "laws = 10", "laws = 10\nfill = 0.99")
-    assert "A fill rate of 99% is wanted." in plan().output.replace("\n", " ")
+    output = plan().output.replace("\n", " ")
+    assert "A fill rate of 99% is wanted." in output and "Over the coming 12 weeks (64 replications" in output
     rows = {row["policy"]: row for row in rows_of(room / "plan/policies.csv")}
     assert float(rows["today"]["fill"]) < 0.99 <= float(rows["chosen"]["fill"]) < 0.995
     assert {len(row["theory_cost"].partition(".")[2]) for row in rows.values()} == {4}

@@ -129,6 +129,9 @@ def test_totals(large: Path) -> None:
     assert without and f"\n{without} items have no interval, since" in summary
     more = [it.saving for it in answers if it.verdict == SERVICE]
     assert more and f"of {len(more)} items. Keeping it costs {-math.fsum(more):,.2f} a week" in page.words
+    best = sorted((it.saving for it in answers), reverse=True)[:15]
+    assert [row[1] for row in page.tables["The greatest savings"][1:]] == [f"{it:,.2f}" for it in best]
+    assert f"together these are {math.fsum(best):,.0f}." in page.words or math.fsum(best) < LARGE
     verdicts = {row[0]: int(row[1].replace(",", "")) for row in page.tables["Verdicts"][1:]}
     assert verdicts == Counter(it.verdict for it in answers)
 
@@ -201,7 +204,9 @@ def test_bytes_are_the_same(hostile: Path, tmp_path: Path) -> None:
 def test_greatest_are_shown_of_very_many(hostile: Path, folder: Path, monkeypatch: pytest.MonkeyPatch) -> None:
     """If there are too many items, those with the greatest saving or loss are shown, and it is said where all are."""
     monkeypatch.setattr(catalogue_page, "MOST_ROWS", 10)
+    monkeypatch.setattr(catalogue_page, "MOST_REASONS", 1)
     page, rows = Page(crn.report(folder)), rows_of(folder / "decisions.csv")
+    assert len(page.tables["Rows rejected"]) == 2 and "2 more reasons, 4 times." in page.words
     assert set(page.items) == {row["item"] for row in sorted(rows, key=lambda row: -abs(float(row["saving"])))[:10]}
     assert "The 10 items with the greatest saving or loss are shown. The other 50 stand in decisions.csv" in page.words
     assert Page(hostile / "report.html").words.split(".")[0] in page.words

@@ -4,12 +4,16 @@ from __future__ import annotations
 import itertools
 import math
 from pathlib import Path
+from types import SimpleNamespace
+from typing import Any
 
 import pytest
 from hypothesis import given
 from hypothesis import strategies as st
 
 from crnplan.curve.exchange import Point
+from crnplan.demand.fitting import fit_demand
+from crnplan.pages.item_page import history_plot
 from crnplan.pages.page import UNITS, Scale, curve_ends, number, percent, rendered, source, tick
 from planner.tests.pages.page_reader import Page
 
@@ -45,6 +49,18 @@ def test_chances_stand_in_their_order(chances: list[float]) -> None:
 def test_narrow_pages_have_room_for_marks(values: list[float], inner: list[str]) -> None:
     """If the texts at an axis are long, a narrow page shows the outer ones and 0 alone."""
     assert [text for _, text, css in Scale.of(values).marks if css == "inner"] == inner
+
+
+def test_bars_of_a_long_history() -> None:
+    """Of a history of 521 weeks the last 520 are drawn, but for those without demand, and the picture says so."""
+    item = SimpleNamespace(counts=(9, 0, *[1] * 519), box=1)
+    law = fit_demand(item.counts, method="empirical")
+    words: Any = SimpleNamespace(item=item, every="week", question=SimpleNamespace(demand=law),
+                                 period_names=[f"W{week}" for week in range(521)])
+    plot = history_plot(words)
+    assert len(plot.bars) == 519 and plot.across == "week; the 1 before are not drawn" and plot.marks[0][1] == "W1"
+    assert "521 weeks from W0 to W520, 528 items; 1 weeks without demand; the greatest demand is 9, in W0;" in \
+        plot.description
 
 
 def test_ends_of_a_curve() -> None:

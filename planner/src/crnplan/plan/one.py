@@ -19,7 +19,7 @@ from typing import NamedTuple, TypeVar
 import numpy as np
 
 from ..crnsim.report import Report, report_of
-from ..decide.verdicts import Ends, Estimate, ends_of, estimates_of, t_quantile
+from ..decide.verdicts import Estimate, ends_of, estimates_of, t_quantile
 from ..demand.borrowing import borrowed_laws
 from ..demand.learning import Prior
 from ..demand.checks import remarks_of as checked
@@ -208,7 +208,8 @@ def run_of(question: Question, report: Report, sample: Sample) -> Run:
     """Returns the run of today's policy and of the last one of a report, which may be the same."""
     rows, scenario = report.rows, report.scenario
     base, chosen, saving = sample.policies[0], sample.policies[-1], -sample.policies[-1].difference
-    error, errors = 0.0 if len(rows) == 1 else chosen.error, t_quantile(1 - question.settings.level, scenario.replications - 1)
+    error = 0.0 if len(rows) == 1 else chosen.error
+    errors = t_quantile(1 - question.settings.level, scenario.replications - 1)
     return Run(" ".join(scenario.key), scenario.periods, scenario.replications, scenario.initial, question.scale,
                scenario.costs.setup, scenario.costs.holding, scenario.costs.backlog, rows[0].total, rows[-1].total,
                rows[-1].diff_mean, rows[-1].diff_var or rows[0].diff_mean, base.cost, chosen.cost, saving, error,
@@ -268,7 +269,7 @@ def plan_one(question: Question, program: str) -> Answer:
     check_run(question, theory, report, sample, figures, program)
     run, today, chosen = run_of(question, report, sample), figures[TODAY], figures[CHOSEN]
     costs, saving, near = (today.cost, chosen.cost), today.cost - chosen.cost, CLOSE * today.cost
-    ends: Ends = saving - near, saving + near
+    ends: tuple[float | None, float | None] = saving - near, saving + near
     if not theory.exact:
         costs, saving, ends = (run.cost_today, run.cost_chosen), run.saving, (run.low, run.high)
     verdict = SAME if choice.levels == question.levels else verdict_of(question, today, saving, *ends)
