@@ -136,12 +136,12 @@ def test_share_of_the_law(seed: int, size: int, mean: float) -> None:
             seen[number] += 1
         return total
     grid = len(numbers) * np.logspace(-2, 2, 41)
-    values = [likelihood(it) for it in grid]
-    share, best = share_of(sample, base), grid[int(np.argmax(values))]
+    values, share = [likelihood(it) for it in grid], share_of(sample, base)
     if max(values) - values[-1] < 0.49:
         assert share == 1
     elif max(values) - values[-1] > 0.51:
-        assert share == pytest.approx(best / (best + len(numbers)), rel=0.25)
+        periods = len(numbers) * share / (1 - share)
+        assert np.abs(grid / periods - 1).min() < 1e-9 and likelihood(periods) == pytest.approx(max(values), abs=1e-6)
 
 
 @pytest.mark.parametrize("demands, cap", [(2, 30), (6, 30), (10, 24), (15, 21), (20, 20), (500, 20)])

@@ -1,13 +1,11 @@
 """Tests how an item says by which laws it is planned, and that its tables are those laws."""
 from __future__ import annotations
 
-
 import numpy as np
 import pytest
 
-from crnplan.demand.fitted import FittedLaw
+from crnplan.demand.fitted import Diagnostics, FittedLaw
 from crnplan.demand.fitting import fit_demand
-from crnplan.demand.fitted import Diagnostics
 from crnplan.law import Law
 from crnplan.pages.item_words import LAW_COLUMNS, laws_of
 from crnplan.pages.item_words import law_words

@@ -359,7 +359,7 @@ def _notes(facts: Facts) -> Iterator[Remark]:
     if far := len(outliers_of(demands, pack)):
         yield Remark("far demands", {"next": demands[far], **_largest(facts, far)})
     squares = centred(np.array(numbers, dtype=float))**2
-    share = float(squares[np.argmax(numbers)] / max(squares.sum(), 1))
+    share = float(squares[np.argmax(numbers)] / squares.sum()) if squares.any() else 0.0
     if share > DECISIVE:
         yield Remark("decisive demand", {"share": share, **_largest(facts, 1)})
 
