@@ -20,6 +20,7 @@ from crnplan.records.cells import Unreadable
 from crnplan.records.item import Item, leads_of
 from crnplan.records.items import Words
 from crnplan.records.sources import opened
+from crnplan.remarks import Remark
 
 Day = datetime.date
 MONDAY = Day(2026, 3, 2)
@@ -192,7 +193,9 @@ def test_twins_are_counted(twice: str, total: int, tmp_path: Path) -> None:
     """A thousand equal rows are named once, with their count."""
     rows = weekly([2] * WEEKS)
     catalogue = read(tmp_path, rows + rows.splitlines(True)[3] * 999, twice=twice, far="keep")
-    assert sum(items_of(catalogue)["A"].counts) == total and not catalogue.missing
+    item = items_of(catalogue)["A"]
+    assert sum(item.counts) == total and not catalogue.missing
+    assert item.remarks == (Remark("rows twice", {"rows": 999}),)
     rejects = catalogue.rejects
     assert len(rejects) == 1 and rejects.reason[0].startswith("999 rows are the same as others above them")
     assert rejects.rows[0] == (999 if twice == "leave-out" else 0)
