@@ -108,6 +108,12 @@ def test_an_error_of_another_process(fault: CrnplanError) -> None:
     assert type(sent) is type(fault) and (str(sent), vars(sent)) == (str(fault), vars(fault))
 
 
+def test_places_of_faults() -> None:
+    """An error of several faults has a line for each, with as much of its place as is known."""
+    faults = [Fault("a"), Fault("b", "f.csv"), Fault("c", "f.csv", 3), Fault("d", "f.csv", 3, 2)]
+    assert str(RefusedFaults(faults)) == "a\nf.csv: b\nf.csv:3: c\nf.csv:3:2: d"
+
+
 def test_parts_on_a_terminal() -> None:
     """Names the parts of an item's plan on a terminal, before each."""
     terminal, end = os.openpty()
