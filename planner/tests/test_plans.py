@@ -2,6 +2,7 @@
 from __future__ import annotations
 
 from pathlib import Path
+from unittest.mock import Mock
 
 import pandas as pd
 import pytest
@@ -83,9 +84,12 @@ def test_the_curve_has_policies(plan: crn.Plan) -> None:
     assert set(curve.policies.item) <= set(plan.decisions.item) and len(curve.policies) > 30
 
 
-def test_pictures_are_figures(plan: crn.Plan) -> None:
-    """A picture of an item has a part for today's and one for the chosen policy."""
-    assert len(plan.item("K-102").plot().axes) == 2
+def test_pictures_are_figures(plan: crn.Plan, monkeypatch: pytest.MonkeyPatch) -> None:
+    """A picture of an item has a part for today's and one for the chosen policy, from the stock of the masters on."""
+    drawn = Mock()
+    monkeypatch.setattr("crnplan.pages.pictures.draw_policy", drawn)
+    assert len(plan.item("K-102").plot().axes) == drawn.call_count == 2
+    assert {call.args[3] for call in drawn.call_args_list} == {7}
 
 
 @pytest.mark.parametrize("words, message", [
