@@ -425,7 +425,8 @@ def main(words):
         table(names)
         return 0
     began = time.monotonic()
-    passed, failed, kept = tested.try_tested(names, options, link) if options.tested else try_all(names, options)
+    tried = tested.try_tested(names, options, link, load_kit()) if options.tested else try_all(names, options)
+    passed, failed, kept = tried
     judged_now = passed + failed - kept
     if not passed and not failed:
         print("FAILED there is no edit to try")

@@ -1,10 +1,10 @@
 """Tries the wrong implementations that contracts let through: crates/NAME/tested/*.edit.
 
 Used by `tools/rounds.py --tested`; tools/edits.py has the format. Each edit is planted in a copy of the repository,
-over the work that is kept in crates/*/out/. What its test needs is built, the program or a crate of tests, which also
-proves the changed crate and those above it. Then the test is run. An edit passes only if its test fails, and for the
-reason that the edit gives; it fails if the test passes, if another part of the test fails, or if the edit is not
-proved.
+over the work that is kept in crates/*/out/: that of `rt check`, or the libraries that `rt ci` has left. What its test
+needs is built, the program or a crate of tests, which also proves the changed crate and those above it. Then the test is
+run. An edit passes only if its test fails, and for the reason that the edit gives; it fails if the test passes, if
+another part of the test fails, or if the edit is not proved.
 
 The control runs each test once without an edit, where it must not fail.
 """
@@ -68,15 +68,30 @@ def tries_of(name, names):
     return tries, failed
 
 
-def copied(room, link):
-    """Copies the repository into a folder, with links to the work that its crates keep."""
+def are_left_by_ci(libraries, kit):
+    """Returns whether some libraries are what `rt ci` has left: they have no stamp, since they fit only one another. None of
+    their files may have changed since."""
+    if any(os.path.exists(f"{it.folder}/out/rlib/stamp") for it in libraries):
+        return False
+    return all(os.stat(file).st_ctime < os.stat(f"{it.rlib}/format").st_ctime
+               for it in libraries for file in kit.files_of(it.folder))
+
+
+def copied(room, link, kit):
+    """Copies the repository into a folder, with links to the work that its crates keep. Libraries that `rt ci` has left
+    get a stamp there, so that `rt` does not build them again."""
+    every = [kit.Crate(f"{TOP}/crates/{name}", TOP, {}) for name in crates()]
+    libraries = [it for it in every if os.path.isfile(f"{it.rlib}/format")]
+    stamped = libraries if are_left_by_ci(libraries, kit) else []
     shutil.copytree(TOP, room, ignore=shutil.ignore_patterns(".*", "out", "__pycache__"), dirs_exist_ok=True)
     os.makedirs(f"{room}/.git")
-    for name in crates():
-        kept = f"{TOP}/crates/{name}/out"
+    for crate in every:
         for part in ("rlib", "incremental"):
-            if os.path.isdir(f"{kept}/{part}"):
-                link(f"{kept}/{part}", f"{room}/crates/{name}/out/{part}")
+            if os.path.isdir(f"{crate.folder}/out/{part}"):
+                link(f"{crate.folder}/out/{part}", f"{room}/crates/{crate.name}/out/{part}")
+    for crate in stamped:
+        with open(f"{room}/crates/{crate.name}/out/rlib/stamp", "w", encoding="utf-8") as file:
+            file.write(crate.stamp())
 
 
 def shown_of(words, folder, limit, ends_at=lambda line: False):
@@ -146,9 +161,9 @@ def unseen(test, shown):
 class Copy:
     """A copy of the repository, in which edits are planted one after another."""
 
-    def __init__(self, room, options, link):
+    def __init__(self, room, options, link, kit):
         self.room, self.options = room, options
-        copied(room, link)
+        copied(room, link, kit)
 
     def plant(self, each, which):
         """Writes the files of an edit, as they are before it (0) or after it (1)."""
@@ -238,7 +253,7 @@ class Tested:
             print(f"FAILED {label}: {why}" if why else f"{label}: seen, {time.monotonic() - began:.0f} s", flush=True)
 
 
-def try_tested(names, options, link):
+def try_tested(names, options, link, kit):
     """Tries the edits of these crates; how many passed and failed, and that none passed by a kept verdict."""
     found = [tries_of(name, options.names) for name in names]
     bad = [it for _, failed in found for it in failed]
@@ -248,6 +263,6 @@ def try_tested(names, options, link):
     if not tries:
         return 0, len(bad), 0
     with tempfile.TemporaryDirectory(prefix="tested-") as room:
-        tested = Tested(Copy(room, options, link), tries)
+        tested = Tested(Copy(room, options, link, kit), tries)
         tested.run()
     return tested.passed, tested.failed + len(bad), 0

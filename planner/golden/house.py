@@ -20,7 +20,7 @@ from crnplan.decide.sensitivity import moves_of
 from crnplan.demand.checks import check_history
 from crnplan.plan.answer import CHOSEN, Answer
 from crnplan.plan.catalogue import planned_folder
-from crnplan.plan.item import ItemPlan, planned, read_item
+from crnplan.plan.item import Depth, planned, read_item
 from crnplan.records.catalogued import Catalogued
 from crnplan.records.item import Item
 from crnplan.remarks import Remark
@@ -94,7 +94,8 @@ def sensitivity_rows(scenario: crn.Scenario, program: str) -> Figures:
     kept = scenario.policies[-1]
     moves = moves_of(scenario, kept.name, (kept.s, kept.S)).moves
     return {"losses": by_frame(crn.sensitivity(scenario, program=program)),
-            "moves": {it.words: {**asdict(it), "words": None} for it in moves}}
+            "moves": {it.words: {"words": None, "s": it.s, "S": it.S, "cost": it.cost, "fill": it.fill,
+                                 "kept_cost": it.kept_cost, "kept_fill": it.kept_fill} for it in moves}}
 
 
 def doubt_rows(scenario: crn.Scenario, counts: Any, leads: Any) -> Figures:
@@ -124,15 +125,15 @@ def plan_catalogue(files: Mapping[str, Any], folder: Path, program: str, jobs: i
 def plan_rows(folder: Path) -> dict[str, Figures]:
     """Returns the answer to each item of a planned folder."""
     with planned_folder(folder) as its:
-        return {item.name: answer_figures(answer) for item, answer in its.answers()}
+        return {item.name: answer_figures(item, answer) for item, answer in its.answers()}
 
 
-def answer_figures(answer: Answer | Remark) -> Figures:
+def answer_figures(item: Item, answer: Answer | Remark) -> Figures:
     """Returns the figures of an item's answer: what belongs to a policy below its name, and codes of remarks."""
     if isinstance(answer, Remark):
         return {"fault": True}
-    run, estimate = answer.run, answer.run.estimate
-    costs = {"today": estimate.cost_today, "chosen": estimate.cost_chosen}
+    run = answer.run
+    costs = {"today": run.cost_today, "chosen": run.cost_chosen}
     policies = {name: {"s": its.point, "S": its.level, "cost": its.cost, "fill": its.fill, "short": its.short,
                        "stock": its.stock, "orders": its.orders, **({"run_cost": costs[name]} if name in costs else {})}
                 for name, its in (("today", answer.today), ("chosen", answer.chosen), ("alone", answer.alone)) if its}
@@ -141,10 +142,11 @@ def answer_figures(answer: Answer | Remark) -> Figures:
              "totals": [run.total_today, run.total_chosen], "diff_mean": str(run.difference),
              "diff_var": str(run.variance)}
     law = answer.law
-    return {**policies, "verdict": answer.verdict, "saving": answer.saving, "error": estimate.error,
-            "low": estimate.low, "high": estimate.high, "confidence_cost": answer.confidence_cost, "law": law.family,
-            "share": law.share, "log10_bayes": law.log10_bayes, "mean": law.mean, "demands": answer.demands,
-            "periods": answer.periods, "step": answer.step, "warnings": [it.code for it in answer.remarks],
+    return {**policies, "verdict": answer.verdict, "saving": answer.saving, "error": run.error,
+            "low": run.low, "high": run.high, "confidence_cost": answer.confidence_cost, "law": law.family,
+            "share": law.share, "log10_bayes": law.log10_bayes, "mean": law.mean,
+            "demands": sum(count > 0 for count in item.counts), "periods": len(item.counts), "step": answer.step,
+            "warnings": [it.code for it in answer.remarks],
             "exact": exact}
 
 
@@ -211,13 +213,13 @@ def item_rows(name: str, item: Item, program: str) -> Figures:
         return item_figures(planned(read_item(folder / "history.csv", folder / "settings.toml"), program))
 
 
-def item_figures(plan: ItemPlan) -> Figures:
+def item_figures(depth: Depth) -> Figures:
     """Returns the figures of an item's plan, in the program's units as its scenario has them."""
-    depth, scale = plan.depth, float(plan.depth.question.scale)
-    scenario, doubt, names = depth.scenario, depth.doubt(), {CHOSEN: "best"}
+    scale = float(depth.question.scale)
+    scenario, doubt, names = depth.scenario, depth.doubt, {CHOSEN: "best"}
     law = {name: {"mean": float(its.mean), "largest": its.values[-1], "values": len(its.values)}
            for name, its in (("demand", scenario.demand), ("lead", scenario.lead))}
-    compared = {names.get(it.name, it.name): it for it in depth.compared()}
+    compared = {names.get(it.name, it.name): it for it in depth.compared}
     theory = {name: {"s": it.figures.point, "S": it.figures.level, "cost": it.figures.cost * scale,
                      "fill": it.figures.fill, "short": it.figures.short, "stock": it.figures.stock,
                      "orders": it.figures.orders} for name, it in compared.items()}
@@ -229,7 +231,7 @@ def item_figures(plan: ItemPlan) -> Figures:
             "sensitivity": {
                 it.words: {"case": it.words, "s": it.s, "S": it.S, "cost": it.cost * scale, "fill": it.fill,
                            "kept_cost": it.kept_cost * scale, "kept_more": it.kept_more, "kept_fill": it.kept_fill}
-                for it in depth.moves().moves}}
+                for it in depth.moves.moves}}
 
 
 def items_of(files: Mapping[str, Any], folder: Path) -> dict[str, Item]:

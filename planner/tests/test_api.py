@@ -110,7 +110,11 @@ def test_types() -> None:
 
 @pytest.mark.parametrize("words, message", [
     (["wy"], "there is no command 'wy'; did you mean why? crnplan --help shows the words."),
-    (["why"], "Missing argument 'SCENARIO.toml'. crnplan why --help shows the words.")], ids=["unknown", "missing"])
+    (["why"], "Missing argument 'SCENARIO.toml'. crnplan why --help shows the words."),
+    (["catalogue", "a", "b", "--column", "a.b"], "--column 'a.b' is not FILE.ROLE=NAME, as demand.quantity=Menge"),
+    (["catalogue", "a", "b", "--unit", "a.b= "], "--unit 'a.b= ' is not FILE.ROLE=UNIT, as items.lead=day"),
+    (["catalogue", "a", "b", "--factor", "KAR=0"], "--factor 'KAR=0' is not MEASURE=NUMBER, as KAR=12"),
+    (["history", "a", "--item", "=x"], "--item '=x' is not COLUMN=VALUE, as part=A-17")])
 def test_wrong_words(words: list[str], message: str, crnplan: Command) -> None:
     """Checks the line on words that are refused."""
     assert crnplan(*words) == (2, "", f"crnplan: {message}\n")

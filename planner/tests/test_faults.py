@@ -1,6 +1,7 @@
 """Tests of the statuses of crnplan, and of what it shows: no traceback, no control character, no formula of others."""
 from __future__ import annotations
 
+import contextlib
 import csv
 import os
 import pickle
@@ -10,7 +11,7 @@ import sqlite3
 import subprocess
 import sys
 import tomllib
-from collections.abc import Callable, Sequence
+from collections.abc import Callable, Iterator, Sequence
 from pathlib import Path
 from unittest.mock import Mock
 
@@ -70,16 +71,28 @@ def test_faults_that_no_input_is_to_blame_for(crnplan: Command, monkeypatch: pyt
     assert (status, output, errors.count("\n")) == (3, "", 1) and errors.startswith(f"crnplan: {part}")
 
 
-def test_a_disk_that_gets_full(tmp_path: Path) -> None:
-    """Says that there is no space if the marker of a folder could be written in part only."""
+@contextlib.contextmanager
+def files_of_at_most(size: int) -> Iterator[None]:
+    """Lets no file get larger than so many bytes."""
     limits = resource.getrlimit(resource.RLIMIT_FSIZE)
-    resource.setrlimit(resource.RLIMIT_FSIZE, (50, limits[1]))
+    resource.setrlimit(resource.RLIMIT_FSIZE, (size, limits[1]))
     try:
-        with pytest.raises(Failed, match="plan: No space left on device"), own_folder(tmp_path / "plan", "x"):
-            pass
+        yield
     finally:
         resource.setrlimit(resource.RLIMIT_FSIZE, limits)
+
+
+def test_a_disk_that_gets_full(tmp_path: Path) -> None:
+    """Says that there is no space if the marker of a folder could be written in part only. A file that could not be
+    written stays as it was, and no part of it is left."""
+    with files_of_at_most(50), pytest.raises(Failed, match="plan: No space left"), own_folder(tmp_path / "plan", "x"):
+        pass
     assert (tmp_path / "plan/crnplan-folder.txt").stat().st_size == 50
+    with own_folder(tmp_path / "other", "x") as folder:
+        folder.write("a.csv", ["old", " text"])
+        with files_of_at_most(50), pytest.raises(Failed, match="/other: File too large; what was done before is kept"):
+            folder.write("a.csv", 99 * "new")
+        assert (tmp_path / "other/a.csv").read_text() == "old text" and not any(folder.room().iterdir())
 
 
 def test_a_pipe_of_the_caller(tmp_path: Path) -> None:
@@ -93,6 +106,12 @@ def test_an_error_of_another_process(fault: CrnplanError) -> None:
     """An error that was sent by another process is as it was there, with what its kind has."""
     sent = pickle.loads(pickle.dumps(fault))
     assert type(sent) is type(fault) and (str(sent), vars(sent)) == (str(fault), vars(fault))
+
+
+def test_places_of_faults() -> None:
+    """An error of several faults has a line for each, with as much of its place as is known."""
+    faults = [Fault("a"), Fault("b", "f.csv"), Fault("c", "f.csv", 3), Fault("d", "f.csv", 3, 2)]
+    assert str(RefusedFaults(faults)) == "a\nf.csv: b\nf.csv:3: c\nf.csv:3:2: d"
 
 
 def test_parts_on_a_terminal() -> None:
@@ -155,7 +174,7 @@ def test_an_answer_that_was_changed(plan: Path, crnplan: Command) -> None:
         assert status == 3 and "answers.sqlite: the answer to 'A' is not as it was kept" in errors, errors
 
 
-EVIL = ("\x1b[31mred\x1b]0;title\x07", "bell\x07", "del\x7f", "\u202eright to left", "c1\x9b31m")
+EVIL = ("\x1b[31mred\x1b]0;title\x07", "bell\x07", "del\x7f", "\u202eright to left", "c1\x9b31m", "a\x1fmark\x1eof ours")
 
 
 @pytest.mark.parametrize("evil", EVIL, ids=ascii)

@@ -56,7 +56,8 @@ def room(tmp_path: Path, top: Path, program: Path, monkeypatch: pytest.MonkeyPat
 @pytest.fixture
 def plan(room: Path, crnplan: Command) -> Path:
     """Returns the folder of a catalogue that was planned."""
-    assert crnplan(*CATALOGUE).status == 0
+    told = crnplan(*CATALOGUE)
+    assert told.status == 0 and "plan: 1 items planned, 0 kept from before\n" in told.errors
     return room / "plan"
 
 
@@ -158,6 +159,7 @@ def test_a_marker_that_was_cut(plan: Path, crnplan: Command) -> None:
     """Goes on if the last line of the marker was cut off, and refuses what that line named."""
     marker = plan / "crnplan-folder.txt"
     lines = marker.read_text("utf-8").splitlines()
+    assert lines[1:] == sorted(lines[1:])
     lines.remove("summary.txt")
     marker.write_text("\n".join([*lines, "summa"]), "utf-8")
     told = crnplan(*CATALOGUE)
@@ -168,11 +170,19 @@ def test_a_marker_that_was_cut(plan: Path, crnplan: Command) -> None:
 
 
 def test_a_marker_that_is_no_file(room: Path, crnplan: Command) -> None:
-    """Refuses a folder whose marker is a pipe, and does not wait for it."""
-    (room / "plan").mkdir()
-    os.mkfifo(room / "plan/crnplan-folder.txt")
+    """Refuses a folder whose marker is a pipe, and does not wait for it, or is empty beside other files."""
+    marker = room / "plan/crnplan-folder.txt"
+    marker.parent.mkdir()
+    os.mkfifo(marker)
     told = crnplan(*CATALOGUE)
     assert told.status == 2 and "plan/crnplan-folder.txt: it is no file" in told.errors
+    marker.unlink()
+    marker.touch()
+    plant(room / "plan/mine.csv")
+    told = crnplan(*CATALOGUE)
+    assert told.status == 2 and "crnplan-folder.txt is not that of a folder of crnplan catalogue" in told.errors
+    (room / "plan/mine.csv").unlink()
+    assert crnplan(*CATALOGUE).status == 0
 
 
 def test_what_a_killed_run_has_left(plan: Path, crnplan: Command) -> None:
@@ -181,5 +191,7 @@ def test_what_a_killed_run_has_left(plan: Path, crnplan: Command) -> None:
         plant(plan / name / "part")
     with (plan / "crnplan-folder.txt").open("a") as marker:
         marker.write("unfinished-00000000000000aa/\n")
-    assert crnplan(*CATALOGUE).status == 0
+    told = crnplan(*CATALOGUE)
+    assert told.status == 0 and "plan: 0 items planned, 1 kept from before\n" in told.errors
     assert [it.name for it in plan.glob("unfinished-*")] == ["unfinished-00000000000000bb"]
+    assert "unfinished" not in (plan / "crnplan-folder.txt").read_text("utf-8")

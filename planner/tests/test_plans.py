@@ -2,6 +2,7 @@
 from __future__ import annotations
 
 from pathlib import Path
+from unittest.mock import Mock
 
 import pandas as pd
 import pytest
@@ -83,9 +84,12 @@ def test_the_curve_has_policies(plan: crn.Plan) -> None:
     assert set(curve.policies.item) <= set(plan.decisions.item) and len(curve.policies) > 30
 
 
-def test_pictures_are_figures(plan: crn.Plan) -> None:
-    """A picture of an item has a part for today's and one for the chosen policy."""
-    assert len(plan.item("K-102").plot().axes) == 2
+def test_pictures_are_figures(plan: crn.Plan, monkeypatch: pytest.MonkeyPatch) -> None:
+    """A picture of an item has a part for today's and one for the chosen policy, from the stock of the masters on."""
+    drawn = Mock()
+    monkeypatch.setattr("crnplan.pages.pictures.draw_policy", drawn)
+    assert len(plan.item("K-102").plot().axes) == drawn.call_count == 2
+    assert {call.args[3] for call in drawn.call_args_list} == {7}
 
 
 @pytest.mark.parametrize("words, message", [
@@ -107,11 +111,12 @@ def test_plain_data(plan: crn.Plan) -> None:
     assert [it["fill_wanted"] is None for it in rows] == list(plan.decisions.fill_wanted.isna())
 
 
-def test_rows_that_are_lost(paths: list[Path], program: Path, monkeypatch: pytest.MonkeyPatch) -> None:
-    """Raises Lost if counts do not add up."""
+def test_rows_that_are_lost(paths: list[Path], program: Path, monkeypatch: pytest.MonkeyPatch, tmp_path: Path) -> None:
+    """Raises Lost if counts do not add up, and the summary says so."""
     monkeypatch.setattr(catalogue, "missing_of", lambda *_: ["items: 1 of 40 is lost"])
     with pytest.raises(catalogue.Lost, match="1 of 40 is lost"):
-        crn.plan(*paths, program=program, **SETTINGS)
+        crn.plan(*paths, out=tmp_path / "plan", program=program, **SETTINGS)
+    assert (tmp_path / "plan/summary.txt").read_text().endswith("first.\n\nLOST: items: 1 of 40 is lost\n")
 
 
 def test_rows_that_were_read_and_not_planned(tmp_path: Path, program: Path) -> None:

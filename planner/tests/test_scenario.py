@@ -194,6 +194,9 @@ def test_comments_with_other_policies_and_tables() -> None:
     assert changed.toml().startswith("# A spare part.\nversion = 2 # no returns\n") and "2019" not in changed.toml()
     back = changed.changed(returns=None)
     assert back.version == 1 and back.returns is None and tomllib.loads(back.toml()) == back.tree
+    commented = EXAMPLES[1].read_text("utf-8").replace("[lead]", "[lead] # in weeks")
+    free = Scenario.parse(commented).changed(returns=None)
+    assert tomllib.loads(free.toml()) == free.tree and "returns" not in free.tree and "# in weeks" in free.toml()
     policy = 'policy = [{ name = "A", s = 1, S = 2, },]'
     inline = COMMENTED.split("# since")[0].replace("version = 1 ", f"version = 1\n{policy} ")
     for policies in ({"A": (3, 4)}, {"B": (3, 4), "C": (5, 6)}):

@@ -8,6 +8,7 @@ from __future__ import annotations
 
 import fcntl
 import os
+import re
 import shutil
 import subprocess
 from collections.abc import Callable, Iterator
@@ -130,26 +131,21 @@ NO_TEXT = ("following", "    3 + n\n", "    2 + n\n")
 # Each case: its name, the edits by name, what becomes of each ("" if it passes, else a part of the message), and a
 # prover.
 CASES = [
-    ("edits that are refused, two of them in one function, one of a constant",
+    # Together, since a check takes long however little it checks.
+    ("edits that are refused, of functions, of arms and of a constant, and edits that show nothing",
      {"next": TWO_MORE, "again": ("next", "    n + 1\n", "    n\n"), "following": OTHER_FOLLOWS, "above": ANOTHER_SUM,
-      "constant": OTHER_CONSTANT},
-     {"next": "", "again": "", "following": "", "above": "", "constant": ""}, None),
-    ("edits that show nothing, and one that does",
-     {"next": TWO_MORE, "harmless": HARMLESS, "constant": SAME_CONSTANT, "name": ANOTHER_NAME, "above": ONLY_ABOVE,
-      "text": NO_TEXT, "function": NO_FUNCTION},
-     {"next": "", "harmless": "it is not refused: following is still proved",
-      "constant": "it is not refused: step is still proved",
+      "constant": OTHER_CONSTANT, "up": UP, "down": DOWN, "endless": ENDLESS,
+      "harmless": HARMLESS, "same_constant": SAME_CONSTANT, "name": ANOTHER_NAME, "only_above": ONLY_ABOVE,
+      "text": NO_TEXT, "function": NO_FUNCTION, "stay": HARMLESS_STAY, "other_arm": UP_AS_STAY, "alone": ENDLESS_ALONE,
+      "sum": ("following, measure", *OTHER_FOLLOWS[1:])},
+     {"next": "", "again": "", "following": "", "above": "", "constant": "", "up": "", "down": "", "endless": "",
+      "harmless": "it is not refused: following is still proved",
+      "same_constant": "it is not refused: step is still proved",
       "name": "above is refused only because its proof file names what the edit took away",
-      "above": "above is not refused by itself", "text": "stands 0 times", "function": "there is no function follows"},
-     None),
-    ("edits of the arms of one function", {"up": UP, "down": DOWN}, {"up": "", "down": ""}, None),
-    ("edits of arms that show nothing", {"up": UP, "stay": HARMLESS_STAY, "other": UP_AS_STAY},
-     {"up": "", "stay": "it is not refused: moved is still proved",
-      "other": "no goal of the arm Stay of moved is open"},
-     None),
-    ("loops that may not end", {"endless": ENDLESS, "alone": ENDLESS_ALONE,
-                                "sum": ("following, measure", *OTHER_FOLLOWS[1:])},
-     {"endless": "", "alone": "next has no open goal of its own", "sum": "following has no open goal of its own"},
+      "only_above": "above is not refused by itself", "text": "stands 0 times",
+      "function": "there is no function follows", "stay": "it is not refused: moved is still proved",
+      "other_arm": "no goal of the arm Stay of moved is open", "alone": "next has no open goal of its own",
+      "sum": "following has no open goal of its own"},
      None),
     ("edits that are hidden by one that does not compile", {"type": NO_TYPE, "next": TWO_MORE, "above": ANOTHER_SUM},
      {"type": "its check ended with status", "next": "", "above": ""}, None),
@@ -317,7 +313,7 @@ def last_line(wanted: dict[str, str]) -> str:
     return f"{len(wanted) - failed} passed, {failed} failed ({len(wanted)} judged, 0 kept)"
 
 
-@pytest.mark.timeout(600)
+@pytest.mark.timeout(1200)
 @pytest.mark.parametrize("edits, wanted, prover", [pytest.param(*it[1:], id=it[0].replace(" ", "_")) for it in CASES])
 def test_wrong_implementations(repository: Path, check_all: CheckAll, edits: dict[str, tuple[str, str, str]],
                                wanted: dict[str, str], prover: str | None) -> None:
@@ -380,6 +376,19 @@ def test_edits_that_a_test_must_see(tested: Path, check_all: CheckAll) -> None:
         yield "the status", status == 1 or str(status)
 
     check_all(cases())
+
+
+@pytest.mark.parametrize("name, text, wanted", [("crates/tiny/README.md", "More.\n", "[0-9a-f]{64}"),
+                                                ("crates/tiny/src/lib.rt", f"{CODE}\n", "none"),
+                                                ("crates/tiny/out/rlib/stamp", "of rt check", "of rt check")],
+                         ids=["all_is_as_built", "a_file_has_changed", "of_rt_check"])
+def test_libraries_that_rt_ci_has_left(tested: Path, name: str, text: str, wanted: str) -> None:
+    """They count as built, unless a file has changed since; those of `rt check` have a stamp of their own."""
+    write(tested / "crates" / "tiny" / "out" / "rlib" / "tiny.rlib" / "format", "rattle rlib\n")
+    write(tested / name, text)
+    write(tested / "looks", f"#!/bin/sh\ncat ../tiny/out/rlib/stamp > {tested}/found || echo none > {tested}/found\n", 0o755)
+    run_tool(tested, "--tested", "--names", "seen_by_a_crate", "--builder", tested / "looks")
+    assert re.fullmatch(wanted, (tested / "found").read_text("utf-8").strip())
 
 
 def test_list_of_edits_that_a_test_must_see(tested: Path) -> None:

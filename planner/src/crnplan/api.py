@@ -15,13 +15,11 @@ from .decide.sensitivity import Moves
 from .errors import Refused, argument
 from .files import Folder, own_folder
 from .pages.catalogue_tables import catalogue_summary, decisions_of, faults_of, rejects_of
-from .pages.exports import CATALOGUE_FILES, report
+from .pages.exports import CATALOGUE_FILES, plan_item as plan_one_item, report
 from .pages.item_page import item_page
-from .pages.item_tables import doubt_of, policies_of
-from .pages.item_words import ItemWords, item_summary
+from .pages.item_words import ItemWords, item_summary, policies_of
 from .plan.catalogue import Lost, Totals, plan_into, planned_folder
-from .plan.depth import Depth
-from .plan.item import plan_item as plan_one_item
+from .plan.item import Depth
 from .plan.question import Settings
 from .records.catalogue_reading import Catalogue, read_into
 from .records.catalogued import CATALOGUE, READ
@@ -85,17 +83,17 @@ class PlannedItem(Result):
 
     def doubt(self) -> Figures:
         """Returns what each policy costs and meets under the laws that the item's history allows."""
-        return Figures(doubt_of(self.words), self.words.promise)
+        return Figures(self.words.doubt, self.words.promise)
 
     def moves(self) -> Moves:
         """Returns how the best policy moves if a cost, the demand or the lead time differs, and what the chosen one
         costs then."""
-        return self.words.moves
+        return self.words.depth.moves
 
     def plot(self) -> Figure:
         """Returns a picture of stock, position and orders of today's and the chosen policy in one run."""
         from .pages.pictures import trajectories_picture
-        found = self.words.periods
+        found = self.words.depth.trajectory
         policies = [it for it in self.words.depth.policies if it.name in found]
         start = next(iter(found.values()))[0]
         initial = start.position + start.net_demand - start.ordered
@@ -215,13 +213,9 @@ def plan(sales: str | Path | pd.DataFrame | Catalogue, masters: str | Path | pd.
     orders: item, ordered, received. Or `sales` is a Catalogue that `read_catalogue` has read, and the other tables and
     words of reading are left out.
 
-    **How it is read.** A period is `every` day, week (ISO) or month. Columns are found by their names, or named as
-    {"demand": {"quantity": "Menge"}} in `columns`; `units` states what they count, as {"items": {"lead": "day"}}. The
-    record is that of all rows, or from `start` to `end`; rows after `today` are rejected. With `net`, quantities below
-    0 are taken off their period. Rows that stand `twice`, and items with amounts `far` above all others, are kept or
-    left out ("keep", "leave-out"). An item needs a history of `least` periods. `factors` says how many items one of a
-    unit of measure is. Files have a `delimiter`, `encoding`, `decimal` sign and `date_formats`, which are found if they
-    can be. Nothing is lost: each row and item that is left out is in `rejects`, with its place, the reason and advice.
+    **How it is read.** `read_catalogue` says what tables may be, how they are read, and what its words mean: those here
+    from `every` to `date_formats`. Nothing is lost: each row and item that is left out is in `rejects`, with its place,
+    the reason and advice.
 
     **How it is planned.** `fit` is how laws of demand are fitted (auto, predictive, empirical, or a family). Items
     `borrow` laws from one another (all, class, none; by default all if there are 100). `confidence` keeps a wanted fill
@@ -267,4 +261,4 @@ def plan_item(history: str | Path, settings: str | Path, *, out: str | Path | No
     `history` is a CSV file, `settings` a TOML file. With `out`, all tables and the page are written into that folder.
     Raises RefusedFaults with all faults of the settings or of the history, Refused and ProgramError.
     """
-    return PlannedItem(ItemWords.of(plan_one_item(history, settings, out, program=program)))
+    return PlannedItem(plan_one_item(history, settings, out, program=program))

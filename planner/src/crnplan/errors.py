@@ -56,7 +56,7 @@ def spelt(spell: Spell) -> Iterator[None]:
 def worded(message: str) -> str:
     """Returns a message with its arguments spelt."""
     parts, spell = message.split(MARK), _spelling.get()
-    parts[1::2] = [spell(*part.split(VALUE, 1)) for part in parts[1::2]]
+    parts[1::2] = [spell(name, value) for name, _, value in (part.partition(VALUE) for part in parts[1::2])]
     return "".join(parts)
 
 

@@ -124,9 +124,8 @@ class Folder:
         link = next((name for name in names if (self.path / name).is_symlink()), None)
         if link and in_place:
             raise Refused(f"{self.path / link}: it is a symlink, which is not followed; remove it")
-        if new:
-            self._names.update(new)
-            self._keep()
+        self._names.update(new)
+        self._keep()
 
     def subfolder(self, name: str) -> None:
         """Makes a folder in this one, and claims it."""

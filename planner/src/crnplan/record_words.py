@@ -13,19 +13,6 @@ Facts = Mapping[str, Any]
 Say = str | Callable[[Facts], str]
 
 
-def _other_sign(it: Facts) -> str:
-    """Returns what to do about a text that is no number."""
-    other = it.get("other")
-    return "write digits, as 12" + (
-        f", or say {argument('decimal', other)} if the decimal sign is {other!r}" if other else "")
-
-
-def _share(it: Facts) -> str:
-    """Returns what to do about a number that may be in percent or a share."""
-    return (f"say {argument('units', 'items.fill=share')}, or write a % behind it" if it["role"] == "fill" else
-            f"say {argument('units', 'items.holding=percent')}, or write a share below 1")
-
-
 def _several(which: int) -> Say:
     """Returns the function that gives what is wrong with several cells of a row, or what to do about them."""
     def said(facts: Facts) -> str:
@@ -47,7 +34,9 @@ RECORDS: dict[str, tuple[Say, Say]] = {
     "no quantity": ("the cell is empty", "write 0 where nothing was asked for"),
     "no amount": ("the cell is empty", "write a number, as 12.50"),
     "no lead": ("the cell is empty", "write the lead time in periods, or leave the row out"),
-    "no number": ("{text!r} is not a number", _other_sign),
+    "no number": ("{text!r} is not a number", lambda it: "write digits, as 12" + (
+        f", or say {argument('decimal', it['other'])} if the decimal sign is {it['other']!r}" if it.get("other") else
+        "")),
     "digits": ("{text!r} has more than {digits} digits", "correct it"),
     "two readings": (lambda it: f"{it['text']!r} may be {it['large']} or {it['small']}, and " + (
         f"the column has both signs, as {it['signs']}" if it["signs"] else "no other number of the column decides it"),
@@ -65,7 +54,9 @@ RECORDS: dict[str, tuple[Say, Say]] = {
     "decimals": ("{text!r} has more than {decimals} decimals", "round it"),
     "zero": ("it is 0, so that stock, or being short, costs nothing", "write an amount above 0"),
     "no share": ("{text!r} is no share between 0 and 1", "write it as 0.95 or 95%"),
-    "small percent": ("{text!r} may be {text}% or {text} as a share", _share),
+    "small percent": ("{text!r} may be {text}% or {text} as a share", lambda it: (
+        f"say {argument('units', 'items.fill=share')}, or write a % behind it" if it["role"] == "fill" else
+        f"say {argument('units', 'items.holding=percent')}, or write a share below 1")),
     "no whole items": ("{text!r} is not a whole number from 0", "correct it"),
     # Dates.
     "no date": ("the cell is empty", "write the date, or leave the row out"),

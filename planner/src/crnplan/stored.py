@@ -1,9 +1,9 @@
 """Keeps frozen dataclasses in the columns of SQLite: what is kept of a class, and where, follows from its fields."""
 from __future__ import annotations
 
-import contextlib
 import dataclasses
 import hashlib
+import itertools
 import json
 import sqlite3
 import typing
@@ -53,23 +53,16 @@ KINDS: dict[Any, tuple[Callable[[Any], Cell], Callable[[Any], Any]]] = {
                          lambda text: tuple(Remark(*parts) for parts in json.loads(text)))}
 
 
-@contextlib.contextmanager
-def damages_of(path: Path) -> Iterator[None]:
-    """Turns what SQLite finds in a file that is no whole store into Damaged."""
+def check_whole(base: sqlite3.Connection, path: Path) -> None:
+    """Raises Damaged if a store is not whole, as SQLite sees it."""
     try:
-        yield
+        states = [str(state) for (state,) in base.execute("PRAGMA quick_check(1)")]
     except sqlite3.OperationalError:
         raise
     except sqlite3.DatabaseError as fault:
         raise Damaged(path, str(fault)) from fault
-
-
-def check_whole(base: sqlite3.Connection, path: Path) -> None:
-    """Raises Damaged if a store is not whole, as SQLite sees it."""
-    with damages_of(path):
-        for (state,) in base.execute("PRAGMA quick_check(1)"):
-            if state != "ok":
-                raise Damaged(path, str(state))
+    if states != ["ok"]:
+        raise Damaged(path, states[0])
 
 
 class Columns(Generic[Row]):
@@ -80,15 +73,13 @@ class Columns(Generic[Row]):
     """
 
     def __init__(self, kind: type[Row], name: str = "") -> None:
-        self.kind, self.names, self.parts = kind, [name], list[tuple[str, slice, Columns[Any]]]()
+        self.kind, self.names, self.parts = kind, [name], list[tuple[str, Columns[Any]]]()
         if dataclasses.is_dataclass(kind) and kind is not Remark:
-            self.names, hints, prefix = [], typing.get_type_hints(kind), f"{name}_" if name else ""
-            for field in dataclasses.fields(kind):
-                types = [hint for hint in typing.get_args(hints[field.name]) if hint is not type(None)]
-                is_union = type(None) in typing.get_args(hints[field.name])
-                part = Columns[Any](types[0] if is_union else hints[field.name], f"{prefix}{field.name}")
-                self.parts.append((field.name, slice(len(self.names), len(self.names) + len(part.names)), part))
-                self.names += part.names
+            for field, hint in typing.get_type_hints(kind).items():
+                types = typing.get_args(hint)
+                part = Columns[Any](types[0] if type(None) in types else hint, f"{name}_{field}" if name else field)
+                self.parts.append((field, part))
+            self.names = [column for _, part in self.parts for column in part.names]
         else:
             self.written, self.read = KINDS[kind if kind in KINDS else typing.get_origin(kind)]
 
@@ -102,7 +93,7 @@ class Columns(Generic[Row]):
             return [None] * len(self.names)
         if not self.parts:
             return [self.written(value)]
-        return [cell for name, _, part in self.parts for cell in part.cells(getattr(value, name))]
+        return [cell for field, part in self.parts for cell in part.cells(getattr(value, field))]
 
     def value(self, cells: Sequence[Cell]) -> Row:
         """Returns the value of cells, None if the first one is. Raises ValueError, TypeError or LookupError if they
@@ -111,7 +102,8 @@ class Columns(Generic[Row]):
             return typing.cast(Row, None)
         if not self.parts:
             return typing.cast(Row, self.read(cells[0]))
-        return self.kind(*(part.value(cells[place]) for _, place, part in self.parts))
+        rest = iter(cells)
+        return self.kind(*(part.value([*itertools.islice(rest, len(part.names))]) for _, part in self.parts))
 
 
 class Store(Generic[Row]):
@@ -126,15 +118,12 @@ class Store(Generic[Row]):
         self.path, self.columns = path, Columns(kind)
         self.base = sqlite3.connect(path)
         names = ["item", "digest", "seal", "fault", *self.columns.names]
-        with damages_of(path):
-            self.base.execute("PRAGMA journal_mode = WAL")
-            self.base.execute("PRAGMA synchronous = NORMAL")
-            check_whole(self.base, path)
-            if [column[1] for column in self.base.execute("PRAGMA table_info(answers)")] != names:
-                self.base.executescript("DROP TABLE IF EXISTS answers; CREATE TABLE answers (item TEXT PRIMARY KEY, "
-                                        f"{quoted(names[1:])})")
-            with self.base:
-                self.base.execute("CREATE TABLE IF NOT EXISTS facts (name TEXT PRIMARY KEY, value TEXT)")
+        check_whole(self.base, path)
+        self.base.executescript("PRAGMA journal_mode = WAL; PRAGMA synchronous = NORMAL;"
+                                "CREATE TABLE IF NOT EXISTS facts (name TEXT PRIMARY KEY, value TEXT)")
+        if [column[1] for column in self.base.execute("PRAGMA table_info(answers)")] != names:
+            self.base.executescript("DROP TABLE IF EXISTS answers; CREATE TABLE answers (item TEXT PRIMARY KEY, "
+                                    f"{quoted(names[1:])})")
         self.slots = ", ".join("?" * len(names))
 
     def fact(self, name: str) -> str | None:
@@ -147,13 +136,7 @@ class Store(Generic[Row]):
         with self.base:
             self.base.executemany("INSERT OR REPLACE INTO facts VALUES (?, ?)", facts.items())
 
-    def digest(self, name: str) -> str | None:
-        """Returns what a kept answer depends on; None if there is none."""
-        row = self.base.execute("SELECT digest FROM answers WHERE item = ?", [name]).fetchone()
-        return None if row is None else str(row[0])
-
     def digests(self) -> dict[str, str]:
-        """Returns what each kept answer depends on."""
         return dict(self.base.execute("SELECT item, digest FROM answers"))
 
     def keep(self, answers: Iterable[tuple[str, str, Row | Remark]]) -> None:

@@ -10,6 +10,7 @@ from abc import ABC, abstractmethod
 from collections.abc import Callable, Collection, Iterable, Iterator, Mapping, Sequence
 from dataclasses import dataclass, replace
 from fractions import Fraction
+from functools import partial
 from typing import TYPE_CHECKING, Literal
 
 if TYPE_CHECKING:
@@ -34,11 +35,11 @@ class Column:
     """
 
     name: str
-    kind: Kind
     unit: str
     meaning: str
     written: str = ""
     shown: str = ""
+    kind: Kind = "number"
 
     def speller(self, decimals: int, missing: str, is_shown: bool = False) -> Callable[[Cell], str]:
         """Returns the function that spells a cell. Money has so many decimals; `missing` stands for no figure."""
@@ -55,24 +56,13 @@ class Column:
         return lambda value: missing if is_missing(value) else str(value)
 
 
+# Columns of rounded numbers, of whole ones, and of whole numbers and fractions.
+number, whole, exact = Column, partial(Column, kind="whole"), partial(Column, kind="exact")
+
+
 def text(name: str, meaning: str) -> Column:
     """Returns a column of texts."""
-    return Column(name, "text", "", meaning)
-
-
-def whole(name: str, unit: str, meaning: str) -> Column:
-    """Returns a column of whole numbers."""
-    return Column(name, "whole", unit, meaning)
-
-
-def number(name: str, unit: str, meaning: str, written: str = "", shown: str = "") -> Column:
-    """Returns a column of rounded numbers."""
-    return Column(name, "number", unit, meaning, written, shown)
-
-
-def exact(name: str, unit: str, meaning: str) -> Column:
-    """Returns a column of whole numbers and fractions."""
-    return Column(name, "exact", unit, meaning)
+    return Column(name, "", meaning, kind="text")
 
 
 def is_missing(value: Cell) -> bool:
@@ -101,15 +91,18 @@ class DataTable:
 
     @property
     def names(self) -> list[str]:
-        """Returns the names of the columns."""
         return [column.name for column in self.columns]
+
+    def with_columns(self, names: Iterable[str]) -> DataTable:
+        """Returns the table with the named columns alone, in their order."""
+        places = [self.names.index(name) for name in names]
+        return replace(self, columns=[self.columns[place] for place in places],
+                       rows=[[row[place] for place in places] for row in self.rows])
 
     def without_empty(self, names: Collection[str]) -> DataTable:
         """Returns the table without those of the named columns in which no row has a figure."""
-        kept = [place for place, column in enumerate(self.columns) if column.name not in names
-                or not all(is_missing(row[place]) for row in self.rows)]
-        return replace(self, columns=[self.columns[place] for place in kept],
-                       rows=[[row[place] for place in kept] for row in self.rows])
+        return self.with_columns(name for place, name in enumerate(self.names) if name not in names
+                                 or not all(is_missing(row[place]) for row in self.rows))
 
     def spelt(self, is_shown: bool = False) -> Iterator[list[str]]:
         """Yields the heading and the rows as texts: as a file has them, or as they are shown to a reader."""
@@ -133,7 +126,6 @@ class DataTable:
 
     @property
     def csv(self) -> str:
-        """Returns the table as CSV."""
         return "".join(self.lines)
 
     @property

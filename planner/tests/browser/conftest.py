@@ -9,10 +9,9 @@ from pathlib import Path
 import pandas as pd
 import pytest
 
-from crnplan.pages.exports import report
+from crnplan.pages.exports import plan_item, report
 from crnplan.pages.catalogue_page import file_of
 from crnplan import plan
-from crnplan.plan.item import plan_item
 from planner.tests.browser.browser import Browser
 from planner.tests.catalogue.conftest import SETTINGS
 from planner.tests.item.conftest import furnished

@@ -133,7 +133,7 @@ def test_each_bound_against_every_choice(seed: int, scarce: str) -> None:
         kept &= True if used is None else used <= used[place] * (1 + 1e-9)
         asked = [Dearer()] if used is None else [Dearer(**{scarce: it}) for it in np.geomspace(0.01, 4, 12)]
         bounds.append(max(items.least_cost(point, it) for it in asked) / cost[kept].min())
-    assert max(bounds) <= 1 + 1e-9 and np.median(bounds) > 0.8
+    assert max(bounds) <= 1 + 1e-9 and np.median(bounds) > 0.94
 
 
 @pytest.mark.parametrize("seed", range(4))

@@ -19,7 +19,7 @@ from crnplan.errors import CrnplanError, Refused
 from crnplan.pages.catalogue_page import file_name, file_of
 from crnplan.pages.exports import report
 from crnplan.records.catalogue_reading import read_catalogue
-from planner.tests.catalogue.conftest import FILES, SETTINGS
+from planner.tests.catalogue.conftest import FILES
 from planner.tests.catalogue.made import NO_PLAN, TODAY, made
 from planner.tests.conftest import rows_of
 from planner.tests.pages.page_reader import Page
@@ -126,34 +126,10 @@ def test_headline_has_the_decision(folder: Path, pages: dict[str, Page]) -> None
             assert f"from {spoken(row['run_low'])} to {spoken(row['run_high'])} at 95%" in words
 
 
-def test_pages_stand_alone(pages: dict[str, Page]) -> None:
-    """Each page is closed, links to nothing, and its policy allows its own style alone."""
-    for page in pages.values():
-        page.check_alone()
-        assert set(page.addresses) == {"data:,"} and not page.parts["script"]
-
-
 def test_same_bytes_again(folder: Path, names: list[str], pages: dict[str, Page], program: Path) -> None:
     """The same folder gives the same bytes."""
     before = file_of(folder, names[0]).read_bytes()
     assert item_page(folder, names[0], program).read_bytes() == before
-
-
-def test_texts_are_escaped(files: Path, tmp_path: Path, program: Path) -> None:
-    """A name and a description are no markup, and the name leads out of no folder."""
-    name = "../<b>&\"A"
-    for file in FILES:
-        text = (files / file).read_text("utf-8").replace("A-034;", f"\"{name.replace(chr(34), chr(34) * 2)}\";")
-        (tmp_path / file).write_text(text.replace("Teil 34", "<script>1</script>"), "utf-8")
-    masters = tmp_path / FILES[1]
-    heading, *rows = masters.read_text("utf-8").splitlines()
-    masters.write_text("\n".join([heading, *(it for it in rows if "<script>" in it), ""]), "utf-8")
-    read = read_catalogue(*(tmp_path / it for it in FILES), today=TODAY)
-    plan(read, out=tmp_path / "plan", jobs=1, program=program, **SETTINGS)
-    path = item_page(tmp_path / "plan", name, program)
-    page = Page(path)
-    assert path.parent == tmp_path / "plan/items" and not page.open and not page.elements["script"]
-    assert "../<b>&" in page.words and "<script>1" in page.words
 
 
 def forget(folder: Path) -> None:

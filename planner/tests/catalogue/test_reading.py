@@ -278,7 +278,8 @@ MASTER = {"setup": "10", "holding": "0.5", "backlog": "5", "lead": "2", "s": "3"
     ({"s": "2.5"}, "", "'2.5' is not a whole number from 0"), ({"S": "-9"}, "", "'-9' is not a whole number from 0"),
     ({"setup": "EUR 5 EUR"}, "", "'EUR 5 EUR' is not a number"), ({"S": "1000001"}, "", "S is above 1,000,000"),
     ({"fill": "1"}, "", "'1' is no share between"), ({"fill": "0%"}, "", "'0%' is no share between"),
-    ({"lead": "33"}, "", "33 is not from 1 to 32"), ({"s": "10"}, "", "s = 10 is above S = 9")])
+    ({"lead": "33"}, "", "33 is not from 1 to 32"), ({"s": "10"}, "", "s = 10 is above S = 9"),
+    ({"borrow": "some"}, "", "'some' is not none, class or all")])
 def test_cells_of_masters_that_are_not_taken(tmp_path: Path, changes: dict[str, str], unit: str, said: str) -> None:
     """Leaves an item out for one cell of its master, and names the column and why."""
     its = {**MASTER, **changes}
@@ -290,7 +291,7 @@ def test_cells_of_masters_that_are_not_taken(tmp_path: Path, changes: dict[str, 
 
 @pytest.mark.parametrize("changes, least", [
     ({"S": "1000000"}, 1), ({"setup": "0"}, 1), ({"setup": "0.12345678"}, 1), ({"fill": "99.99%"}, 1),
-    ({"lead": "32"}, 1), ({"s": "9"}, 1), ({"s": "0", "S": "0"}, 1), ({}, 40)])
+    ({"lead": "32"}, 1), ({"s": "9"}, 1), ({"s": "0", "S": "0"}, 1), ({"borrow": "All"}, 1), ({}, 40)])
 def test_masters_at_the_borders(tmp_path: Path, changes: dict[str, str], least: int) -> None:
     """Takes the largest and the least value of each cell, and a record of just the periods that are needed: from 15
     January to 15 October are 40 weeks."""

@@ -19,7 +19,7 @@ from hypothesis import assume, given
 from hypothesis import strategies as st
 from scipy import stats
 
-from crnplan.decide.verdicts import check_replications, own_variance, t_quantile, with_intervals
+from crnplan.decide.verdicts import check_replications, estimates_of, own_variance, t_quantile, with_intervals
 from crnplan.errors import Refused
 from crnplan.scenario import Scenario
 from crnplan.theory.run_effects import end_effects
@@ -222,6 +222,21 @@ def test_a_report_is_of_its_own_number_of_replications_alone(drawn: Costs, perio
     check_replications(rows, count, "it.csv")
     with pytest.raises(Refused, match=rf"^it\.csv:[0-9]+: this is no report of {other} replications"):
         check_replications(rows, other, "it.csv")
+
+
+@given(costs(st.integers(2, 9)), st.integers(1, 9), st.integers(0, 3))
+def test_estimates_are_those_of_the_costs_less_shifts(drawn: Costs, periods: int, least: int) -> None:
+    """Compares costs and errors of a period; there is no error of a policy with fewer than two orders."""
+    rows, count, base = rows_of_costs(drawn, periods), len(drawn["p0"]), drawn["p0"]
+    orders, shifts = [float(least + place) for place in range(len(rows))], [3.0 * it - 1 for it in range(len(rows))]
+    found = estimates_of(rows, count, periods, shifts, orders)
+    for estimate, own, shift, ordered in zip(found, drawn.values(), shifts, orders, strict=True):
+        differences = [a - b for a, b in zip(own, base)]
+        errors = [statistics.stdev(numbers) / math.sqrt(count) / periods for numbers in (own, differences)]
+        assert estimate.cost == pytest.approx(statistics.mean(own) / periods - shift)
+        assert estimate.difference == pytest.approx(statistics.mean(differences) / periods - shift + shifts[0])
+        assert estimate.own_error == (pytest.approx(errors[0]) if ordered >= 2 else None)
+        assert estimate.error == (pytest.approx(errors[1]) if errors[1] and least >= 2 else None)
 
 
 def test_a_single_replication_has_no_intervals() -> None:

@@ -286,11 +286,11 @@ def test_outliers() -> None:
     assert outliers_of([4, 5, 6, 5] * 10 + [90, 80, 85, 95], 1) == [95, 90, 85]  # at most three
 
 
-@pytest.mark.parametrize("most", range(7, 20))
-def test_decisive_demand(most: int) -> None:
+@pytest.mark.parametrize("numbers", [*([4, 5, 6, 5] * 4 + [most] for most in range(7, 20)), [1] * 11 + [2], [3] * 12],
+                         ids=lambda it: str(it[-1]))
+def test_decisive_demand(numbers: list[int]) -> None:
     """A demand is named that makes more than half of the variance."""
-    numbers = [4, 5, 6, 5] * 4 + [most]
-    share = (most - np.mean(numbers))**2 / (len(numbers) * np.var(numbers))
+    share = (numbers[-1] - np.mean(numbers))**2 / max(len(numbers) * np.var(numbers), 1e-9)
     shares = [it.facts["share"] for it in check_history(numbers).notes if it.code == "decisive demand"]
     assert shares == ([pytest.approx(share)] if share > 0.5 else [])
 

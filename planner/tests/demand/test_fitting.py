@@ -15,7 +15,7 @@ from hypothesis import strategies as st
 from scipy import integrate, stats
 
 from crnplan.demand import FAMILIES, METHODS
-from crnplan.chances import blurred
+from crnplan.chances import blurred, in_items
 from crnplan.demand.families import fits_of, predictive_of
 from crnplan.demand.fitted import Borrowed, Diagnostics, FittedLaw, notes_of
 from crnplan.demand.fitting import cap_of, fit_demand, fit_lead, share_of
@@ -51,6 +51,14 @@ def test_weights(chances: list[float]) -> None:
 def test_weights_within_range() -> None:
     """Demands above 10,000 count as 10,000."""
     assert Law.of_chances(np.bincount([3, 10_000, 10_399], [0.5, 0.25, 0.25])) == Law((3, 10_000), (32_768, 32_768))
+
+
+@pytest.mark.parametrize("pack, expected", [(3, {0: 0.25, 3: 0.5, 6: 0.25}), (5_001, {0: 1 / 3, 5_001: 2 / 3}),
+                                            (5_000, {0: 0.25, 5_000: 0.5, 10_000: 0.25})])
+def test_items_in_packs(pack: int, expected: dict[int, float]) -> None:
+    """A law of packs is one of items, without those above 10,000."""
+    law = in_items(np.array([0.25, 0.5, 0.25]), pack)
+    assert {int(place): law[place] for place in np.flatnonzero(law)} == pytest.approx(expected)
 
 
 def test_bulks() -> None:
@@ -128,12 +136,12 @@ def test_share_of_the_law(seed: int, size: int, mean: float) -> None:
             seen[number] += 1
         return total
     grid = len(numbers) * np.logspace(-2, 2, 41)
-    values = [likelihood(it) for it in grid]
-    share, best = share_of(sample, base), grid[int(np.argmax(values))]
+    values, share = [likelihood(it) for it in grid], share_of(sample, base)
     if max(values) - values[-1] < 0.49:
         assert share == 1
     elif max(values) - values[-1] > 0.51:
-        assert share == pytest.approx(best / (best + len(numbers)), rel=0.25)
+        periods = len(numbers) * share / (1 - share)
+        assert np.abs(grid / periods - 1).min() < 1e-9 and likelihood(periods) == pytest.approx(max(values), abs=1e-6)
 
 
 @pytest.mark.parametrize("demands, cap", [(2, 30), (6, 30), (10, 24), (15, 21), (20, 20), (500, 20)])

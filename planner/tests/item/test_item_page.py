@@ -67,8 +67,8 @@ TABLES: dict[str, tuple[str, Callable[[Row], list[str]]]] = {
 def test_tables_are_those_of_the_files(caption: str, whole: Path) -> None:
     """Each table has the rows of its file, in that order, with its figures as a reader has them."""
     name, cells = TABLES[caption]
-    shown = page_of(whole).tables[caption][1:]
-    assert shown == [cells(row) for row in rows_of(whole, name).values()][:len(shown)] and len(shown) >= 9
+    rows = [cells(row) for row in rows_of(whole, name).values()]
+    assert page_of(whole).tables[caption][1:] == rows[:10 if name == "doubt.csv" else None] and len(rows) > 8
 
 
 @pytest.mark.parametrize("title, name, ends", [
@@ -106,6 +106,7 @@ def test_pictures_say_their_figures(whole: Path) -> None:
     stocks: dict[str, list[int]] = {}
     for row in list_of(whole / "trajectory.csv"):
         stocks.setdefault(row["policy"], []).append(int(row["stock"]))
+    assert [len(its) for its in stocks.values()] == [104, 104]
     for name, its in stocks.items():
         owed = sum(it < 0 for it in its)
         said = f"{name}: from {min(its)} to {max(its)}, {sum(its) / len(its):.1f} in the mean, items owed at the end of"

@@ -1,15 +1,13 @@
 """Tests how an item says by which laws it is planned, and that its tables are those laws."""
 from __future__ import annotations
 
-
 import numpy as np
 import pytest
 
-from crnplan.demand.fitted import FittedLaw
+from crnplan.demand.fitted import Diagnostics, FittedLaw
 from crnplan.demand.fitting import fit_demand
-from crnplan.demand.fitted import Diagnostics
 from crnplan.law import Law
-from crnplan.pages.item_tables import LAW_COLUMNS, law_rows
+from crnplan.pages.item_words import LAW_COLUMNS, laws_of
 from crnplan.pages.item_words import law_words
 from crnplan.plan.question import Settings, question_of
 from planner.tests.plan.items import item_of
@@ -45,7 +43,7 @@ def test_figures(numbers: list[int], method: str) -> None:
     """Each row has the figures that numpy has for the history, or for the law. The last one of a law names it."""
     leads = [2, 3, 2, 4]
     item = item_of(counts=tuple(numbers), leads=tuple(leads))
-    rows = [*law_rows(question_of(item, Settings(fit=method, lead_fit="empirical")), None)]
+    rows = [*laws_of(question_of(item, Settings(fit=method, lead_fit="empirical")), None).rows]
     assert [it.name for it in LAW_COLUMNS] == ["table", "law", "mean", "variance", "95.0%", "99.0%", "99.9%", "largest"]
     its = fit_demand(numbers, method=method)
     names, samples = ["this history"], [numbers]

@@ -5,6 +5,7 @@ from __future__ import annotations
 import os
 import sys
 from collections.abc import Iterator, Sequence
+from concurrent.futures import Future
 from pathlib import Path
 from typing import Any
 from unittest.mock import Mock
@@ -142,8 +143,30 @@ def test_a_late_batch_goes_to_another_worker(late: Sequence[str], wanted: Sequen
     running = {"a": ["one"], "b": ["two"], "c": ["three"]}
     client = Mock(processing=lambda: running, scheduler_info=lambda: {"workers": running}, ncores=lambda: {"a": 3},
                   run=lambda *_, **__: {})
-    jobs.Cluster(client, "").submit(len, [[]], [Mock(key=key) for key in late])
-    assert client.submit.call_args.kwargs["workers"] == wanted
+    workers = jobs.Cluster(client, "")
+    workers.submit(len, [[]], [Mock(key=key) for key in late])
+    assert client.submit.call_args.kwargs["workers"] == wanted and workers.most == 3
+
+
+def test_so_many_batches_are_under_way(monkeypatch: pytest.MonkeyPatch) -> None:
+    """Gives at most so many batches at a time, by default as many as there are processors, and each answer once."""
+    under_way: list[int] = []
+
+    class Slow(jobs.Workers):
+        """Workers that are done with the last of their batches, whenever one waits for them."""
+
+        def submit(self, function: Any, words: Sequence[Any], late: Sequence[Any] = ()) -> Any:
+            return Future[int]()
+
+        def wait(self, running: Sequence[Any], seconds: float) -> None:
+            under_way.append(len(running))
+            running[-1].set_result(len(under_way))
+    assert [*Slow(3).answers(len, ((name, ()) for name in "abcde"))] == [*zip("cdeba", range(1, 6))]
+    assert under_way == [3, 3, 3, 2, 1]
+    monkeypatch.setattr(jobs, "processes", lambda count: count)
+    monkeypatch.setattr(jobs, "cluster", lambda *words: words)
+    found = jobs.workers_of(3, None), jobs.workers_of(None, None), jobs.workers_of(3, "here", "program")
+    assert found == (3, os.cpu_count(), ("here", "program"))
 
 
 def test_a_program_that_only_workers_have(room: Path, monkeypatch: pytest.MonkeyPatch) -> None:
@@ -154,6 +177,10 @@ def test_a_program_that_only_workers_have(room: Path, monkeypatch: pytest.Monkey
     monkeypatch.setitem(sys.modules, "distributed", Mock(Client=lambda *_, **__: client))
     assert jobs.program_digest(str(room / "none"), LOOPBACK) == "theirs"
     assert jobs.program_digest(str(room / "none"), None) == ""
+    # One that is here is not asked of them, and they need the same.
+    assert jobs.program_digest(sys.executable, LOOPBACK) == jobs.identity(sys.executable)["crnsim"] != ""
+    with pytest.raises(crn.Refused, match="has another crnsim"):
+        jobs.Cluster(client, sys.executable)
 
 
 def test_a_worker_says_whether_it_is_as_here(monkeypatch: pytest.MonkeyPatch) -> None:
@@ -163,9 +190,12 @@ def test_a_worker_says_whether_it_is_as_here(monkeypatch: pytest.MonkeyPatch) ->
     monkeypatch.setitem(sys.modules, "distributed", Mock(get_worker=lambda: worker))
     own, called = jobs.identity(""), Mock(return_value=2)
     assert jobs.run_as_here(called, own, "", "word") == 2
-    fault = jobs.run_as_here(called, {**own, "crnplan": "other"}, "", "word")
-    assert isinstance(fault, crn.Refused) and f"late (tcp://{LOOPBACK}:1) has another crnplan" in str(fault)
+    for others, part in (({"crnplan": "other"}, "has another crnplan"), ({"crnsim": "one"}, "has no crnsim"),
+                         ({"crnplan": "other", "crnsim": "one"}, "has another crnplan and has no crnsim")):
+        fault = jobs.run_as_here(called, {**own, **others}, "", "word")
+        assert isinstance(fault, crn.Refused) and f"late (tcp://{LOOPBACK}:1) {part}, and would" in str(fault)
     called.assert_called_once_with("word")
+    assert "late can't say which crnplan it has (gone), and would" in str(jobs.stranger("late", own, OSError("gone")))
 
 
 def test_a_stranger_that_comes_later(cluster: Cluster, room: Path) -> None:

@@ -15,8 +15,7 @@ from crnplan.curve.exchange_curve import keep_curve
 from crnplan.demand.learning import Prior
 from crnplan.files import own_folder
 from crnplan.pages.exports import CATALOGUE_FILES, write_catalogue
-from crnplan.plan.answer import (CHEAPER, NO_INTERVAL, RUN, SAME, SERVICE, THEORY, UNDECIDED, UNLIKE, Answer, Estimate,
-                                 Figures, LawFacts, Run)
+from crnplan.plan.answer import (CHEAPER, RUN, SAME, SERVICE, THEORY, UNDECIDED, Answer, Figures, LawFacts, Run)
 from crnplan.plan.catalogue import ANSWERS, Planned, PlannedFolder, Totals
 from crnplan.plan.question import Settings
 from crnplan.records.catalogued import CATALOGUE, READ, Catalogued, Reject, Writer
@@ -28,7 +27,7 @@ DECIMALS = 2
 # The quantile of Student's t at 95% with 23 degrees of freedom (24 replications), from a published table.
 QUANTILE = 2.0687
 NOUNS = ("bearing", "gasket", "pump", "filter", "valve", "belt", "sensor", "fuse", "hose", "relay", "seal", "lamp")
-REMARKS = ((), (), (), (), (Remark("few demands", {"demands": 3, "learned": 0}),), (Remark(UNLIKE),))
+REMARKS = ((), (), (), (), (Remark("few demands", {"demands": 3, "learned": 0}),), (Remark("unlike the catalogue"),))
 REASONS = (("the lead time 0 is not from 1 to 32 periods", "correct it"), ("the cell is empty", "give it a value"),
            ("there is no row of demand in the record", "plan it by hand"))
 Pair = tuple[Item, Answer]
@@ -71,14 +70,13 @@ def made_pair(source: random.Random, name: str) -> Pair:
     chosen = Figures(s + 2, s + 20, cost - saving, source.uniform(0.93, 1), 0.05, demand * source.uniform(2, 12),
                      demand / 14)
     near = saving + error * source.uniform(-1, 1)
-    estimate = Estimate(cost, cost - near, near, error, near - QUANTILE * error, near + QUANTILE * error)
     run = Run("0 0 0 0", 1024, 24, 9, Fraction(100), 900, 60, 900, 1_000_000, 900_000, Fraction(-near),
-              Fraction(error)**2, True, estimate)
+              Fraction(error)**2, cost, cost - near, near, error, near - QUANTILE * error, near + QUANTILE * error)
     item = Item(name, (0, 3, 1), (2,), (s, s + 9), Fraction(9), Fraction(3, 5), Fraction(9), first=1000, line=7,
                 rows=90, group=source.choice(("X", "Y", "Z", "")), price=price if source.random() > 0.05 else None,
                 description=f"{source.choice(NOUNS)} {source.randrange(100)}")
-    answer = Answer(name, 1, CHEAPER if saving > 0 else SERVICE, THEORY, cost, cost - saving, saving, today, chosen,
-                    None, 1, None, LawFacts("poisson", 0.5, None, demand), 40, 104, run, source.choice(REMARKS))
+    answer = Answer(CHEAPER if saving > 0 else SERVICE, THEORY, cost, cost - saving, saving, today, chosen,
+                    None, 1, None, LawFacts("poisson", 0.5, None, demand), run, source.choice(REMARKS))
     return item, with_verdict(source, answer)
 
 
@@ -86,17 +84,16 @@ def with_verdict(source: random.Random, answer: Answer) -> Answer:
     """Returns the answer; few of them without a change, without an interval, or by the run."""
     draw, run = source.random(), answer.run
     if draw < 0.03:
-        same = replace(run.estimate, cost_chosen=answer.cost_today, saving=0.0, error=0.0, low=0.0, high=0.0)
+        same = replace(run, cost_chosen=answer.cost_today, saving=0.0, error=0.0, low=0.0, high=0.0)
         return replace(answer, verdict=SAME, chosen=answer.today, cost_chosen=answer.cost_today, saving=0.0,
-                       run=replace(run, estimate=same))
+                       run=same)
     if draw < 0.06:
-        estimate = replace(run.estimate, error=None, low=None, high=None)
-        return replace(answer, run=replace(run, estimate=estimate), remarks=(Remark(NO_INTERVAL, {"orders": 1.0}),))
+        return replace(answer, run=replace(run, error=None, low=None, high=None),
+                       remarks=(Remark("no interval", {"orders": 1.0}),))
     if draw < 0.16:
-        its = run.estimate
-        low, high = its.low or 0.0, its.high or 0.0
+        low, high = run.low or 0.0, run.high or 0.0
         verdict = CHEAPER if low > 0 else SERVICE if high < 0 else UNDECIDED
-        return replace(answer, source=RUN, cost_chosen=its.cost_chosen, saving=its.saving, verdict=verdict)
+        return replace(answer, source=RUN, cost_chosen=run.cost_chosen, saving=run.saving, verdict=verdict)
     return answer
 
 

@@ -21,7 +21,7 @@ from hypothesis import HealthCheck, given, settings, strategies as st
 import crnplan as crn
 from crnplan.files import own_folder
 from crnplan.pages import catalogue_page
-from crnplan.pages.catalogue_page import COLUMNS, LARGE, MEANING, NO_CURVE, OLD_CURVE, clipped, file_of
+from crnplan.pages.catalogue_page import COLUMNS, LARGE, MEANING, clipped, file_of
 from crnplan.pages.catalogue_tables import reasons_of
 from crnplan.plan.answer import CHEAPER, DEARER, RUN, SAME, SERVICE, UNDECIDED, Answer
 from crnplan.plan.catalogue import ANSWERS, Totals
@@ -64,7 +64,7 @@ def test_cells_are_those_of_the_table(name: str, request: pytest.FixtureRequest)
     """The page has each item once, each cell as decisions.csv spells it, by falling saving."""
     folder = request.getfixturevalue(name)
     page, rows = Page(crn.report(folder)), rows_of(folder / "decisions.csv")
-    assert page.columns == [it.name for it in COLUMNS if not it.is_optional]
+    assert page.columns == [name for name in COLUMNS if not name.endswith("_alone")]
     assert page.items == {row["item"]: {it: row[it] for it in page.columns} for row in rows}
     savings = [Decimal(row["saving"]) for row in page.items.values()]
     assert savings == sorted(savings, reverse=True)
@@ -111,9 +111,9 @@ def test_totals(large: Path) -> None:
         answers = [it for _, _, it in store.answers() if isinstance(it, Answer)]
     page, summary = Page(large / "report.html"), (large / "summary.txt").read_text("utf-8")
     saving, run = (math.fsum(its) for its in ([it.saving for it in answers],
-                                              [it.run.estimate.saving for it in answers]))
+                                              [it.run.saving for it in answers]))
     today, chosen = (math.fsum(its) for its in ([it.cost_today for it in answers], [it.cost_chosen for it in answers]))
-    half = 1.959964 * math.sqrt(math.fsum((it.run.estimate.error or 0)**2 for it in answers))
+    half = 1.959964 * math.sqrt(math.fsum((it.run.error or 0)**2 for it in answers))
     widths = [((row["run_high"], row["run_low"]), row) for row in rows_of(large / "decisions.csv") if row["run_low"]]
     errors = [(float(high) - float(low)) / 2 / QUANTILE for (high, low), _ in widths]
     assert half == pytest.approx(1.959964 * math.sqrt(sum(it**2 for it in errors)), rel=0.001)
@@ -125,8 +125,13 @@ def test_totals(large: Path) -> None:
     assert f"{today:,.2f} today, {chosen:,.2f} chosen" in summary
     assert f"saved: {saving:,.2f} a week; by crnsim's runs " in summary
     assert f"{run:,.2f}, 0.95 interval {run - half:,.2f} to {run + half:,.2f}" in summary
+    without = sum(it.run.error is None for it in answers)
+    assert without and f"\n{without} items have no interval, since" in summary
     more = [it.saving for it in answers if it.verdict == SERVICE]
     assert more and f"of {len(more)} items. Keeping it costs {-math.fsum(more):,.2f} a week" in page.words
+    best = sorted((it.saving for it in answers), reverse=True)[:15]
+    assert [row[1] for row in page.tables["The greatest savings"][1:]] == [f"{it:,.2f}" for it in best]
+    assert f"together these are {math.fsum(best):,.0f}." in page.words or math.fsum(best) < LARGE
     verdicts = {row[0]: int(row[1].replace(",", "")) for row in page.tables["Verdicts"][1:]}
     assert verdicts == Counter(it.verdict for it in answers)
 
@@ -137,7 +142,7 @@ def test_headline_of_runs(tmp_path: Path, error: float, said: str) -> None:
     """If all items go by runs, the chosen policies are better only if the 95% interval, 1 with 1.96 standard errors at
     each side, is above 0."""
     item, answer = made_pair(random.Random(1), "it")
-    run = replace(answer.run, estimate=replace(answer.run.estimate, saving=1.0, error=error))
+    run = replace(answer.run, saving=1.0, error=error)
     answer = replace(answer, source=RUN, cost_today=10.0, cost_chosen=9.0, saving=1.0, run=run)
     assert said in Page(crn.report(made_folder(tmp_path / "plan", 0, has_curve=False, change=(item, answer)))).words
 
@@ -199,7 +204,9 @@ def test_bytes_are_the_same(hostile: Path, tmp_path: Path) -> None:
 def test_greatest_are_shown_of_very_many(hostile: Path, folder: Path, monkeypatch: pytest.MonkeyPatch) -> None:
     """If there are too many items, those with the greatest saving or loss are shown, and it is said where all are."""
     monkeypatch.setattr(catalogue_page, "MOST_ROWS", 10)
+    monkeypatch.setattr(catalogue_page, "MOST_REASONS", 1)
     page, rows = Page(crn.report(folder)), rows_of(folder / "decisions.csv")
+    assert len(page.tables["Rows rejected"]) == 2 and "2 more reasons, 4 times." in page.words
     assert set(page.items) == {row["item"] for row in sorted(rows, key=lambda row: -abs(float(row["saving"])))[:10]}
     assert "The 10 items with the greatest saving or loss are shown. The other 50 stand in decisions.csv" in page.words
     assert Page(hostile / "report.html").words.split(".")[0] in page.words
@@ -223,17 +230,22 @@ def test_curve(large: Path) -> None:
     assert places == sorted(places, key=lambda it: (it[0], -it[1]))
 
 
-@given(st.lists(st.tuples(st.floats(0, 1e6), st.floats(0, 100)), max_size=8), st.floats(1, 1e6), st.floats(0, 99))
+POINTS = st.tuples(st.floats(0, 1e6, allow_subnormal=False), st.floats(0, 100, allow_subnormal=False))
+
+
+@given(st.lists(POINTS, min_size=1, max_size=8), st.floats(1, 1e6), st.floats(0, 99))
 def test_curve_is_clipped(points: list[tuple[float, float]], right: float, bottom: float) -> None:
     """What is left of a rising curve lies within the picture, and has each point of the curve that does."""
-    curve = list(zip(*(sorted(its) for its in zip(*points)))) if points else []
+    curve = list(zip(*(sorted(its) for its in zip(*points))))
     left = clipped(curve, right, bottom)
-    assert all(value <= right and share >= bottom - 1e-6 for value, share in left)
+    assert len(left) == 1 or all(value <= right and share >= bottom - 1e-6 for value, share in left)
     inside = {value for value, share in curve if value < right and share > bottom}
     assert inside <= {value for value, _ in left} and left == sorted(left)
 
 
-@pytest.mark.parametrize("kept, said", [({"plan": "another"}, OLD_CURVE), (None, NO_CURVE)])
+@pytest.mark.parametrize("kept, said", [
+    ({"plan": "another"}, "The curve here is not that of this plan. Run crnplan curve FOLDER again"),
+    (None, "There is no curve yet. It is drawn by crnplan curve FOLDER, and then")])
 def test_no_curve(kept: dict[str, str] | None, said: str, tmp_path: Path) -> None:
     """If there is no curve, or that of other answers, the page says what to run."""
     folder = made_folder(tmp_path / "plan", 12, has_curve=kept is not None)
@@ -241,7 +253,7 @@ def test_no_curve(kept: dict[str, str] | None, said: str, tmp_path: Path) -> Non
         with contextlib.closing(Store(folder / ANSWERS, Answer)) as store:
             store.keep_facts({"curve": json.dumps(json.loads(store.fact("curve") or "") | kept)})
     page = Page(crn.report(folder))
-    assert said in page.words and "crnplan curve FOLDER" in said and not page.pictures
+    assert said in page.words and not page.pictures
 
 
 def test_items_with_a_page_are_links(folder: Path) -> None:

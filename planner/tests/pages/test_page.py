@@ -4,12 +4,17 @@ from __future__ import annotations
 import itertools
 import math
 from pathlib import Path
+from types import SimpleNamespace
+from typing import Any
 
 import pytest
 from hypothesis import given
 from hypothesis import strategies as st
 
-from crnplan.pages.page import UNITS, Chances, Scale, number, percent, rendered, source, tick
+from crnplan.curve.exchange import Point
+from crnplan.demand.fitting import fit_demand
+from crnplan.pages.item_page import history_plot
+from crnplan.pages.page import UNITS, Scale, curve_ends, number, percent, rendered, source, tick
 from planner.tests.pages.page_reader import Page
 
 VALUES = st.lists(st.floats(-1e9, 1e9).filter(lambda it: it == 0 or abs(it) > 1e-6), min_size=1, max_size=5)
@@ -30,7 +35,7 @@ def test_scale_has_all_values_and_zero(values: list[float], is_whole: bool) -> N
 def test_chances_stand_in_their_order(chances: list[float]) -> None:
     """Each chance stands within the picture, ten times as large a one always as far above it, and 1 at the top. The
     least one stands in the lowest step."""
-    scale = Chances.of(min(chances))
+    scale = Scale.of_chances(min(chances))
     places = [scale.at(it) for it in sorted(chances)]
     assert 0 <= places[0] and places[-1] <= UNITS == scale.at(1) and places == sorted(places) and scale.at(0) == 0
     heights = scale.heights
@@ -44,6 +49,25 @@ def test_chances_stand_in_their_order(chances: list[float]) -> None:
 def test_narrow_pages_have_room_for_marks(values: list[float], inner: list[str]) -> None:
     """If the texts at an axis are long, a narrow page shows the outer ones and 0 alone."""
     assert [text for _, text, css in Scale.of(values).marks if css == "inner"] == inner
+
+
+def test_bars_of_a_long_history() -> None:
+    """Of a history of 521 weeks the last 520 are drawn, but for those without demand, and the picture says so."""
+    item = SimpleNamespace(counts=(9, 0, *[1] * 519), box=1)
+    law = fit_demand(item.counts, method="empirical")
+    words: Any = SimpleNamespace(item=item, every="week", question=SimpleNamespace(demand=law),
+                                 period_names=[f"W{week}" for week in range(521)])
+    plot = history_plot(words)
+    assert len(plot.bars) == 519 and plot.across == "week; the 1 before are not drawn" and plot.marks[0][1] == "W1"
+    assert "521 weeks from W0 to W520, 528 items; 1 weeks without demand; the greatest demand is 9, in W0;" in \
+        plot.description
+
+
+def test_ends_of_a_curve() -> None:
+    """The axis of stock ends at 1.35 times the greatest stock of a named point, and that of service begins 4 points
+    below the least, but at 0 at least."""
+    named = [Point(100.0, 0.9, 1.0, 1.0), Point(200.0, 0.95, 1.0, 1.0)]
+    assert curve_ends(named) == pytest.approx((270, 86)) and curve_ends([named[0]._replace(fill=0.03)])[1] == 0
 
 
 def test_scale_of_nothing() -> None:

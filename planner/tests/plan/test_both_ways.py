@@ -95,7 +95,7 @@ def test_fifty_items_have_the_same_answer(items: Mapping[str, Item], folder: Pat
     for name, item in items.items():
         room = write(tmp_path / name, item)
         alone = planned(read_item(room / "history.csv", room / "settings.toml"), program)
-        assert alone.depth.answer == answers[name], name
+        assert alone.answer == answers[name], name
 
 
 @pytest.mark.parametrize("name", ["I-001", "I-002"])

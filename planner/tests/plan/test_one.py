@@ -9,10 +9,9 @@ from typing import Any
 import pytest
 
 from crnplan.plan import one, question as questions
-from crnplan.plan.answer import (CHEAPER, DISAGREES, NO_INTERVAL, NO_POLICY, ROUNDED_COSTS, RUN, SAME, SERVICE, THEORY,
-                                 UNDECIDED, Answer)
-from crnplan.plan.depth import Depth
-from crnplan.plan.one import Disagreement, allowed_by, plan_item, plan_one
+from crnplan.plan.answer import CHEAPER, RUN, SAME, SERVICE, THEORY, UNDECIDED, Answer
+from crnplan.plan.item import Depth
+from crnplan.plan.one import Disagreement, allowed_by, plan_batch, plan_one
 from crnplan.plan.question import Question, Settings, question_of
 from crnplan.demand.learning import Prior
 from crnplan.records.item import Item
@@ -35,7 +34,7 @@ def test_costs_are_those_of_theory(program: Path, changed: dict[str, Any]) -> No
     """Costs and the saving are the exact ones of the long run, whatever the random numbers, and the run is beside."""
     item = item_of(**changed)
     answers = [answer_of(item, alone(seed=seed), program) for seed in "ab"]
-    assert len({it.saving for it in answers}) == 1 and len({it.run.estimate.saving for it in answers}) == 2
+    assert len({it.saving for it in answers}) == 1 and len({it.run.saving for it in answers}) == 2
     scenario, scale = question_of(item, alone()).scenario(), question_of(item, alone()).scale
     for it in answers:
         wanted = [cost_of(scenario, shortfall_of(scenario, its.level - its.point), its.level) / float(scale)
@@ -49,7 +48,7 @@ def test_costs_are_those_of_the_run_where_theory_is_rounded(program: Path, monke
     monkeypatch.setattr(questions, "MOST_GAPS", 60)
     answer = answer_of(item_of(3, counts=tuple(37 * it + it % 2 for it in item_of(3).counts), levels=(300, 700)),
                        alone(), program)
-    estimate = answer.run.estimate
+    estimate = answer.run
     assert answer.step > 1 and answer.source == RUN and "steps" in {it.code for it in answer.remarks}
     assert (answer.cost_today, answer.cost_chosen, answer.saving) == (
         estimate.cost_today, estimate.cost_chosen, estimate.saving) != (
@@ -61,7 +60,7 @@ def test_the_best_policy_is_kept(program: Path) -> None:
     """An item with its best policy has no saving, with an interval of no width."""
     best = answer_of(item_of(), alone(), program).chosen
     answer = answer_of(item_of(levels=(best.point, best.level)), alone(), program)
-    estimate = answer.run.estimate
+    estimate = answer.run
     assert (answer.verdict, answer.saving, estimate.saving, estimate.low, estimate.high, estimate.error) == (
         SAME, 0, 0, 0, 0, 0)
     assert answer.run.total_today == answer.run.total_chosen and answer.run.variance == 0
@@ -94,12 +93,13 @@ def raised(times: float) -> Any:
 def test_a_run_that_disagrees_is_a_fault(program: Path, monkeypatch: pytest.MonkeyPatch) -> None:
     """Theory that counts orders by a quarter too dear is found out by the run, and the item has no plan."""
     settings = alone(periods=1_024, replications=24)
-    assert isinstance(plan_item(item_of(), settings, NONE, str(program)), Answer)
+    assert isinstance(plan_batch([item_of()], settings, NONE, str(program))[0], Answer)
     monkeypatch.setattr(Question, "theory", raised(1.25))
-    with pytest.raises(Disagreement, match="differ by more than chance allows: cost of today is .* by the run"):
+    with pytest.raises(Disagreement, match="differ by more than chance allows: cost of today is .* by the run") as ours:
         answer_of(item_of(), settings, program)
-    fault = plan_item(item_of(), settings, NONE, str(program))
-    assert isinstance(fault, Remark) and fault.code == DISAGREES
+    assert ours.value.status == 3
+    fault, = plan_batch([item_of()], settings, NONE, str(program))
+    assert isinstance(fault, Remark) and fault.code == "disagrees"
     assert fault.facts["theory"] > 1.02 * float(fault.facts["run"])  # type: ignore[operator]
 
 
@@ -119,15 +119,15 @@ def test_why_there_is_no_interval(program: Path) -> None:
     """A policy that hardly orders in a run has no interval, which is said with the orders that are expected."""
     slow = item_of(counts=(1, *[0] * 400, 1), setup=Fraction(1_000), holding=Fraction(1, 100), levels=(0, 90))
     answer = answer_of(slow, alone(fit="empirical"), program)
-    remark, = (it for it in answer.remarks if it.code == NO_INTERVAL)
-    assert answer.run.estimate.error is answer.run.estimate.low is None and answer.source == THEORY
+    remark, = (it for it in answer.remarks if it.code == "no interval")
+    assert answer.run.error is answer.run.low is None and answer.source == THEORY
     assert 0 < float(remark.facts["orders"] or 0) < 2 and answer.verdict == CHEAPER
 
 
 def test_costs_that_are_rounded(program: Path) -> None:
     """Costs that no scale makes whole within their ranges are rounded: beside 9000 of at most 10,000, 2.55 is 3."""
     answer = answer_of(item_of(unit=Fraction(9_000), holding=Fraction(1), backlog=Fraction("2.55")), alone(), program)
-    remark, = (it for it in answer.remarks if it.code == ROUNDED_COSTS)
+    remark, = (it for it in answer.remarks if it.code == "rounded costs")
     assert remark.facts["error"] == pytest.approx(3 / 2.55 - 1)
 
 
@@ -138,15 +138,16 @@ def test_no_law_with_a_long_run(program: Path) -> None:
                                       alone(fit="empirical")) for name in range(200))
     question = next(it for it in questions_of_names
                     if all(60 * law.mean <= 59 for law in allowed_by(it, LEAST)[0]))
-    assert Depth(question, plan_one(question, str(program)), str(program), LEAST).doubt() is None
+    assert Depth(question, plan_one(question, str(program)), str(program), LEAST).doubt is None
 
 
 def test_an_item_without_a_policy(program: Path, monkeypatch: pytest.MonkeyPatch) -> None:
     """An item for which there is no policy has a fault with facts."""
     monkeypatch.setattr(type(question_of(item_of(), alone()).theory()), "best", lambda *_: Candidate(math.inf, 0, 0))
-    assert plan_item(item_of(), alone(), NONE, str(program)) == Remark(NO_POLICY, {"fill": None})
+    assert plan_batch([item_of()], alone(), NONE, str(program)) == [Remark("no policy", {"fill": None})]
     monkeypatch.setattr(one, "choice_of", lambda *_: 1 // 0)
-    assert plan_item(item_of(), alone(), NONE, str(program)).code == "failed"  # type: ignore[union-attr]
+    fault, = plan_batch([item_of()], alone(), NONE, str(program))
+    assert isinstance(fault, Remark) and fault.code == "failed"
 
 
 def test_counting_in_boxes_changes_no_figure(program: Path, monkeypatch: pytest.MonkeyPatch) -> None:
@@ -157,10 +158,9 @@ def test_counting_in_boxes_changes_no_figure(program: Path, monkeypatch: pytest.
     plain = answer_of(item, alone(), program)
     monkeypatch.setattr("crnplan.records.item.MOST_DEMAND", max(item.counts))
     answer = answer_of(boxed, alone(), program)
-    assert (plain.box, answer.box) == (1, 10)
+    assert (item.box, boxed.box) == (1, 10)
     for before, after in ((plain.today, answer.today), (plain.chosen, answer.chosen)):
         assert (after.point, after.level) == (10 * before.point, 10 * before.level)
         assert (after.cost, after.fill, after.orders) == (before.cost, before.fill, before.orders)
         assert math.isclose(after.stock, 10 * before.stock)
-    assert (answer.run.total_today, answer.run.estimate, answer.saving) == (
-        plain.run.total_today, plain.run.estimate, plain.saving)
+    assert (answer.run, answer.saving) == (plain.run, plain.saving)

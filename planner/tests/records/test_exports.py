@@ -28,7 +28,6 @@ HEADING = "item,date,quantity"
 MASTERS = "item,setup,holding,backlog,lead,s,S"
 MONTHS = ["--every", "month", "--least", "2", *(word for role in ("lead", "holding", "backlog")
                                                 for word in ("--unit", f"items.{role}=month"))]
-SIGN = "say --decimal . or --decimal ,"
 
 
 def demand_of(quantities: Sequence[str], heading: str = HEADING, more: str = "") -> str:
@@ -70,50 +69,6 @@ def check(crnplan: Answers, tmp_path: Path, monkeypatch: pytest.MonkeyPatch) -> 
     return Checked(crnplan, tmp_path, monkeypatch)
 
 
-@pytest.fixture
-def item(crnplan: Answers, tmp_path: Path) -> Answers:
-    """Returns a function that plans item A by its history, a row a week. A program that can't answer is never asked."""
-    def run(history: Path) -> Any:
-        """Plans it."""
-        path = tmp_path / "settings.toml"
-        path.write_text('[history]\ndemand = "quantity"\n[lead]\ntimes = [2]\n[today]\ns = 3\nS = 9\nstock = 5\n'
-                        "[costs]\nsetup = 45\nholding = 1\nbacklog = 10\n", "utf-8")
-        return crnplan("item", history, path, "--out", tmp_path / "item", "--program", sys.executable)
-    return run
-
-
-@pytest.mark.parametrize("texts, both", [
-    (["1,000", "2,000"], "1000 or 1"), (["1.000", "2.000"], "1000 or 1"), (["1.234", "7"], "1234 or 1.234"),
-    (["12,500", "3"], "12500 or 12.5")])
-def test_numbers_with_two_readings(texts: list[str], both: str, check: Checked, crnplan: Answers, item: Answers,
-                                   tmp_path: Path) -> None:
-    """A catalogue, a history and an item reject numbers that may have three decimals or thousands, with both
-    readings."""
-    message = f"'{texts[0]}' may be {both}, and no other number of the column decides it"
-    _, rejects = check(demand_of([f'"{it}"' for it in texts]))
-    first = [row for row in rejects if row["text"] == texts[0]]
-    assert len(first) == WEEKS // 2 and {row["kind"] for row in first} == {"row"}
-    assert {(row["reason"], row["advice"]) for row in first} == {(message, SIGN)}
-    path = tmp_path / "demand.csv"
-    for answer in (crnplan("history", path, "--demand", "quantity"), item(path)):
-        assert answer.status == 2 and f"demand.csv:2:14: column 'quantity': {message}; " in answer.errors
-
-
-@pytest.mark.parametrize("texts, values, said", [
-    (["1,000", "2,0"], [1, 2], "the comma in 2,0"), (["1,000", "2.0"], [2, 1000], "the point in 2.0"),
-    (["1.000", "1.000.000"], [1000, 1_000_000], "the comma in 1.000.000"),
-    (["1,000", "1,000.0"], [1000], "the point in 1,000.0")])
-def test_what_decides_a_decimal_sign_is_said(texts: list[str], values: list[int], said: str, check: Checked,
-                                             crnplan: Answers, tmp_path: Path) -> None:
-    """Another number of the column decides what a number with two readings is, and it is said which."""
-    answer, rejects = check(demand_of([f'"{it}"' for it in texts]), "--far", "keep")
-    assert f"# the decimal sign of quantity is {said}\n" in answer.errors and not rejects
-    box = max(1, values[-1] // 10_000)
-    its = crnplan("history", tmp_path / "demand.csv", "--demand", "quantity", "--fit", "empirical", "--box", box)
-    assert f"column 'quantity': the decimal sign is {said}\n" in its.errors
-    assert f"values = {[value // box for value in values]}" in its.output
-
-
 def test_a_number_that_decides_may_be_none_itself(check: Checked, crnplan: Answers, tmp_path: Path) -> None:
     """A number that is not whole decides the sign of the others, and is rejected."""
     _, rejects = check(demand_of(['"1,000"', '"12,5"']))
@@ -123,14 +78,14 @@ def test_a_number_that_decides_may_be_none_itself(check: Checked, crnplan: Answe
 
 
 @pytest.mark.parametrize("text", ["$45.00", "45 EUR", "EUR 45", "45,00 €", "zł45", "45", "045.000000", "US$ 45.0"])
-def test_money_with_its_currency(text: str, check: Checked, tmp_path: Path) -> None:
+def test_money_with_its_currency(text: str, check: Checked) -> None:
     """An amount of money may have its currency. It is read as without."""
     _, rejects = check(demand_of(["2", "3"]), masters=f'{MASTERS}\nA,"{text}",1,10,2,3,9\n')
     assert not rejects and check.items["A"].setup == 45
 
 
 @pytest.mark.parametrize("text, quantity", [("(3)", -3), ("3-", -3), ("\u22123", -3), ("1'000", 1000), ("1 000", 1000)])
-def test_quantities_as_people_write_them(text: str, quantity: int, check: Checked, tmp_path: Path) -> None:
+def test_quantities_as_people_write_them(text: str, quantity: int, check: Checked) -> None:
     """Amounts below 0 may stand in parentheses or have the minus behind; thousands may have an apostrophe."""
     _, rejects = check(demand_of([text, "7000"]), "--net", *MONTHS)
     counts = check.items["A"].counts
@@ -143,18 +98,16 @@ def test_two_currencies_are_refused(check: Checked) -> None:
     assert [row["kind"] for row in rejects] == ["item"] and "'45 EUR' and '$3'" in rejects[0]["reason"]
 
 
-@pytest.mark.parametrize("decimal, value", [(".", "1000"), (",", "1")])
-def test_stated_sign_decides(decimal: str, value: str, check: Checked, crnplan: Answers, tmp_path: Path) -> None:
-    """--decimal decides what 1,000 is."""
-    _, rejects = check(demand_of(['"1,000"']), "--decimal", decimal)
-    assert not rejects
-    its = crnplan("history", tmp_path / "demand.csv", "--demand", "quantity", "--decimal", decimal, "--fit",
-                  "empirical")
-    assert its.status == 0 and f"values = [{value}]" in its.output
+@pytest.mark.parametrize("decimal, name, value", [(".", "point", 1000), (",", "comma", 1)])
+def test_stated_sign_decides(decimal: str, name: str, value: int, check: Checked) -> None:
+    """--decimal decides what 1,000 is, which is said."""
+    answer, rejects = check(demand_of(['"1,000"']), "--decimal", decimal)
+    assert not rejects and sum(check.items["A"].counts) == WEEKS * value
+    assert f"# the decimal sign is the {name}, as stated\n" in answer.errors
 
 
 @pytest.mark.parametrize("heading, cells, role, value", CASES["units"])
-def test_units_of_masters(heading: str, cells: str, role: str, value: Any, check: Checked, tmp_path: Path) -> None:
+def test_units_of_masters(heading: str, cells: str, role: str, value: Any, check: Checked) -> None:
     """Numbers are converted from the unit that their heading names, and that is said."""
     answer, rejects = check(demand_of(["2", "3"]), masters=f"{heading}\n{cells}\n")
     assert answer.status == 0 and not rejects
@@ -190,7 +143,7 @@ def test_stated_units(check: Checked, tmp_path: Path) -> None:
 
 
 @pytest.mark.parametrize("words, total", [((), None), (("--factor", "KAR=12"), 2 * 13 + 3 * 12 * 13)])
-def test_rows_in_two_units_of_measure(words: Sequence[str], total: int | None, check: Checked, tmp_path: Path) -> None:
+def test_rows_in_two_units_of_measure(words: Sequence[str], total: int | None, check: Checked) -> None:
     """An item whose rows are in two units of measure is left out, unless it is said how many items one is."""
     rows = demand_of(["2,ST", "3,KAR"], f"{HEADING},ME")
     _, rejects = check(rows, *words)
@@ -202,7 +155,7 @@ def test_rows_in_two_units_of_measure(words: Sequence[str], total: int | None, c
 
 
 @pytest.mark.parametrize("demand, masters", CASES["headings"])
-def test_headings_of_exports(demand: str, masters: str, check: Checked, tmp_path: Path) -> None:
+def test_headings_of_exports(demand: str, masters: str, check: Checked) -> None:
     """Headings of common exports are found, each as its role, without a word of the planner."""
     rows = "".join(f"A;{day};2;ST\n" for day in DAYS)
     answer, rejects = check(f"{demand}\n{rows}", masters=f"{masters}\nA;bolt;45;1;10;14;3;9;5;400;100;X\n")
@@ -237,10 +190,13 @@ def test_pipes_are_read_whole(check: Checked, tmp_path: Path) -> None:
     assert answer.status == 0 and f"{WEEKS} rows = {WEEKS} used" in answer.output and not rejects
 
 
-def test_item_reads_a_pipe_once(item: Answers, tmp_path: Path) -> None:
-    """An item's history may come by a pipe: what is wrong with its rows is found."""
+def test_item_reads_a_pipe_once(crnplan: Answers, tmp_path: Path) -> None:
+    """An item's history may come by a pipe: what is wrong with its rows is found. No program is asked."""
+    settings = tmp_path / "settings.toml"
+    settings.write_text('[history]\ndemand = "quantity"\n[lead]\ntimes = [2]\n[today]\ns = 3\nS = 9\nstock = 5\n'
+                        "[costs]\nsetup = 45\nholding = 1\nbacklog = 10\n", "utf-8")
     thread = piped(tmp_path / "pipe", demand_of(["2", "x"]).encode())
-    answer = item(tmp_path / "pipe")
+    answer = crnplan("item", tmp_path / "pipe", settings, "--out", tmp_path / "item", "--program", sys.executable)
     thread.join(10)
     assert answer.status == 2 and f"{WEEKS // 2} faults in {WEEKS // 2} rows" in answer.errors
 

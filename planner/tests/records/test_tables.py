@@ -20,6 +20,7 @@ from crnplan.records.cells import Unreadable
 from crnplan.records.item import Item, leads_of
 from crnplan.records.items import Words
 from crnplan.records.sources import opened
+from crnplan.remarks import Remark
 
 Day = datetime.date
 MONDAY = Day(2026, 3, 2)
@@ -122,7 +123,7 @@ def test_frames(tmp_path: Path) -> None:
     ("cp1250", "indeks,data,Ilość,uwagi", "Łódź, zażółć gęślą".replace(",", "")),
     ("cp1252", "item,date,quantité,note", "qualité “supérieure” à l’été"),
     ("utf-16-le", "item,date,quantity,note", "x"),
-    ("utf-16-be", "item,date,quantity,note", "x"), ("latin-1", "Artikel,Datum,Menge,Gerät", "größer als")])
+    ("utf-16-be", "item,date,quantity,note", "größer als"), ("latin-1", "Artikel,Datum,Menge,Gerät", "größer als")])
 def test_encodings_are_named(encoding: str, heading: str, unit: str, tmp_path: Path) -> None:
     """A file that is not UTF-8 is refused with the name of its encoding, by which it is read."""
     rows = weekly([2] * WEEKS).replace("\n", f",{unit}\n")
@@ -192,7 +193,9 @@ def test_twins_are_counted(twice: str, total: int, tmp_path: Path) -> None:
     """A thousand equal rows are named once, with their count."""
     rows = weekly([2] * WEEKS)
     catalogue = read(tmp_path, rows + rows.splitlines(True)[3] * 999, twice=twice, far="keep")
-    assert sum(items_of(catalogue)["A"].counts) == total and not catalogue.missing
+    item = items_of(catalogue)["A"]
+    assert sum(item.counts) == total and not catalogue.missing
+    assert item.remarks == (Remark("rows twice", {"rows": 999}),)
     rejects = catalogue.rejects
     assert len(rejects) == 1 and rejects.reason[0].startswith("999 rows are the same as others above them")
     assert rejects.rows[0] == (999 if twice == "leave-out" else 0)

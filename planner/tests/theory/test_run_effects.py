@@ -35,7 +35,7 @@ BACK = [it for it in CASES if it.startswith("returns")]
     *itertools.product([*CASES, *SLOW], [1, 3, 40], [100]), *itertools.product(BACK, [40], [0])])
 def test_biases_are_those_of_a_chain(case: str, start: tuple[int, int, int], periods: int, dense: int,
                                      monkeypatch: pytest.MonkeyPatch) -> None:
-    monkeypatch.setattr("crnplan.theory.reviews.MOST_DENSE", dense)
+    monkeypatch.setattr("crnplan.theory.run_effects.MOST_DENSE", dense)
     s, S, initial = start
     asked = replace((CASES | SLOW)[case], costs=COSTS, periods=periods, initial=initial, policies=(Policy("it", s, S),))
     found = start_bias(asked)
@@ -96,7 +96,7 @@ def test_many_periods(case: str, monkeypatch: pytest.MonkeyPatch) -> None:
     found, shorter = start_bias(asked), start_bias(replace(asked, periods=900))
     monkeypatch.setattr("crnplan.theory.run_effects.MOST_SUMS", -1)
     assert start_bias(asked).biases == pytest.approx(found.biases, abs=1e-7)
-    monkeypatch.setattr("crnplan.theory.reviews.MOST_DENSE", 0)
+    monkeypatch.setattr("crnplan.theory.run_effects.MOST_DENSE", 0)
     assert start_bias(asked).biases == pytest.approx(found.biases, abs=1e-7)
     assert shorter.biases == pytest.approx(found.biases, abs=1e-7)
 

@@ -49,7 +49,7 @@ def test_the_worked_case(crnplan: Command, top: Path) -> None:
                                                   (["--initial", "--unit-zero"], 40, 0)], ids=str)
 def test_the_start_and_the_price(crnplan: Command, top: Path, asked: Path, words: list[str], initial: int,
                                  unit: int) -> None:
-    """By a chain of all positions, solved by itself, the mean position is 39.7746."""
+    """By a chain of all positions, solved by itself, the mean position is 39.7746. The mean net demand is 4.15 - 1.30."""
     text = changed(priced(top / "examples/mail_order.toml", 20), "initial = 60", "initial = 700")
     asked.write_text(text, "utf-8")
     status, output, errors = crnplan("suggest", asked, *words)
@@ -57,7 +57,7 @@ def test_the_start_and_the_price(crnplan: Command, top: Path, asked: Path, words
     wanted["initial"], wanted["costs"]["unit"], wanted["policy"] = initial, unit, tree["policy"]
     assert (status, tree) == (0, wanted)
     assert "mean position at the beginning of a period is 39.8; today's initial = 700 is 660.2 above it" in errors
-    assert "\nunit: a run also pays it" in errors
+    assert "\nunit: a run also pays it" in errors and "without unit, which adds 57.00 to each policy" in errors
 
 
 def test_no_line_on_a_price_of_0(crnplan: Command, top: Path) -> None:

@@ -63,6 +63,9 @@ def test_lines_in_many_spellings(name: str) -> None:
     found = places_of(text_of_document(text.encode()), tree)
     assert not faults
     assert sorted(f"{'/'.join(map(str, path))} {line}" for path, (line, _) in found.items()) == sorted(wanted)
+    for line, column in found.values():  # of the first character of a key, an entry or a header
+        before, rest = text.split("\n")[line - 1][:column - 1], text.split("\n")[line - 1][column - 1:]
+        assert rest[0] not in " ,=" and (not before.strip() or before[-1] in " ,[{")
     assert places_of(text_of_document(text.replace("\n", "\r\n").encode()), tree) == found
     assert places_of(text, {**tree, "other": 1}) == places_of(f"{text}\nother", {**tree, "other": 1}) == {}
 
@@ -82,7 +85,8 @@ def test_columns(two_policies: str) -> None:
 
 WHOLE = {"empty": (b"", 1, "missing"), "a picture": (b"\x89PNG\r\n\x1a\n\0\0", 1, "UTF-8"),
          "UTF-16": ("version = 1\n".encode("utf-16-le"), 1, "UTF-16"), "brackets": (b"[" * 5000, 1, ""),
-         "quotes": (b'a = "' * 500, 1, ""), "digits": (b"a = " + b"9" * 5000, 1, "64 bits"),
+         "quotes": (b'a = "' * 500, 1, ""),
+         "digits": (b"a = " + b"9" * 5000, 1, "an integer is beyond 64 bits (write a number within its range)"),
          "fewer digits": (b"a = " + b"9" * 400, 1, "hundreds of digits"),
          "a long file": (b"#" * 1_048_577, 2, "1,048,576")}
 

@@ -19,6 +19,7 @@ import click
 
 from .. import __version__
 from ..errors import CrnplanError, Failed, Refused, escaped, spelt, worded
+from ..files import faults_of
 
 # The threads of linear algebra gain nothing here. Beside other work they wait for one another, busily.
 for _threads in ("OMP_NUM_THREADS", "OPENBLAS_NUM_THREADS"):
@@ -114,40 +115,31 @@ def note(message: str) -> None:
 def main() -> None:
     """Runs the command. Ends with status 0; 1 if the answer is no; 2 if an input or a word is refused; 3 if no input is
     to blame; 130 if interrupted."""
+    status = Failed.status
     with redirect_stdout(_shown(sys.stdout)), redirect_stderr(_shown(sys.stderr)), spelt(as_option):
         try:
-            result: Any = group.main(prog_name="crnplan", standalone_mode=False)
-            print(end="", flush=True)
+            with faults_of(Path("crnplan")):
+                result: Any = group.main(prog_name="crnplan", standalone_mode=False)
+                print(end="", flush=True)
             status = result if isinstance(result, int) else 0
-        except (Exception, KeyboardInterrupt) as fault:
-            status = _told(fault)
+        except click.ClickException as refusal:
+            message, context = refusal.format_message(), getattr(refusal, "ctx", None)
+            end = "" if message.endswith(("?", ".")) else "."
+            note(f"{message}{end} {context.command_path} --help shows the words." if context else message)
+            status = Refused.status
+        except CrnplanError as refusal:
+            note(refusal.message)
+            status = refusal.status
+        except (KeyboardInterrupt, click.Abort):
+            note("interrupted")
+            status = INTERRUPTED
+        except MemoryError:
+            note("out of memory; close other programs, or use a machine with more")
+        except Exception as crash:
+            last = traceback.extract_tb(crash.__traceback__)[-1]
+            place = f"{Path(last.filename).name}:{last.lineno}"
+            note(f"a fault of crnplan itself: {type(crash).__name__}: {crash} ({place}); please report this line")
     sys.exit(status)
-
-
-def _told(fault: BaseException) -> int:
-    """Says what was raised in a line, and returns the exit status."""
-    from ..files import faults_of
-    try:
-        with faults_of(Path("crnplan")):
-            raise fault
-    except click.ClickException as refusal:
-        message, context = refusal.format_message(), getattr(refusal, "ctx", None)
-        end = "" if message.endswith(("?", ".")) else "."
-        note(f"{message}{end} {context.command_path} --help shows the words." if context else message)
-        return Refused.status
-    except CrnplanError as refusal:
-        note(refusal.message)
-        return refusal.status
-    except (KeyboardInterrupt, click.Abort):
-        note("interrupted")
-        return INTERRUPTED
-    except MemoryError:
-        note("out of memory; close other programs, or use a machine with more")
-    except Exception as crash:
-        last = traceback.extract_tb(crash.__traceback__)[-1]
-        place = f"{Path(last.filename).name}:{last.lineno}"
-        note(f"a fault of crnplan itself: {type(crash).__name__}: {crash} ({place}); please report this line")
-    return Failed.status
 
 
 class _Shown:

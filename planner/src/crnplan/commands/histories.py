@@ -89,28 +89,25 @@ class Files(contextlib.AbstractContextManager["Files"]):
         self.read += [made] if isinstance(made, Observed) else []
         return made
 
-    def history(self, demand: str) -> crn.History | None:
-        """Reads the history, with the demand in a column; None if it has faults."""
-        words = {name: self.asked[name] for name in WORDS if name in self.asked}
-        every = self.asked["every"] if self.asked["date"] or not self.asked["orders"] else None
-        return self.made(crn.read_history, self.asked["file"], demand=demand, every=every, **words, **self.rules)
-
-    def lead_times(self) -> LeadTimes | None:
-        """Reads the lead times; None if they have faults, or without a file of them."""
+    def tables(self, demand: str) -> tuple[crn.History | None, LeadTimes | None]:
+        """Reads the history, with the demand in a column, and the lead times if they have a file; None for faults."""
         path, column = self.leads
-        words = {name: self.asked[name] for name in ("every", "ordered", "received")}
-        return self.made(crn.read_lead_times, path, lead=column, **words, **self.rules) if path else None
+        words = {name: self.asked[name] for name in WORDS if name in self.asked}
+        of_leads = {name: self.asked[name] for name in ("every", "ordered", "received")}
+        every = self.asked["every"] if self.asked["date"] or not self.asked["orders"] else None
+        return (self.made(crn.read_history, self.asked["file"], demand=demand, every=every, **words, **self.rules),
+                self.made(crn.read_lead_times, path, lead=column, **of_leads, **self.rules) if path else None)
 
     def sound(self) -> tuple[crn.History, LeadTimes | None]:
-        """Reads both, with the demand in the column `demand` if no other is named. Raises the faults of all."""
-        history, leads = self.history(self.asked["demand"] or "demand"), self.lead_times()
+        """Reads the same, with the demand in the column `demand` if no other is named. Raises the faults of all."""
+        history, leads = self.tables(self.asked["demand"] or "demand")
         self.check()
         assert history is not None
         return history, leads
 
     def laws(self) -> dict[str, crn.FittedLaw]:
         """Returns the laws of all tables that are asked for. Raises the faults of all files and fits together."""
-        history, leads = self.history(self.asked["demand"]), self.lead_times()
+        history, leads = self.tables(self.asked["demand"])
         returned, words = history and history.returns, {"method": self.asked["fit"], "box": self.asked["box"]}
         of_leads = "empirical" if words["method"] == "empirical" else "auto"
         laws = {"demand": history and self.made(crn.fit_demand, history, **words),

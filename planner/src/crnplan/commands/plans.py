@@ -15,9 +15,9 @@ from ..demand import METHODS
 from ..files import Folder, new_file, own_folder
 from ..pages.catalogue_page import file_of
 from ..pages.catalogue_tables import counted_rows, reasons_of, rejects_of
-from ..pages.exports import CATALOGUE_FILES, FOUND
+from ..pages.exports import CATALOGUE_FILES, FOUND, plan_item
+from ..pages.item_words import item_summary
 from ..plan.catalogue import Lost, plan_into
-from ..plan.item import plan_item
 from ..plan.question import Settings
 from ..plan.settings import CONFIG, read_config
 from ..records.catalogue_reading import Catalogue, read_into
@@ -64,7 +64,7 @@ def item(history: str, settings: str, out: str, program: str | None) -> None:
     def told(part: str) -> None:
         if sys.stderr.isatty():
             print(f"{part} ..", file=sys.stderr)
-    print(plan_item(history, settings, out, program=program, told=told).summary, end="")
+    print(item_summary(plan_item(history, settings, out, program=program, told=told)), end="")
 
 
 @click.command(epilog="Example: crnplan catalogue demand.csv items.csv --orders orders.csv --out plan")

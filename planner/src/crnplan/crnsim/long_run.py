@@ -66,7 +66,7 @@ LOW_HALF = np.uint64(2**32 - 1)
 
 
 class Settled(NamedTuple):
-    """What our own periods lead to, by key and policy: stocks, what arrives in the next periods (first axis), orders."""
+    """What our own periods lead to, by key and policy: stocks, later arrivals by period (first axis), orders."""
 
     stocks: Whole
     due: Whole
@@ -96,9 +96,11 @@ class LongRunReport(Result):
     @property
     def rows(self) -> list[Row]:
         """Returns the rows of a report on so many replications of so many periods, in exact figures."""
-        reports = [[Row(policy.name, policy.s, policy.S, cost, Fraction(cost, self.periods), cost - base,
-                        Fraction(cost - base), None, None) for policy, cost in zip(self.scenario.policies, (base, *others))]
-                   for base, *others in self.costs]
+        reports = []
+        for costs in self.costs:
+            reports.append([Row(policy.name, policy.s, policy.S, cost, Fraction(cost, self.periods), cost - costs[0],
+                                Fraction(cost - costs[0]), None, None)
+                            for policy, cost in zip(self.scenario.policies, costs)])
         return pooled(reports, 1, self.periods)
 
     @property

@@ -7,6 +7,7 @@ from __future__ import annotations
 
 import contextlib
 import hashlib
+import heapq
 import itertools
 import json
 import math
@@ -142,9 +143,8 @@ def added_up(folder: PlannedFolder, kept: Store[Candidates], names: Iterable[str
 
 def sample_of(names: Sequence[str], seed: str, count: int) -> list[int]:
     """Returns the places of so many names, chosen by a digest of the seed and the name: the same in each run."""
-    order = sorted(range(len(names)),
-                   key=lambda place: hashlib.sha256(f"{seed}\nconfirm\n{names[place]}".encode()).digest())
-    return sorted(order[:count])
+    return sorted(heapq.nsmallest(count, range(len(names)), key=lambda place: hashlib.sha256(
+        f"{seed}\nconfirm\n{names[place]}".encode()).digest()))
 
 
 def stocks_by_run(question: Question, asked: Iterable[Levels], program: str | Path | None) -> dict[Levels, Floats]:

@@ -112,8 +112,9 @@ class Doubt(Result):
     def table(self) -> DataTable:
         """Returns the figures indexed by `policy`, the cheapest first."""
         columns = [column for column in COLUMNS[3:] if column.name in self.columns]
+        figures = [self.columns[column.name] for column in columns]
         rows: list[list[Cell]] = [
-            [*dataclasses.astuple(self.policies[place]), *(float(self.columns[column.name][place]) for column in columns)]
+            [*dataclasses.astuple(self.policies[place]), *(float(column[place]) for column in figures)]
             for place in self.order]
         return DataTable([*POLICY, *columns], rows, index="policy")
 
@@ -139,9 +140,10 @@ class Doubt(Result):
         best, columns = self.order[0], self.columns
         name, among = ("own_regret_90", "all policies") if "own_regret" in columns else ("regret_90", "these")
         held, held_fill = ("{} to {}%".format(*HELD[of]) for of in ("regret", "fill"))
-        return (f"Under {MOST:.0%} of the laws it costs at most {columns[name][best]:.1%} more than the best of {among}, "
-                f"and under {MOST:.0%} its fill rate is at least {columns['fill_10'][best]:.1%}. In a study with known "
-                f"laws such a bound held in {held} of cases for the cost, and in {held_fill} for the fill rate.")
+        return (f"Under {MOST:.0%} of the laws it costs at most {columns[name][best]:.1%} more than the best of "
+                f"{among}, and under {MOST:.0%} its fill rate is at least {columns['fill_10'][best]:.1%}. In a study "
+                f"with known laws such a bound held in {held} of cases for the cost, and in {held_fill} for the fill "
+                "rate.")
 
     @property
     def remarks(self) -> list[str]:

@@ -9,6 +9,7 @@ variance of the base's costs is the base's `cov`. All else is rounded, and none 
 """
 from __future__ import annotations
 
+import functools
 import math
 import sys
 from collections.abc import Sequence
@@ -25,6 +26,7 @@ from ..scenario import BY_ITS_LAWS, Policy, Scenario
 from ..table import DataTable, Json, Result, names_of, number, text, whole
 from ..words import sentence
 
+Ends = tuple[float, float] | tuple[None, None]
 FEWEST_ORDERS = 2  # of the rarer policy of a comparison, in all replications
 MOST_KEYS = 64  # that a check may pool into one report
 POLICY = (text("policy", "name of the policy"), whole("s", "items", "reorder point"),
@@ -96,6 +98,7 @@ def checked_level(level: float) -> float:
     return level
 
 
+@functools.lru_cache
 def t_quantile(tails: float, degrees: int) -> float:
     """Returns the value that Student's |t| exceeds with probability `tails`, above 0, with so many degrees of freedom.
 
@@ -138,7 +141,7 @@ def verdict_of(low: float | None, high: float | None) -> str:
     return "worse" if low > 0 else "better"
 
 
-def ends_of(middle: float, error: float | None, errors: float) -> tuple[float, float] | tuple[None, None]:
+def ends_of(middle: float, error: float | None, errors: float) -> Ends:
     """Returns both ends of an interval of so many standard errors on either side; None if there is no error."""
     return (None, None) if error is None else (middle - errors * error, middle + errors * error)
 

@@ -330,7 +330,7 @@ def loss_of(kind: str, size: float, variation: float, length: int = 0) -> Loss:
     period's demand has this coefficient of variation."""
     law = min(STUDIED, key=lambda name: abs(math.log(max(variation, 1e-9) / STUDIED[name])))
     near = [loss for loss in losses() if loss[:2] == (kind, law)]
-    of_length = min((loss.effect_length for loss in near), key=lambda own: abs(math.log(max(own, 1) / max(length, 1))))
+    of_length = min((loss.effect_length for loss in near), key=lambda own: abs(math.log(own / length))) if length else 0
     return min((loss for loss in near if loss.effect_length == of_length),
                key=lambda loss: abs(loss.effect_size / 100 - min(size, 10.0)))
 
@@ -359,7 +359,7 @@ def _notes(facts: Facts) -> Iterator[Remark]:
     if far := len(outliers_of(demands, pack)):
         yield Remark("far demands", {"next": demands[far], **_largest(facts, far)})
     squares = centred(np.array(numbers, dtype=float))**2
-    share = float(squares[np.argmax(numbers)] / max(squares.sum(), 1))
+    share = float(squares[np.argmax(numbers)] / squares.sum()) if squares.any() else 0.0
     if share > DECISIVE:
         yield Remark("decisive demand", {"share": share, **_largest(facts, 1)})
 

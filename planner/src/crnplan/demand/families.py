@@ -164,10 +164,10 @@ class NegativeBinomial(Family):
         from scipy import optimize
 
         def score(logarithm: float) -> float:
-            """Returns the derivative of the likelihood's logarithm by k, times k."""
+            """Returns the derivative of the likelihood's logarithm by k."""
             size = math.exp(logarithm)
             rises = special.digamma(sample.values + size) - special.digamma(size)
-            return float(size * (sample.counts @ rises - sample.size * math.log1p(sample.mean / size)))
+            return float(sample.counts @ rises - sample.size * math.log1p(sample.mean / size))
         low, high = math.log(1e-4), math.log(MOST_SIZE)
         if sample.squares <= sample.total or score(high) >= 0:
             return None

@@ -9,10 +9,10 @@ from ..plan.backtest.one import Backtest
 from ..plan.backtest.sums import ALL_ITEMS, BLOCK, KEPT, Group, summed
 from ..records.item import Item
 from .backtest_tables import SINGLE, VERDICTS, backtest_summary, first_line, sums_table
-from .page import CHOSEN, MEAN, TODAY, UNITS, Line, Plot, Scale, marks_of, percent, rendered, tick
+from .page import CHOSEN, TODAY, UNITS, Line, Plot, Scale, marks_of, percent, rendered, tick
 
 MOST_DOTS, MOST_WORST = 3_000, 12
-DOTS = "dots"
+DOTS, PROMISED = "dots", "of-promised"
 LINES = {KEPT: CHOSEN, "refitted": "of-better", "smoothed": TODAY}
 
 
@@ -40,7 +40,7 @@ def promise_plot(tests: Sequence[Backtest]) -> Plot:
     return Plot("Demand met at once, by item: what came against what was promised",
                 f"{len(pairs):,} items, of which {met:,} met at least what was promised.", up,
                 [(across.at(value), tick(value), "") for value in across.ticks], "promised, %",
-                [Line("as promised", MEAN, equal), Line("an item", f"{DOTS} {CHOSEN}", dots)])
+                [Line("as promised", PROMISED, equal), Line("an item", f"{DOTS} {CHOSEN}", dots)])
 
 
 def time_plot(tests: Sequence[Backtest], promised: float, every: str) -> Plot:
@@ -48,7 +48,7 @@ def time_plot(tests: Sequence[Backtest], promised: float, every: str) -> Plot:
     group = Group(tests)
     shares = {policy: (100 - 100 * group.unmet(policy).by_block).tolist() for policy in LINES}
     scale = Scale.between(min(100 * promised - 1, *(min(own) for own in shares.values())), 100.0)
-    lines = [Line(f"promised: {percent(promised)}", MEAN, f"M0 {UNITS - scale.at(100 * promised):g}H{UNITS}")]
+    lines = [Line(f"promised: {percent(promised)}", PROMISED, f"M0 {UNITS - scale.at(100 * promised):g}H{UNITS}")]
     for policy, own in shares.items():
         places = (UNITS * place / max(1, len(own) - 1) for place in range(len(own)))
         path = "L".join(f"{place:g} {UNITS - scale.at(share):g}" for place, share in zip(places, own))

@@ -5,7 +5,7 @@ from collections.abc import Iterable, Iterator, Mapping, Sequence
 from dataclasses import dataclass, field
 from fractions import Fraction
 
-from ..plan.answer import RUN, THEORY, Answer, Figures
+from ..plan.answer import RUN, THEORY, Answer
 from ..plan.catalogue import PlannedFolder, Totals
 from ..records.items import FileCounts
 from ..records.catalogued import Reject
@@ -13,6 +13,7 @@ from ..records.item import Item
 from ..remarks import Remark
 from ..table import MONEY, Cell, Column, DataTable, exact, number, text, whole
 from ..words import advice, pattern, sentence
+from .page import rendered
 
 DECISIONS, EXACT, REJECTS = "decisions.csv", "exact.csv", "rejects.csv"
 PLANNED_BY = {THEORY: "theory", RUN: "crnsim"}
@@ -66,36 +67,26 @@ REJECT_COLUMNS = (
     text("column", "the column of what is wrong"), text("text", "the cell as it stands in the file"),
     text("reason", "what is wrong"), text("advice", "what to do"),
     whole("rows", "rows", "rows of demand that are left out"))
-NOTES = (
-    "Costs and savings: by theory where it is exact but for rounding (column by), else by crnsim. The run of crnsim "
-    "beside is proved for its stream (exact.csv), less the bias of the start by theory.",
-    "Fill, stock, orders and the policies: by theory, rounded and unproved. Fill: the share of demand met at once.",
-    "All of it holds for the laws fitted to the histories. The interval is that of the runs alone, which are "
-    "independent from item to item.",
-    "The greatest savings are also where a wrong master or a wrong row shows first. Look at these items first.")
-
-
-def policy_cells(figures: Figures | None) -> tuple[Cell, Cell]:
-    return (None, None) if figures is None else (figures.point, figures.level)
 
 
 def decision_row(item: Item, answer: Answer) -> list[Cell]:
     """Returns the row of an item in decisions.csv, unrounded."""
-    today, chosen, alone, estimate = answer.today, answer.chosen, answer.alone, answer.run.estimate
+    today, chosen, alone, run = answer.today, answer.chosen, answer.alone, answer.run
     prices = [None if item.price is None else float(item.price) * it.stock for it in (today, chosen)]
     remarks = *item.remarks, *answer.remarks
     codes, words = "; ".join(it.code for it in remarks), "; ".join(map(sentence, remarks))
-    return [item.name, item.description, item.group, answer.verdict, *policy_cells(today), *policy_cells(chosen),
-            answer.cost_today, answer.cost_chosen, answer.saving, PLANNED_BY[answer.source], estimate.saving,
-            estimate.low, estimate.high, None if item.fill is None else float(item.fill), today.fill, chosen.fill,
+    return [item.name, item.description, item.group, answer.verdict, *today.levels, *chosen.levels,
+            answer.cost_today, answer.cost_chosen, answer.saving, PLANNED_BY[answer.source], run.saving,
+            run.low, run.high, None if item.fill is None else float(item.fill), today.fill, chosen.fill,
             today.stock, chosen.stock, *prices, today.orders, chosen.orders, answer.confidence_cost,
-            *policy_cells(alone), *((alone.cost, alone.fill) if alone else (None, None)), answer.law.mean,
-            answer.periods, answer.demands, answer.law.family, answer.law.share, answer.law.log10_bayes, codes, words]
+            *((*alone.levels, alone.cost, alone.fill) if alone else [None] * 4), answer.law.mean, len(item.counts),
+            sum(count > 0 for count in item.counts), answer.law.family, answer.law.share, answer.law.log10_bayes, codes,
+            words]
 
 
 def exact_row(item: Item, answer: Answer) -> list[Cell]:
     """Returns the row of an item in exact.csv: crnsim's own figures of the run, as fractions of a period's money."""
-    run, box = answer.run, answer.box
+    run, box = answer.run, item.box
     unit = run.periods * run.scale
     costs = [Fraction(total, run.replications) / unit for total in (run.total_today, run.total_chosen)]
     levels = [round(it / box) for it in (*item.levels, answer.chosen.point, answer.chosen.level)]
@@ -114,9 +105,9 @@ def decisions_of(folder: PlannedFolder) -> DataTable:
     return DataTable(DECISION_COLUMNS, rows, folder.decimals, "")
 
 
-def exact_of(folder: PlannedFolder) -> DataTable:
-    """Returns the exact figures of the runs of a folder."""
-    return DataTable(EXACT_COLUMNS, (exact_row(*pair) for pair in planned_of(folder)), missing="")
+def exact_of(planned: Iterable[tuple[Item, Answer]]) -> DataTable:
+    """Returns the exact figures of the runs of items."""
+    return DataTable(EXACT_COLUMNS, (exact_row(*pair) for pair in planned), missing="")
 
 
 def faults_of(folder: PlannedFolder) -> Iterator[Reject]:
@@ -140,7 +131,6 @@ class Reason:
 
     @property
     def pattern(self) -> str:
-        """Returns the words that all of them share."""
         return pattern(self.first.remark)
 
     @property
@@ -183,31 +173,9 @@ def counted_rows(files: Mapping[str, FileCounts]) -> Iterator[str]:
 def catalogue_summary(folder: PlannedFolder, totals: Totals, learned: Sequence[Remark],
                       missing: Iterable[str] = ()) -> str:
     """Returns as a text what became of all rows and items, what was learned, the totals, and what is lost."""
-    settings, every, items = folder.settings, folder.every, folder.counts["items"]
-    half, saving = totals.half_width(settings.level), totals["run_saving"]
-
-    def money(amount: float) -> str:
-        return f"{amount:z,.{min(folder.decimals, 2)}f}"
-    verdicts = ", ".join(f"{count:,} {verdict}" for verdict, count in sorted(totals.verdicts.items()))
-    by_run = f" ({totals.by_run:,} items by crnsim)" * bool(totals.by_run)
-    lines = [
-        *counted_rows(folder.counts["files"]),
-        f"items: {items['named']:,} named = {totals.planned:,} planned + {items['left_out'] + totals.faults:,} left "
-        f"out ({REJECTS} says why)",
-        f"rows that stand twice: {items['twice']:,}; orders not yet received: {items['open_orders']:,}; items that "
-        f"begin with their first movement: {items['late']:,}", "",
-        f"verdicts: {verdicts or 'none'}",
-        f"a {every} in the long run, all planned items: {money(totals['cost_today'])} today, "
-        f"{money(totals['cost_chosen'])} chosen{by_run}",
-        f"saved: {money(totals['saving'])} a {every}; by crnsim's runs {money(saving)}, {settings.level:g} interval "
-        f"{money(saving - half)} to {money(saving + half)}",
-        f"stock value: {money(totals['value_today'])} today, {money(totals['value_chosen'])} chosen, by theory"]
-    if settings.confidence is not None:
-        lines.append(f"fill rates kept under {settings.confidence:.0%} of the laws that the histories allow: "
-                     f"{totals.promised:,} items, which cost {money(totals['confidence_cost'])} a {every} more than "
-                     "without, by theory")
-    lines += ["", *([f"Laws: {'; '.join(map(sentence, learned))}."] if learned else []), *NOTES]
-    if totals.without_interval:
-        lines.append(f"{totals.without_interval:,} items have no interval, since one of their policies hardly orders; "
-                     "their savings by crnsim are in the sum, but not in its interval.")
-    return "\n".join([*lines, *(f"\nLOST: {line}" for line in missing)]) + "\n"
+    half, saving = totals.half_width(folder.settings.level), totals["run_saving"]
+    return rendered("summary.txt", {
+        "settings": folder.settings, "every": folder.every, "items": folder.counts["items"], "totals": totals,
+        "files": counted_rows(folder.counts["files"]), "rejects": REJECTS, "ends": (saving - half, saving + half),
+        "learned": learned, "missing": missing,
+        "money": lambda amount: f"{amount:z,.{min(folder.decimals, 2)}f}"})

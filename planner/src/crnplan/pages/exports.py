@@ -3,31 +3,29 @@ from __future__ import annotations
 
 from collections.abc import Callable, Iterable, Mapping, Sequence
 from pathlib import Path
-from typing import TYPE_CHECKING
 
 from ..crnsim.program import find_program
 from ..files import Folder, own_folder
 from ..plan.catalogue import PlannedFolder, Totals, planned_folder
-from ..plan.depth import Depth
+from ..plan.item import Depth, read_item
 from ..records.catalogued import CATALOGUE, Catalogued
 from ..remarks import Remark
-from ..table import DataTable
+from ..table import DataTable, whole
 from .catalogue_page import ITEMS, catalogue_page, file_name
 from .catalogue_tables import (DECISIONS, EXACT, REJECTS, catalogue_summary, decisions_of, exact_of, faults_of,
-                               rejects_of)
+                               planned_of, rejects_of)
 from .item_page import item_page
-from .item_tables import coming_of, demand_of, doubt_of, exact_of_item, laws_of, leads_of, periods_of, policies_of
-from .item_words import ItemWords, item_summary
-
-if TYPE_CHECKING:
-    from ..plan.item import ItemPlan
+from .item_words import ItemWords, coming_of, demand_of, item_summary, laws_of, periods_of, policies_of
 
 SUMMARY, PAGE, ITEM_PAGE, FOUND = "summary.txt", "report.html", "summary.html", "found.toml"
 CATALOGUE_FILES = (DECISIONS, EXACT, REJECTS, SUMMARY, PAGE, FOUND)
+LEAD_TIME = whole("lead time", "periods", "a lead time")
 ITEM_TABLES: Mapping[str, Callable[[ItemWords], DataTable | None]] = {
-    "demand.csv": demand_of, "lead_times.csv": leads_of, "laws.csv": laws_of, "policies.csv": policies_of,
-    EXACT: exact_of_item, "doubt.csv": doubt_of, "sensitivity.csv": lambda words: words.moves.table,
-    "trajectory.csv": periods_of, "coming.csv": coming_of}
+    "demand.csv": demand_of,
+    "lead_times.csv": lambda words: DataTable([LEAD_TIME], [[lead] for lead in words.item.leads]),
+    "laws.csv": lambda words: laws_of(words.question, words.depth.single), "policies.csv": policies_of,
+    EXACT: lambda words: exact_of([(words.item, words.answer)]), "doubt.csv": lambda words: words.doubt,
+    "sensitivity.csv": lambda words: words.depth.moves.table, "trajectory.csv": periods_of, "coming.csv": coming_of}
 
 
 def write_rejects(folder: Folder, read: Catalogued) -> None:
@@ -39,7 +37,7 @@ def write_catalogue(folder: Folder, planned: PlannedFolder, totals: Totals, lear
                     missing: Sequence[str]) -> str:
     """Writes the tables, the summary and the page of a planned catalogue, and returns the summary."""
     folder.write(DECISIONS, decisions_of(planned).lines)
-    folder.write(EXACT, exact_of(planned).lines)
+    folder.write(EXACT, exact_of(planned_of(planned)).lines)
     folder.write(REJECTS, rejects_of(planned.read.rejects(faults_of(planned))).lines)
     summary = catalogue_summary(planned, totals, learned, missing)
     folder.write(SUMMARY, summary)
@@ -47,23 +45,34 @@ def write_catalogue(folder: Folder, planned: PlannedFolder, totals: Totals, lear
     return summary
 
 
-def write_item(folder: Folder, plan: ItemPlan, told: Callable[[str], None]) -> str:
-    """Writes all that was computed of an item that is planned alone, and returns the summary. `told` is called with the
-    name of each file before what it needs is computed."""
-    words = ItemWords.of(plan)
-    texts: dict[str, Callable[[], str]] = {
-        "scenario.toml": lambda: scenario_text(words), "notes.txt": lambda: "".join(f"{it}\n" for it in words.notes),
-        SUMMARY: lambda: item_summary(words), ITEM_PAGE: lambda: item_page(words)}
-    folder.remove(*ITEM_TABLES, *texts)
-    for name, table_of in ITEM_TABLES.items():
-        told(name)
-        table = table_of(words)
-        if table is not None:
-            folder.write(name, table.lines)
-    for name, text_of in texts.items():
-        told(name)
-        folder.write(name, text_of())
-    return item_summary(words)
+def plan_item(history: str | Path, settings: str | Path, out: str | Path | None = None, *,
+              program: str | Path | None = None, told: Callable[[str], None] = lambda name: None) -> ItemWords:
+    """Plans an item, writes all of it into a folder if `out` names one, and returns the words on it.
+
+    `history` is a CSV file, `settings` a TOML file. All of it is computed each time; nothing that is in the folder is
+    read. `told` is called with the name of each part before it is computed. Raises RefusedFaults with all faults of the
+    settings or of the history, Refused for a folder that has other files, Disagreement and ProgramError.
+    """
+    find_program(program)
+    facts = read_item(history, settings)
+    if out is None:
+        return ItemWords.of(facts, program)
+    with own_folder(Path(out), "item") as folder:
+        told("plan")
+        words = ItemWords.of(facts, program)
+        texts: dict[str, Callable[[ItemWords], str]] = {
+            "scenario.toml": scenario_text, "notes.txt": lambda words: "".join(f"{it}\n" for it in words.notes),
+            SUMMARY: item_summary, ITEM_PAGE: item_page}
+        folder.remove(*ITEM_TABLES, *texts)
+        for name, table_of in ITEM_TABLES.items():
+            told(name)
+            table = table_of(words)
+            if table is not None:
+                folder.write(name, table.lines)
+        for name, text_of in texts.items():
+            told(name)
+            folder.write(name, text_of(words))
+        return words
 
 
 def scenario_text(words: ItemWords) -> str:

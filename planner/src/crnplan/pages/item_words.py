@@ -1,42 +1,74 @@
-"""Says in sentences what was decided for an item: the same for its page, its summary and a notebook."""
+"""Says in sentences and tables what was decided for an item: the same for its page, its files and a notebook. Amounts
+are items and money."""
 from __future__ import annotations
 
 import textwrap
-from collections.abc import Callable, Mapping, Sequence
-from dataclasses import replace
-from fractions import Fraction
+from collections.abc import Sequence
+from dataclasses import astuple, replace
 from functools import cached_property
 from pathlib import Path
+from typing import Any
 
-from ..crnsim.trajectory import Period
+from ..crnsim.trajectory import COLUMNS as PERIOD_COLUMNS
 from ..decide.doubt import WITHIN
-from ..decide.verdicts import Compared as ComparedRow
-from ..decide.sensitivity import Moves
+from ..decide.verdicts import POLICY
 from ..demand import EMPIRICAL
-from ..demand.fitted import FittedLaw, fit_words
+from ..demand.checks import check_history
+from ..demand.fitted import QUANTILES, FittedLaw, fit_words
 from ..errors import Fault, spelt, worded
 from ..plan.answer import CHEAPER, CHOSEN, DEARER, SAME, SERVICE, THEORY, TODAY, UNDECIDED, Figures
-from ..plan.depth import Coming, Compared, Depth
-from ..plan.item import ItemPlan
+from ..plan.item import Coming, Depth, Facts, planned
+from ..plan.question import Question
 from ..plan.settings import as_setting
 from ..records.cells import EVERY, period_name
 from ..remarks import Remark
-from ..table import Cell, Column, DataTable, number as numbers, text, whole
+from ..table import MONEY, Cell, DataTable, number as numbers, text, whole
 from ..words import advised, exactness, sentence
 from .page import capital, number, percent
 
 VERDICTS = {CHEAPER: "cheaper than today's policy ({})", DEARER: "dearer than today's policy ({})",
             UNDECIDED: "not told apart from today's policy ({})", SAME: "keep today's policy",
             SERVICE: "for the fill rate that today's policy ({}) misses"}
+COMING = 64  # replications of the coming periods
 MOST_DECIMALS = 6
+ALONE = "the law of this item alone"
+VERDICT = text("verdict", f"beside {TODAY}: base, better, worse or undecided")
+POLICY_COLUMNS = (
+    *POLICY, numbers("cost", "money a period", "cost in the long run: by theory if exact, else by crnsim", MONEY),
+    numbers("difference", "money a period", "that cost less today's", MONEY), VERDICT,
+    numbers("theory_cost", "money a period", "cost by theory", MONEY),
+    numbers("fill", "share", "demand met at once, by theory", ".10g"),
+    numbers("short", "share", "periods that end with items owed, by theory", ".10g"),
+    numbers("stock", "items", "mean stock, by theory", ".10g"),
+    numbers("orders", "orders a period", "by theory", ".10g"),
+    numbers("run_cost", "money a period", "cost by crnsim's run, less the bias of the start", MONEY),
+    numbers("run_cost_low", "money a period", "low end of the interval of that cost, by itself", MONEY),
+    numbers("run_cost_high", "money a period", "high end of that interval", MONEY),
+    numbers("run_difference", "money a period", "cost by the run less today's", MONEY),
+    numbers("run_low", "money a period", "low end of the interval of that difference, by itself", MONEY),
+    numbers("run_high", "money a period", "high end of that interval", MONEY), text("reasons", "why it is looked at"))
+COMING_COLUMNS = (
+    *POLICY, numbers("cost", "money a period", "mean cost over the coming periods, by crnsim", MONEY),
+    numbers("difference", "money a period", "that cost less today's", MONEY),
+    numbers("low", "money a period", "low end of the interval of that difference; all hold together", MONEY),
+    numbers("high", "money a period", "high end of that interval", MONEY), VERDICT)
+LAW_COLUMNS = (
+    text("table", "demand, returns or lead"), text("law", "what was seen, or the law that was fitted to it"),
+    numbers("mean", "boxes or periods", "its mean", ".4f"), numbers("variance", "squared", "its variance", ".4f"),
+    *(whole(f"{share:.1%}", "boxes or periods", "what this share of periods does not exceed") for share in QUANTILES),
+    whole("largest", "boxes or periods", "its largest value"))
 # The summary has so many lines of so many characters. Its table needs four: the heading, two policies, and a blank one.
 LINES, WIDTH, LEAST_TABLE = 24, 80, 4
 # The page has all warnings; in the summary each is cut to one or two lines.
 MOST_WARNED, TWO_LINES = 4, 150
 # From here on amounts of money in the summary have no decimals.
 LARGE = 100_000
-# The columns of the summary's table that are left out if a line is too long, in this order.
-OPTIONAL = ("orders", "stock", "short", "crnsim", "fill")
+# The columns of the summary's table, with their headings and how they are spelt; and those that are left out if a line
+# is too long, in this order.
+SCREEN = {"policy": ("policy", ""), "s": ("s", ""), "S": ("S", ""), "theory_cost": ("theory", MONEY),
+          "fill": ("fill", ".1%"), "short": ("short", ".1%"), "stock": ("stock", ",.1f"), "orders": ("orders", ".3f"),
+          "run_cost": ("crnsim", MONEY), "verdict": ("verdict", "")}
+OPTIONAL = ("orders", "stock", "short", "run_cost", "fill")
 
 
 def law_words(law: FittedLaw) -> str:
@@ -73,46 +105,47 @@ class ItemWords:
         self.question, self.answer = depth.question, depth.answer
         self.item, self.settings = depth.question.item, depth.question.settings
         self.level, self.near = f"{100 * self.settings.level:g}%", f"within {100 * WITHIN:g}%"
+        self.law, step = law_words(self.question.demand), self.answer.step * self.item.box
+        self.exactness = exactness(None if self.answer.source == THEORY else step)
 
     @classmethod
-    def of(cls, plan: ItemPlan) -> ItemWords:
-        """Returns the words on an item that is planned alone. Money has as many decimals as its costs need, at least 2.
-        """
-        item, scale = plan.facts.item, 2
+    def of(cls, facts: Facts, program: str | Path | None = None) -> ItemWords:
+        """Plans an item alone. Money has as many decimals as its costs need, at least 2. Raises Refused, Disagreement
+        and ProgramError."""
+        item, run, depth = facts.item, facts.settings["run"], planned(facts, program)
         costs = [cost for cost in (item.setup, item.holding, item.backlog, item.unit) if cost is not None]
-        while scale < MOST_DECIMALS and any((cost * Fraction(10)**scale).denominator > 1 for cost in costs):
-            scale += 1
-        return cls(plan.depth, plan.facts.period, scale, plan.coming, plan.facts.notes)
-
-    @cached_property
-    def compared(self) -> Sequence[Compared]:
-        return self.depth.compared()
+        decimals = next((digits for digits in range(2, MOST_DECIMALS)
+                         if all((cost * 10**digits).denominator == 1 for cost in costs)), MOST_DECIMALS)
+        coming = depth.coming(run["horizon"], run["replications"] or COMING) if run["horizon"] else None
+        heard: list[Fault | Remark] = [*facts.history.notes, *(facts.leads.notes if facts.leads else ())]
+        heard += check_history(facts.history, season=facts.settings["history"]["season"]).unknown
+        return cls(depth, facts.settings["history"]["every"] or "period", decimals, coming, heard)
 
     @cached_property
     def figures(self) -> dict[str, Figures]:
-        """Returns the figures of all policies by name."""
-        return {policy.name: policy.figures for policy in self.compared}
+        return {policy.name: policy.figures for policy in self.depth.compared}
 
     @cached_property
-    def doubted(self) -> dict[str, dict[str, float]]:
-        """Returns by policy, the least mean cost first, what it costs and meets under the laws that the history allows;
-        nothing if none of them has a long run."""
-        doubt = self.depth.doubt()
-        return {doubt.policies[place].name: {name: float(column[place]) for name, column in doubt.columns.items()}
-                for place in doubt.order} if doubt else {}
+    def doubt(self) -> DataTable:
+        """Returns what each policy costs and meets under the laws that the history allows, the least mean cost first;
+        no policy if none of these laws has a long run."""
+        doubt, rows = self.depth.doubt, list[list[Cell]]()
+        if doubt is None:
+            return DataTable(POLICY, rows, self.decimals, index="policy")
+        columns = doubt.table.columns
+        for place in doubt.order:
+            name = doubt.policies[place].name
+            cost, *shares = (float(doubt.columns[column.name][place]) for column in columns[len(POLICY):])
+            rows.append([name, *self.figures[name].levels, self.question.money(cost), *shares])
+        columns = [replace(column, written=MONEY, shown="") if column.name == "cost" else column for column in columns]
+        return DataTable(columns, rows, self.decimals, index="policy")
 
     @cached_property
-    def moves(self) -> Moves:
-        return self.depth.moves()
-
-    @cached_property
-    def periods(self) -> Mapping[str, Sequence[Period]]:
-        """Returns today's and the chosen policy period by period, in boxes."""
-        return self.depth.trajectory()
+    def doubted(self) -> dict[str, dict[str, Any]]:
+        return {str(row["policy"]): row for row in self.doubt.records}
 
     @property
     def period_names(self) -> list[str]:
-        """Returns the names of the periods of the history."""
         places = range(self.item.first, self.item.first + len(self.item.counts))
         return [period_name(place, self.every) if self.every in EVERY else str(place) for place in places]
 
@@ -120,64 +153,39 @@ class ItemWords:
         """Returns an amount of money; - if there is none."""
         return "-" if amount is None else number(amount, self.decimals)
 
-    def units(self, amount: float) -> str:
-        """Returns an amount of the program's units as money."""
-        return self.money(self.question.money(amount))
-
-    def ends_of(self, row: ComparedRow) -> tuple[float, float | None, float | None]:
-        """Returns by how much a policy costs more than today's in one of the coming periods, with both ends of its
-        interval, in money; None if it has none."""
-        assert self.coming is not None
-        periods = self.coming.scenario.periods
-        low, high = (None if end is None else self.question.money(end / periods) for end in (row.low, row.high))
-        return self.question.money(row.diff / periods), low, high
-
     def spoken(self, saving: float) -> str:
         return f"{self.money(abs(saving))} {'more' if saving < 0 else 'less'}"
 
     @property
     def title(self) -> str:
-        """Returns the item's name with its description and class."""
         group = f"class {self.item.group}" if self.item.group else ""
         return ", ".join(filter(None, (self.item.name, self.item.description, group)))
 
     @property
     def headline(self) -> str:
-        """Returns the decision in a sentence."""
         today, chosen = self.answer.today, self.answer.chosen
         verdict = VERDICTS[self.answer.verdict].format(f"{today.point:,}, {today.level:,}")
         return f"Below {chosen.point:,}, order up to {chosen.level:,}: {verdict}"
 
     @property
-    def exactness(self) -> str:
-        """Returns how exact theory is."""
-        return exactness(None if self.answer.source == THEORY else self.answer.step * self.item.box)
-
-    @property
-    def law(self) -> str:
-        """Returns by which law of demand all figures are."""
-        return law_words(self.question.demand)
-
-    @property
     def saving(self) -> str:
         """Returns what the chosen policy saves, and what the run beside says."""
-        answer, estimate = self.answer, self.answer.run.estimate
+        answer, run = self.answer, self.answer.run
         if answer.verdict == SAME:
             return (f"The policy costs {self.money(answer.cost_chosen)} a {self.every} in the long run, by theory, "
                     f"{self.exactness}. Theory finds no better one.")
-        run = f"{self.settings.replications:,} replications of {self.settings.periods:,} {self.every}s"
-        ends = "without an interval" if estimate.low is None or estimate.high is None else (
-            f"from {self.spoken(estimate.low)} to {self.spoken(estimate.high)} at {self.level}")
+        sample = f"{self.settings.replications:,} replications of {self.settings.periods:,} {self.every}s"
+        ends = "without an interval" if run.low is None or run.high is None else (
+            f"from {self.spoken(run.low)} to {self.spoken(run.high)} at {self.level}")
         if answer.source == THEORY:
             return (f"In the long run the chosen policy costs {self.spoken(answer.saving)} a {self.every} than "
-                    f"today's, by theory, {self.exactness}. By crnsim's run beside it ({run}) it is "
-                    f"{self.spoken(estimate.saving)}, {ends}.")
-        return (f"In the long run, by crnsim ({run}), the chosen policy costs {self.spoken(answer.saving)} a "
+                    f"today's, by theory, {self.exactness}. By crnsim's run beside it ({sample}) it is "
+                    f"{self.spoken(run.saving)}, {ends}.")
+        return (f"In the long run, by crnsim ({sample}), the chosen policy costs {self.spoken(answer.saving)} a "
                 f"{self.every} than today's, {ends}. Theory is {self.exactness}.")
 
     @property
     def service(self) -> str:
-        """Returns what is said of a wanted fill rate; nothing without one."""
         if self.item.fill is None:
             return ""
         return (f"A fill rate of {100 * float(self.item.fill):g}% is wanted. By theory the chosen policy meets "
@@ -191,12 +199,11 @@ class ItemWords:
             return ""
         name = "The chosen policy" if self.depth.chosen == CHOSEN else "Today's policy"
         return (f"{name} is {self.near} of the best of these {len(self.doubted)} policies under {row['within']:.0%} of "
-                f"the laws that this history allows. The cost to promise is {self.units(row['cost'])} a {self.every} "
+                f"the laws that this history allows. The cost to promise is {self.money(row['cost'])} a {self.every} "
                 "in the long run, the mean over these laws.")
 
     @property
     def said(self) -> list[str]:
-        """Returns the sentences below the headline."""
         return [*filter(None, (self.saving, self.service, self.promise))]
 
     @property
@@ -212,7 +219,6 @@ class ItemWords:
 
     @property
     def warnings(self) -> list[str]:
-        """Returns what must be said of the answer."""
         return [capital(sentence(remark)) for remark in self.answer.remarks]
 
     @property
@@ -235,33 +241,73 @@ class ItemWords:
         return (f"Over the coming {scenario.periods:,} {self.every}s ({scenario.replications:,} replications, "
                 f"summary.html): {said}.")
 
-    def table(self, most: int) -> str:
-        """Returns the cheapest policies, so many with today's and the chosen one, with as many columns as fit the
-        screen."""
-        must = {TODAY, self.depth.chosen}
-        others = [policy.name for policy in self.compared if policy.name not in must][:max(most - len(must), 0)]
-        rows = [policy for policy in self.compared if policy.name in must.union(others)]
-        money = ",.0f" if any(abs(row.cost) >= LARGE for row in rows) else f",.{min(self.decimals, 2)}f"
-        columns: dict[Column, Callable[[Compared], Cell]] = {
-            text("policy", ""): lambda row: row.name, whole("s", "items", ""): lambda row: row.figures.point,
-            whole("S", "items", ""): lambda row: row.figures.level,
-            numbers("theory", "money", "", money): lambda row: row.figures.cost,
-            numbers("fill", "share", "", ".1%"): lambda row: row.figures.fill,
-            numbers("short", "share", "", ".1%"): lambda row: row.figures.short,
-            numbers("stock", "items", "", ",.1f"): lambda row: row.figures.stock,
-            numbers("orders", "orders", "", ".3f"): lambda row: row.figures.orders,
-            numbers("crnsim", "money", "", money): lambda row: row.run.cost,
-            text("verdict", ""): lambda row: row.verdict}
-        for left_out in range(len(OPTIONAL) + 1):
-            kept = {column: cell for column, cell in columns.items() if column.name not in OPTIONAL[:left_out]}
-            table = DataTable([*kept], [[cell(row) for cell in kept.values()] for row in rows]).text
-            if max(map(len, table.splitlines())) <= WIDTH:
-                break
-        return table
+
+def policies_of(words: ItemWords) -> DataTable:
+    rows: list[list[Cell]] = [
+        [row.name, *row.figures.levels, row.cost, row.difference, row.verdict, *astuple(row.figures)[2:], row.run.cost,
+         *row.own_ends, row.run.difference, *row.ends, "; ".join(row.reasons)] for row in words.depth.compared]
+    return DataTable(POLICY_COLUMNS, rows, words.decimals, index="policy")
+
+
+def periods_of(words: ItemWords) -> DataTable:
+    """Returns today's and the chosen policy period by period."""
+    rows: list[list[Cell]] = [
+        [name, place, *(words.item.box * count for count in period)]
+        for name, periods in words.depth.trajectory.items() for place, period in enumerate(periods)]
+    return DataTable(PERIOD_COLUMNS, rows)
+
+
+def coming_of(words: ItemWords) -> DataTable | None:
+    """Returns the policies over the coming periods; None if they were not asked for."""
+    if words.coming is None:
+        return None
+    rows: list[list[Cell]] = [
+        [row.policy, *words.figures[row.policy].levels, row.cost, row.diff, row.low, row.high, row.verdict]
+        for row in words.coming.rows]
+    return DataTable(COMING_COLUMNS, rows, words.decimals, index="policy")
+
+
+def demand_of(words: ItemWords) -> DataTable:
+    returns = [whole("returns", "items", "what came back")] * bool(words.item.returns)
+    counts = zip(words.period_names, words.item.counts, *([words.item.returns] if returns else []))
+    return DataTable([text("period", "its name"), whole("demand", "items", "what was asked for"), *returns], [*counts])
+
+
+def laws_of(question: Question, single: FittedLaw | None) -> DataTable:
+    """Returns the figures of the laws: of what was seen, and its own if a law was fitted. Below a law that is learned
+    from others stands that of the item alone, `single`, if there is one."""
+    rows = list[list[Cell]]()
+    for name, law in {"demand": question.demand, "returns": question.returns, "lead": question.lead}.items():
+        if law is None:
+            continue
+        seen, named = law.diagnostics.history, law_words(law)
+        titles = {named: seen} if law.family == EMPIRICAL else {"what was seen": seen, named: law.figures}
+        if name == "demand" and single is not None:
+            titles[ALONE] = single.figures
+        rows += [[name, title, figures.mean, figures.variance, *figures.quantiles.values(), figures.most]
+                 for title, figures in titles.items()]
+    return DataTable(LAW_COLUMNS, rows)
+
+
+def screen_table(words: ItemWords, most: int) -> str:
+    """Returns the cheapest policies, so many with today's and the chosen one, with as many columns as fit the screen.
+    """
+    must, costs = {TODAY, words.depth.chosen}, {policy.name: policy.cost for policy in words.depth.compared}
+    kept = must.union([name for name in costs if name not in must][:max(most - len(must), 0)])
+    money = f",.{0 if any(abs(costs[name]) >= LARGE for name in kept) else min(words.decimals, 2)}f"
+    table = policies_of(words)
+    table = replace(table, rows=[row for row in table.rows if row[0] in kept])
+    for left_out in range(len(OPTIONAL) + 1):
+        shown = table.with_columns([name for name in SCREEN if name not in OPTIONAL[:left_out]])
+        screen = ((column, *SCREEN[column.name]) for column in shown.columns)
+        lines = replace(shown, columns=[replace(column, name=heading, shown=money if style == MONEY else style)
+                                        for column, heading, style in screen]).text
+        if max(map(len, lines.splitlines())) <= WIDTH:
+            break
+    return lines
 
 
 def wrapped(*texts: str) -> list[str]:
-    """Returns texts in lines that fit the screen."""
     return [line for words in texts for line in textwrap.wrap(words, WIDTH, break_on_hyphens=False)]
 
 
@@ -278,5 +324,5 @@ def item_summary(words: ItemWords) -> str:
     room = min(LINES - LEAST_TABLE - len([*above, *said, *below]), MOST_WARNED)
     width = TWO_LINES if 2 * len(warned) <= room else WIDTH
     said += wrapped(*(textwrap.shorten(line, width, placeholder=" ..") for line in warned))[:max(room, 0)]
-    rows = words.table(LINES - len([*above, *said, *below]) - 2).splitlines()
+    rows = screen_table(words, LINES - len([*above, *said, *below]) - 2).splitlines()
     return "".join(f"{line}\n" for line in [*above, *rows, "", *said, *below])

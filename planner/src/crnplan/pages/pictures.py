@@ -6,9 +6,8 @@ in grey.
 from __future__ import annotations
 
 import contextlib
-import itertools
 import math
-from collections.abc import Iterable, Iterator, Mapping, Sequence
+from collections.abc import Mapping, Sequence
 from pathlib import Path
 from typing import Any
 
@@ -21,6 +20,7 @@ from ..decide.doubt import MOST, Doubt
 from ..decide.verdicts import Compared, Decision
 from ..errors import Refused
 from ..scenario import Policy
+from .page import curve_ends
 
 try:
     import matplotlib
@@ -36,6 +36,7 @@ except ImportError as missing:
 
 SETTINGS = {"svg.fonttype": "none", "svg.hashsalt": "crnsim", "axes.spines.top": False, "axes.spines.right": False,
             "font.size": 10, "axes.titlesize": 12, "axes.titlelocation": "left"}
+STYLED: contextlib.ContextDecorator = matplotlib.rc_context(SETTINGS)
 # A legend between the title and the axes, at the left.
 ABOVE = {"loc": "lower left", "bbox_to_anchor": (0, 1), "borderaxespad": 0.2, "borderpad": 0.2, "frameon": False}
 TITLE = {"x": 0.01, "ha": "left", "fontsize": 12}
@@ -47,21 +48,10 @@ VERDICTS = {"better": (BLUE, "o", True), "undecided": (GREY, "D", False), "worse
             "base": ("black", "|", True)}
 POINTS = ((ORANGE, "o", True), (GREY, "D", False), (BLUE, "^", True), (BLUE, "s", True), ("black", "*", True))
 NARROW_CELLS = 14  # More cells in a row have no room for figures.
-# The axis of stock ends so many times beyond the greatest named point. The end of the curve is far away.
-ROOM = 1.35
-# The axis of service begins so far below the least named point, in percent.
-BELOW = 4.0
 NEAR, OWED = "#e6ecf4", "#dcdcdc"  # the grounds of policies near the best, and of periods with items owed
 SPREAD = 0.28  # of the dots of a row, up and down
 TICKS = (0.2, 1, 2, 5, 10, 20, 50, 100, 200, 500, 1000, 2000, 5000, 10_000)  # percent
 CLOSEST = 0.055  # of the axis between two ticks
-
-
-@contextlib.contextmanager
-def settings() -> Iterator[None]:
-    """Draws with the settings of the package."""
-    with matplotlib.rc_context(SETTINGS):
-        yield
 
 
 def blank(width: float, height: float, rows: int = 1) -> tuple[Figure, list[Axes]]:
@@ -70,7 +60,7 @@ def blank(width: float, height: float, rows: int = 1) -> tuple[Figure, list[Axes
     return figure, [*figure.subplots(rows, sharex=True, squeeze=False)[:, 0]]
 
 
-@settings()
+@STYLED
 def save(figure: Figure, path: str | Path) -> None:
     """Writes a picture. The same picture gives the same bytes. Raises Refused if the file cannot be written."""
     kind = Path(path).suffix[1:].lower()
@@ -81,7 +71,6 @@ def save(figure: Figure, path: str | Path) -> None:
 
 
 def marker_of(colour: str, form: str, is_filled: bool) -> dict[str, Any]:
-    """Returns the look of a marker."""
     return {"color": colour, "marker": form, "markerfacecolor": colour if is_filled else "white",
             "markeredgewidth": 1.5, "linestyle": "none"}
 
@@ -99,11 +88,10 @@ def label_of(row: Compared) -> str:
 
 
 def base_of(decision: Decision) -> Compared:
-    """Returns the policy that the others are compared with."""
     return next(row for row in decision.rows if row.verdict == "base")
 
 
-@settings()
+@STYLED
 def differences_picture(decision: Decision) -> Figure:
     """Returns a picture of `diff_mean` of each listed policy with its interval."""
     rows, base = decision.listed, base_of(decision)
@@ -135,43 +123,39 @@ def differences_picture(decision: Decision) -> Figure:
     return figure
 
 
-def least_step(levels: Iterable[int]) -> int:
-    """Returns the least distance of two levels, 1 if there is one level."""
-    return min((high - low for low, high in itertools.pairwise(sorted({*levels}))), default=1)
+def levels_of(rows: Sequence[Compared]) -> tuple[list[int], list[int]]:
+    return [row.s for row in rows], [row.S for row in rows]
 
 
-def draw_cells(axes: Axes, rows: Sequence[Compared], widths: tuple[int, int], shades: cm.ScalarMappable) -> None:
+def cell_of(row: Compared, widths: Sequence[int], **look: Any) -> Rectangle:
+    return Rectangle((row.s - widths[0] / 2, row.S - widths[1] / 2), *widths, **look)
+
+
+def draw_cells(axes: Axes, rows: Sequence[Compared], widths: Sequence[int], shades: cm.ScalarMappable) -> None:
     """Draws a cell for each pair of s and S, with its cost if there is room."""
-    across = max(row.s for row in rows) - min(row.s for row in rows)
-    down = max(row.S for row in rows) - min(row.S for row in rows)
-    has_room = across / widths[0] < NARROW_CELLS and down / widths[1] < 2 * NARROW_CELLS
+    across, down = (np.ptp(levels) / width for levels, width in zip(levels_of(rows), widths))
     for row in rows:
-        cost = row.cost
-        colour = shades.to_rgba(cost)
-        axes.add_patch(Rectangle((row.s - widths[0] / 2, row.S - widths[1] / 2), *widths, facecolor=colour,
-                                 edgecolor="white", linewidth=0.4))
-        if has_room:
-            grey = 0.3 * colour[0] + 0.59 * colour[1] + 0.11 * colour[2]
-            digits = 0 if cost >= 10_000 else 1 if cost >= 1_000 else 2
-            axes.text(row.s, row.S, f"{cost:,.{digits}f}", ha="center", va="center", fontsize=7,
-                      color="black" if grey > 0.5 else "white")
+        colour = shades.to_rgba(row.cost)
+        axes.add_patch(cell_of(row, widths, facecolor=colour, edgecolor="white", linewidth=0.4))
+        if across < NARROW_CELLS and down < 2 * NARROW_CELLS:
+            digits = 0 if row.cost >= 10_000 else 1 if row.cost >= 1_000 else 2
+            is_light = 0.3 * colour[0] + 0.59 * colour[1] + 0.11 * colour[2] > 0.5
+            axes.text(row.s, row.S, f"{row.cost:,.{digits}f}", ha="center", va="center", fontsize=7,
+                      color="black" if is_light else "white")
 
 
-def draw_frames(axes: Axes, best: Compared, base: Compared, widths: tuple[int, int]) -> None:
+def draw_frames(axes: Axes, best: Compared, base: Compared, widths: Sequence[int]) -> None:
     """Frames the best pair and the base, and names both above the axes."""
-    handles, names = [], []
+    names, frames = [], []
     for row, style, name in ((best, "solid", "best"), (base, "dashed", "base")):
-        frame = {"fill": False, "edgecolor": "black", "linewidth": 2.2, "linestyle": style, "zorder": 5}
-        corner = row.s - widths[0] / 2, row.S - widths[1] / 2
-        axes.add_patch(Rectangle(corner, *widths, **frame | {"edgecolor": "white", "linewidth": 5,
-                                                             "linestyle": "solid"}))
-        axes.add_patch(Rectangle(corner, *widths, **frame))
-        handles.append(Rectangle((0, 0), 1, 1, **frame))
+        look = {"fill": False, "edgecolor": "black", "linewidth": 2.2, "linestyle": style, "zorder": 5}
+        axes.add_patch(cell_of(row, widths, **look | {"edgecolor": "white", "linewidth": 5, "linestyle": "solid"}))
+        frames.append(axes.add_patch(cell_of(row, widths, **look)))
         names.append(f"{name}: {label_of(row)}, {row.cost:,.3f} a period")
-    axes.legend(handles, names, **ABOVE)
+    axes.legend(frames, names, **ABOVE)
 
 
-@settings()
+@STYLED
 def map_picture(decision: Decision) -> Figure:
     """Returns a picture of the cost per period over reorder point and order-up-to level."""
     rows, base = decision.rows, base_of(decision)
@@ -181,11 +165,11 @@ def map_picture(decision: Decision) -> Figure:
     shades = cm.ScalarMappable(norm, "cividis")
     # The base may lie off a grid: it is drawn first, and its frame last.
     others = [row for row in rows if row.verdict != "base"]
-    widths = least_step(row.s for row in others or rows), least_step(row.S for row in others or rows)
+    widths = [min(np.diff(np.unique(levels)), default=1) for levels in levels_of(others or rows)]
     draw_cells(axes, [base, *others], widths, shades)
     draw_frames(axes, rows[0], base, widths)
-    for levels, width, limit, axis in (([row.s for row in rows], widths[0], axes.set_xlim, axes.xaxis),
-                                       ([row.S for row in rows], widths[1], axes.set_ylim, axes.yaxis)):
+    for levels, width, limit, axis in zip(levels_of(rows), widths, (axes.set_xlim, axes.set_ylim),
+                                          (axes.xaxis, axes.yaxis)):
         limit(min(levels) - 0.8 * width, max(levels) + 0.8 * width)
         axis.set_major_locator(ticker.MaxNLocator(8, integer=True, min_n_ticks=1))
         axis.set_major_formatter(NUMBER)
@@ -198,7 +182,7 @@ def map_picture(decision: Decision) -> Figure:
     return figure
 
 
-@settings()
+@STYLED
 def exchange_picture(curve: Sequence[tuple[float, Point]], named: Mapping[str, Point]) -> Figure:
     """Returns a picture of an exchange curve, the value of the stock against the share of demand met at once: its line,
     by price and point, with named points."""
@@ -208,8 +192,8 @@ def exchange_picture(curve: Sequence[tuple[float, Point]], named: Mapping[str, P
     for (name, point), style in zip(named.items(), POINTS):
         axes.plot([point.value], [100 * point.fill], markersize=13 if style[1] == "*" else 9, zorder=4,
                   label=f"{name}: {point.value:,.0f}, {point.fill:.2%}", **marker_of(*style))
-    bottom = max(0.0, min(100 * point.fill for point in named.values()) - BELOW)
-    axes.set_xlim(0, ROOM * max(point.value for point in named.values()))
+    right, bottom = curve_ends(named.values())
+    axes.set_xlim(0, right)
     axes.set_ylim(bottom, 100 + 0.06 * (100 - bottom))
     axes.xaxis.set_major_formatter(NUMBER)
     axes.yaxis.set_major_formatter("{x:g}%")
@@ -246,7 +230,7 @@ def set_scale(axes: Axes, most: float) -> None:
     axes.minorticks_off()
 
 
-@settings()
+@STYLED
 def regrets_picture(doubt: Doubt) -> Figure:
     """Returns a picture of how much more than the best each policy costs under the laws that a history allows: a dot
     for each law, the cheapest policy first."""
@@ -317,7 +301,7 @@ def move_apart(axes: Axes, policy: Policy) -> None:
             text.xyann = 5, side * (11 - near) / 2
 
 
-@settings()
+@STYLED
 def trajectories_picture(policies: Sequence[Policy], periods: Sequence[Sequence[Period]], initial: int) -> Figure:
     """Returns a picture of the periods of each policy, one below another. `initial` is the stock before the first
     period."""

@@ -12,6 +12,7 @@ TODAY, CHOSEN, ALONE = "today", "chosen", "alone"
 CHEAPER, DEARER, UNDECIDED, SAME, SERVICE = "cheaper", "dearer", "undecided", "same", "more service"
 # Whose figures costs and savings are: those of theory where it is exact, else those of the run.
 THEORY, RUN = "theory", "run"
+OURS = "disagrees", "failed"  # codes of faults of ours
 
 
 @dataclass(frozen=True)
@@ -44,28 +45,13 @@ class LawFacts:
 
 
 @dataclass(frozen=True)
-class Estimate:
-    """Two policies in a run, with the bias of the start taken out: money of a period of the long run.
-
-    `saving` is what the second costs less; `error` is its standard error, `low` to `high` its paired interval. These
-    three are None if the run has no interval.
-    """
-
-    cost_today: float
-    cost_chosen: float
-    saving: float
-    error: float | None
-    low: float | None
-    high: float | None
-
-
-@dataclass(frozen=True)
 class Run:
     """The run of crnsim beside the figures of theory, today's policy and the chosen one on the same random numbers.
 
     Exact: totals in the program's units, of which `scale` are one of money, with the rates of a box and the initial
     stock in boxes; the difference of both costs (chosen less today) in a replication on average, and the variance of
-    that mean. `estimate` has the bias of the start taken out, which is exact if `bias_is_exact`.
+    that mean. With the bias of the start taken out, in money of a period of the long run: both costs, what the chosen
+    policy saves, and the standard error of that with the ends of its interval, which are None if the run has none.
     """
 
     key: str
@@ -80,8 +66,12 @@ class Run:
     total_chosen: int
     difference: Fraction
     variance: Fraction
-    bias_is_exact: bool
-    estimate: Estimate
+    cost_today: float
+    cost_chosen: float
+    saving: float
+    error: float | None
+    low: float | None
+    high: float | None
 
 
 @dataclass(frozen=True)
@@ -90,12 +80,10 @@ class Answer:
 
     `saving`, and `cost_today` and `cost_chosen`, in money of a period of the long run, are those of `source`: of theory
     where it is exact, else of the run. `alone` is the policy of the item's own history under the law that it has; None
-    if there is none. Theory counts in steps of `step` items. `confidence_cost` is what the confidence in a wanted fill
-    costs a period, None without one. The history has `periods`, `demands` of which have demand.
+    if there is none. Theory counts in steps of `step` boxes. `confidence_cost` is what the confidence in a wanted fill
+    costs a period, None without one.
     """
 
-    name: str
-    box: int
     verdict: str
     source: str
     cost_today: float
@@ -107,23 +95,5 @@ class Answer:
     step: int
     confidence_cost: float | None
     law: LawFacts
-    demands: int
-    periods: int
     run: Run
     remarks: tuple[Remark, ...]
-
-
-# Codes of remarks on an answer, each with the names of its facts.
-FEW_DEMANDS = "few demands"  # demands, and whether the law is `learned`
-UNLIKE = "unlike the catalogue"
-STEPS = "steps"  # items
-ROUNDED_COSTS = "rounded costs"  # error, as a share
-NO_PROMISE = "no promise"  # confidence
-NO_INTERVAL = "no interval"  # orders: the fewest expected orders of a policy; 0 if the difference is always the same
-# Codes of faults.
-REFUSED = "refused"  # what, advice
-NO_POLICY = "no policy"  # fill
-DISAGREES = "disagrees"  # figure, theory, run, error
-FAILED = "failed"  # kind, what
-# Those that are faults of ours.
-OURS = (DISAGREES, FAILED)

@@ -29,7 +29,7 @@ from ..remarks import Remark
 from ..stored import Damaged, Store
 from ..words import advice, sentence
 from .answer import CHOSEN, OURS, RUN, TODAY, Answer
-from .one import plan_item
+from .one import plan_batch
 from .question import ALL, CLASS, NONE, Question, Settings, question_of
 
 ANSWERS = "answers.sqlite"
@@ -38,51 +38,37 @@ AGAIN = "run crnplan catalogue again"
 # Items whose histories are looked at for the law of a whole catalogue: it is estimated on 3,000 of them.
 MOST_READ = 10_000
 MOST_PARTS = 1_000  # of a sum
-# Codes of remarks on what was learned, each with the names of its facts.
-OWN_LAWS = "own laws"  # reason: `fit`, `borrow`, or why too few items are there
-LEARNED = "learned"  # items, classes, and whether in an `earlier` run
-OTHERWISE = "masters say otherwise"  # items
 
 
-class Sums(defaultdict[str, list[float]]):
-    """Sums of floats by name, without rounding but at the end (`math.fsum`)."""
-
-    def __init__(self) -> None:
-        super().__init__(list)
-
-    def add(self, name: str, value: float) -> None:
-        """Adds a number. Many of them are replaced by their sum and what it lacks."""
-        parts = self[name]
-        parts.append(value)
-        if len(parts) > MOST_PARTS:
-            whole = math.fsum(parts)
-            self[name] = [whole, math.fsum([*parts, -whole])]
-
-    def total(self, name: str) -> float:
-        return math.fsum(self[name]) if name in self else 0.0
+def add_exactly(parts: list[float], value: float) -> None:
+    """Adds a number to the parts of a sum. Many parts are replaced by their sum and what it lacks."""
+    parts.append(value)
+    if len(parts) > MOST_PARTS:
+        whole = math.fsum(parts)
+        parts[:] = whole, math.fsum([*parts, -whole])
 
 
 @dataclass
 class Totals:
-    """What adds up over items.
+    """What adds up over items. Sums are without rounding but at the end.
 
-    Sums of money: `cost_today`, `cost_chosen` and `saving` of a period; `run_saving`, by runs, with its `run_variance`;
-    `value_today` and `value_chosen` of the mean stock; `confidence_cost` of a period; `saving VERDICT`; of items with a
-    price, the value of the demand of a period, `demand`, and `met_today` and `met_chosen` of it at once.
+    Sums of money, as `totals["saving"]`: `cost_today`, `cost_chosen` and `saving` of a period; `run_saving`, by runs,
+    with its `run_variance`; `value_today` and `value_chosen` of the mean stock; `confidence_cost` of a period; `saving
+    VERDICT`; of items with a price, the value of the demand of a period, `demand`, and `met_today` and `met_chosen` of
+    it at once.
 
     Counts of items: by verdict, those that are not planned (`faults`), those of them by a fault of ours (`broken`),
     those with the run's figures (`by_run`), without an interval of the run, with a confidence in their fill rate
-    (`promised`), with a remark, and with a price.
+    (`promised`), and with a price.
     """
 
-    sums: Sums = field(default_factory=Sums)
+    parts: defaultdict[str, list[float]] = field(default_factory=lambda: defaultdict(list))
     verdicts: Counter[str] = field(default_factory=Counter)
     faults: int = 0
     broken: int = 0
     by_run: int = 0
     without_interval: int = 0
     promised: int = 0
-    remarked: int = 0
     priced: int = 0
 
     @classmethod
@@ -99,30 +85,27 @@ class Totals:
 
     @property
     def planned(self) -> int:
-        """Returns how many items are planned."""
         return self.verdicts.total()
 
     def __getitem__(self, name: str) -> float:
-        return self.sums.total(name)
+        return math.fsum(self.parts.get(name, ()))
 
     def add(self, item: Item, answer: Answer) -> None:
-        """Adds an item with its answer."""
-        estimate, price = answer.run.estimate, float(item.price or 0)
+        run, price = answer.run, float(item.price or 0)
         demand = price * answer.law.mean
         self.verdicts[answer.verdict] += 1
         self.by_run += answer.source == RUN
-        self.remarked += bool(answer.remarks or item.remarks)
         self.promised += answer.confidence_cost is not None
-        self.without_interval += estimate.error is None
+        self.without_interval += run.error is None
         self.priced += bool(price)
         values = {"cost_today": answer.cost_today, "cost_chosen": answer.cost_chosen, "saving": answer.saving,
-                  f"saving {answer.verdict}": answer.saving, "run_saving": estimate.saving,
-                  "run_variance": (estimate.error or 0.0)**2, "confidence_cost": answer.confidence_cost or 0.0,
+                  f"saving {answer.verdict}": answer.saving, "run_saving": run.saving,
+                  "run_variance": (run.error or 0.0)**2, "confidence_cost": answer.confidence_cost or 0.0,
                   "demand": demand}
         for name, figures in ((TODAY, answer.today), (CHOSEN, answer.chosen)):
             values |= {f"value_{name}": price * figures.stock, f"met_{name}": demand * figures.fill}
         for name, value in values.items():
-            self.sums.add(name, value)
+            add_exactly(self.parts[name], value)
 
     def fill(self, policy: str) -> float | None:
         """Returns the share of demand by value that is met at once; None if no item has a price."""
@@ -186,7 +169,7 @@ class PlannedFolder:
         item = self.read.item(name)
         if item is None:
             raise self._why_not(name)
-        if self.store.digest(name) != self.read.digest(name, self.planned.common):
+        if self.store.digests().get(name) != self.read.digest(name, self.planned.common):
             raise Refused(f"{self.path}: item {name!r}: it is not planned as its rows are now", AGAIN)
         answer = self.store.answer(name)
         if isinstance(answer, Remark):
@@ -232,7 +215,7 @@ class Learned(NamedTuple):
 
 def own_laws(reason: str) -> Learned:
     """Returns that no item learns from another one, and why."""
-    return Learned(Prior(NONE), NONE, (Remark(OWN_LAWS, {"reason": reason}),))
+    return Learned(Prior(NONE), NONE, (Remark("own laws", {"reason": reason}),))
 
 
 def items_of(read: Catalogued, most: int | None) -> Iterator[Item]:
@@ -267,9 +250,9 @@ def learned_of(answers: Store[Any], read: Catalogued, settings: Settings, again:
     learners = prior.items - prior.outside
     usual = settings.borrow or (ALL if learners >= LEAST_ITEMS else NONE)
     others = sum(count for word, count in said.items() if word not in ("", usual))
-    own = [Remark(OWN_LAWS, {"reason": ""})] if usual == NONE else []
-    otherwise = [Remark(OTHERWISE, {"items": others})] if others else []
-    remark = Remark(LEARNED, {"items": learners, "classes": len(prior.classes), "earlier": prior is earlier})
+    own = [Remark("own laws", {"reason": ""})] if usual == NONE else []
+    otherwise = [Remark("masters say otherwise", {"items": others})] if others else []
+    remark = Remark("learned", {"items": learners, "classes": len(prior.classes), "earlier": prior is earlier})
     return Learned(prior, usual, (*own, remark, *otherwise))
 
 
@@ -306,10 +289,6 @@ class Done:
     learned: tuple[Remark, ...]
     missing: Sequence[str]
     summary: str
-
-
-def plan_batch(batch: Sequence[Item], settings: Settings, prior: Prior, program: str) -> list[Answer | Remark]:
-    return [plan_item(item, settings, prior, program) for item in batch]
 
 
 def plan_into(folder: Folder, settings: Settings, *, jobs: int | None = None, address: str | None = None,

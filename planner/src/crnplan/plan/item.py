@@ -1,34 +1,243 @@
-"""Plans one item from a history and settings: the same facts, question and answer as in a catalogue, and then
-deeper."""
+"""Plans one item from a history and settings: the same facts, question and answer as in a catalogue. Then it looks
+deeper than the answer: other policies, the doubt about its laws, how the choice moves, the stock in a run, and the
+coming periods from today's stock, on the same random numbers as the answer's own run."""
 from __future__ import annotations
 
-import dataclasses
-from collections.abc import Callable
-from dataclasses import dataclass
+from collections.abc import Mapping
+from dataclasses import asdict, replace
 from fractions import Fraction
 from functools import cached_property
+from itertools import repeat
 from pathlib import Path
-from typing import Any
+from typing import Any, NamedTuple
 
 from ..crnsim.program import find_program
-from ..demand.checks import Checks, check_history
-from ..errors import Fault
-from ..files import own_folder
+from ..crnsim.report import report_of
+from ..crnsim.trajectory import Period, trajectories
+from ..decide.doubt import WITHIN, Doubt
+from ..decide.verdicts import (Compared as ComparedRow, Ends, Estimate, ends_of, t_quantile, verdict_of,
+                               with_intervals)
+from ..decide.sensitivity import Case, Move, Moves, moves_of
+from ..demand.fitted import FittedLaw
+from ..demand.posterior import AllowedLaws
+from ..errors import Refused
+from ..formats import MOST_ITEMS, POLICIES
+from ..law import Law
 from ..records import History, LeadTimes, read_history, read_lead_times
 from ..records.item import Item
-from ..remarks import Remark
-from .depth import Coming, Depth
-from .one import plan_one
-from .question import NONE, Settings, question_of
+from ..scenario import Policy, Scenario
+from ..theory.lattice import NoTheory
+from ..theory.long_run import Candidate, LongRun
+from ..theory.many_laws import CONFIDENCE, Promises, figures_of_laws
+from ..theory.suggestions import FILLS, Chosen, add_fills, chosen_policies
+from ..words import sentence
+from .answer import ALONE, CHOSEN, THEORY, TODAY, Answer, Figures
+from .one import LAWS, Sample, allowed_by, choice_of, figures_of, plan_one, sample_of
+from .question import NONE, Levels, Question, Settings, question_of
 from .settings import Tables, read_settings
 
-KIND = "item"  # of the folder
+MOST_PERIODS = 104  # of a trajectory
 RULES = ("delimiter", "encoding", "decimal", "item", "leave_out")
-COMING = 64  # replications of the coming periods
 
 
-@dataclass(frozen=True)
-class Facts:
+class Compared(NamedTuple):
+    """A policy beside today's in the long run, in money of a period.
+
+    `cost` and `difference`, which is the cost less today's, are theory's where that is exact, else the run's. `run` has
+    the run's figures, `own_ends` the interval of its cost and `ends` that of its difference, each by itself. `verdict`
+    is base, better, worse or undecided. `reasons` say why the policy is looked at.
+    """
+
+    name: str
+    figures: Figures
+    cost: float
+    difference: float
+    run: Estimate
+    own_ends: Ends
+    ends: Ends
+    verdict: str
+    reasons: tuple[str, ...]
+
+
+class Coming(NamedTuple):
+    """The policies over coming periods from today's stock: the scenario, and rows in money of a period, whose intervals
+    hold together."""
+
+    scenario: Scenario
+    rows: list[ComparedRow]
+
+
+class Depth:
+    """What is computed of an item beside its answer, as it is asked for. `laws` is how many are drawn that its history
+    allows, `confidence` the share of them under which suggested policies keep a fill rate."""
+
+    def __init__(self, question: Question, answer: Answer, program: str, laws: int = LAWS,
+                 confidence: float | None = None) -> None:
+        self.question, self.answer, self.program, self.laws = question, answer, program, laws
+        self.confidence = confidence or question.settings.confidence or CONFIDENCE
+
+    @cached_property
+    def theory(self) -> LongRun:
+        return self.question.theory()
+
+    @cached_property
+    def levels(self) -> dict[str, Levels]:
+        """Returns s and S of the answer's policies in boxes."""
+        item, today = self.question.item, self.question.levels
+        figures = {TODAY: self.answer.today, CHOSEN: self.answer.chosen, ALONE: self.answer.alone}
+        return {name: today if policy.levels == item.levels else (policy.point // item.box, policy.level // item.box)
+                for name, policy in figures.items() if policy is not None}
+
+    @property
+    def chosen(self) -> str:
+        """Returns the name under which the chosen policy is shown: today's if it is that."""
+        return TODAY if self.levels[CHOSEN] == self.levels[TODAY] else CHOSEN
+
+    @cached_property
+    def single(self) -> FittedLaw | None:
+        """Returns the law of the item's own history alone, if another one was learned."""
+        return self.question.alone().demand if self.question.learned else None
+
+    @cached_property
+    def allowed(self) -> tuple[tuple[Law, ...], tuple[Law, ...]]:
+        return allowed_by(self.question, self.laws)
+
+    @cached_property
+    def suggested(self) -> Chosen:
+        """Returns further policies with the reasons for each: those that keep fill rates, by the law of the item and
+        under most of the allowed ones, and with a backlog cost the neighbours of the best."""
+        scenario, levels, theory = self.question.scenario(), self.levels[CHOSEN], self.theory
+        promises = Promises(scenario, theory, theory.gap_of(*levels), *self.allowed, [*FILLS.values()],
+                            self.confidence)
+        if self.question.has_backlog and self.question.item.fill is None:
+            best = Candidate(theory.figures(*levels).cost, *levels)
+            return chosen_policies(scenario, theory, best, promises)
+        chosen = Chosen(scenario)
+        add_fills(chosen, theory, promises)
+        return chosen
+
+    @cached_property
+    def policies(self) -> dict[Policy, tuple[str, ...]]:
+        """Returns today's policy, the chosen one, that of the item alone, and further ones, each in boxes with the
+        reasons for it."""
+        names, reasons = dict[Levels, str](), dict[Levels, tuple[str, ...]]()
+        for name, levels in self.levels.items():
+            names.setdefault(levels, name)
+        for policy, remarks in self.suggested.policies.values():
+            names.setdefault((policy.s, policy.S), policy.name)
+            reasons[policy.s, policy.S] = tuple(map(sentence, remarks))
+        shown = [*names.items()][:POLICIES[1]]
+        return {Policy(name, *levels): reasons.get(levels, ()) for levels, name in shown}
+
+    @cached_property
+    def sample(self) -> Sample:
+        """Runs all policies as the answer's run did. Raises Refused if a total is not that of the answer."""
+        run = self.answer.run
+        report = report_of(self.scenario, self.program)
+        totals = {row.policy: row.total for row in report.rows}
+        if (totals[TODAY], totals[self.chosen]) != (run.total_today, run.total_chosen):
+            raise Refused(f"item {self.question.item.name!r}: {self.program} gives other totals than the plan has",
+                          "plan it again with this program")
+        return sample_of(self.question, report)
+
+    @property
+    def scenario(self) -> Scenario:
+        backlog = self.question.rates.get("backlog", 0)
+        return self.question.scenario(backlog, self.answer.run.initial).with_policies(self.policies)
+
+    def _sampled(self, sampled: Estimate) -> Estimate:
+        """Returns a policy of the run. The answer's own policies are as there: theory counts the start on a coarser
+        lattice if another policy has a wide gap."""
+        run = self.answer.run
+        if sampled.policy == TODAY:
+            return sampled._replace(cost=run.cost_today)
+        if sampled.policy == CHOSEN:
+            return sampled._replace(cost=run.cost_chosen, difference=-run.saving, error=run.error)
+        return sampled
+
+    @cached_property
+    def compared(self) -> list[Compared]:
+        """Returns all policies, the cheapest first."""
+        settings, is_exact, rows = self.question.settings, self.answer.source == THEORY, list[Compared]()
+        errors = t_quantile(1 - settings.level, settings.replications - 1)
+        for (policy, reasons), run in zip(self.policies.items(), map(self._sampled, self.sample.policies)):
+            figures = figures_of(self.question, self.theory, (policy.s, policy.S))
+            own, ends = ends_of(run.cost, run.own_error, errors), ends_of(run.difference, run.error, errors)
+            cost, difference = run.cost, run.difference
+            if is_exact:
+                cost, difference = figures.cost, figures.cost - self.answer.today.cost
+            known = (difference, difference) if is_exact else ends
+            verdict = "base" if policy.name == TODAY else verdict_of(*known)
+            rows.append(Compared(policy.name, figures, cost, difference, run, own, ends, verdict, reasons))
+        return sorted(rows, key=lambda row: row.difference)
+
+    @cached_property
+    def doubt(self) -> Doubt | None:
+        """Returns what the policies cost, and how well they fill, under the laws that the item's history allows, and
+        what it has learned. None if no such law has a long run. Without a backlog cost only fill rates mean something.
+        """
+        (demands, leads), scenario, policies = self.allowed, self.scenario, tuple(self.policies)
+        # Without a backlog cost it is that by which a newsvendor would meet the wanted share.
+        costs = replace(scenario.costs, backlog=self.question.implied_backlog)
+        scenario = replace(scenario, costs=costs)
+        try:
+            figures = figures_of_laws(scenario, [*zip(demands, leads or repeat(scenario.lead))], policies)
+        except NoTheory:
+            return None
+        return Doubt(scenario, policies, WITHIN, AllowedLaws({}, demands), None, figures)
+
+    @cached_property
+    def moves(self) -> Moves:
+        """Returns how the best policy moves, and what it costs to keep the chosen one, in money."""
+        fill = self.question.item.fill
+        return moves_of(self.scenario, self.chosen, self.levels[CHOSEN], fill=None if fill is None else float(fill),
+                        find=self._move)
+
+    def _move(self, case: Case, kept: Levels) -> Move:
+        """Returns the move of a case, without a confidence in the fill rate of its best policy. Raises Refused."""
+        asked, box = self._asked(case), self.question.item.box
+        theory = asked.theory()
+        levels = choice_of(theory, asked).levels
+        best, own = (figures_of(asked, theory, of_policy) for of_policy in (levels, kept))
+        return Move.of(case, (levels[0] * box, levels[1] * box), best.cost, best.fill, own.cost, own.fill)
+
+    def _asked(self, case: Case) -> Question:
+        question, scenario, costs = self.question, case.scenario, asdict(case.scenario.costs)
+        laws = {name: replace(getattr(question, name), values=law.values, weights=law.weights)
+                for name, law in (("demand", scenario.demand), ("lead", scenario.lead))}
+        return replace(question, item=replace(question.item, fill=None if case.fill is None else Fraction(case.fill)),
+                       settings=replace(question.settings, confidence=None),
+                       rates={name: costs[name] for name in question.rates}, **laws)
+
+    def _stock(self) -> int:
+        """Returns today's stock in boxes; the initial stock of the run if that is not known."""
+        item = self.question.item
+        return self.answer.run.initial if item.stock is None else min(max(round(item.stock / item.box), 0), MOST_ITEMS)
+
+    @cached_property
+    def trajectory(self) -> Mapping[str, list[Period]]:
+        """Returns today's and the chosen policy period by period, in boxes: replication 0 of the run, from today's
+        stock if that is known."""
+        shown = [policy for policy in self.policies if policy.name in (TODAY, self.chosen)]
+        periods = min(self.question.settings.periods, MOST_PERIODS)
+        scenario = replace(self.scenario.with_policies(shown), initial=self._stock())
+        return dict(zip((policy.name for policy in shown), trajectories(scenario, periods, program=self.program)))
+
+    def coming(self, periods: int, replications: int) -> Coming:
+        """Returns the policies over so many coming periods from today's stock, in as many replications. The cost of an
+        item counts too. Raises Refused and ProgramError."""
+        costs, money = replace(self.scenario.costs, unit=self.question.rates.get("unit", 0)), self.question.money
+        scenario = replace(self.scenario, periods=periods, replications=replications, initial=self._stock(),
+                           costs=costs)
+        rows = with_intervals(report_of(scenario, self.program).rows, replications, self.question.settings.level)
+
+        def a_period(row: ComparedRow) -> ComparedRow:
+            low, high = (None if end is None else money(end / periods) for end in (row.low, row.high))
+            return replace(row, cost=money(row.cost), diff=money(row.diff / periods), low=low, high=high)
+        return Coming(scenario, [*map(a_period, rows)])
+
+
+class Facts(NamedTuple):
     """What is read of an item: its facts, its history and its lead times, with what is to be said of these files, and
     the settings."""
 
@@ -36,31 +245,6 @@ class Facts:
     history: History
     leads: LeadTimes | None
     settings: Tables
-
-    @property
-    def period(self) -> str:
-        """Returns how a period is called."""
-        return str(self.settings["history"]["every"] or "period")
-
-    @property
-    def notes(self) -> list[Fault | Remark]:
-        """Returns what is to be said of the files, and what the checks of the history do not see."""
-        return [*self.history.notes, *(self.leads.notes if self.leads else ()), *self.checks.unknown]
-
-    @cached_property
-    def checks(self) -> Checks:
-        return check_history(self.history, season=self.settings["history"]["season"])
-
-
-@dataclass(frozen=True)
-class ItemPlan:
-    """An item that is planned alone. `coming` is how its policies compare over the coming periods, if the settings ask
-    for that, `summary` says on one screen what comes of it."""
-
-    facts: Facts
-    depth: Depth
-    coming: Coming | None
-    summary: str = ""
 
 
 def read_item(history: str | Path, settings: str | Path) -> Facts:
@@ -83,42 +267,14 @@ def read_item(history: str | Path, settings: str | Path) -> Facts:
     return Facts(item, demand, leads, tables)
 
 
-def settings_of(facts: Facts) -> Settings:
-    """Returns how an item is planned by its settings. The replications are those of the coming periods, if there is a
-    horizon."""
-    history, run = facts.settings["history"], facts.settings["run"]
+def planned(facts: Facts, program: str | Path | None = None) -> Depth:
+    """Plans an item as its settings say, and returns it for a deeper look. The replications are those of the coming
+    periods, if there is a horizon. Raises Refused, Disagreement and ProgramError."""
+    path, history, run = str(find_program(program)), facts.settings["history"], facts.settings["run"]
     asked: dict[str, Any] = {name: run[name] for name in ("seed", "level") if run[name] is not None}
     if run["replications"] and not run["horizon"]:
         asked["replications"] = run["replications"]
-    return Settings(fit=history["fit"], lead_fit=facts.settings["lead"]["fit"], borrow=NONE,
-                    every=facts.history.every, season=history["season"],
-                    confidence=None if run["fill"] is None else run["confidence"], **asked)
-
-
-def planned(facts: Facts, program: str | Path | None = None) -> ItemPlan:
-    """Returns the plan of an item, of which much is computed when it is asked for. Raises Refused, Disagreement and
-    ProgramError."""
-    path, run = str(find_program(program)), facts.settings["run"]
-    question = question_of(facts.item, settings_of(facts))
-    depth = Depth(question, plan_one(question, path), path, run["laws"], run["confidence"])
-    coming = depth.coming(run["horizon"], run["replications"] or COMING) if run["horizon"] else None
-    return ItemPlan(facts, depth, coming)
-
-
-def plan_item(history: str | Path, settings: str | Path, out: str | Path | None = None, *,
-              program: str | Path | None = None, told: Callable[[str], None] = lambda name: None) -> ItemPlan:
-    """Plans an item, writes all of it into a folder if `out` names one, and returns the plan.
-
-    `history` is a CSV file, `settings` a TOML file. All of it is computed each time; nothing that is in the folder is
-    read. `told` is called with the name of each part before it is computed. Raises RefusedFaults with all faults of the
-    settings or of the history, Refused for a folder that has other files, Disagreement and ProgramError.
-    """
-    from ..pages.exports import write_item
-    find_program(program)
-    facts = read_item(history, settings)
-    if out is None:
-        return planned(facts, program)
-    with own_folder(Path(out), KIND) as folder:
-        told("plan")
-        plan = planned(facts, program)
-        return dataclasses.replace(plan, summary=write_item(folder, plan, told))
+    question = question_of(facts.item, Settings(
+        fit=history["fit"], lead_fit=facts.settings["lead"]["fit"], borrow=NONE, every=facts.history.every,
+        season=history["season"], confidence=None if run["fill"] is None else run["confidence"], **asked))
+    return Depth(question, plan_one(question, path), path, run["laws"], run["confidence"])

@@ -11,7 +11,6 @@ chapter 10).
 from __future__ import annotations
 
 import dataclasses
-import functools
 import math
 from collections.abc import Callable, Iterator, Mapping, Sequence
 from dataclasses import dataclass
@@ -20,14 +19,14 @@ from typing import NamedTuple, TypeVar
 import numpy as np
 
 from ..crnsim.report import Report, report_of
-from ..decide.verdicts import Estimate as PolicyEstimate, estimates_of, t_quantile
+from ..decide.verdicts import Estimate, ends_of, estimates_of, t_quantile
 from ..demand.borrowing import borrowed_laws
 from ..demand.learning import Prior
 from ..demand.checks import remarks_of as checked
 from ..demand import EMPIRICAL
 from ..demand.fitted import FittedLaw
 from ..demand.posterior import allowed_laws, allowed_leads
-from ..errors import Failed, Refused, worded
+from ..errors import CrnplanError, Failed, Refused, worded
 from ..formats import MOST_ITEMS, MOST_REPLICATIONS
 from ..law import Law
 from ..records.item import Item
@@ -37,9 +36,8 @@ from ..theory.long_run import LongRun
 from ..theory.many_laws import Promises
 from ..theory.run_effects import start_bias
 from ..words import advice, sentence
-from .answer import (ALONE, CHEAPER, CHOSEN, DEARER, DISAGREES, FAILED, FEW_DEMANDS, NO_INTERVAL, NO_POLICY, NO_PROMISE,
-                     REFUSED, ROUNDED_COSTS, RUN, SAME, SERVICE, STEPS, THEORY, TODAY, UNDECIDED, UNLIKE, Answer,
-                     Estimate, Figures, LawFacts, Run)
+from .answer import (ALONE, CHEAPER, CHOSEN, DEARER, RUN, SAME, SERVICE, THEORY, TODAY, UNDECIDED, Answer, Figures,
+                     LawFacts, Run)
 from .question import NONE, Levels, Question, Settings, question_of
 
 Result = TypeVar("Result")
@@ -53,20 +51,20 @@ CLOSE = 1e-9  # Costs whose ratio differs from 1 by less are equal but for round
 SUSPECT, CHANCE = 1e-4, 1e-9
 
 
-class NoPolicy(Refused):
+class Unplanned(CrnplanError):
+    """An item that has no plan, by a fault that is a remark."""
+
+    def __init__(self, fault: Remark) -> None:
+        super().__init__(sentence(fault), advice(fault))
+        self.fault = fault
+
+
+class NoPolicy(Unplanned, Refused):
     """There is no best policy within the ranges of s and S, or none with the wanted share of demand met at once."""
 
-    def __init__(self, fault: Remark) -> None:
-        super().__init__(sentence(fault), advice(fault))
-        self.fault = fault
 
-
-class Disagreement(Failed):
+class Disagreement(Unplanned, Failed):
     """A run whose figure is further from exact theory than chance allows: one of both is wrong, a fault of ours."""
-
-    def __init__(self, fault: Remark) -> None:
-        super().__init__(sentence(fault), advice(fault))
-        self.fault = fault
 
 
 @dataclass(frozen=True)
@@ -99,7 +97,7 @@ def choice_of(theory: LongRun, question: Question) -> Choice:
     best = theory.best(fill or 0.0)
     plain = best.point, best.level
     if best.cost == math.inf:
-        raise NoPolicy(Remark(NO_POLICY, {"fill": fill}))
+        raise NoPolicy(Remark("no policy", {"fill": fill}))
     if fill is None or confidence is None:
         return Choice(plain, plain)
     gap = theory.gap_of(*plain)
@@ -110,7 +108,7 @@ def choice_of(theory: LongRun, question: Question) -> Choice:
 def levels_of(question: Question, choice: Choice) -> dict[str, Levels]:
     """Returns s and S of each policy, in boxes. There is none of the item alone if its own law has no best policy."""
     levels = {TODAY: question.levels, CHOSEN: choice.levels, ALONE: choice.levels}
-    if question.learns:
+    if question.learned:
         try:
             single = question.alone()
             levels[ALONE] = choice_of(single.theory(), single).levels
@@ -139,7 +137,7 @@ def scenario_of(question: Question, theory: LongRun, levels: Levels) -> Scenario
 class Sample(NamedTuple):
     """The policies of a run, the first one being the base. `bias_is_exact` says whether the bias of the start is."""
 
-    policies: tuple[PolicyEstimate, ...]
+    policies: tuple[Estimate, ...]
     bias_is_exact: bool
 
 
@@ -157,20 +155,6 @@ def sample_of(question: Question, report: Report) -> Sample:
         bias.theory.exact and bias.on_lattice)
 
 
-@functools.lru_cache
-def quantile(chance: float, replications: int) -> float:
-    """Returns how many standard errors a paired difference exceeds, on either side, with this chance."""
-    return t_quantile(chance, replications - 1)
-
-
-def interval(estimate: PolicyEstimate, level: float, replications: int) -> tuple[float, float] | None:
-    """Returns both ends of the interval of a difference by itself; None if there is none."""
-    if estimate.error is None:
-        return None
-    half = quantile(1 - level, replications) * estimate.error
-    return estimate.difference - half, estimate.difference + half
-
-
 def disagreement(sample: Sample, figures: Sequence[Figures], most: float, spare: Sequence[float]) -> Remark | None:
     """Returns the first figure of a run that is further from theory than so many standard errors and what is to spare
     for its policy; None if there is none. Figures are costs, and savings against the first policy."""
@@ -179,7 +163,7 @@ def disagreement(sample: Sample, figures: Sequence[Figures], most: float, spare:
         for name, run, theory, error in (("cost", estimate.cost, known.cost, estimate.own_error),
                                          ("saving", -estimate.difference, saving, estimate.error)):
             if error is not None and abs(run - theory) > most * error + more:
-                return Remark(DISAGREES, {"figure": f"{name} of {estimate.policy}", "theory": theory, "run": run,
+                return Remark("disagrees", {"figure": f"{name} of {estimate.policy}", "theory": theory, "run": run,
                                           "error": error})
     return None
 
@@ -208,28 +192,28 @@ def check_run(question: Question, theory: LongRun, report: Report, sample: Sampl
     """Raises Disagreement if a run is further from theory than chance allows, and so is a larger one under another key.
     Nothing is compared if theory or the bias of the start is rounded."""
     known = [figures[row.policy] for row in report.rows]
-    most = quantile(SUSPECT, report.scenario.replications)
+    most = t_quantile(SUSPECT, report.scenario.replications - 1)
     if not (theory.exact and sample.bias_is_exact and disagreement(sample, known, most, [0.0] * len(known))):
         return
     key = key_words(f"{question.settings.seed}\nagain\n{question.item.name}")
     larger = dataclasses.replace(report.scenario, key=tuple(key), replications=MOST_REPLICATIONS)
     again = sample_of(question, report_of(larger, program))
     rare = [rare_cost(question, theory, (row.s, row.S), larger) for row in report.rows]
-    fault = disagreement(again, known, quantile(CHANCE, MOST_REPLICATIONS), [cost + rare[0] for cost in rare])
+    fault = disagreement(again, known, t_quantile(CHANCE, MOST_REPLICATIONS - 1), [cost + rare[0] for cost in rare])
     if fault:
         raise Disagreement(fault)
 
 
 def run_of(question: Question, report: Report, sample: Sample) -> Run:
     """Returns the run of today's policy and of the last one of a report, which may be the same."""
-    rows, scenario, level = report.rows, report.scenario, question.settings.level
-    base, chosen, is_same = sample.policies[0], sample.policies[-1], len(rows) == 1
-    ends = interval(chosen, level, scenario.replications)
-    low, high = (-ends[1], -ends[0]) if ends else (0.0, 0.0) if is_same else (None, None)
-    estimate = Estimate(base.cost, chosen.cost, -chosen.difference, 0.0 if is_same else chosen.error, low, high)
+    rows, scenario = report.rows, report.scenario
+    base, chosen, saving = sample.policies[0], sample.policies[-1], -sample.policies[-1].difference
+    error = 0.0 if len(rows) == 1 else chosen.error
+    errors = t_quantile(1 - question.settings.level, scenario.replications - 1)
     return Run(" ".join(scenario.key), scenario.periods, scenario.replications, scenario.initial, question.scale,
                scenario.costs.setup, scenario.costs.holding, scenario.costs.backlog, rows[0].total, rows[-1].total,
-               rows[-1].diff_mean, rows[-1].diff_var or rows[0].diff_mean, sample.bias_is_exact, estimate)
+               rows[-1].diff_mean, rows[-1].diff_var or rows[0].diff_mean, base.cost, chosen.cost, saving, error,
+               *ends_of(saving, error, errors))
 
 
 def verdict_of(question: Question, today: Figures, saving: float, low: float | None, high: float | None) -> str:
@@ -243,32 +227,32 @@ def verdict_of(question: Question, today: Figures, saving: float, low: float | N
 
 
 def law_facts(law: FittedLaw, box: int) -> LawFacts:
-    borrowed = law.diagnostics.borrowed
-    share = 0.0 if law.family == EMPIRICAL else law.diagnostics.share
-    if borrowed and not borrowed.alone:
-        share = borrowed.share
-    return LawFacts(law.family, share, borrowed.log10_bayes if borrowed else None, float(law.mean) * box)
+    its, share = law.diagnostics, 0.0 if law.family == EMPIRICAL else law.diagnostics.share
+    if its.borrowed and not its.borrowed.alone:
+        share = its.borrowed.share
+    return LawFacts(law.family, share, its.borrowed.log10_bayes if its.borrowed else None, float(law.mean) * box)
 
 
 def remarks_of(question: Question, theory: LongRun, sample: Sample, choice: Choice) -> Iterator[Remark]:
     """Yields what must be said of the history of an item, and of its figures."""
     item, settings = question.item, question.settings
     yield from checked(item.counts, settings.every, item.first, settings.season)
-    demands, learned = sum(count > 0 for count in item.counts), question.learned
+    borrowed, learned = question.demand.diagnostics.borrowed, question.learned
+    demands = sum(count > 0 for count in item.counts)
     if demands < LEAST_DEMANDS:
-        yield Remark(FEW_DEMANDS, {"demands": demands, "learned": bool(learned and learned.few and not learned.alone)})
-    if learned is not None and learned.alone:
-        yield learned.alone
-    elif learned is not None and learned.unlike:
-        yield Remark(UNLIKE)
+        yield Remark("few demands", {"demands": demands, "learned": bool(learned and learned.few)})
+    if borrowed and borrowed.alone:
+        yield borrowed.alone
+    elif learned and learned.unlike:
+        yield Remark("unlike the catalogue")
     if not theory.exact:
-        yield Remark(STEPS, {"items": theory.step * item.box})
+        yield Remark("steps", {"items": theory.step * item.box})
     if question.rate_error > ROUGH_RATES:
-        yield Remark(ROUNDED_COSTS, {"error": question.rate_error})
+        yield Remark("rounded costs", {"error": question.rate_error})
     if not choice.is_promised:
-        yield Remark(NO_PROMISE, {"confidence": settings.confidence})
+        yield Remark("no promise", {"confidence": settings.confidence})
     if choice.levels != question.levels and sample.policies[-1].error is None:
-        yield Remark(NO_INTERVAL, {"orders": min(estimate.orders or 0 for estimate in sample.policies)})
+        yield Remark("no interval", {"orders": min(estimate.orders or 0 for estimate in sample.policies)})
 
 
 def plan_one(question: Question, program: str) -> Answer:
@@ -287,16 +271,13 @@ def plan_one(question: Question, program: str) -> Answer:
     costs, saving, near = (today.cost, chosen.cost), today.cost - chosen.cost, CLOSE * today.cost
     ends: tuple[float | None, float | None] = saving - near, saving + near
     if not theory.exact:
-        estimate = run.estimate
-        costs, saving = (estimate.cost_today, estimate.cost_chosen), estimate.saving
-        ends = estimate.low, estimate.high
+        costs, saving, ends = (run.cost_today, run.cost_chosen), run.saving, (run.low, run.high)
     verdict = SAME if choice.levels == question.levels else verdict_of(question, today, saving, *ends)
     confidence_cost = None
     if question.settings.confidence is not None and item.fill is not None:
         confidence_cost = chosen.cost - figures_of(question, theory, choice.plain).cost
-    return Answer(item.name, item.box, verdict, THEORY if theory.exact else RUN, *costs, saving, today, chosen,
-                  figures.get(ALONE), theory.step, confidence_cost, law_facts(question.demand, item.box),
-                  sum(count > 0 for count in item.counts), len(item.counts), run,
+    return Answer(verdict, THEORY if theory.exact else RUN, *costs, saving, today, chosen, figures.get(ALONE),
+                  theory.step, confidence_cost, law_facts(question.demand, item.box), run,
                   tuple(remarks_of(question, theory, sample, choice)))
 
 
@@ -305,14 +286,14 @@ def or_fault(answer: Callable[[Item], Result], item: Item) -> Result | Remark:
     has one."""
     try:
         return answer(item)
-    except (Disagreement, NoPolicy) as why:
+    except Unplanned as why:
         return why.fault
     except Refused as why:
-        return Remark(REFUSED, {"what": worded(why.what), "advice": worded(why.advice)})
+        return Remark("refused", {"what": worded(why.what), "advice": worded(why.advice)})
     except (ArithmeticError, ValueError, LookupError, MemoryError) as why:
-        return Remark(FAILED, {"kind": type(why).__name__, "what": str(why)})
+        return Remark("failed", {"kind": type(why).__name__, "what": str(why)})
 
 
-def plan_item(item: Item, settings: Settings, prior: Prior, program: str) -> Answer | Remark:
-    """Returns the answer to an item, or why it can't be planned. Raises ProgramError."""
-    return or_fault(lambda asked: plan_one(question_of(asked, settings, prior), program), item)
+def plan_batch(items: Sequence[Item], settings: Settings, prior: Prior, program: str) -> list[Answer | Remark]:
+    """Returns for each item the answer, or why it can't be planned. Raises ProgramError."""
+    return [or_fault(lambda asked: plan_one(question_of(asked, settings, prior), program), item) for item in items]

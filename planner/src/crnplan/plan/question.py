@@ -17,17 +17,14 @@ from ..demand import LEAD_METHODS, METHODS
 from ..errors import Refused, argument
 from ..formats import MOST_PERIODS, MOST_REPLICATIONS, limits
 from ..money import rounded_costs
-from ..records.item import Item
-from ..records.item import BORROW
+from ..records.item import BORROW, Item
 from ..scenario import Scenario
 from ..theory.lattice import lattice_of, shape_of, theory_on
 from ..theory.long_run import LongRun
 
-# Answers of other versions are not used again.
-VERSION = 3
+VERSION = 4  # Answers of others are not used again.
 NONE, CLASS, ALL = BORROW
-# Gaps of a lattice. With more, a search takes too long: half a minute with 150 times as many.
-MOST_GAPS = 4_000
+MOST_GAPS = 4_000  # of a lattice: with 150 times as many, a search takes half a minute
 Levels = tuple[int, int]
 
 
@@ -96,9 +93,7 @@ class Question:
 
     @property
     def levels(self) -> Levels:
-        """Returns today's s and S in boxes."""
-        s, S = (round(level / self.item.box) for level in self.item.levels)
-        return s, S
+        return round(self.item.levels[0] / self.item.box), round(self.item.levels[1] / self.item.box)
 
     @property
     def group(self) -> str | None:
@@ -111,13 +106,10 @@ class Question:
 
     @property
     def learned(self) -> Borrowed | None:
-        """Returns what the law has learned from other items, or why nothing; None if it was not to learn."""
-        return self.demand.diagnostics.borrowed
-
-    @property
-    def learns(self) -> bool:
-        """Returns whether the law is learned from other items. It is not if its guard spoke against that."""
-        return self.learned is not None and not self.learned.alone
+        """Returns what the law has learned from other items. None if it was not to learn, or its guard spoke against
+        that."""
+        borrowed = self.demand.diagnostics.borrowed
+        return borrowed if borrowed and not borrowed.alone else None
 
     @property
     def implied_backlog(self) -> int:
@@ -128,7 +120,6 @@ class Question:
         return max(1, round(self.rates["holding"] * fill / (1 - fill)))
 
     def money(self, amount: float) -> float:
-        """Returns an amount of the program's units as money."""
         return amount / float(self.scale)
 
     def seed(self, purpose: str) -> int:
@@ -158,8 +149,7 @@ class Question:
         scenario = self.scenario()
         costs = dataclasses.replace(scenario.costs, backlog=self.implied_backlog)
         shape = shape_of(dataclasses.replace(scenario, costs=costs))
-        gap = self.levels[1] - self.levels[0]
-        return theory_on(scenario, shape, *lattice_of(scenario, shape, gap, MOST_GAPS))
+        return theory_on(scenario, shape, *lattice_of(scenario, shape, self.levels[1] - self.levels[0], MOST_GAPS))
 
 
 def finest(rates: Mapping[str, int], scale: Fraction) -> tuple[dict[str, int], Fraction]:

@@ -4,9 +4,8 @@ It says all that is wrong with them: file, line, column, what, and what to do.
 """
 from __future__ import annotations
 
-import dataclasses
-import functools
-from collections.abc import Container, Mapping
+from collections.abc import Container, Iterator, Mapping
+from dataclasses import replace
 from fractions import Fraction
 from pathlib import Path
 from typing import Any
@@ -30,6 +29,8 @@ Tables = Mapping[str, Mapping[str, Any]]
 CONFIG = "crnplan.toml"
 TEXT, NO, DATE = Key(text), Key(flag, default=False), Key(date)
 ITEMS = Key(number(*formats.limits("policy", "S")), needed=True)
+READING = {"every": Key(choice(*EVERY)), "decimal": Key(choice(*DECIMALS)), "delimiter": Key(choice(*DELIMITERS)),
+           "encoding": TEXT, "from": DATE, "to": DATE}
 NEED_DATE = ("net", "whole", "from", "to")
 # The ways to give lead times: the key that chooses it, and the keys that it takes beside. A file needs its column.
 LEADS = {"file": ("column",), "orders": ("ordered", "received"), "times": ()}
@@ -58,11 +59,9 @@ def unit(path: Place, value: Any) -> list[TreeFault]:
 
 RULES = Table({
     "history": Table({
-        "demand": Key(text, needed=True), "returns": TEXT, "date": TEXT, "every": Key(choice(*EVERY)),
-        "decimal": Key(choice(*DECIMALS)), "delimiter": Key(choice(*DELIMITERS)), "encoding": TEXT,
+        "demand": Key(text, needed=True), "returns": TEXT, "date": TEXT, **READING,
         "date_formats": Key(texts, default=[]), "net": NO, "whole": NO, "leave_out": NO, "item": Table({}, other=TEXT),
-        "from": DATE, "to": DATE, "fit": Key(choice(*METHODS), default="auto"),
-        "season": Key(number(2, formats.MOST_WEIGHT))}, needed=True, elsewhere={
+        "fit": Key(choice(*METHODS), default="auto"), "season": Key(number(2, MOST_WEIGHT))}, needed=True, elsewhere={
             "box": "large numbers are counted in boxes by themselves: write costs, levels and stock of single items, "
                    "and remove this line"}),
     "lead": Table({
@@ -75,7 +74,7 @@ RULES = Table({
     "today": Table({"s": ITEMS, "S": ITEMS, "stock": ITEMS}, needed=True),
     "run": Table({
         "name": TEXT, "seed": Key(text, default="crnplan"), "horizon": Key(horizon),
-        "replications": Key(number(2, formats.MOST_REPLICATIONS)),
+        "replications": Key(number(2, MOST_REPLICATIONS)),
         "level": Key(share("0.95 for 95 of 100 samples"), default=0.95), "laws": Key(number(*TIMES), default=100),
         "fill": Key(share("0.95 for 95% of demand met at once")),
         "confidence": Key(share("0.8 for 80 of 100 laws"))}, elsewhere={
@@ -85,10 +84,9 @@ RULES = Table({
                         "table"})
 HOMES = {key: name for name, table in reversed(RULES.keys.items()) if isinstance(table, Table) for key in table.keys}
 CATALOGUE_RULES = Table({"catalogue": Table({
-    "every": Key(choice(*EVERY)), "delimiter": Key(choice(*DELIMITERS)), "encoding": TEXT,
-    "decimal": Key(choice(*DECIMALS)), "date_formats": Key(texts), "from": Key(date), "to": Key(date), "net": Key(flag),
-    "twice": Key(choice(KEEP, LEAVE_OUT)), "far": Key(choice(KEEP, LEAVE_OUT)), "borrow": Key(choice(*BORROW)),
-    "least": Key(number(1, MOST_WEIGHT)), "seed": TEXT, "fit": Key(choice(*METHODS)),
+    **READING, "date_formats": Key(texts), "net": Key(flag), "twice": Key(choice(KEEP, LEAVE_OUT)),
+    "far": Key(choice(KEEP, LEAVE_OUT)), "borrow": Key(choice(*BORROW)), "least": Key(number(1, MOST_WEIGHT)),
+    "seed": TEXT, "fit": Key(choice(*METHODS)),
     "confidence": Key(share("0.8 for 80% of the laws that a history allows")),
     "level": Key(share("0.95 for 95 of 100 samples")), "periods": Key(number(1, MOST_PERIODS)),
     "replications": Key(number(2, MOST_REPLICATIONS)),
@@ -98,45 +96,44 @@ CATALOGUE_RULES = Table({"catalogue": Table({
     other=Key(lambda path, value: []))
 
 
-def _lead_faults(lead: Mapping[str, Any], folder: Path) -> list[TreeFault]:
-    """Returns the faults of the way in which lead times are given."""
+def _lead_faults(lead: Mapping[str, Any], folder: Path) -> Iterator[TreeFault]:
+    """Yields the faults of the way in which lead times are given."""
     ways = [way for way in LEADS if way in lead]
     if len(ways) != 1:
         what = f"{' and '.join(ways)} are there: keep one" if ways else "there are no lead times"
-        return [TreeFault(MISSING, ("lead",), what,
-                          "write file and column, or orders, ordered and received, or times = [2, 3, 2]")]
+        yield TreeFault(MISSING, ("lead",), what,
+                        "write file and column, or orders, ordered and received, or times = [2, 3, 2]")
+        return
     way = ways[0]
-    faults = [TreeFault(RANGE, ("lead", name), f"this key is not used with {way}", "remove it")
-              for name in lead.keys() - {way, *LEADS[way], "fit"}]
+    for name in lead.keys() - {way, *LEADS[way], "fit"}:
+        yield TreeFault(RANGE, ("lead", name), f"this key is not used with {way}", "remove it")
     if way == "file" and "column" not in lead:
-        faults.append(TreeFault(MISSING, ("lead", "file"), "the key column is missing",
-                               "write the name of the column of lead times in the file"))
+        yield TreeFault(MISSING, ("lead", "file"), "the key column is missing",
+                        "write the name of the column of lead times in the file")
     if way != "times" and not (folder / lead[way]).is_file():
-        faults.append(TreeFault(MISSING, ("lead", way), f"there is no file {folder / lead[way]}",
-                               "name one, from the folder of this file"))
-    return faults
+        yield TreeFault(MISSING, ("lead", way), f"there is no file {folder / lead[way]}",
+                        "name one, from the folder of this file")
 
 
-def _joint_faults(folder: Path, _path: Place, tree: Mapping[str, Any], good: Container[str]) -> list[TreeFault]:
-    """Returns the faults of keys beside each other, in the tables whose keys have no fault by themselves."""
-    tables, faults = {name: tree[name] for name in tree if name in good}, list[TreeFault]()
-    history, lead = tables.get("history"), tables.get("lead", {})
-    if history is not None and "date" not in history:
-        faults += [TreeFault(RANGE, ("history", name), "this key needs the column of dates",
-                             "write date and every too, or remove it") for name in NEED_DATE if history.get(name)]
-    if history is not None and ("date" in history or "orders" in lead) and "every" not in history:
-        faults.append(TreeFault(MISSING, ("history",), "the key every is missing",
-                                'write every = "week", or day or month'))
+def _joint_faults(folder: Path, tree: Mapping[str, Any], good: Container[str]) -> Iterator[TreeFault]:
+    """Yields the faults of keys beside each other, in the tables whose keys have no fault by themselves."""
+    tables = {name: tree[name] for name in tree if name in good}
+    history, lead, today = (tables.get(name, {}) for name in ("history", "lead", "today"))
+    for name in NEED_DATE:
+        if history.get(name) and "date" not in history:
+            yield TreeFault(RANGE, ("history", name), "this key needs the column of dates",
+                            "write date and every too, or remove it")
+    if history and ("date" in history or "orders" in lead) and "every" not in history:
+        yield TreeFault(MISSING, ("history",), "the key every is missing", 'write every = "week", or day or month')
     if "lead" in tables:
-        faults += _lead_faults(lead, folder)
+        yield from _lead_faults(lead, folder)
     run = tables.get("run", {} if "run" not in tree else {"fill": None})
     if "costs" in tables and "backlog" not in tables["costs"] and "fill" not in run:
-        faults.append(TreeFault(MISSING, ("costs",), "there is neither a backlog cost nor a wanted fill rate",
-                               "write backlog, or [run] fill"))
-    if "today" in tables and tables["today"]["s"] > tables["today"]["S"]:
-        s, S = tables["today"]["s"], tables["today"]["S"]
-        faults.append(TreeFault(RANGE, ("today", "s"), f"s = {s} is above S = {S}", "interchange them, or raise S"))
-    return faults
+        yield TreeFault(MISSING, ("costs",), "there is neither a backlog cost nor a wanted fill rate",
+                        "write backlog, or [run] fill")
+    if today and today["s"] > today["S"]:
+        yield TreeFault(RANGE, ("today", "s"), f"s = {today['s']} is above S = {today['S']}",
+                        "interchange them, or raise S")
 
 
 def read_settings(path: str | Path) -> Tables:
@@ -146,7 +143,7 @@ def read_settings(path: str | Path) -> Tables:
     Raises Refused if the file can't be read, and RefusedFaults with all that is wrong with it.
     """
     folder = Path(path).parent
-    rules = dataclasses.replace(RULES, joint=functools.partial(_joint_faults, folder))
+    rules = replace(RULES, joint=lambda _, tree, good: [*_joint_faults(folder, tree, good)])
     tables = RULES.completed(read_tables(path, rules))
     for table, names in (("costs", tables["costs"]), ("run", ["fill"])):
         for name in names:

@@ -1,7 +1,4 @@
-"""Keeps what was read of a catalogue in a SQLite file of a folder.
-
-It is written anew each time, under a temporary name, which is then changed: it is there whole or not at all.
-"""
+"""Keeps what was read of a catalogue in a SQLite file of a folder, which is there whole or not at all."""
 from __future__ import annotations
 
 import contextlib
@@ -25,10 +22,8 @@ READ = "catalogue.sqlite"
 
 @dataclass(frozen=True)
 class Reject:
-    """What is left out, or only named: a row, an item with its rows of demand, or a row that is suspicious.
-
-    `rows` is how many rows of demand are left out: none with a suspicious row. `remark` says why.
-    """
+    """What is left out, or only named: a row, an item with its rows of demand, or a row that is suspicious. `remark`
+    says why, and `rows` how many rows of demand are left out."""
 
     kind: str
     file: str
@@ -45,8 +40,7 @@ ADD_ITEM, ADD_REJECT = ITEM.insert("items"), REJECT.insert("rejects")
 
 
 class Catalogued:
-    """What was read of a catalogue: its items, what was left out, and facts by name. Items come in order of their
-    names."""
+    """What was read of a catalogue: its items in order of their names, what was left out, and facts by name."""
 
     def __init__(self, path: Path) -> None:
         """Opens a file that was written by `Writer`. Raises Refused if it is not there, and Damaged."""
@@ -75,8 +69,7 @@ class Catalogued:
         return self.base.execute(f"SELECT {columns} FROM items {'WHERE name = ?' * len(name)} ORDER BY name", name)
 
     def digests(self, common: str) -> Iterator[tuple[str, str]]:
-        """Yields the name of each item with the digest of what its plan depends on: its facts, and what is common to
-        all."""
+        """Yields the name of each item with the digest of what its plan depends on, and of what is common to all."""
         yield from ((row[0], digest_of(common, row)) for row in self._rows(quoted(PLANNED)))
 
     def digest(self, name: str, common: str) -> str:

@@ -130,11 +130,8 @@ def text_of(cell: Cell) -> str:
 
 class AmountReader:
     """Reads the amounts of a column: texts, or numbers as a sheet stores them. `sides` has the first text for each
-    decimal sign that has one reading alone.
-
-    Amounts of money may have a currency. `currencies` has the first text of each, and is shared by all columns of
-    money.
-    """
+    decimal sign that has one reading alone. `currencies` has the first text of each currency, and is shared by all
+    columns of money."""
 
     def __init__(self, stated: str | None = None, currencies: dict[str, str] | None = None) -> None:
         self.stated, self.currencies, self.sides = stated, currencies, dict[str, str]()
@@ -162,8 +159,7 @@ class AmountReader:
 
     @property
     def decided(self) -> str | None:
-        """Returns what decides a number that could be two, as `the comma in 2,5`; None if there is none, or nothing
-        does."""
+        """Returns what decides a number that could be two, as `the comma in 2,5`; None if there is none, or nothing."""
         if not self.is_doubtful or self.stated or self.sign is None:
             return None
         return f"{NAMES[self.sign]} in {shown(self.sides[self.sign])}"
@@ -216,11 +212,8 @@ class AmountReader:
 
 def other_reading(text: str, decimal: str) -> str | None:
     """Returns what a readable number would be if its sign between thousands were a decimal sign, or the other way
-    round.
-
-    So `1.000,000`, which is 1000 with the comma as decimal sign, is 1 if the point is one. Returns None if there is no
-    such sign.
-    """
+    round: `1.000,000`, which is 1000 with the comma as decimal sign, is 1 if the point is one. None if there is no such
+    sign."""
     form = FORMS[decimal].fullmatch(text)
     if form is None:
         return None
@@ -271,8 +264,7 @@ def dated_cell(cell: Cell) -> Cell:
 
 
 class DateReader:
-    """Reads the dates of a file. All its dates together decide whether a date with slashes has the day or the month
-    first."""
+    """Reads the dates of a file, all of which decide whether one with slashes has the day or the month first."""
 
     def __init__(self, texts: Iterable[Cell] = (), patterns: Sequence[str] = ()) -> None:
         """Looks at all dates of the file. Patterns of strptime, if there are any, stand in place of the usual forms."""
@@ -284,8 +276,7 @@ class DateReader:
                 self.sides.setdefault(int(parts["day"]) > 12, text)
 
     def read(self, cell: Cell) -> tuple[datetime.date, str]:
-        """Returns a date and its form, named by an example or by a pattern; one that a sheet stores is of the first.
-        Raises Unreadable."""
+        """Returns a date and its form, named by an example or by a pattern. Raises Unreadable."""
         if cell == "":
             raise Unreadable("no date")
         if isinstance(cell, datetime.date):

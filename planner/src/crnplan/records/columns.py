@@ -61,8 +61,7 @@ def unit_fault(role: str, unit: str) -> str | None:
 
 
 def conversion(role: str, unit: str, every: str) -> tuple[Fraction, str]:
-    """Returns by what the numbers of a role are multiplied, and the words for it. A share of the price is one of a
-    year."""
+    """Returns by what the numbers of a role are multiplied, and the words for it. A share is one of a year."""
     kind = ROLE_UNITS.get(role)
     if not unit:
         return Fraction(1), ""
@@ -110,10 +109,8 @@ def is_number(words: Sequence[str], place: int) -> bool:
 
 
 def bare_name(name: str) -> tuple[str, str]:
-    """Returns a plain name without the words of its unit, and the unit; the empty text if it names none.
-
-    A unit is one of those in headings.toml, or a number of items.
-    """
+    """Returns a plain name without the words of its unit, and the unit: one of headings.toml, a number of items, or the
+    empty text."""
     words = name.split()
     units = [UNITS.get(word, word if is_number(words, place) else "") for place, word in enumerate(words)]
     if not any(units[1:]) and (len(words) < 2 or not units[0]):
@@ -143,11 +140,8 @@ class Finder:
         return self.role_of.get(plain) or self.role_of.get(bare_name(plain)[0])
 
     def find(self, heading: Sequence[str]) -> tuple[dict[str, Column], list[str]]:
-        """Returns the column of each role that the heading has, and what is wrong.
-
-        Names are compared whole first, for all roles, so that no column with the very name of one role goes to another
-        one.
-        """
+        """Returns the column of each role that the heading has, and what is wrong. Names are compared whole first, for
+        all roles, so that no column with the very name of one role goes to another one."""
         self.plain = [plain_name(cell) for cell in heading]
         self.bare = [bare_name(plain) for plain in self.plain]
         stated, self.wrong = stated_columns(heading, self.stated)
@@ -212,10 +206,8 @@ def stated_columns(heading: Sequence[str], names: Mapping[str, str]) -> tuple[di
 
 
 def find_columns(kind: str, sheet: Sheet, words: Words) -> Sheet:
-    """Returns a table of a catalogue after a look at its head: with its heading and columns, and its first rows.
-
-    Raises RefusedFaults with all that is wrong with them.
-    """
+    """Returns a table of a catalogue with its heading, its columns and its first rows. Raises RefusedFaults with all
+    that is wrong with them."""
     finder = Finder(kind, words)
     sheet.find_heading([*finder.stated.values()], finder.usual_role)
     if sheet.fault:

@@ -15,8 +15,8 @@ from ..errors import Refused, argument
 from ..formats import MOST_ITEMS, MOST_LEAD
 from ..remarks import Remark
 from .catalogued import Reject
-from .cells import (EVERY, TOTAL, UNPRINTABLE, Cell, CellFault, Unreadable, fault, named_lines, on_one_line, period_name,
-                    period_of, text_of)
+from .cells import (EVERY, TOTAL, UNPRINTABLE, Cell, CellFault, Unreadable, fault, named_lines, on_one_line,
+                    period_name, period_of, text_of)
 from .columns import COLUMNS, ROLES, conversion, unit_fault
 from .item import AMOUNTS, MONEY, Item, Masters
 from .observed import Day, Numbers, ends_of, record_of, summed
@@ -85,11 +85,7 @@ class Counts(TypedDict):
 
 
 class Left(Exception):
-    """An item that is left out: the table and the line that say why, and what is wrong there."""
-
-    def __init__(self, kind: str, line: int, *faults: CellFault) -> None:
-        super().__init__()
-        self.kind, self.line, self.faults = kind, line, faults
+    """An item that is left out. Its arguments are the table and the line that say why, and what is wrong there."""
 
 
 class Moves(NamedTuple):
@@ -169,12 +165,13 @@ class Reader:
         for item in sorted(known - totals, key=self.names.__getitem__):
             moves, masters, (leads, orders) = moves_of(item), masters_of(item).tolist(), leads_of(item)
             counts = {"demand": len(moves.lines), "items": len(masters), "orders": orders}
-            state: Literal["used", "with_item"] = "used"
+            state: Literal["used", "with_item"] = "with_item"
             try:
                 self.add(self._item(item, moves, masters, leads))
+                state = "used"
             except Left as left:
-                state = "with_item"
-                self._reject("item", left.kind, left.line, self.names[item], left.faults, len(moves.lines))
+                kind, line, *faults = left.args
+                self._reject("item", kind, line, self.names[item], faults, len(moves.lines))
             self.counts["items"]["named"] += 1
             self.counts["items"]["ready" if state == "used" else "left_out"] += 1
             for kind, file in self.counts["files"].items():
@@ -309,11 +306,11 @@ class Reader:
         if "measure" not in rows.columns:
             return
         _, places = np.unique(rows.codes["measure"][mine], return_index=True)
-        units = [text_of(rows.cell("measure", row)) for row in mine[np.sort(places)].tolist()]
-        unknown = [(place, unit) for place, unit in zip(np.sort(places), units) if unit not in self.words.factors]
+        units = {row: text_of(rows.cell("measure", row)) for row in mine[np.sort(places)].tolist()}
+        unknown = [(row, unit) for row, unit in units.items() if unit not in self.words.factors]
         if len(unknown) > 1:
-            place, unit = unknown[-1]
-            raise Left("demand", int(rows.lines[mine[place]]), fault(
+            row, unit = unknown[-1]
+            raise Left("demand", int(rows.lines[row]), fault(
                 "measure", unit, "measures", measures=" and ".join(repr(it) for _, it in unknown), text=unit))
 
     def _master(self, name: str, rows: Sequence[int], leads: Sequence[int], moves: Moves) -> tuple[Item, int]:

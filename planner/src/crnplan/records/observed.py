@@ -1,5 +1,4 @@
-"""Has what was observed of items: demand by period and lead times with their places, the record of a file, and sums by
-period."""
+"""Has what was observed of items: demand by period, lead times, the record of a file, and sums by period."""
 from __future__ import annotations
 
 import datetime
@@ -28,10 +27,8 @@ CHANGE = f"change {argument('start')} or {argument('end')}"
 
 @dataclass(frozen=True)
 class Observed:
-    """Whole numbers read from a file. A number has its place, or None if no row says it.
-
-    `notes` are what is to be said of the file, with its place; `faults` are those of rows that were left out.
-    """
+    """Whole numbers read from a file. A number has its place, or None if no row says it. `notes` are what is to be said
+    of the file, with its place; `faults` are those of rows that were left out."""
 
     counts: tuple[int, ...]
     places: tuple[Fault | None, ...] = field(repr=False, compare=False)
@@ -41,10 +38,8 @@ class Observed:
 
 @dataclass(frozen=True)
 class History(Observed):
-    """Demand by period, in items. `every` is day, week (ISO) or month, or None if each row is a period.
-
-    `first` is the number of the first period; `returns` is what customers gave back in the same periods.
-    """
+    """Demand by period, in items. `every` is day, week (ISO) or month, or None if each row is a period. `first` is the
+    number of the first period; `returns` is what customers gave back in the same periods."""
 
     every: str | None
     first: int
@@ -57,8 +52,7 @@ class History(Observed):
         return tuple(period_name(it, self.every) if self.every else str(it) for it in numbers)
 
     def series(self) -> pd.Series:
-        """Returns the demand as a Series of whole numbers by period: a PeriodIndex, or 1, 2, 3 and so on without
-        dates."""
+        """Returns the demand as a Series of whole numbers, by a PeriodIndex, or 1, 2, 3 and so on without dates."""
         import pandas as pd
         index: pd.Index = pd.RangeIndex(self.first, self.first + len(self.counts), name="period")
         if self.every:
@@ -70,16 +64,14 @@ class History(Observed):
 
 @dataclass(frozen=True)
 class LeadTimes(Observed):
-    """Lead times in whole periods, at least 1. `every` is the period of the dates, or None if the file says the
-    periods."""
+    """Lead times in whole periods, at least 1. `every` is the period of the dates, or None without dates."""
 
     every: str | None
 
 
 @dataclass(frozen=True)
 class Record:
-    """The first and the last day of the record of a catalogue, and the codes by which a day before or after it is left
-    out."""
+    """The record of a catalogue: its ends, and the codes by which a day before or after it is left out."""
 
     every: str
     first: Day
@@ -136,11 +128,9 @@ def too_long(periods: int, every: str, advice: str = CHANGE) -> str:
 
 
 def record_of(counts: Mapping[Day, int], every: str, start: Day | None, end: Day | None, today: Day) -> Record:
-    """Returns the record of a file whose days have so many rows.
-
-    Without `start` and `end` it is from the first to the last movement, without rare days that are more than a year
-    away from all others, and without days after `today`. Raises Refused if no day is left, or for too many periods.
-    """
+    """Returns the record of a file whose days have so many rows. Without `start` and `end` it is from the first to the
+    last movement, without rare days that are more than a year away from all others, and without days after `today`.
+    Raises Refused if no day is left, or for too many periods."""
     latest = end or today
     days = sorted(day for day in counts if day <= latest and (start is None or day >= start))
     if not days:
@@ -168,10 +158,8 @@ def _met(counts: list[int], period: int, amount: int) -> bool:
 
 def summed(periods: Numbers, amounts: Numbers, count: int) -> tuple[list[int], int, int | None]:
     """Returns demand by period without what was undone, how many amounts were taken off earlier periods, and the place
-    of the first movement that nothing can meet; None if there is none.
-
-    Each movement has a period from 0 and an amount, below 0 for one that undoes sales.
-    """
+    of the first movement that nothing can meet; None if there is none. Each movement has a period from 0 and an amount,
+    below 0 for one that undoes sales."""
     sums = np.zeros(count, np.int64)
     np.add.at(sums, periods, amounts)
     if sums.min() >= 0:

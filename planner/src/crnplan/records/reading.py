@@ -182,11 +182,8 @@ class Reading:
         self.values = {role: list(compress(its, good)) for role, its in self.values.items()}
 
     def keep(self, columns: Mapping[str, list[Any]]) -> None:
-        """Keeps the rows in which each of these columns was read, with their values.
-
-        Raises RefusedFaults for faults. If rows with faults are to be left out, this is noted, and one at least must be
-        left.
-        """
+        """Keeps the rows in which each of these columns was read, with their values. Raises RefusedFaults for faults.
+        If rows with faults are to be left out, this is noted, and one at least must be left."""
         self.values = {**columns}
         self.take([None not in values for values in zip(*columns.values())])
         of_file = [self.sheet.fault] if self.sheet.fault else []
@@ -217,8 +214,7 @@ class Reading:
         return tuple(fault and Fault(fault.what, fault.file, fault.line, fault.column) for fault in faults)
 
     def total_reason(self, row: int, number: int | None, others: Sequence[int]) -> str | None:
-        """Returns why a row looks like a total of the rows above, the numbers of which are given; None if it
-        doesn't."""
+        """Returns why a row looks like a total of the rows above, whose numbers are given; None if it doesn't."""
         text = io.StringIO(self.sheet.texts([self.lines[row]])[self.lines[row]], newline="")
         cells: list[str] = next(csv.reader(text, delimiter=self.sheet.delimiter, skipinitialspace=True), [])
         word = next((cell.strip() for cell in cells if TOTAL.match(cell)), None)

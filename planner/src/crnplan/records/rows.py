@@ -99,9 +99,8 @@ class Rows:
         return len(self.lines)
 
     def twins(self) -> Numbers:
-        """Returns for each row the first row with the same cells, which is itself for most, and forgets the hashes.
-        Rows are compared by a hash of 64 bits: in a million rows, two different ones collide once in 37 million
-        files."""
+        """Returns for each row the first row with the same cells, and forgets the hashes of 64 bits by which rows are
+        compared: in a million rows, two different ones collide once in 37 million files."""
         order = np.argsort(self._hashes, kind="stable")
         starts = np.flatnonzero(np.r_[True, np.diff(self._hashes[order]) != 0])[:len(order)]
         first = np.empty(len(order), np.int64)

@@ -59,15 +59,16 @@ class Column:
 
 @dataclass(frozen=True)
 class Rules:
-    """How files are read. None and nothing mean that the file says it. Raises Refused for what can't be meant."""
+    """How files are read. None and nothing mean that the file says it. Raises Refused for what can't be meant.
+
+    `item` has the text of each column in the rows of the item. `leave_out`: go on without rows that have a fault.
+    """
 
     delimiter: str | None = None
     encoding: str | None = None
     decimal: str | None = None
     date_formats: tuple[str, ...] = ()
-    # The text that each of these columns has in the rows of the item.
     item: Mapping[str, str] = field(default_factory=dict)
-    # Whether reading goes on without the rows that have a fault.
     leave_out: bool = False
 
     def __post_init__(self) -> None:
@@ -119,12 +120,10 @@ def decoded(name: str, data: bytes, encoding: str, is_all: bool = True, line: in
 
 
 def head_of(path: Path, name: str, rules: Rules) -> tuple[str, str, Fault | None]:
-    """Returns the encoding of a file, the text of its first lines, and what is wrong with its bytes.
-
-    The encoding is that of a byte order mark, else the stated one, else UTF-8. If nobody has stated it and the bytes
-    are not UTF-8, it is the likely one, with a fault: so the rest of the file can be checked too. Raises Refused, and
-    RefusedFaults for other bytes that can't be decoded.
-    """
+    """Returns the encoding of a file, the text of its first lines, and what is wrong with its bytes. The encoding is
+    that of a byte order mark, else the stated one, else UTF-8. If nobody has stated it and the bytes are not UTF-8, it
+    is the likely one, with a fault: so the rest of the file can be checked too. Raises Refused, and RefusedFaults for
+    other bytes that can't be decoded."""
     try:
         with path.open("rb") as file:
             data = file.read(HEAD_BYTES)
@@ -190,10 +189,8 @@ def sample(text: str, delimiter: str) -> list[TextRow]:
 
 def heading_of(rows: Sequence[TextRow], wanted: Set[str], role_of: RoleOf) -> int:
     """Returns the place of the heading among the first rows: the row with most of the wanted names, else with usual
-    names of most roles, else with most texts.
-
-    A cell that other rows have in the same column is data and no name, unless the whole row comes again.
-    """
+    names of most roles, else with most texts. A cell that other rows have in the same column is data and no name,
+    unless the whole row comes again."""
     cells = Counter(cell for _, row in rows for cell in enumerate(row))
     again = Counter(tuple(row) for _, row in rows)
     fits = [(0, 0, 0)]
@@ -245,10 +242,8 @@ def stored(cell: Any) -> Cell:
 class Sheet:
     """A table: its name in messages, how it is written, the rules by which it is read, what is wrong with its bytes,
     and which column has which role. One that has no text of its own has cells with commas between them in messages.
-
-    `find_heading` sets the heading, which is empty if there is no row, with its line, the titles above it, and the
-    first rows below it.
-    """
+    `find_heading` sets the heading, which is empty if there is no row, its line, the titles above, and the first rows
+    below it."""
 
     delimiter = sign = ","
     fault: Fault | None = None
@@ -394,10 +389,8 @@ def sheet_of_frame(frame: pd.DataFrame, name: str, rules: Rules) -> Sheet:
 @contextlib.contextmanager
 def opened(table: Table, kind: str, rules: Rules, folder: Path | None = None) -> Iterator[Sheet]:
     """Gives a table that can be read several times: a sheet of a workbook is FILE.xlsx!SHEET, the only one FILE.xlsx.
-
     What a pipe gives once is copied, into a folder, or for the time of the block; `-` is standard input. A DataFrame
-    has the name of its kind. Raises Refused and RefusedFaults for what can't be read.
-    """
+    has the name of its kind. Raises Refused and RefusedFaults for what can't be read."""
     if not isinstance(table, (str, Path)):
         yield sheet_of_frame(table, kind, rules)
         return

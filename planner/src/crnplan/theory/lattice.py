@@ -90,13 +90,6 @@ class Shape:
         return self.has_room(step) and gap <= most_gaps and self.level / step <= MOST_CELLS
 
 
-def height_of(demand: Law, returns: Law, high: int) -> float:
-    """Returns how far above S returns may lift the stock, in items: beyond, the chance is below any rounding."""
-    step = max(1, high // CELLS_OF_SHAPE)
-    net = sum_of(LatticeLaw.of(demand, step), LatticeLaw.of(returns, step).reflected)
-    return 0.0 if net.low >= 0 else step * DIGITS / decay_of(net)
-
-
 def mean_of(table: Law, function: Callable[[Whole], Whole]) -> float:
     """Returns the mean of a function of a table's values."""
     values, weights = np.array(table.values), np.array(table.weights, float)
@@ -120,7 +113,11 @@ def shape_of(scenario: Scenario) -> Shape:
     rate = 2 * costs.setup * (costs.holding + costs.backlog) / (costs.holding * costs.backlog)
     order = math.sqrt(rate * mean) + (rate * variance)**(1 / 3)
     values, leads = [*tables[0].chances, *tables[1].chances], scenario.lead.chances
-    height = height_of(*tables, max(values)) if back else 0.0
+    height = 0.0
+    if back:  # Returns may lift the stock so far above S: beyond, the chance is below any rounding.
+        step = max(1, max(values) // CELLS_OF_SHAPE)
+        net = sum_of(LatticeLaw.of(tables[0], step), LatticeLaw.of(tables[1], step).reflected)
+        height = 0.0 if net.low >= 0 else step * DIGITS / decay_of(net)
     rise = max(0, max(tables[1].values) - min(tables[0].values))
     return Shape(math.gcd(*values), mean, math.sqrt(variance), max(values), max(leads), len(leads), order, height, rise)
 

@@ -283,6 +283,6 @@ def read_tables(path: str | FilePath, rules: Table) -> Tree:
     if faults:
         words = (f"this is no TOML document: {fault.reason}" if fault.rule == 1 else
                  f"{_place_text(fault.path, rules)}: {fault.what}; {fault.advice}" for fault in faults)
-        raise RefusedFaults(sorted((Fault(what, str(path), fault.line, fault.column)
-                                    for what, fault in zip(words, faults)), key=lambda fault: (fault.line, fault.column)))
+        named = [Fault(what, str(path), fault.line, fault.column) for what, fault in zip(words, faults)]
+        raise RefusedFaults(sorted(named, key=lambda fault: (fault.line, fault.column)))
     return tree

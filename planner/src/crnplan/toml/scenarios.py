@@ -213,9 +213,11 @@ def plain_text(tree: Tree) -> str:
     tables = [(f"\n[{name}]\n", table) for name, table in tree.items() if isinstance(table, dict)]
     tables += [("\n[[policy]]\n", policy) for policy in tree["policy"]]
     document = {key: value for key, value in tree.items() if key != "policy" and not isinstance(value, dict)}
-    # JSON spells whole numbers, texts and lists of such as TOML does.
-    return "".join(heading + "".join(f"{key} = {json.dumps(value, ensure_ascii=False)}\n" for key, value in table.items())
-                   for heading, table in [("", document), *tables])
+    lines = list[str]()
+    for heading, table in [("", document), *tables]:
+        # JSON spells whole numbers, texts and lists of such as TOML does.
+        lines += [heading, *(f"{key} = {json.dumps(value, ensure_ascii=False)}\n" for key, value in table.items())]
+    return "".join(lines)
 
 
 def head_of(source: str) -> str:

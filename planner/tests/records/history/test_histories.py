@@ -217,15 +217,6 @@ def test_line_without_end(tmp_path: Path) -> None:
         read_history(path, demand="n")
 
 
-@pytest.mark.parametrize("text, status, part", [
-    ("d\n5\n", 0, "values = [5]"), ("d\n\u00ff\n", 2, "--encoding latin-1")])
-def test_process(text: str, status: int, part: str, file: Files) -> None:
-    """The command is the same as a process of its own."""
-    words = [sys.executable, "-m", "crnplan", "history", file(text), "--demand", "d"]
-    answer = subprocess.run(words, capture_output=True, text=True)
-    assert answer.returncode == status and part in answer.stdout + answer.stderr
-
-
 @pytest.mark.serial
 @pytest.mark.parametrize("time", ["", " {:02}:{:02}:{:02}"], ids=["dates", "times"])
 def test_large_history(tmp_path: Path, time: str) -> None:
