@@ -13,8 +13,8 @@ from crnplan.errors import Refused
 from crnplan.plan.answer import Answer
 from crnplan.plan.backtest.one import (SHORT_RECORD, Backtest, Walk, Walked, backtest_item, backtest_one, part_of,
                                        shuffled)
-from crnplan.plan.one import plan_item
-from crnplan.plan.question import NONE, Settings
+from crnplan.plan.one import plan_one
+from crnplan.plan.question import NONE, Settings, question_of
 from crnplan.records.item import Item
 from crnplan.remarks import Remark
 from planner.tests.plan.items import alone, item_of, several
@@ -28,9 +28,7 @@ def past_of(item: Item, walk: Walk = WALK) -> Backtest:
 
 
 def planned(item: Item, program: Path) -> Answer:
-    answer = plan_item(item, alone(), OWN, str(program))
-    assert isinstance(answer, Answer)
-    return answer
+    return plan_one(question_of(item, alone(), OWN), str(program))
 
 
 def test_stretches_by_hand() -> None:

@@ -5,8 +5,8 @@ from collections.abc import Iterator
 
 from ..plan.backtest.catalogue import Tested
 from ..plan.backtest.one import Backtest, Outcome
-from ..plan.backtest.sums import (ALL_ITEMS, BOTH, FEW, HOLDS, KEPT, LEAST_ITEMS, POLICIES, RARE, SLACK, TIME, Estimate,
-                                  Sums)
+from ..plan.backtest.sums import (ALL_ITEMS, BOTH, FEW, HOLDS, KEPT, LEAST_ITEMS, POLICIES, RARE, SLACK, TIME, UNSURE,
+                                  Estimate, Sums)
 from ..records.item import Item
 from ..remarks import Remark
 from ..table import Cell, Column, DataTable, number, text, whole
@@ -19,11 +19,11 @@ WORDS = {"today": "today's policy", "kept": "the plan that is kept", "refitted":
          "smoothed": "exponential smoothing with a normal safety stock",
          "shuffled": "the plan that is kept, with all periods in a random order"}
 VERDICTS = {
-    HOLDS: "the promise holds", TIME: "time breaks it: refit", RARE: "rare large demands break it: aim higher",
+    HOLDS: "the promise holds", UNSURE: "unsure: the promise was missed, perhaps by chance", TIME: "time breaks it: refit", RARE: "rare large demands break it: aim higher",
     BOTH: "time and rare large demands break it: refit, and aim higher",
     FEW: f"no verdict: fewer than {LEAST_ITEMS} items"}
-SINGLE = ("All of it is of many items. It says little of a single one: of an item that kept its promise in these "
-          "periods, and of one that did not, the next periods are known hardly better than before.")
+SINGLE = ("All of it is of many items, and predicts single ones poorly: many that keep their promise in one half of a "
+          "year miss it in the next.")
 
 
 def share(name: str, meaning: str) -> Column:

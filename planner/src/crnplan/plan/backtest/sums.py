@@ -26,9 +26,9 @@ BLOCK = 4  # periods
 NO_BLOCK = -1
 # Fewer items have no verdict.
 LEAST_ITEMS = 10
-VERDICTS = HOLDS, TIME, RARE, BOTH = ("holds", "time", "rare", "both")
+VERDICTS = HOLDS, UNSURE, TIME, RARE, BOTH = ("holds", "unsure", "time", "rare", "both")
 FEW = "few"
-# Of catalogues whose promise holds, this share at most gets another verdict: half of it for each part of a miss.
+# Of catalogues whose promise holds, this share at most is said to break it: half of it for each part of a miss.
 ALARM = 0.05
 SLACK = 0.01  # of the fill: a smaller miss is none
 KEPT = "kept"
@@ -214,7 +214,9 @@ class Sums:
         if self.missed.low > SLACK and not rare and not time:  # by both together
             time = self.time.value > self.chance.value
             rare = not time
-        return BOTH if rare and time else TIME if time else RARE if rare else HOLDS
+        if not rare and not time:
+            return HOLDS if self.missed.value <= SLACK else UNSURE
+        return BOTH if rare and time else TIME if time else RARE
 
 
 def summed(test: Backtest) -> bool:
