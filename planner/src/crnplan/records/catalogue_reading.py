@@ -62,7 +62,8 @@ class Catalogue:
     @property
     def missing(self) -> list[str]:
         """Returns what is lost: one line for each file, and for the items, whose counts do not add up."""
-        return missing_of(self.counts, self.counts["items"]["ready"])
+        counts = self.counts
+        return missing_of(counts, counts["items"]["ready"])
 
     @property
     def rejects(self) -> pd.DataFrame:
