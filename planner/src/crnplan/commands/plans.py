@@ -246,7 +246,7 @@ def curve(folder: Path, stock_value: float | None, fill: float | None, orders: f
     All of it is by theory. --confirm has crnsim count the stock of a sample of items at each named point.
     """
     drawn = crn.exchange_curve(folder, stock_value=stock_value, fill=fill, orders=orders, jobs=jobs, cluster=cluster,
-                           program=program, confirm=confirm, progress=True)
+                               program=program, confirm=confirm, progress=True)
     if plot:
         from ..pages.pictures import exchange_picture, save
         save(exchange_picture(drawn.curve, drawn.named), plot)
