@@ -40,7 +40,7 @@ def test_public_name(name: str) -> None:
 
 @pytest.mark.parametrize("code", [
     "import crnplan", "import crnplan.commands", "import crnplan.formats", "from crnplan import Scenario, find_program",
-    "import crnplan.commands.scenarios"])
+    "import crnplan.commands.scenarios", "import crnplan.commands.plans"])
 def test_imports_no_heavy_library(code: str) -> None:
     """Checks that the light parts import none of the libraries that take long."""
     words = [sys.executable, "-c", f"{code}; import sys; print(*sys.modules)"]

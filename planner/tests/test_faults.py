@@ -93,6 +93,8 @@ def test_a_disk_that_gets_full(tmp_path: Path) -> None:
         with files_of_at_most(50), pytest.raises(Failed, match="/other: File too large; what was done before is kept"):
             folder.write("a.csv", 99 * "new")
         assert (tmp_path / "other/a.csv").read_text() == "old text" and not any(folder.room().iterdir())
+        with files_of_at_most(50), pytest.raises(Failed, match="/other: No space left on device; what was done before"):
+            folder.write("b.csv", "a new name in the marker")
 
 
 def test_a_pipe_of_the_caller(tmp_path: Path) -> None:

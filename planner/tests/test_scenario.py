@@ -299,5 +299,6 @@ def test_command_run(program: Path, crnplan: Command, tmp_path: Path) -> None:
     report = crnplan("run", path, "--program", program, "--policies", "60,80", "--policies", table)
     assert report.output.splitlines()[2].startswith("s60_S80,60,80,296,74/1,74,74/1,-,-")
     assert report.output.splitlines()[3].startswith("low,1,2,")
+    assert crnplan("run", path, "--program", program, "--csv").output == path.with_suffix(".csv").read_text("utf-8")
     answer = crnplan("run", path, "--program", program, "--json")
     assert '"diff_total": 74,\n    "diff_mean": "74/1",\n    "diff_var": null' in answer.output

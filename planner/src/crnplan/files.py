@@ -139,10 +139,11 @@ class Folder:
 
     def write(self, name: str, text: str | Iterable[str]) -> None:
         """Writes a text, or lines, as a whole file, and claims it. TOML has no raw control characters."""
-        self.claim(name)
         lines = [text] if isinstance(text, str) else text
-        with new_file(self.path / name, self.room()) as file:
-            file.writelines(map(escaped, lines) if name.endswith(".toml") else lines)
+        with faults_of(self.path):
+            self.claim(name)
+            with new_file(self.path / name, self.room()) as file:
+                file.writelines(map(escaped, lines) if name.endswith(".toml") else lines)
 
     def remove(self, *names: str) -> None:
         """Removes those of the files that are crnplan's."""

@@ -96,7 +96,7 @@ class Workers:
         batch.due = time.monotonic() + LIMIT_SECONDS
 
 
-@dataclass
+@dataclass(eq=False)
 class _Batch(Generic[Key]):
     """A batch that is under way: its futures, one for each worker that has it, and when it is due at the latest one."""
 

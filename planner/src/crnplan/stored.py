@@ -136,6 +136,11 @@ class Store(Generic[Row]):
         with self.base:
             self.base.executemany("INSERT OR REPLACE INTO facts VALUES (?, ?)", facts.items())
 
+    def digest(self, name: str) -> str | None:
+        """Returns what a kept answer depends on; None if there is none."""
+        row = self.base.execute("SELECT digest FROM answers WHERE item = ?", [name]).fetchone()
+        return None if row is None else str(row[0])
+
     def digests(self) -> dict[str, str]:
         return dict(self.base.execute("SELECT item, digest FROM answers"))
 

@@ -115,7 +115,7 @@ SUGGESTIONS: dict[str, Say] = {
 
 # What is said of a code, and what to do about it.
 WORDS: dict[str, tuple[Say, Say]] = {
-    # Of the answer to an item (plan/answer.py).
+    # Of the answer to an item (plan/one.py).
     "few demands": (lambda it: f"demand in {counted(it['demands'], 'period')} alone, so its law is " + (
         "nearly that of the catalogue" if it["learned"] else "hardly known"), ""),
     "unlike the catalogue": ("unlike the catalogue from which laws are learned: see borrow = none", ""),

@@ -289,6 +289,15 @@ def test_cells_of_masters_that_are_not_taken(tmp_path: Path, changes: dict[str, 
     assert list(rejects.column) == [next(iter(changes))] and said in rejects.reason[0]
 
 
+def test_several_cells_of_a_master(tmp_path: Path) -> None:
+    """Names each cell of a master for which an item is left out, cut after 30 letters, with its column and why."""
+    rejects = read_text(tmp_path, "item,date,quantity\n" + ROWS, "item,setup,holding,backlog,lead,s,S\n"
+                        f"A,ask the purchasing department,{40 * 'x'},5,2,3,9\n").rejects
+    assert list(rejects.column) == ["setup, holding"]
+    assert list(rejects.text) == [f"ask the purchasing department, {30 * 'x'}..."]
+    assert rejects.reason[0].count("is not a number") == 2
+
+
 @pytest.mark.parametrize("changes, least", [
     ({"S": "1000000"}, 1), ({"setup": "0"}, 1), ({"setup": "0.12345678"}, 1), ({"fill": "99.99%"}, 1),
     ({"lead": "32"}, 1), ({"s": "9"}, 1), ({"s": "0", "S": "0"}, 1), ({"borrow": "All"}, 1), ({}, 40)])

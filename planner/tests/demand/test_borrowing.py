@@ -193,7 +193,9 @@ DAMAGES = [
     (lambda tree: {**tree, "whole": {**tree["whole"], "units": [1, 2]}}, DAMAGED),
     (lambda tree: {**tree, "whole": {**tree["whole"], "units": [0] * 4608}}, DAMAGED),
     (lambda tree: {**tree, "whole": None}, DAMAGED), (lambda tree: {**tree, "classes": []}, DAMAGED),
-    (lambda tree: {it: tree[it] for it in tree if it != "classes"}, DAMAGED),
+    *(((lambda tree, part=part: {it: tree[it] for it in tree if it != part}), DAMAGED)
+      for part in ("borrow", "seed", "items", "outside", "whole", "classes", "packs")),
+    (lambda tree: {**tree, "items": "many"}, DAMAGED), (lambda tree: {**tree, "more": 1}, DAMAGED),
     (lambda tree: {**tree, "borrow": "some"}, DAMAGED)]
 
 

@@ -6,6 +6,7 @@ import re
 from collections.abc import Callable
 from fractions import Fraction
 from pathlib import Path
+from typing import NoReturn
 
 import pytest
 
@@ -14,7 +15,9 @@ from crnplan import Scenario
 from crnplan.decide.doubt import doubt
 from crnplan.demand.checks import check_history
 from crnplan.demand.fitting import fit_demand, fit_lead
+from crnplan.plan import item
 from crnplan.plan.settings import read_settings
+from crnplan.theory.lattice import NoTheory
 from crnplan.theory.suggestions import suggestions_of
 from crnplan.errors import spelt
 from crnplan.plan.settings import as_setting
@@ -143,6 +146,20 @@ def test_laws_that_the_history_allows(room: Path, plan: Plan) -> None:
     assert f"The cost to promise is {float(rows['chosen']['cost']):,.2f} a week" in output
 
 
+def test_no_law_has_a_long_run(room: Path, plan: Plan, monkeypatch: pytest.MonkeyPatch) -> None:
+    """If under each law that the history allows as much comes back as is asked for, nothing is doubted; the choice by
+    the fitted law stays."""
+    plan("whole")
+
+    def comes_back(*_: object) -> NoReturn:
+        raise NoTheory("as much comes back as is asked for")
+    monkeypatch.setattr(item, "figures_of_laws", comes_back)
+    told = plan()
+    assert told.status == 0 and "laws that the history allows" not in told.output, told
+    assert (room / "plan/doubt.csv").read_text() == "policy,s,S\n" and rows_of(room / "whole/doubt.csv")
+    assert (room / "plan/policies.csv").read_bytes() == (room / "whole/policies.csv").read_bytes()
+
+
 @pytest.mark.parametrize("fit", ["auto", "empirical", "hurdle-geometric"])
 def test_a_page_says_by_which_law(fit: str, room: Path, plan: Plan) -> None:
     """The laws are those of the fit that is asked for, and the summary and the page name it."""
@@ -229,6 +246,24 @@ def test_dates_returns_and_orders(room: Path, plan: Plan) -> None:
     notes = (room / "plan/notes.txt").read_text().replace("\n", " ")
     assert "istory.csv: weeks from 2026-W10 to 2026-W14" in notes and "rders.csv: lead times in weeks: 2" in notes
     assert str(room) not in notes
+
+
+def test_boxes(room: Path, plan: Plan) -> None:
+    """Demand above the program's range is counted in boxes by itself; levels and stock stay those of items. Then theory
+    is rounded: what the policy saves is said by the run, and the doubt has the same policies."""
+    rows = "\n".join(f"{10_000 * (week % 4) + 7}" for week in range(24))
+    (room / "history.csv").write_text(f"demand\n{rows}\n")
+    edit(room / "settings.toml", "s = 15\nS = 30\nstock = 20", "s = 40000\nS = 90000\nstock = 50000")
+    edit(room / "settings.toml", 'demand = "demand"', 'demand = "demand"\nfit = "empirical"')
+    told = plan()
+    assert told.status == 0, told.errors
+    assert max(Scenario.read(room / "plan/scenario.toml").demand.values) < 10_000
+    rows_by = {row["policy"]: row for row in rows_of(room / "plan/policies.csv")}
+    assert (rows_by["today"]["s"], rows_by["today"]["S"]) == ("40000", "90000") and int(rows_by["chosen"]["S"]) > 10_000
+    saving = float(rows_by["today"]["run_cost"]) - float(rows_by["chosen"]["run_cost"])
+    said = re.search(r"In the long run, by crnsim \([^)]*\), the chosen policy costs ([0-9,.]+) less a",
+                     " ".join(told.output.split()))
+    assert said and float(said[1].replace(",", "")) == pytest.approx(saving, abs=0.02)
 
 
 def test_largest_numbers_fit_one_screen(room: Path, plan: Plan) -> None:

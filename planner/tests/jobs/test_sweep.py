@@ -164,8 +164,10 @@ def test_levels_of_the_function_are_refused(base: Path, s: list[int], S: list[in
 
 
 def test_json_has_the_fields_of_the_report(base: Path, crnplan: Command) -> None:
-    """Compares the data with the table, cell by cell."""
-    heading, *rows = csv.reader(crnplan("sweep", base, *GRID).output.splitlines())
+    """Compares the data with the table, cell by cell. As CSV the table is the same, which crnplan decide reads."""
+    table = crnplan("sweep", base, *GRID).output
+    heading, *rows = csv.reader(table.splitlines())
+    assert crnplan("sweep", base, *GRID, "--csv").output == table
     data = json.loads(crnplan("sweep", base, *GRID, "--json").output)
     assert [list(it) for it in data] == [heading] * len(rows)
     assert [["-" if it is None else str(it) for it in record.values()] for record in data] == rows

@@ -47,7 +47,7 @@ def test_a_store_keeps_answers_and_faults(tmp_path: Path) -> None:
     store.close()
     again = Store(tmp_path / "kept", Item)
     assert [*again.answers()] == [("a", "1", Remark("none", {"x": 1})), ("b", "3", item("c"))]
-    assert again.digests() == {"a": "1", "b": "3"}
+    assert again.digests() == {"a": "1", "b": "3"} and again.digest("b") == "3" and again.digest("c") is None
     assert again.answer("b") == item("c") and (again.fact("one"), again.fact("two")) == ("text", None)
     again.close()
 

@@ -15,7 +15,7 @@ from typing import Any
 
 import pytest
 
-from crnplan.commands import plans
+from crnplan.commands import catalogues
 from crnplan.records.catalogue_reading import Catalogue
 from crnplan.records.item import Item
 
@@ -43,7 +43,7 @@ class Checked:
         """Takes the command, and listens to what it reads."""
         self.crnplan, self.folder = crnplan, folder
         self.items: dict[str, Item] = {}
-        own = plans.read_into
+        own = catalogues.read_into
 
         def heard(*given: Any) -> Path:
             """Reads a catalogue, and keeps its items."""
@@ -51,7 +51,7 @@ class Checked:
             with Catalogue(path).opened() as read:
                 self.items = {item.name: item for item in read.items()}
             return path
-        monkeypatch.setattr(plans, "read_into", heard)
+        monkeypatch.setattr(catalogues, "read_into", heard)
 
     def __call__(self, demand: str | Path, *words: str | Path, masters: str = f"{MASTERS}\nA,45,1,10,2,3,9\n") -> Any:
         """Returns the answer of the command, and the rows of its rejects."""

@@ -161,6 +161,8 @@ def test_a_file_that_changes_is_refused(tmp_path: Path) -> None:
         path.write_text("item,date,quantity\n" + weekly([3] * (WEEKS - 1)), "utf-8")
         with pytest.raises(Refused, match="demand.csv: the file was changed while it was read; run again"):
             list(rows)
+        with pytest.raises(Refused, match="demand.csv: the file was changed while it was read; run again"):
+            sheet.texts({3})
         path.unlink()
         with pytest.raises(Refused, match="demand.csv: No such file"):
             list(find_columns("demand", sheet, Words()).data())

@@ -29,7 +29,7 @@ INTERRUPTED = 130
 # The subcommands in the order in which a planner meets them: the module of each, and its line in the list of `--help`.
 COMMANDS = {
     "item": ("plans", "Plan one item: from a history and settings to a decision."),
-    "catalogue": ("plans", "Plan all items: from two tables to a decision for each."),
+    "catalogue": ("catalogues", "Plan all items: from two tables to a decision for each."),
     "backtest": ("backtests", "Test plans on the catalogue's own past."),
     "curve": ("plans", "Show how much service the whole stock can give for its value."),
     "report": ("plans", "Write the page of a planned catalogue, and of single items."),

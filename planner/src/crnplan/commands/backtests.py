@@ -15,7 +15,7 @@ from ..plan.catalogue import planned_folder
 from ..plan.settings import read_config
 from ..records.catalogue_reading import read_into
 from ..records.catalogued import CATALOGUE
-from .plans import words_of
+from .catalogues import words_of
 from .words import worker_options
 
 

@@ -1,39 +1,14 @@
-"""The commands that plan one item, and all items of a catalogue, and that show a planned catalogue."""
+"""The commands that plan one item, and that show a planned catalogue. Each imports what takes long itself."""
 from __future__ import annotations
 
 import sys
-import tempfile
-from collections.abc import Iterator, Mapping
-from dataclasses import fields
 from pathlib import Path
-from typing import Any
 
 import click
 
 import crnplan as crn
-from ..demand import METHODS
-from ..files import Folder, new_file, own_folder
-from ..pages.catalogue_page import file_of
-from ..pages.catalogue_tables import counted_rows, reasons_of, rejects_of
-from ..pages.exports import CATALOGUE_FILES, FOUND, plan_item
-from ..pages.item_words import item_summary
-from ..plan.catalogue import Lost, plan_into
-from ..plan.question import Settings
-from ..plan.settings import CONFIG, read_config
-from ..records.catalogue_reading import Catalogue, read_into
-from ..records.catalogued import CATALOGUE
-from ..records.cells import DECIMALS, EVERY
-from ..records.columns import ROLES
-from ..records.item import BORROW
-from ..records.items import KEEP, LEAVE_OUT, Words
-from . import note
-from .histories import writing_options
-from .words import pairs_of, picture, program_option, worker_options
+from .words import picture, program_option, worker_options
 
-# So many reasons are named on the terminal.
-MOST_REASONS = 10
-KINDS = {"row": "rows left out", "item": "items left out", "suspicious": "named, and kept"}
-TAKEN = (KEEP, LEAVE_OUT)
 folder_argument = click.argument("folder", metavar="FOLDER", type=click.Path(path_type=Path))
 
 
@@ -61,163 +36,13 @@ def item(history: str, settings: str, out: str, program: str | None) -> None:
 
     With [run] horizon the policies are compared over so many coming periods from [today] stock too.
     """
+    from ..pages.exports import plan_item
+    from ..pages.item_words import item_summary
+
     def told(part: str) -> None:
         if sys.stderr.isatty():
             print(f"{part} ..", file=sys.stderr)
     print(item_summary(plan_item(history, settings, out, program=program, told=told)), end="")
-
-
-@click.command(epilog="Example: crnplan catalogue demand.csv items.csv --orders orders.csv --out plan")
-@click.argument("demand", metavar="DEMAND.csv")
-@click.argument("items", metavar="ITEMS.csv")
-@click.option("--orders", metavar="ORDERS.csv", help="Dates of orders and of their receipts, for lead times.")
-@click.option("--out", metavar="FOLDER", type=click.Path(path_type=Path), help="Keep every file here.")
-@click.option("--check", "only_read", is_flag=True,
-              help="Only read the files, and say what was found and left out. Nothing is written, whatever --out says.")
-@click.option("--rejects", metavar="FILE", type=click.Path(dir_okay=False, path_type=Path),
-              help="With --check, write what was left out here.")
-@click.option("--anyway", is_flag=True,
-              help="End with status 0 even if no item can be planned, or more than half of a file's rows were "
-              "rejected.")
-@click.option("--column", "columns", metavar="FILE.ROLE=NAME", multiple=True,
-              callback=pairs_of(r"([^=]*\.[^=]*)=(.*\S.*)", "demand.quantity=Menge"),
-              help="A column, as demand.quantity=Menge. May be given several times.")
-@click.option("--unit", "units", metavar="FILE.ROLE=UNIT", multiple=True,
-              callback=pairs_of(r"([^=]*\.[^=]*)=(.*\S.*)", "items.lead=day"),
-              help="What a column counts, as items.lead=day, items.holding=percent (of the price a year), "
-              "items.price=100, demand.quantity=12. May be given several times.")
-@click.option("--factor", "factors", metavar="MEASURE=NUMBER", multiple=True,
-              callback=pairs_of(r"(.*\S.*)=(0*[1-9][0-9]*)", "KAR=12"),
-              help="How many items one of a unit of measure is, as KAR=12. May be given several times.")
-@click.option("--every", type=click.Choice(EVERY), help="The period; by default week. Weeks are ISO weeks.")
-@click.option("--from", "start", metavar="DATE", help="The first day of the record, for all items.")
-@click.option("--to", "end", metavar="DATE", help="The last day of the record, for all items.")
-@click.option("--net", is_flag=True, default=None, help="Take quantities below 0 off their period.")
-@click.option("--twice", type=click.Choice(TAKEN), help="Rows that stand twice; by default they are kept and named.")
-@click.option("--far", type=click.Choice(TAKEN),
-              help="Items with an amount far above all others; by default they are left out.")
-@click.option("--least", type=click.IntRange(1), metavar="N", help="The periods that a history needs; by default 13.")
-@writing_options
-@click.option("--decimal", type=click.Choice(DECIMALS), help="The decimal sign; without it each column must decide it.")
-@click.option("--fit", type=click.Choice(METHODS), metavar="METHOD",
-              help="How demand is fitted, as in crnplan history; by default auto.")
-@click.option("--borrow", type=click.Choice(BORROW),
-              help="From which items each learns its law of demand; by default all if there are 100. The masters may "
-              "have a column borrow.")
-@click.option("--learn-again", "again", is_flag=True, help="Learn laws anew, not as in an earlier run in FOLDER.")
-@click.option("--confidence", type=float, metavar="SHARE",
-              help="Keep a wanted fill rate under this share of the laws that the item's history allows.")
-@click.option("--level", type=float, metavar="SHARE", help="The level of the intervals; by default 0.95.")
-@click.option("--seed", metavar="TEXT", help="The keys of all items follow from it; by default crnplan.")
-@click.option("--config", metavar="FILE.toml", help="Settings; by default crnplan.toml, if it is here.")
-@worker_options
-def catalogue(**asked: Any) -> int:
-    """Plan all items of a catalogue: from two tables to a decision for each item.
-
-    DEMAND.csv has a row for each movement: item, date, quantity, and perhaps returned. ITEMS.csv has a row for each
-    item: item, setup, holding, backlog or a wanted fill rate, lead time in periods, today's s and S, and perhaps
-    description, stock, price, class, and borrow (none, class or all). Costs are for one item and one period. Columns
-    are found by their names; what was found is printed as lines for crnplan.toml that state it.
-
-    FOLDER gets decisions.csv (an item a row), exact.csv (crnsim's figures as fractions), rejects.csv (all that was left
-    out, with place, reason and advice), summary.txt, and report.html with all of it. Run again, only items that have
-    changed are planned; after an interruption it goes on. The bytes do not depend on how many processes or workers
-    there are.
-
-    Items learn which laws of demand there are from one another (--borrow). Beside the policy of each item stands the
-    one that it would get by its own history alone (s_alone, S_alone), with cost and fill rate under the law that it
-    has. With --confidence, policies with a wanted fill rate are sought under 100 laws that the history allows, which
-    takes a few times as long.
-
-    The exit status is 1 if no item can be planned, or if more than half of a file's rows were rejected (--anyway allows
-    it), and 3 if the counts of rows or items do not add up, or if an item has a fault of crnplan.
-    """
-    config, path = read_config(asked["config"]), Path(asked["config"] or CONFIG)
-    if path.is_file():
-        click.echo(f"# settings are from {path}", err=True)
-    words, settings = words_of(asked, config)
-    if not asked["only_read"] and asked["out"] is None:
-        raise crn.Refused("--out is missing; name the folder for the plan, or say --check to only read the files")
-    with (tempfile.TemporaryDirectory(prefix="crnplan-") as room, own_folder(
-            Path(room) if asked["only_read"] else asked["out"], CATALOGUE, CATALOGUE_FILES) as folder):
-        read = Catalogue(read_into(folder, {kind: asked[kind] for kind in ("demand", "items", "orders")}, words))
-        folder.write(FOUND, read.found)
-        if not any(name in config for name in ("demand", "items")) and not asked["columns"]:
-            click.echo(read.found, err=True)
-        for line in read.said:
-            click.echo(f"# {line}", err=True)
-        missing = only_read(read, asked["rejects"]) if asked["only_read"] else planned(folder, settings, asked)
-        for line in reason_lines(read):
-            click.echo(line)
-        no = [] if asked["anyway"] else [*too_few(read.counts)]
-    for line in (*missing, *(f"{line}; correct the files, or say --anyway" for line in no)):
-        note(line)
-    return Lost.status if missing else int(bool(no))
-
-
-def only_read(read: Catalogue, rejects: Path | None) -> list[str]:
-    """Says what became of all rows, and writes what was left out into a file if one is named. Returns what is lost."""
-    if rejects:
-        with read.opened() as base, new_file(rejects) as file:
-            file.writelines(rejects_of(base.rejects()).lines)
-    for line in counted_rows(read.counts["files"]):
-        click.echo(line)
-    return read.missing
-
-
-def planned(folder: Folder, settings: Settings, asked: Mapping[str, Any]) -> list[str]:
-    """Plans a catalogue that was read into a folder, and says what comes of it. Returns what is lost or broken."""
-    done = plan_into(folder, settings, jobs=asked["jobs"], address=asked["cluster"], program=asked["program"],
-                     again=asked["again"], shown=True)
-    click.echo(f"{folder.path}: {done.planned:,} items planned, {done.kept:,} kept from before", err=True)
-    click.echo(done.summary, nl=False)
-    return [*done.missing, *[f"{done.totals.broken:,} items are not planned by a fault of crnplan: please report them "
-                             "with their rows"] * (done.totals.broken > 0)]
-
-
-def words_of(asked: Mapping[str, Any], config: Mapping[str, Any]) -> tuple[Words, Settings]:
-    """Returns how files are read and how items are planned: by the command's words, else by the configuration."""
-    named = {f"{kind}.{role}": name for kind in ROLES for role, name in config.get(kind, {}).items()}
-    factors = {measure: int(number) for measure, number in asked["factors"].items()}
-    stated: dict[str, Any] = {
-        **config, "start": config.get("from"), "end": config.get("to"),
-        **{name: value for name, value in asked.items() if value not in (None, ())},
-        "columns": _by_kind(named | asked["columns"]), "units": _by_kind(config.get("units", {}) | asked["units"]),
-        "names": _by_kind(config.get("names", {})), "factors": factors or config.get("factors"),
-        "date_formats": tuple(asked["date_formats"] or config.get("date_formats", ()))}
-
-    def given(kind: type) -> dict[str, Any]:
-        return {it.name: stated[it.name] for it in fields(kind) if stated.get(it.name) is not None}
-    return Words(**given(Words)), Settings(**given(Settings))
-
-
-def _by_kind(table: Mapping[str, Any]) -> dict[str, dict[str, Any]]:
-    """Returns what a table states by FILE.ROLE, by file and role."""
-    tree: dict[str, dict[str, Any]] = {}
-    for place, value in table.items():
-        kind, _, role = place.partition(".")
-        tree.setdefault(kind, {})[role] = value
-    return tree
-
-
-def reason_lines(catalogue: Catalogue) -> Iterator[str]:
-    """Yields the most frequent reasons why rows and items were left out or named, each with how often and its first."""
-    with catalogue.opened() as read:
-        reasons = sorted(reasons_of(read.rejects()), key=lambda reason: -reason.count)
-    for reason in reasons[:MOST_REASONS]:
-        yield f"{reason.count:,} {KINDS[reason.kind]}, {reason.column}: {reason.pattern} ({reason.example})"
-    if len(reasons) > MOST_REASONS:
-        rest = sum(reason.count for reason in reasons[MOST_REASONS:])
-        yield f"{rest:,} more for {len(reasons) - MOST_REASONS:,} other reasons: see rejects.csv"
-
-
-def too_few(counts: Mapping[str, Any]) -> Iterator[str]:
-    """Yields why so little of a catalogue was read that its plan is hardly one."""
-    if not counts["items"]["ready"]:
-        yield "no item can be planned"
-    for rows in counts["files"].values():
-        if 2 * rows["rejected"] > rows["read"]:
-            yield f"{rows['name']}: {rows['rejected']:,} of {rows['read']:,} rows were rejected, more than half"
 
 
 @click.command(epilog="Example: crnplan curve plan --fill 0.95 --plot curve.png")
@@ -246,7 +71,7 @@ def curve(folder: Path, stock_value: float | None, fill: float | None, orders: f
     All of it is by theory. --confirm has crnsim count the stock of a sample of items at each named point.
     """
     drawn = crn.exchange_curve(folder, stock_value=stock_value, fill=fill, orders=orders, jobs=jobs, cluster=cluster,
-                           program=program, confirm=confirm, progress=True)
+                               program=program, confirm=confirm, progress=True)
     if plot:
         from ..pages.pictures import exchange_picture, save
         save(exchange_picture(drawn.curve, drawn.named), plot)
@@ -267,6 +92,7 @@ def report(folder: Path, items: tuple[str, ...], program: str | None) -> None:
 
     A page is one file that asks for no other. It can be sent, printed and read without a network.
     """
+    from ..pages.catalogue_page import file_of
     page = crn.report(folder, items, program=program)
     for path in (*(file_of(folder, name) for name in items), page):
         click.echo(path)

@@ -79,7 +79,7 @@ def run(scenario: str, words: tuple[str, ...], horizon: int | None, stock: int |
         show(long_run_decision(found, 0.95 if level is None else level), form)
     else:
         report = asked.run(policies, program=program)
-        show_rows(report.table, form, report.text)
+        show_rows(report.table, form, report.text, report.text)
 
 
 @click.command(epilog="Example: crnplan decide report.csv --scenario scenario.toml --plot differences.svg")
@@ -252,7 +252,7 @@ def trajectory(scenario: str, names: tuple[str, ...], periods: int | None, progr
         save(trajectories_picture(policies, drawn, asked.initial), out)
     table = table_of(policies, drawn)
     if form or not out:
-        show_rows(table, form, table.text)
+        show_rows(table, form, table.text, table.csv)
 
 
 @click.command(epilog="Example: crnplan sweep scenario.toml --s 6 16 1 --S 20 40 2 > sweep.csv")
@@ -280,7 +280,7 @@ def sweep(base: str, points: tuple[int, int, int], levels: tuple[int, int, int],
     from ..crnsim.sweep import numbers_of
     sides = numbers_of("s", *points), numbers_of("S", *levels)
     report = crn.sweep(crn.Scenario.read(base), *sides, progress=True, **options)
-    show_rows(report.table, form, report.text)
+    show_rows(report.table, form, report.text, report.text)
 
 
 @click.command(epilog="Example: crnplan where")

@@ -89,7 +89,6 @@ def show(result: Result, form: str | None) -> None:
         print(json.dumps(result.tree, indent=2) + "\n" if form == "json" else result.text, end="")
 
 
-def show_rows(table: DataTable, form: str | None, text: str) -> None:
-    """Prints a table as a text that it has, or as `csv`, or its rows as `json`, with fractions as texts."""
-    print(json.dumps(table.records, indent=2) + "\n" if form == "json" else table.csv if form == "csv" else text,
-          end="")
+def show_rows(table: DataTable, form: str | None, text: str, lines: str) -> None:
+    """Prints a table as a text, or as `csv` the lines that it has, or its rows as `json`, with fractions as texts."""
+    print(json.dumps(table.records, indent=2) + "\n" if form == "json" else lines if form == "csv" else text, end="")

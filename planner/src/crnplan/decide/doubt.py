@@ -111,7 +111,7 @@ class Doubt(Result):
     @property
     def table(self) -> DataTable:
         """Returns the figures indexed by `policy`, the cheapest first."""
-        columns = [column for column in COLUMNS[3:] if column.name in self.columns]
+        columns = [column for column in COLUMNS[len(POLICY):] if column.name in self.columns]
         figures = [self.columns[column.name] for column in columns]
         rows: list[list[Cell]] = [
             [*dataclasses.astuple(self.policies[place]), *(float(column[place]) for column in figures)]

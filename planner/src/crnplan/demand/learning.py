@@ -262,6 +262,7 @@ class Prior:
                 raise ValueError("something is learned unless nothing is borrowed")
             tree["classes"] = {name: Learned.from_tree(learned) for name, learned in tree["classes"].items()}
             tree |= {part: Learned.from_tree(tree[part]) if tree[part] else None for part in ("whole", "packs")}
+            tree |= {count: int(tree[count]) for count in ("seed", "items", "outside")}
             return cls(**tree)
         except (ValueError, TypeError, LookupError, AttributeError, OverflowError):
             raise Refused(f"{name}: the {KIND} is damaged", "learn it anew") from None

@@ -19,7 +19,8 @@ WORDS = {"today": "today's policy", "kept": "the plan that is kept", "refitted":
          "smoothed": "exponential smoothing with a normal safety stock",
          "shuffled": "the plan that is kept, with all periods in a random order"}
 VERDICTS = {
-    HOLDS: "the promise holds", UNSURE: "unsure: the promise was missed, perhaps by chance", TIME: "time breaks it: refit", RARE: "rare large demands break it: aim higher",
+    HOLDS: "the promise holds", UNSURE: "unsure: the promise was missed, perhaps by chance",
+    TIME: "time breaks it: refit", RARE: "rare large demands break it: aim higher",
     BOTH: "time and rare large demands break it: refit, and aim higher",
     FEW: f"no verdict: fewer than {LEAST_ITEMS} items"}
 SINGLE = ("All of it is of many items, and predicts single ones poorly: many that keep their promise in one half of a "

@@ -169,7 +169,7 @@ class PlannedFolder:
         item = self.read.item(name)
         if item is None:
             raise self._why_not(name)
-        if self.store.digests().get(name) != self.read.digest(name, self.planned.common):
+        if self.store.digest(name) != self.read.digest(name, self.planned.common):
             raise Refused(f"{self.path}: item {name!r}: it is not planned as its rows are now", AGAIN)
         answer = self.store.answer(name)
         if isinstance(answer, Remark):

@@ -164,7 +164,7 @@ def disagreement(sample: Sample, figures: Sequence[Figures], most: float, spare:
                                          ("saving", -estimate.difference, saving, estimate.error)):
             if error is not None and abs(run - theory) > most * error + more:
                 return Remark("disagrees", {"figure": f"{name} of {estimate.policy}", "theory": theory, "run": run,
-                                          "error": error})
+                                            "error": error})
     return None
 
 
@@ -227,10 +227,11 @@ def verdict_of(question: Question, today: Figures, saving: float, low: float | N
 
 
 def law_facts(law: FittedLaw, box: int) -> LawFacts:
-    its, share = law.diagnostics, 0.0 if law.family == EMPIRICAL else law.diagnostics.share
-    if its.borrowed and not its.borrowed.alone:
-        share = its.borrowed.share
-    return LawFacts(law.family, share, its.borrowed.log10_bayes if its.borrowed else None, float(law.mean) * box)
+    borrowed = law.diagnostics.borrowed
+    share = 0.0 if law.family == EMPIRICAL else law.diagnostics.share
+    if borrowed and not borrowed.alone:
+        share = borrowed.share
+    return LawFacts(law.family, share, borrowed.log10_bayes if borrowed else None, float(law.mean) * box)
 
 
 def remarks_of(question: Question, theory: LongRun, sample: Sample, choice: Choice) -> Iterator[Remark]:
@@ -252,7 +253,7 @@ def remarks_of(question: Question, theory: LongRun, sample: Sample, choice: Choi
     if not choice.is_promised:
         yield Remark("no promise", {"confidence": settings.confidence})
     if choice.levels != question.levels and sample.policies[-1].error is None:
-        yield Remark("no interval", {"orders": min(estimate.orders or 0 for estimate in sample.policies)})
+        yield Remark("no interval", {"orders": min(estimate.orders for estimate in sample.policies)})
 
 
 def plan_one(question: Question, program: str) -> Answer:

@@ -62,7 +62,8 @@ class Catalogue:
     @property
     def missing(self) -> list[str]:
         """Returns what is lost: one line for each file, and for the items, whose counts do not add up."""
-        return missing_of(self.counts, self.counts["items"]["ready"])
+        counts = self.counts
+        return missing_of(counts, counts["items"]["ready"])
 
     @property
     def rejects(self) -> pd.DataFrame:
@@ -199,15 +200,16 @@ def _file_lines(kind: str, rows: Rows) -> Iterator[str]:
 
 def _date_lines(rows: Rows, reader: DateReader) -> Iterator[str]:
     """Yields a line for each form of the dates of a table, and says what decides a form that could be two."""
-    firsts, counts, formats = dict[str, str](), Counter[str](), argument("date_formats")
+    firsts, counts, unclear = dict[str, str](), Counter[str](), 0
     for cell, count in (pair for role in DATES for pair in rows.counts(role)):
         try:
             form = reader.read(cell)[1]
         except Unreadable as why:
-            form = "" if why.remark.code == "day or month" else "none"
+            unclear += count * (why.remark.code == "day or month")
+            continue
         firsts.setdefault(form, text_of(cell))
         counts[form] += count
-    unclear, _ = counts.pop("", 0), counts.pop("none", 0)
+    formats = argument("date_formats")
     if reader.patterns and counts:
         yield f"# dates by {formats}: {counts.total():,}"
         return

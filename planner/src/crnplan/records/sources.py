@@ -113,9 +113,10 @@ def decoded(name: str, data: bytes, encoding: str, is_all: bool = True, line: in
         what = f"there is a NUL character, as in UTF-16; say {wide}"
     except UnicodeError as fault:
         start, is_utf_8 = getattr(fault, "start", 0), encoding[:5] == "utf-8"
-        text, before = "", data[:start].decode(encoding, "replace")
+        bare = getattr(fault, "object", data)  # without a byte order mark of UTF-8
+        text, before = "", bare[:start].decode(encoding, "replace")
         other = argument("encoding", likely_encoding(data)) if is_utf_8 else f"another {argument('encoding')}"
-        what = f"the byte 0x{data[start:start + 1].hex()} is not {'UTF-8' if is_utf_8 else encoding}; say {other}"
+        what = f"the byte 0x{bare[start:start + 1].hex()} is not {'UTF-8' if is_utf_8 else encoding}; say {other}"
     return text, Fault(f"{what}, {EXPORT}", name, line + before.count("\n"), len(before) - before.rfind("\n"))
 
 
@@ -342,11 +343,12 @@ class TextSheet(Sheet):
     def texts(self, lines: Iterable[int]) -> dict[int, str]:
         """Returns the text of each of the rows that begin in these lines, as it stands in the file."""
         wanted, texts = {*lines}, dict[int, str]()
-        for line, _ in self.rows() if wanted else ():
-            if line in wanted:
-                texts[line] = "".join(self.kept).rstrip("\r\n")
-            if len(texts) == len(wanted):
-                break
+        with unchanged(self.path, self.name, self.state):  # Rows that are left early don't look.
+            for line, _ in self.rows() if wanted else ():
+                if line in wanted:
+                    texts[line] = "".join(self.kept).rstrip("\r\n")
+                if len(texts) == len(wanted):
+                    break
         return texts
 
     def place(self, text: str, line: int, place: int) -> tuple[int, int]:
