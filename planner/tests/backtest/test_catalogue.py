@@ -2,6 +2,7 @@
 from __future__ import annotations
 
 import csv
+import dataclasses
 import datetime
 import shutil
 from collections.abc import Mapping
@@ -117,7 +118,7 @@ def test_values_of_a_notebook(room: Path) -> None:
     tests = package.backtest(catalogue, out=room / "out", **WALK)
     assert tests.tested.now == 0 and tests.tested.kept == ITEMS
     assert tests.table.csv.encode() == (room / "out/backtest.csv").read_bytes()
-    assert tests.text == (room / "out/backtest.txt").read_text("utf-8")
+    assert tests.text == tests.notes == (room / "out/backtest.txt").read_text("utf-8")
     assert tests.page == (room / "out/backtest.html").read_text("utf-8")
     assert [*tests.sums] == [column.name for column in SUM_COLUMNS]
     assert tests.sums["class"].tolist() == ["", "a", "b"] and tests.verdict in VERDICTS.values()
@@ -130,7 +131,15 @@ def test_page(made: Path) -> None:
     assert text.splitlines()[0] in page.words
     sums = page.tables["Sums of all items and of each class"]
     assert [row[0] for row in sums] == ["class", "all", "a", "b"]
-    rows = rows_of(made / "out/backtest.csv")
+    rows, written = rows_of(made / "out/backtest.csv"), rows_of(made / "out/backtest_sums.csv", "class")
+    for row in sums[1:]:
+        own = written[row[0].replace("all", "")]
+        assert row[1:4] == [own["verdict"], own["items"], own["broken"]]
+        assert float(row[4].rstrip("%")) == pytest.approx(100 * float(own["promised_fill"]), abs=0.06)
+        fills = dict(zip(sums[0][5:], row[5:], strict=True))
+        for policy, shown in fills.items():
+            value, error = (100 * float(own[f"fill_{policy}{end}"]) for end in ("", "_error"))
+            assert [float(word) for word in shown.rstrip("%").split(" ± ")] == pytest.approx([value, error], abs=0.06)
     worst = page.tables["The items that missed most"][1:]
     assert worst and {row[0] for row in worst} <= {name for name, row in rows.items() if not row["left_out"]}
     assert worst[0][2] == f"{float(rows[worst[0][0]]['promised_fill_kept']):.1%}"
@@ -140,6 +149,20 @@ def test_level_shift_is_seen(items: Mapping[str, Item], tmp_path: Path) -> None:
     """Demand that doubles after the record breaks promises, by time."""
     tests = package.backtest(*write(tmp_path, items, later=2), **WALK)
     assert tests.verdict == VERDICTS[TIME]
+
+
+def test_no_item_in_sums(items: Mapping[str, Item], tmp_path: Path) -> None:
+    """An item of which all demand is in the record has a test, but none in a random order that puts it all after it.
+    The other one can't be planned, and is counted."""
+    ended = dataclasses.replace(items["I-000"], counts=(0, 9, 0, 0, 9) + (0,) * 495, returns=())
+    nothing = dataclasses.replace(items["I-001"], counts=(0,) * 500, returns=())
+    tables = write(tmp_path, {"I-000": ended, "I-001": nothing})
+    tests = package.backtest(*tables, start=START, end=START + datetime.timedelta(7 * 500 - 1), **WALK)
+    assert tests.verdict == tests.text.splitlines()[0] == "No item has a test on its own past."
+    assert "items: 2 named = 1 tested + 0 without a test" in tests.text and "1 that can't be planned" in tests.text
+    row, = csv.DictReader(tests.table.csv.splitlines())
+    assert row["item"] == "I-000" and float(row["cost_kept"]) > 0 and row["S_shuffled"] == row["cost_shuffled"] == ""
+    assert "No item has a test" in tests.page and "Met at once in time" not in tests.page
 
 
 def test_planned_folder(items: Mapping[str, Item], tmp_path: Path, crnplan: Command, program: Path) -> None:

@@ -6,13 +6,14 @@ from typing import NamedTuple
 
 from ..plan.backtest.catalogue import Tested
 from ..plan.backtest.one import Backtest
-from ..plan.backtest.sums import ALL_ITEMS, BLOCK, KEPT, Group, summed
+from ..plan.backtest.sums import ALL_ITEMS, BLOCK, KEPT, POLICIES, Group, Sums, summed
 from ..records.item import Item
-from .backtest_tables import SINGLE, VERDICTS, backtest_summary, first_line, sums_table
+from .backtest_tables import SINGLE, VERDICTS, backtest_summary, fills_of, first_line
 from .page import CHOSEN, TODAY, UNITS, Line, Plot, Scale, marks_of, percent, rendered, tick
 
 MOST_DOTS, MOST_WORST = 3_000, 12
 DOTS, PROMISED = "dots", "of-promised"
+SUM_HEADINGS = "class", "verdict", "items", "missed by over a point", "promised", *POLICIES
 LINES = {KEPT: CHOSEN, "refitted": "of-better", "smoothed": TODAY}
 
 
@@ -82,14 +83,20 @@ def worst_of(tested: Sequence[tuple[Item, Backtest]]) -> list[Worst]:
     return rows
 
 
+def sum_cells(sums: Sums) -> list[str]:
+    """Returns the cells of all items, or of a class, below `SUM_HEADINGS`."""
+    fills = fills_of(sums)
+    return [sums.group or "all", VERDICTS[sums.verdict], f"{sums.items:,}", f"{sums.broken:,}", percent(sums.promised),
+            *(fills[policy] for policy in POLICIES)]
+
+
 def backtest_page(tested: Tested) -> str:
     """Returns the page of a catalogue's test on its past."""
     found = [(item, test) for item, test in tested.items if isinstance(test, Backtest) and summed(test)]
     tests, sums = [test for _, test in found], next((it for it in tested.sums if it.group == ALL_ITEMS), None)
-    heading, *rows = sums_table(tested).spelt(is_shown=True)
     return rendered("backtest.html", {
         "headline": first_line(tested), "sums": sums, "verdict": VERDICTS[sums.verdict] if sums else "",
         "every": tested.every, "decimals": tested.decimals, "lines": backtest_summary(tested).splitlines(),
         "promises": promise_plot(tests) if tests else None, "single": SINGLE,
         "times": time_plot(tests, sums.promised, tested.every) if sums else None, "worst": worst_of(found),
-        "heading": heading, "rows": rows})
+        "heading": SUM_HEADINGS, "rows": [sum_cells(it) for it in tested.sums]})

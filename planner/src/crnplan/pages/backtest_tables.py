@@ -113,14 +113,19 @@ def sums_table(tested: Tested) -> DataTable:
     return DataTable(SUM_COLUMNS, [_sum_row(sums) for sums in tested.sums], tested.decimals, "")
 
 
+def fills_of(sums: Sums) -> dict[str, str]:
+    """Returns the share of demand that each policy met at once, with its standard error, in percent."""
+    return {policy: f"{100 - 100 * unmet.value:.1f} ± {100 * unmet.error:.1f}%" for policy, unmet in
+            sums.unmet.items()}
+
+
 def _points(estimate: Estimate) -> str:
     return f"{100 * estimate.value:z.1f} ± {100 * estimate.error:.1f}"
 
 
 def _sum_lines(sums: Sums) -> Iterator[str]:
     """Yields lines on all items, or on a class."""
-    fills = {policy: f"{100 - 100 * unmet.value:.1f} ± {100 * unmet.error:.1f}%" for policy, unmet in
-             sums.unmet.items()}
+    fills = fills_of(sums)
     yield f"{sums.group or 'all'}: {VERDICTS[sums.verdict]} ({counted(sums.items, 'item')})"
     yield (f"  met at once: {100 * sums.promised:.1f}% promised; {fills['kept']} by the kept plan, "
            f"{fills['refitted']} refitted, {fills['smoothed']} smoothed, {fills['today']} today's")
@@ -139,8 +144,9 @@ def backtest_summary(tested: Tested) -> str:
     left = [(item, test) for item, test in tested.items if isinstance(test, Remark)]
     lines = [f"Planned from {counted(walk.record, every)}, kept, and refitted after each {counted(walk.every, every)} "
              f"on the last {counted(walk.window, every)}; run on the {every}s that came.",
-             f"items: {len(tested.items):,} = {len(tested.items) - len(left):,} tested + {len(left):,} left out "
-             f"({BACKTEST} says why)", ""]
+             f"items: {tested.named:,} named = {len(tested.items) - len(left):,} tested + {len(left):,} without a test "
+             f"({BACKTEST} says why) + {tested.named - len(tested.items):,} that can't be planned (crnplan catalogue "
+             "says why)", ""]
     lines += [line for sums in tested.sums for line in _sum_lines(sums)]
     laws = "; ".join(map(sentence, tested.learned))
     return "\n".join([*lines, "", SINGLE, f"Laws: {laws}.", "± is a standard error: items move together, so errors "

@@ -36,12 +36,14 @@ class Records(Catalogued):
 
 @dataclass(frozen=True)
 class Tested:
-    """The tests of a catalogue: how its past was walked through, each item with its test or why it has none, the sums
-    of all items and of classes, remarks on what was learned, and how many items were tested now and before."""
+    """The tests of a catalogue: how its past was walked through, how many items its tables name, each that can be
+    planned with its test or why it has none, the sums of all items and of classes, remarks on what was learned, and how
+    many items were tested now and before."""
 
     walk: Walk
     every: str
     decimals: int
+    named: int
     items: Sequence[tuple[Item, Backtest | Remark]]
     sums: Sequence[Sums]
     learned: Sequence[Remark]
@@ -67,4 +69,5 @@ def backtest_into(folder: Folder, settings: Settings, walk: Walk, *, jobs: int |
         items = [(item, next(test for name, _, test in kept if name == item.name))
                  for item in Catalogued.items(read)]
         sums = sums_of(test for _, test in items if isinstance(test, Backtest))
-        return Tested(walk, read.fact("every"), read.fact("decimals"), items, sums, learned, len(work.left), work.kept)
+        return Tested(walk, read.fact("every"), read.fact("decimals"), read.fact("counts")["items"]["named"], items,
+                      sums, learned, len(work.left), work.kept)
