@@ -118,6 +118,16 @@ def test_frames(tmp_path: Path) -> None:
             read_history(pd.DataFrame({"n": [3, cell, 2]}, dtype=object), demand="n")
 
 
+def test_a_column_has_one_role(tmp_path: Path) -> None:
+    """A column that is stated for one role is not found for another whose name it has, and a unit in the heading of a text
+    is part of its name."""
+    masters = f"{MASTERS.rstrip()},price,description (kg)\nA,45,1,10,2,3,9,7,iron\n"
+    plain = items_of(read(tmp_path, weekly([2] * WEEKS), masters))["A"]
+    assert (plain.price, plain.holding, plain.description) == (7, 1, "iron")
+    stated = items_of(read(tmp_path, weekly([2] * WEEKS), masters, columns={"items": {"holding": "price"}}))["A"]
+    assert (stated.price, stated.holding) == (None, 7)
+
+
 @pytest.mark.parametrize("encoding, heading, unit", [
     ("gb18030", "物料编码,出库日期,数量,备注", "中文备注说明"),
     ("cp1250", "indeks,data,Ilość,uwagi", "Łódź, zażółć gęślą".replace(",", "")),
