@@ -99,11 +99,14 @@ def test_named_points_are_as_good_as_many_small_orders(plan: Path, times: float)
 
 def test_named_points_of_a_today_that_no_choice_can_be(plan: Path) -> None:
     """Has no point with more service than the curve ends with, and the curve's own if others have too many orders."""
-    its = drawn(plan).gathered
+    whole = drawn(plan)
+    its = whole.gathered
     plain = chosen_by(its.items, Budget(fill=0.9)).point
     today = plain._replace(fill=1 - 1e-11)
     points, missing = points_of(replace(its, points={**its.points, "today": today}), Budget())
     assert [*points] == ["same stock"] and "this service takes more orders" in missing["same service"]
+    said = replace(whole, missing=missing).text
+    assert f"there is no such point: {missing['same service']}\n" in said and "no such point" not in whole.text
     today = plain._replace(value=plain.value / 2, orders=plain.orders / 2)
     points, missing = points_of(replace(its, points={**its.points, "today": today}), Budget())
     assert points["same service"].point == plain and points["same service"].point.value > today.value

@@ -13,7 +13,7 @@ import pytest
 import crnplan as crn
 from crnplan.plan.answer import Answer
 from crnplan.plan.one import allowed_by, plan_one
-from crnplan.plan.catalogue import learned_of
+from crnplan.plan.catalogue import PRIOR, learned_of
 from crnplan.plan.question import ALL, CLASS, NONE, Question, Settings, question_of
 from crnplan.records.catalogued import CATALOGUE as FOLDER, Catalogued, Writer
 from crnplan.records.item import Item
@@ -135,10 +135,12 @@ def test_what_is_learned(read: Catalogued, answers: Store[Answer], asked: str | 
 
 @pytest.mark.parametrize("read", [(ITEMS, {})], indirect=True)
 def test_what_was_learned_is_kept(read: Catalogued, answers: Store[Answer]) -> None:
-    """Takes what was learned before, unless it is to be learned again."""
+    """Takes what was learned before, unless it is to be learned again or too few items were within the grid."""
     for again, earlier in ((False, False), (False, True), (True, False)):
-        remark, = learned_of(answers, read, Settings(), again).remarks
-        assert remark.facts == {"items": ITEMS, "classes": 0, "earlier": earlier}
+        found = learned_of(answers, read, Settings(), again)
+        assert [it.facts for it in found.remarks] == [{"items": ITEMS, "classes": 0, "earlier": earlier}]
+    answers.keep_facts({PRIOR: replace(found.prior, outside=ITEMS - 99).text})
+    assert [it.facts["earlier"] for it in learned_of(answers, read, Settings(), False).remarks] == [False]
 
 
 @pytest.mark.parametrize("read", [(20, {"I-001": "all"})], indirect=True)

@@ -178,11 +178,12 @@ def test_each_key_has_a_start_of_its_own(monkeypatch: pytest.MonkeyPatch) -> Non
 
 @pytest.mark.parametrize("scenario, keys, message", [
     (PLAIN, 1, "keys=1: the long run takes 2 to 256 keys"), (PLAIN, 257, "keys=257"),
+    (replace(PLAIN, ring=3), 2, "ring"),
     (replace(PLAIN, version=2, returns=PLAIN.demand), 2, "no long run: on average as much comes back"),
     (replace(PLAIN, demand=Law((0,), (1,))), 2, "no long run"),
     (replace(PLAIN, version=2, demand=Law((0, 10_000), (1, 1)), returns=Law((0, 9_999), (1, 1)),
              policies=(Policy("top", 999_000, 1_000_000),)), 2, "rises above 1,0[0-9]0,000 items")],
-    ids=["one key", "many keys", "as much comes back", "no demand", "too much stock"])
+    ids=["one key", "many keys", "no ring", "as much comes back", "no demand", "too much stock"])
 def test_refusals(scenario: Scenario, keys: int, message: str, program: Path) -> None:
     with pytest.raises(Refused, match=message):
         long_run_of(scenario, keys, program)

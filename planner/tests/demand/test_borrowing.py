@@ -239,6 +239,8 @@ def test_refused_histories(mixed: dict[str, list[int]]) -> None:
     assert "demand of B-2: entry 2: 1.5 is not a whole number" in text
     assert "there are 0 numbers of demand of C-3" in text
     assert "column 'demand of D-4': entry 2, -7, is below 0" in text
+    with pytest.raises(RefusedFaults, match="demand of item 2: entry 3"):
+        learn([*mixed.values()][:1] + [[1, 2, 0.5]] + [*mixed.values()][1:])  # type: ignore[list-item]
 
 
 def test_outside_the_grid(mixed: dict[str, list[int]]) -> None:

@@ -63,6 +63,7 @@ def test_the_best_policy_is_kept(program: Path) -> None:
     estimate = answer.run
     assert (answer.verdict, answer.saving, estimate.saving, estimate.low, estimate.high, estimate.error) == (
         SAME, 0, 0, 0, 0, 0)
+    assert [str(end) for end in (estimate.saving, estimate.low, estimate.high)] == ["0.0"] * 3  # none is -0.0
     assert answer.run.total_today == answer.run.total_chosen and answer.run.variance == 0
 
 

@@ -118,6 +118,27 @@ def test_frames(tmp_path: Path) -> None:
             read_history(pd.DataFrame({"n": [3, cell, 2]}, dtype=object), demand="n")
 
 
+def test_a_column_has_one_role(tmp_path: Path) -> None:
+    """A column that is stated for one role is not found for another whose name it has, and a unit in the heading of a text
+    is part of its name."""
+    masters = f"{MASTERS.rstrip()},price,description (kg)\nA,45,1,10,2,3,9,7,iron\n"
+    plain = items_of(read(tmp_path, weekly([2] * WEEKS), masters))["A"]
+    assert (plain.price, plain.holding, plain.description) == (7, 1, "iron")
+    stated = items_of(read(tmp_path, weekly([2] * WEEKS), masters, columns={"items": {"holding": "price"}}))["A"]
+    assert (stated.price, stated.holding) == (None, 7)
+
+
+def test_longest_lead_time_of_orders(tmp_path: Path) -> None:
+    """An order that took 32 weeks is a lead time, and one that took a week more is rejected."""
+    (tmp_path / "orders.csv").write_text("item,ordered,received\n" + "".join(
+        f"A,{MONDAY - datetime.timedelta(days=7 * weeks)},{MONDAY}\n" for weeks in (32, 33)))
+    (tmp_path / "demand.csv").write_text(f"item,date,quantity\n{weekly([2] * WEEKS)}")
+    (tmp_path / "items.csv").write_text(f"{MASTERS}A,45,1,10,,3,9\n")
+    catalogue = read_catalogue(*(tmp_path / f"{name}.csv" for name in ("demand", "items", "orders")), today=TODAY)
+    assert items_of(catalogue)["A"].leads == (32,)
+    assert [*catalogue.rejects.reason] == ["the lead time 33 is not from 1 to 32 periods"]
+
+
 @pytest.mark.parametrize("encoding, heading, unit", [
     ("gb18030", "物料编码,出库日期,数量,备注", "中文备注说明"),
     ("cp1250", "indeks,data,Ilość,uwagi", "Łódź, zażółć gęślą".replace(",", "")),

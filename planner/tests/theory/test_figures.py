@@ -55,6 +55,13 @@ def test_figures_of_any_small_scenario(demand: Pair, lead: Pair, back: Pair | No
     assert max(errors_of(scenario)) < 1e-7
 
 
+def test_halves_of_a_mean_position() -> None:
+    """If each period asks for one item, the position after a review is each depth up to the gap as often. A mean of so
+    many and a half is that to the last bit, since a run starts from the nearest whole number."""
+    theory = theory_of(scenario_of(([1], [1])))
+    assert [theory.mean_position(10, 10 + gap) for gap in range(60)] == [9 + gap / 2 for gap in range(60)]
+
+
 @pytest.mark.parametrize("mean, point, level, cost", PUBLISHED)
 def test_a_published_optimum(mean: int, point: int, level: int, cost: str) -> None:
     weights = [round(1e15 * math.exp(value * math.log(mean) - mean - math.lgamma(value + 1))) for value in range(100)]

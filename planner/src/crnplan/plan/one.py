@@ -207,7 +207,8 @@ def check_run(question: Question, theory: LongRun, report: Report, sample: Sampl
 def run_of(question: Question, report: Report, sample: Sample) -> Run:
     """Returns the run of today's policy and of the last one of a report, which may be the same."""
     rows, scenario = report.rows, report.scenario
-    base, chosen, saving = sample.policies[0], sample.policies[-1], -sample.policies[-1].difference
+    base, chosen = sample.policies[0], sample.policies[-1]
+    saving = 0.0 - chosen.difference  # which is never -0.0
     error = 0.0 if len(rows) == 1 else chosen.error
     errors = t_quantile(1 - question.settings.level, scenario.replications - 1)
     return Run(" ".join(scenario.key), scenario.periods, scenario.replications, scenario.initial, question.scale,

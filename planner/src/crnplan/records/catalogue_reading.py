@@ -104,11 +104,11 @@ def read_catalogue(demand: Table, items: Table, orders: Table | None = None, *,
     setup, holding, backlog or fill, lead, s, S, perhaps description, stock, price and class), `orders` the dates of
     orders (item, ordered, received). `columns` names columns by file and role, as {"demand": {"quantity": "Menge"}};
     others are found by usual names, to which `names` adds. `units` states what a column counts, as {"items": {"lead":
-    "day"}}; else its heading does. Periods are `every` day, week or month. The record is that of the whole file, or
-    from `start` to `end`; rows after `today` are rejected. With `net` quantities below 0 are taken off their period.
+    "day"}}; else its heading does. Periods are `every` day, week (ISO) or month. The record is that of the whole file,
+    or from `start` to `end`; rows after `today` are rejected. With `net` quantities below 0 are taken off their period.
     Rows that stand `twice` and items with amounts `far` above all others are kept or left out ("keep", "leave-out"). An
-    item needs a history of `least` periods. `factors` says how many items one of a unit of measure is. Further words
-    are `delimiter`, `encoding`, `decimal` and `date_formats`.
+    item needs a history of `least` periods. `factors` says how many items one of a unit of measure is. `delimiter`,
+    `encoding`, `decimal` sign and `date_formats` are found if they can be.
 
     Raises Refused and RefusedFaults for files that can't be read. Rows and items with faults are in `rejects`.
     """

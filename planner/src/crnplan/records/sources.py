@@ -249,14 +249,15 @@ class Sheet:
     delimiter = sign = ","
     fault: Fault | None = None
 
-    def __init__(self, name: str, written: str, rules: Rules, stored: Callable[[], Iterable[Sequence[Any]]]) -> None:
-        """Takes what gives the cells of each row, as a sheet or a frame stores them."""
-        self.name, self.written, self.rules, self.stored = name, written, rules, stored
+    def __init__(self, name: str, written: str, rules: Rules,
+                 given: Callable[[], Iterable[Sequence[Any]]] = tuple) -> None:
+        """Takes what gives the cells of each row, as a sheet or a frame stores them; a file of text has none."""
+        self.name, self.written, self.rules, self.given = name, written, rules, given
         self.columns: dict[str, Column] = {}
 
     def rows(self) -> Iterator[Row]:
         """Yields the line in which each row begins, and its cells."""
-        for line, cells in enumerate(self.stored(), 1):
+        for line, cells in enumerate(self.given(), 1):
             yield line, [stored(cell) for cell in cells]
 
     def find_heading(self, wanted: Iterable[str] = (), role_of: RoleOf = lambda cell: None) -> None:
@@ -295,7 +296,7 @@ class TextSheet(Sheet):
     def __init__(self, path: Path, name: str, rules: Rules) -> None:
         self.path, self.state = path, state_of(path)
         self.encoding, self.text, fault = head_of(path, name, rules)
-        super().__init__(name, self.encoding, rules, list)
+        super().__init__(name, self.encoding, rules)
         self.fault = fault
         self.delimiter = DELIMITERS[rules.delimiter or ","]
 

@@ -253,5 +253,8 @@ class Walk:
 
     def mean_position(self, point: int, level: int) -> float:
         """Returns the mean position at the beginning of a period, in items: after a review, less a net demand."""
-        depth = sum(share * self.positions(gap).mean for gap, share in self.gaps_of(point, level))
-        return level - self.step * (depth + self.net.mean)
+        depth = 0.0
+        for gap, share in self.gaps_of(point, level):
+            lows = self.lows_of(gap)
+            depth += share * float(lows @ np.arange(gap + 1) / lows.sum())  # A half is one to the last bit.
+        return level - self.step * (depth + self.above_low.mean + self.net.mean)
