@@ -1,8 +1,10 @@
-"""Compares what the start and the end of a run add with a chain of all states."""
+"""Compares what the start and the end of a run add with a chain of all states, and with runs of the program."""
 from __future__ import annotations
 
 import itertools
+import math
 from dataclasses import replace
+from pathlib import Path
 
 import numpy as np
 import pytest
@@ -45,6 +47,22 @@ def test_biases_are_those_of_a_chain(case: str, start: tuple[int, int, int], per
     assert found.theory.exact
     wanted = sum(expected(asked)) - periods * (usual + COSTS.unit * float(net))
     assert found.biases == pytest.approx([wanted], abs=1e-5 * periods)
+
+
+def test_means_of_runs(program: Path, top: Path) -> None:
+    """The mean cost of 256 replications lies within 4 standard errors, for each policy and each difference."""
+    asked = Scenario.read(top / "examples/mail_order.toml").changed(replications=256, initial=0, periods=60)
+    found, rows = start_bias(asked), asked.run(program=program).rows
+    net = float(asked.demand.mean - (asked.returns.mean if asked.returns else 0))
+    wanted = [bias + 60 * (cost + asked.costs.unit * net) for bias, cost in zip(found.biases, found.costs)]
+    base = rows[0]
+    assert base.cov is not None
+    for row, its in zip(rows, wanted):
+        assert row.diff_var is not None and row.cov is not None
+        own = 256 * row.diff_var - base.cov + 2 * row.cov
+        assert abs(row.total / 256 - its) <= 4 * math.sqrt(own / 256)
+        assert abs(float(row.diff_mean) - (its - wanted[0])) <= 4 * math.sqrt(row.diff_var)
+    assert min(abs(it) for it in found.biases) > 10
 
 
 @pytest.mark.parametrize("case", ["one lead time", "several lead times"])
