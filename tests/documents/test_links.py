@@ -69,7 +69,10 @@ def test_readme_fits_three_screens() -> None:
 
 
 def test_words_of_the_guide() -> None:
-    """The guide has at most 3,500 words beside its section on many items, which has at most 600."""
+    """The guide has at most 3,500 words beside two sections: on many items at most 600, on the past at most 350."""
     text = text_of("docs/GUIDE.md")
-    section, = re.findall(r"^## Many items\n.*?(?=^## )", text, re.MULTILINE | re.DOTALL)
-    assert len(section.split()) <= 600 and len(text.replace(section, "").split()) <= 3_500
+    for heading, most in (("Many items", 600), (r"Does it hold on your past\?", 350)):
+        section, = re.findall(rf"^## {heading}\n.*?(?=^## )", text, re.MULTILINE | re.DOTALL)
+        assert len(section.split()) <= most
+        text = text.replace(section, "")
+    assert len(text.split()) <= 3_500

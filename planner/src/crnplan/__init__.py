@@ -34,6 +34,7 @@ if TYPE_CHECKING:
     from .crnsim.trajectory import trajectories as trajectories
     from .api import (Plan as Plan, PlannedItem as PlannedItem, open_plan as open_plan, plan as plan,
                       plan_item as plan_item)
+    from .backtesting import Backtests as Backtests, backtest as backtest
     from .records.catalogue_reading import Catalogue as Catalogue, read_catalogue as read_catalogue
     from .curve.exchange_curve import exchange_curve as exchange_curve
     from .pages.exports import report as report

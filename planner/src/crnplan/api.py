@@ -13,7 +13,7 @@ from typing import TYPE_CHECKING
 from .crnsim.program import find_program
 from .decide.sensitivity import Moves
 from .errors import Refused, argument
-from .files import own_folder
+from .files import Folder, own_folder
 from .pages.catalogue_tables import catalogue_summary, decisions_of, faults_of, rejects_of
 from .pages.exports import CATALOGUE_FILES, plan_item as plan_one_item, report
 from .pages.item_page import item_page
@@ -24,6 +24,7 @@ from .plan.question import Settings
 from .records.catalogue_reading import Catalogue, read_into
 from .records.catalogued import CATALOGUE, READ
 from .records.items import KEEP, LEAVE_OUT, Words
+from .records.sources import Table
 from .remarks import Remark
 from .table import DataTable, Result
 
@@ -172,6 +173,23 @@ class Plan(Result):
         return report(self.path, items, program=self.program)
 
 
+def check_masters(sales: Table | Catalogue, masters: Table | None) -> None:
+    """Raises Refused if a table of sales has no masters beside it."""
+    if not isinstance(sales, Catalogue) and masters is None:
+        raise Refused(f"{argument('masters')} is missing", "give a table with a row for each item")
+
+
+def take_tables(folder: Folder, sales: Table | Catalogue, masters: Table | None, orders: Table | None,
+                words: Words) -> None:
+    """Reads a catalogue into a folder, or copies one that was read elsewhere."""
+    if not isinstance(sales, Catalogue):
+        read_into(folder, {"demand": sales, "items": masters, "orders": orders}, words)
+    elif sales.path.resolve() != folder.store(READ).resolve():
+        part = folder.room() / READ
+        shutil.copyfile(sales.path, part)
+        part.replace(folder.path / READ)
+
+
 def plan(sales: str | Path | pd.DataFrame | Catalogue, masters: str | Path | pd.DataFrame | None = None,
          orders: str | Path | pd.DataFrame | None = None, *, out: str | Path | None = None, every: str = "week",
          columns: Roles | None = None, units: Roles | None = None, start: datetime.date | str | None = None,
@@ -216,17 +234,11 @@ def plan(sales: str | Path | pd.DataFrame | Catalogue, masters: str | Path | pd.
                   today=today or datetime.date.today(), net=net, twice=twice, far=far, least=least,
                   factors=factors or {}, delimiter=delimiter, encoding=encoding, decimal=decimal,
                   date_formats=tuple(date_formats))
-    if not isinstance(sales, Catalogue) and masters is None:
-        raise Refused(f"{argument('masters')} is missing", "give a table with a row for each item")
+    check_masters(sales, masters)
     room = tempfile.TemporaryDirectory(prefix="crnplan-") if out is None else None
     path = Path(room.name if room else out or "")
     with own_folder(path, CATALOGUE, CATALOGUE_FILES) as folder:
-        if not isinstance(sales, Catalogue):
-            read_into(folder, {"demand": sales, "items": masters, "orders": orders}, words)
-        elif sales.path.resolve() != folder.store(READ).resolve():  # it was read elsewhere
-            part = folder.room() / READ
-            shutil.copyfile(sales.path, part)
-            part.replace(folder.path / READ)
+        take_tables(folder, sales, masters, orders, words)
         done = plan_into(folder, settings, jobs=jobs, address=cluster, program=program, again=learn_again,
                          shown=progress)
     if done.missing:

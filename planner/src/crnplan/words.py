@@ -139,6 +139,8 @@ WORDS: dict[str, tuple[Say, Say]] = {
                 + f" and {it['classes']:,} classes" * bool(it["classes"])
                 + " in an earlier run" * bool(it["earlier"]), ""),
     "masters say otherwise": ("the masters say otherwise for {items:,} items (borrow)", ""),
+    # Of an item that has no test on its past (plan/backtest/one.py).
+    "short record": ("it has {periods:,} periods, and a test needs {needed:,}", "test it with a shorter record"),
     # Of an item that is not on the exchange curve (curve/exchange_curve.py).
     "no price": ("it has no price above 0, so its stock has no value", "give it a price in the masters"),
     "not planned": ("it is not planned as its rows are now", "run crnplan catalogue again"),

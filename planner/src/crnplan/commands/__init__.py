@@ -30,6 +30,7 @@ INTERRUPTED = 130
 COMMANDS = {
     "item": ("plans", "Plan one item: from a history and settings to a decision."),
     "catalogue": ("catalogues", "Plan all items: from two tables to a decision for each."),
+    "backtest": ("backtests", "Test plans on the catalogue's own past."),
     "curve": ("plans", "Show how much service the whole stock can give for its value."),
     "report": ("plans", "Write the page of a planned catalogue, and of single items."),
     "history": ("histories", "Make tables of a scenario from a history."),

@@ -226,7 +226,7 @@ def items_of(read: Catalogued, most: int | None) -> Iterator[Item]:
     yield from (item for item in read.items() if item.name in drawn and item.box == 1)
 
 
-def learned_of(answers: Store[Answer], read: Catalogued, settings: Settings, again: bool) -> Learned:
+def learned_of(answers: Store[Any], read: Catalogued, settings: Settings, again: bool) -> Learned:
     """Returns what the items of a catalogue learn from one another.
 
     With `settings.borrow` None an item learns from all if there are 100 items. What was learned before in this way is
@@ -256,14 +256,14 @@ def learned_of(answers: Store[Answer], read: Catalogued, settings: Settings, aga
     return Learned(prior, usual, (*own, remark, *otherwise))
 
 
-def kept_prior(answers: Store[Answer], way: str, least: int) -> Prior | None:
+def kept_prior(answers: Store[Any], way: str, least: int) -> Prior | None:
     """Returns what at least so many items have learned in this way in an earlier run; None if that is not kept."""
     text = answers.fact(PRIOR)
     prior = None if text is None else Prior.parse(text, str(answers.path))
     return prior if prior and prior.borrow == way and prior.items - prior.outside >= least else None
 
 
-def learned_now(answers: Store[Answer], read: Catalogued, way: str, least: int) -> Prior:
+def learned_now(answers: Store[Any], read: Catalogued, way: str, least: int) -> Prior:
     """Returns what items learn now, and keeps it. Raises Refused if there are fewer than `least` items."""
     histories, groups = list[Any](), list[str]()
     for item in items_of(read, None if way == CLASS else MOST_READ):

@@ -1,0 +1,115 @@
+"""Tests plans on a catalogue's own past, as a value for a notebook, and into a folder."""
+from __future__ import annotations
+
+import datetime
+import tempfile
+from collections.abc import Sequence
+from dataclasses import dataclass, field
+from pathlib import Path
+from typing import TYPE_CHECKING
+
+from .api import Roles, check_masters, take_tables
+from .files import Folder, own_folder
+from .pages.backtest_page import backtest_page
+from .pages.backtest_tables import (BACKTEST, PAGE, SUMMARY, SUMS, VERDICTS, backtest_of, backtest_summary, first_line,
+                                    sums_table)
+from .plan.backtest.catalogue import Tested, backtest_into
+from .plan.backtest.one import Walk
+from .plan.backtest.sums import ALL_ITEMS, Sums
+from .plan.question import Settings
+from .records.catalogue_reading import Catalogue
+from .records.catalogued import CATALOGUE
+from .records.items import Words
+from .table import DataTable, Result
+
+if TYPE_CHECKING:
+    import pandas as pd
+
+
+@dataclass(frozen=True)
+class Backtests(Result):
+    """What the plans of a catalogue promised on its own past, and what came. `frame` has a row for each item, `sums`
+    one for all items and for each class; `text` says what it comes to."""
+
+    tested: Tested = field(repr=False)
+
+    @property
+    def table(self) -> DataTable:
+        """Returns the tests by item: promised and realized cost and fill, stock and orders of each policy."""
+        return backtest_of(self.tested)
+
+    @property
+    def sums(self) -> pd.DataFrame:
+        """Returns the sums of all items and of each class, with their standard errors and the verdict."""
+        return sums_table(self.tested).frame
+
+    def _all(self) -> Sums | None:
+        return next((sums for sums in self.tested.sums if sums.group == ALL_ITEMS), None)
+
+    @property
+    def verdict(self) -> str:
+        """Returns what breaks the promised fill of the catalogue, in words."""
+        sums = self._all()
+        return VERDICTS[sums.verdict] if sums else first_line(self.tested)
+
+    @property
+    def text(self) -> str:
+        """Returns what was promised, what came, and the verdicts."""
+        return f"{first_line(self.tested)}\n{backtest_summary(self.tested)}"
+
+    @property
+    def notes(self) -> str:
+        """Returns the same below a table."""
+        return self.text
+
+    @property
+    def page(self) -> str:
+        """Returns the page of the tests as HTML, which asks for no other file."""
+        return backtest_page(self.tested)
+
+
+def write_backtest(folder: Folder, settings: Settings, walk: Walk, *, jobs: int | None = None,
+                   address: str | None = None, shown: bool = False) -> Backtests:
+    """Tests the catalogue that was read into a folder, and writes its tables and its summary there."""
+    tests = Backtests(backtest_into(folder, settings, walk, jobs=jobs, address=address, shown=shown))
+    folder.write(BACKTEST, tests.table.lines)
+    folder.write(SUMS, sums_table(tests.tested).lines)
+    folder.write(SUMMARY, tests.text)
+    folder.write(PAGE, tests.page)
+    return tests
+
+
+def backtest(sales: str | Path | pd.DataFrame | Catalogue, masters: str | Path | pd.DataFrame | None = None,
+             orders: str | Path | pd.DataFrame | None = None, *, record: int = 52, every: int = 13, window: int = 52,
+             out: str | Path | None = None, period: str = "week", columns: Roles | None = None,
+             units: Roles | None = None, start: datetime.date | str | None = None,
+             end: datetime.date | str | None = None, date_formats: Sequence[str] = (), fit: str = "auto",
+             borrow: str | None = None, confidence: float | None = None, seed: str | int = "crnplan",
+             jobs: int | None = None, cluster: str | None = None, progress: bool = False) -> Backtests:
+    """Tests plans on a catalogue's own past: what they would have promised, and what came.
+
+        tests = crn.backtest(sales, masters)
+        tests.verdict                          # what breaks the promises, if anything does
+        tests.sums                             # all items and each class, with errors
+        tests.frame                            # a row for each item
+
+    Each item is planned from its first `record` periods, as `plan` does it. The plan is run on the periods that came:
+    kept, and refitted after each `every` periods on the last `window`. Beside it are run today's policy and a rule of
+    thumb: exponential smoothing with a normal safety stock. The kept plan is also run with all periods of the item in a
+    random order, which takes time out of them. Lead times of the past are drawn from the item's own law. Random numbers
+    follow from the `seed` and the item's name. An item with fewer than `record` and `every` periods is left out.
+
+    Tables are as in `plan`, and so are `columns`, `units`, `start`, `end`, `date_formats`, `fit`, `borrow`,
+    `confidence`, `jobs` and `cluster`; a `period` is a day, week or month. Or `sales` is a Catalogue that
+    `read_catalogue` has read. With `out` the folder keeps tables and all tests: tested again, only what has changed is
+    tested. No crnsim is needed.
+
+    Raises Refused (a ValueError) for what can't be read or meant.
+    """
+    settings, walk = Settings(str(seed), fit, borrow, confidence), Walk(record, every, window)
+    words = Words(every=period, columns=columns or {}, units=units or {}, start=start, end=end,
+                  today=datetime.date.today(), date_formats=tuple(date_formats))
+    check_masters(sales, masters)
+    with tempfile.TemporaryDirectory(prefix="crnplan-") as room, own_folder(Path(out or room), CATALOGUE) as folder:
+        take_tables(folder, sales, masters, orders, words)
+        return write_backtest(folder, settings, walk, jobs=jobs, address=cluster, shown=progress)

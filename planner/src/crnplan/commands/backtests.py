@@ -1,0 +1,68 @@
+"""The command that tests plans on a catalogue's own past."""
+from __future__ import annotations
+
+from collections.abc import Sequence
+from pathlib import Path
+from typing import Any
+
+import click
+
+from ..backtesting import write_backtest
+from ..errors import Refused
+from ..files import own_folder
+from ..plan.backtest.one import Walk
+from ..plan.catalogue import planned_folder
+from ..plan.settings import read_config
+from ..records.catalogue_reading import read_into
+from ..records.catalogued import CATALOGUE
+from .catalogues import words_of
+from .words import worker_options
+
+
+@click.command(epilog="Example: crnplan backtest plan")
+@click.argument("tables", metavar="FOLDER | DEMAND.csv ITEMS.csv", nargs=-1, required=True,
+                type=click.Path(path_type=Path))
+@click.option("--orders", metavar="ORDERS.csv", help="Dates of orders and of their receipts, for lead times.")
+@click.option("--out", metavar="FOLDER", type=click.Path(path_type=Path), help="Keep every file here.")
+@click.option("--record", type=click.IntRange(1), default=52, show_default=True, metavar="N",
+              help="The periods from which each item is planned first.")
+@click.option("--every", type=click.IntRange(1), default=13, show_default=True, metavar="N",
+              help="Refit after so many periods.")
+@click.option("--window", type=click.IntRange(1), default=52, show_default=True, metavar="N",
+              help="Refit on the last so many periods.")
+@click.option("--config", metavar="FILE.toml", help="Settings; by default crnplan.toml, if it is here.")
+@worker_options
+def backtest(tables: Sequence[Path], orders: str | None, out: Path | None, record: int, every: int, window: int,
+             config: str | None, jobs: int | None, cluster: str | None, program: str | None) -> int:
+    """Test plans on the catalogue's own past: what they would have promised, and what came.
+
+    FOLDER is that of crnplan catalogue, whose settings count. Or the two tables are read as there, with the words of
+    crnplan.toml, and --out names a folder.
+
+    Each item is planned from its first periods. The plan is run on the periods that came: kept, and refitted. Beside it
+    are run today's policy, and exponential smoothing with a normal safety stock. With all periods in a random order the
+    kept plan shows what it misses without any effect of time. The verdict says whether promises hold, whether time
+    breaks them, or rare large demands. It predicts single items poorly.
+
+    FOLDER gets backtest.csv (a row for each item), backtest_sums.csv (all items and each class, with errors),
+    backtest.txt and backtest.html. Run again, only what has changed is tested; after an interruption it goes on. The
+    bytes do not depend on how many processes or workers there are.
+    """
+    walk = Walk(record, every, window)
+    if len(tables) == 1:
+        if out or orders or config:
+            raise Refused("a planned folder has its own --out, --orders and --config: leave them out")
+        with planned_folder(tables[0]) as planned:
+            settings = planned.settings
+        with own_folder(tables[0], CATALOGUE) as folder:
+            tests = write_backtest(folder, settings, walk, jobs=jobs, address=cluster, shown=True)
+    elif len(tables) == 2 and out:
+        stated: dict[str, Any] = {"columns": {}, "units": {}, "factors": {}, "date_formats": ()}
+        words, settings = words_of(stated, read_config(config))
+        with own_folder(out, CATALOGUE) as folder:
+            read_into(folder, {"demand": tables[0], "items": tables[1], "orders": orders}, words)
+            tests = write_backtest(folder, settings, walk, jobs=jobs, address=cluster, shown=True)
+    else:
+        raise Refused("name a folder of crnplan catalogue, or two tables and --out")
+    click.echo(tests.text, nl=False)
+    return 0

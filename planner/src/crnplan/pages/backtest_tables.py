@@ -1,0 +1,163 @@
+"""The tables of a catalogue's test on its past: a row for each item, and the sums of all items and of each class."""
+from __future__ import annotations
+
+from collections.abc import Iterator
+
+from ..plan.backtest.catalogue import Tested
+from ..plan.backtest.one import Backtest, Outcome
+from ..plan.backtest.sums import (ALL_ITEMS, BOTH, FEW, HOLDS, KEPT, LEAST_ITEMS, POLICIES, RARE, SLACK, TIME, UNSURE,
+                                  Estimate, Sums)
+from ..records.item import Item
+from ..remarks import Remark
+from ..table import Cell, Column, DataTable, number, text, whole
+from ..words import advised, counted, sentence
+from .catalogue_tables import money
+
+BACKTEST, SUMS, SUMMARY, PAGE = "backtest.csv", "backtest_sums.csv", "backtest.txt", "backtest.html"
+PROMISING = POLICIES[:3]
+WORDS = {"today": "today's policy", "kept": "the plan that is kept", "refitted": "plans that are refitted",
+         "smoothed": "exponential smoothing with a normal safety stock",
+         "shuffled": "the plan that is kept, with all periods in a random order"}
+VERDICTS = {
+    HOLDS: "the promise holds", UNSURE: "unsure: the promise was missed, perhaps by chance",
+    TIME: "time breaks it: refit", RARE: "rare large demands break it: aim higher",
+    BOTH: "time and rare large demands break it: refit, and aim higher",
+    FEW: f"no verdict: fewer than {LEAST_ITEMS} items"}
+SINGLE = ("All of it is of many items, and predicts single ones poorly: many that keep their promise in one half of a "
+          "year miss it in the next.")
+
+
+def share(name: str, meaning: str) -> Column:
+    """Returns a column of shares of demand."""
+    return number(name, "share", meaning, ".4f")
+
+
+def _policy_columns(policy: str) -> Iterator[Column]:
+    words = WORDS[policy]
+    yield from (whole(f"{letter}_{policy}", "items", f"{letter} of {words}, at first") for letter in "sS")
+    if policy in (*PROMISING, "shuffled"):
+        yield money(f"promised_{policy}", f"what {words} was to cost, by theory")
+    yield money(f"cost_{policy}", f"what {words} cost")
+    if policy in (*PROMISING, "shuffled"):
+        yield share(f"promised_fill_{policy}", f"of demand that {words} was to meet at once, by theory")
+    yield share(f"fill_{policy}", f"of demand that {words} met at once")
+    yield number(f"stock_{policy}", "items", f"the mean stock of {words}", ".5g")
+    yield number(f"orders_{policy}", "orders a period", f"of {words}", ".5g")
+
+
+BACKTEST_COLUMNS = (
+    text("item", "the item"), text("class", "of the masters"),
+    whole("record", "periods", "from which the first plan is made"),
+    whole("periods", "periods", "after it, on which all policies are run"),
+    number("demand", "items a period", "the mean of both", ".5g"),
+    *(column for policy in (*POLICIES, "shuffled") for column in _policy_columns(policy)),
+    number("above", "ratio", "of the largest later demand to the largest before", ".4f"),
+    number("above_shuffled", "ratio", "the same in a random order", ".4f"),
+    text("left_out", "why the item has no test"))
+
+
+def _with_error(name: str, unit: str, meaning: str) -> tuple[Column, Column]:
+    return number(name, unit, meaning, ".4f"), number(f"{name}_error", unit, "its standard error", ".4f")
+
+
+SUM_COLUMNS = (
+    text("class", "of the masters; empty for all items"), whole("items", "items", "with a plan in either order"),
+    text("verdict", "what breaks the promised fill"),
+    share("promised_fill", "of demand that the kept plan was to meet at once; all items weigh alike"),
+    *(column for policy in POLICIES for column in _with_error(f"fill_{policy}", "share", f"met at once by "
+                                                              f"{WORDS[policy]}")),
+    *_with_error("missed", "share", "of demand by which the kept plan missed its promise"),
+    *_with_error("missed_shuffled", "share", "the same with all periods in a random order"),
+    *_with_error("missed_by_time", "share", "what it missed more in time than in a random order"),
+    *_with_error("dearer", "share", "what the kept plan cost more than it promised"),
+    *(column for policy in POLICIES if policy != KEPT for column in _with_error(
+        f"cost_{policy}", "share", f"what {WORDS[policy]} cost more than the kept plan")),
+    whole("broken", "items", f"whose kept plan missed its promised fill by more than {100 * SLACK:g} point"),
+    whole("above", "items", "with a later demand above the largest before"))
+
+
+def _policy_cells(outcome: Outcome | None, policy: str) -> list[Cell]:
+    if outcome is None:
+        return [None] * len([*_policy_columns(policy)])
+    promised = policy in (*PROMISING, "shuffled")
+    return [outcome.point, outcome.level, *[outcome.promised_cost] * promised, outcome.cost,
+            *[outcome.promised_fill] * promised, outcome.fill, outcome.stock, outcome.orders]
+
+
+def _row(item: Item, test: Backtest | Remark) -> list[Cell]:
+    if isinstance(test, Remark):
+        return [item.name, item.group, *[None] * (len(BACKTEST_COLUMNS) - 3), advised(test)]
+    policies = [cell for policy in (*POLICIES, "shuffled") for cell in _policy_cells(getattr(test, policy), policy)]
+    return [item.name, item.group, test.record, len(test.demands), test.mean, *policies, test.above,
+            test.shuffled_above, None]
+
+
+def backtest_of(tested: Tested) -> DataTable:
+    """Returns the tests by item. An item without one has the reason."""
+    return DataTable(BACKTEST_COLUMNS, [_row(*pair) for pair in tested.items], tested.decimals, "")
+
+
+def _error_cells(*estimates: Estimate) -> list[Cell]:
+    return [cell for estimate in estimates for cell in (estimate.value, estimate.error)]
+
+
+def _sum_row(sums: Sums) -> list[Cell]:
+    return [sums.group, sums.items, VERDICTS[sums.verdict], sums.promised,
+            *(cell for unmet in sums.unmet.values() for cell in (1 - unmet.value, unmet.error)),
+            *_error_cells(sums.missed, sums.chance, sums.time, sums.dearer, *sums.beside.values()), sums.broken,
+            sums.above]
+
+
+def sums_table(tested: Tested) -> DataTable:
+    """Returns the sums of all items, and of each class."""
+    return DataTable(SUM_COLUMNS, [_sum_row(sums) for sums in tested.sums], tested.decimals, "")
+
+
+def fills_of(sums: Sums) -> dict[str, str]:
+    """Returns the share of demand that each policy met at once, with its standard error, in percent."""
+    return {policy: f"{100 - 100 * unmet.value:.1f} ± {100 * unmet.error:.1f}%" for policy, unmet in
+            sums.unmet.items()}
+
+
+def _points(estimate: Estimate) -> str:
+    return f"{100 * estimate.value:z.1f} ± {100 * estimate.error:.1f}"
+
+
+def _sum_lines(sums: Sums) -> Iterator[str]:
+    """Yields lines on all items, or on a class."""
+    fills = fills_of(sums)
+    yield f"{sums.group or 'all'}: {VERDICTS[sums.verdict]} ({counted(sums.items, 'item')})"
+    yield (f"  met at once: {100 * sums.promised:.1f}% promised; {fills['kept']} by the kept plan, "
+           f"{fills['refitted']} refitted, {fills['smoothed']} smoothed, {fills['today']} today's")
+    yield (f"  missed: {_points(sums.missed)} points, of which {_points(sums.chance)} in a random order too, and "
+           f"{_points(sums.time)} by time")
+    beside = {policy: f"{100 * cost.value:+z.1f} ± {100 * cost.error:.1f}%" for policy, cost in sums.beside.items()}
+    yield (f"  cost: {_points(sums.dearer)}% above the promise; beside the kept plan {beside['refitted']} refitted, "
+           f"{beside['smoothed']} smoothed, {beside['today']} today's")
+    yield (f"  {sums.broken:,} of {counted(sums.items, 'item')} missed the promised fill by more than a point; "
+           f"{sums.above:,} had a demand above the largest of the record")
+
+
+def backtest_summary(tested: Tested) -> str:
+    """Returns what was promised, what came and the verdicts, as a text."""
+    walk, every = tested.walk, tested.every
+    left = [(item, test) for item, test in tested.items if isinstance(test, Remark)]
+    lines = [f"Planned from {counted(walk.record, every)}, kept, and refitted after each {counted(walk.every, every)} "
+             f"on the last {counted(walk.window, every)}; run on the {every}s that came.",
+             f"items: {tested.named:,} named = {len(tested.items) - len(left):,} tested + {len(left):,} without a test "
+             f"({BACKTEST} says why) + {tested.named - len(tested.items):,} that can't be planned (crnplan catalogue "
+             "says why)", ""]
+    lines += [line for sums in tested.sums for line in _sum_lines(sums)]
+    laws = "; ".join(map(sentence, tested.learned))
+    return "\n".join([*lines, "", SINGLE, f"Laws: {laws}.", "± is a standard error: items move together, so errors "
+                      "are over items and over blocks of periods. Fill: all items weigh alike. No part is proved.", ""])
+
+
+def first_line(tested: Tested) -> str:
+    """Returns the line of the first screen: what the past says of the promise."""
+    sums = next((it for it in tested.sums if it.group == ALL_ITEMS), None)
+    if sums is None:
+        return "No item has a test on its own past."
+    came = 100 - 100 * sums.unmet[KEPT].value
+    return (f"On your own past a promised {100 * sums.promised:.1f}% was kept in {sums.items - sums.broken:,} of "
+            f"{counted(sums.items, 'item')}; together {came:.1f}%.")

@@ -1,0 +1,73 @@
+"""Tests the plans of all items of a catalogue on their past. What was tested before is not tested again, unless the
+item, the settings or what items learn from one another have changed."""
+from __future__ import annotations
+
+import contextlib
+import dataclasses
+from collections.abc import Iterator, Sequence
+from dataclasses import dataclass
+from pathlib import Path
+
+from ...demand.learning import Prior
+from ...files import Folder, faults_of
+from ...jobs import Work, workers_of
+from ...records.catalogued import READ, Catalogued
+from ...records.item import Item
+from ...remarks import Remark
+from ...stored import Store
+from ..catalogue import learned_of
+from ..question import Settings
+from .one import Backtest, Walk, backtest_item, part_of
+from .sums import Sums, sums_of
+
+TESTS = "backtest.sqlite"
+
+
+class Records(Catalogued):
+    """A catalogue as it was at the end of the record of each item, but for `item`, which has all of it."""
+
+    def __init__(self, path: Path, record: int) -> None:
+        super().__init__(path)
+        self.record = record
+
+    def items(self) -> Iterator[Item]:
+        yield from (part_of(item, 0, self.record) for item in super().items())
+
+
+@dataclass(frozen=True)
+class Tested:
+    """The tests of a catalogue: how its past was walked through, how many items its tables name, each that can be
+    planned with its test or why it has none, the sums of all items and of classes, remarks on what was learned, and how
+    many items were tested now and before."""
+
+    walk: Walk
+    every: str
+    decimals: int
+    named: int
+    items: Sequence[tuple[Item, Backtest | Remark]]
+    sums: Sequence[Sums]
+    learned: Sequence[Remark]
+    now: int
+    kept: int
+
+
+def backtest_batch(batch: Sequence[Item], settings: Settings, prior: Prior, walk: Walk) -> list[Backtest | Remark]:
+    return [backtest_item(item, settings, prior, walk) for item in batch]
+
+
+def backtest_into(folder: Folder, settings: Settings, walk: Walk, *, jobs: int | None = None,
+                  address: str | None = None, shown: bool = False) -> Tested:
+    """Tests the catalogue that was read into a folder, and keeps all tests there. Items learn from one another as they
+    would have at the end of their records."""
+    with (faults_of(folder.path), contextlib.closing(Records(folder.path / READ, walk.record)) as read,
+          contextlib.closing(Store(folder.store(TESTS), Backtest)) as tests):
+        prior, usual, learned = learned_of(tests, read, settings, again=True)
+        settings = dataclasses.replace(settings, borrow=usual, every=read.fact("every"))
+        work = Work(tests, dict(read.digests(settings.common(repr(walk), prior))))
+        work.finish(backtest_batch, read.item, settings, prior, walk, workers=workers_of(jobs, address), shown=shown)
+        kept = tests.answers()
+        items = [(item, next(test for name, _, test in kept if name == item.name))
+                 for item in Catalogued.items(read)]
+        sums = sums_of(test for _, test in items if isinstance(test, Backtest))
+        return Tested(walk, read.fact("every"), read.fact("decimals"), read.fact("counts")["items"]["named"], items,
+                      sums, learned, len(work.left), work.kept)

@@ -1,0 +1,81 @@
+"""A rule of thumb beside the plans: exponential smoothing with a normal safety stock.
+
+Mean and squared error of the demand of a period are smoothed, and s and S follow from both in each period anew. Source:
+Silver, Pyke and Thomas, Inventory and Production Management in Supply Chains, fourth edition, 2017, chapters 4
+(smoothing, and the mean squared error as the measure of spread) and 6 (order quantity, and the safety factor of a
+wanted fill rate).
+"""
+from __future__ import annotations
+
+import math
+from collections.abc import Iterator, Sequence
+from typing import NamedTuple
+
+from scipy.optimize import brentq
+from scipy.special import ndtr
+
+from ...records.item import Item
+from ..question import Levels
+
+SMOOTHING = 0.1  # the weight of the last period, for both
+FIRST = 13  # periods from which both begin
+MOST_FACTOR = 8.0  # the largest safety factor, on either side
+
+
+class Lead(NamedTuple):
+    """Mean and variance of lead times, in periods."""
+
+    mean: float
+    variance: float
+
+
+def smoothed(demands: Sequence[int]) -> Iterator[tuple[float, float]]:
+    """Yields the mean and the squared error that are forecast for each period. Of the first ones both are those of
+    these periods."""
+    first = demands[:FIRST]
+    mean = sum(first) / len(first)
+    square = sum((demand - mean)**2 for demand in first) / max(1, len(first) - 1)
+    for place, demand in enumerate(demands):
+        yield mean, square
+        if place >= FIRST:
+            error = demand - mean
+            square += SMOOTHING * (error**2 - square)
+            mean += SMOOTHING * error
+
+
+def loss(factor: float) -> float:
+    """Returns the mean of what a standard normal number is above a factor."""
+    return math.exp(-factor**2 / 2) / math.sqrt(2 * math.pi) - factor * float(ndtr(-factor))
+
+
+def safety_factor(share: float, quantity: float) -> float:
+    """Returns the factor with which a share of demand is met at once, or of periods end without items owed: both have
+    the same rule. The order quantity is in standard deviations."""
+    def lacking(factor: float) -> float:
+        return loss(factor) - loss(factor + quantity) - quantity * (1 - share)
+    ends = lacking(-MOST_FACTOR), lacking(MOST_FACTOR)
+    if min(ends) > 0 or max(ends) < 0:
+        return math.copysign(MOST_FACTOR, ends[1])
+    return float(brentq(lacking, -MOST_FACTOR, MOST_FACTOR, xtol=1e-6))
+
+
+def wanted_share(item: Item) -> float:
+    """Returns the wanted fill rate, or else the share of periods without items owed that backlog and holding make
+    best."""
+    if item.fill is not None:
+        return float(item.fill)
+    assert item.backlog is not None
+    return float(item.backlog / (item.backlog + item.holding))
+
+
+def smoothed_levels(item: Item, demands: Sequence[int], lead: Lead) -> Iterator[Levels]:
+    """Yields s and S of each period by the demand before it. An order must last for its lead time and a period."""
+    share, setup, holding = wanted_share(item), float(item.setup), float(item.holding)
+    for mean, square in smoothed(demands):
+        mean = max(mean, 0.0)
+        periods = lead.mean + 1
+        deviation = math.sqrt(periods * square + mean**2 * lead.variance)
+        quantity = max(math.sqrt(2 * setup * mean / holding), mean, 1.0)
+        safety = deviation * safety_factor(share, quantity / deviation) if deviation else 0.0
+        s = max(0, math.ceil(periods * mean + safety))
+        yield s, s + math.ceil(quantity)

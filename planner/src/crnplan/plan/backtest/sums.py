@@ -1,0 +1,241 @@
+"""Adds up the tests of many items on their past, and says what breaks their promises.
+
+Items move together, and the periods of an item follow from one another. So errors are those of clusters in two ways:
+items, and blocks of periods with all items. Source: Cameron, Gelbach and Miller, Robust inference with multiway
+clustering, Journal of Business and Economic Statistics 29, 2011. Demand counts in units of an item's own mean, so that
+all items weigh alike. Costs are added as money.
+
+A miss of the promised fill has two parts. What remains with all periods in a random order is due to demands that a
+record is too short to show: rare large ones. The rest is due to time: its level, its season, and runs of high demand.
+"""
+from __future__ import annotations
+
+import math
+from collections import defaultdict
+from collections.abc import Iterable, Mapping, Sequence
+from dataclasses import dataclass
+
+import numpy as np
+
+from ...chances import Floats, Whole
+from ...decide.verdicts import t_quantile
+from ..answer import TODAY
+from .one import Backtest, Outcome
+
+BLOCK = 4  # periods
+NO_BLOCK = -1
+# Fewer items have no verdict.
+LEAST_ITEMS = 10
+VERDICTS = HOLDS, UNSURE, TIME, RARE, BOTH = ("holds", "unsure", "time", "rare", "both")
+FEW = "few"
+# Of catalogues whose promise holds, this share at most is said to break it: half of it for each part of a miss.
+ALARM = 0.05
+SLACK = 0.01  # of the fill: a smaller miss is none
+KEPT = "kept"
+POLICIES = (TODAY, KEPT, "refitted", "smoothed")
+ALL_ITEMS = ""  # the class that stands for all items
+
+
+@dataclass(frozen=True)
+class Estimate:
+    """A figure, its standard error, and how many of these both ends of its interval are away."""
+
+    value: float
+    error: float
+    quantile: float
+
+    @property
+    def low(self) -> float:
+        return self.value - self.quantile * self.error
+
+
+@dataclass(frozen=True)
+class Ratio:
+    """A ratio of two sums, as the parts that items add to both in a period: with their item and their block."""
+
+    above: Floats
+    below: Floats
+    items: Whole
+    blocks: Whole
+
+    @property
+    def value(self) -> float:
+        """Returns the ratio; nan if nothing is below the line."""
+        below = float(self.below.sum())
+        return float(self.above.sum()) / below if below else math.nan
+
+    @property
+    def by_block(self) -> Floats:
+        """Returns the ratio of each block in which something stands below the line."""
+        above, below = np.bincount(self.blocks, self.above), np.bincount(self.blocks, self.below)
+        ratios: Floats = above[below > 0] / below[below > 0]
+        return ratios
+
+    @property
+    def influence(self) -> Floats:
+        """Returns by how much each part moves the ratio from that of all others."""
+        moved: Floats = (self.above - self.value * self.below) / self.below.sum()
+        return moved
+
+    @property
+    def estimate(self) -> Estimate:
+        return Estimate(self.value, *error_of(self.influence, self.items, self.blocks))
+
+    def less(self, other: Ratio) -> Estimate:
+        """Returns what this ratio is above another one of the same items."""
+        influence = np.concatenate([self.influence, -other.influence])
+        items, blocks = (np.concatenate(pair) for pair in ((self.items, other.items), (self.blocks, other.blocks)))
+        return Estimate(self.value - other.value, *error_of(influence, items, blocks))
+
+
+def squares(influence: Floats, clusters: Whole) -> float:
+    """Returns the sum of the squares of clusters, as for a sample of them."""
+    sums = np.bincount(np.unique(clusters, return_inverse=True)[1], influence)
+    return float((sums**2).sum()) * len(sums) / max(1, len(sums) - 1)
+
+
+def error_of(influence: Floats, items: Whole, blocks: Whole) -> tuple[float, float]:
+    """Returns the standard error of a sum of parts, and the quantile of its interval: the variance of items, and what
+    the items of a block have in common."""
+    timed, several = blocks != NO_BLOCK, [len(np.unique(items))]
+    common = 0.0
+    if timed.any():
+        pairs = items * (blocks.max() + 1) + blocks
+        common = squares(influence[timed], blocks[timed]) - squares(influence[timed], pairs[timed])
+        several.append(len(np.unique(blocks[timed])))
+    quantile = t_quantile(ALARM, max(1, min(several) - 1))
+    return math.sqrt(squares(influence, items) + max(0.0, common)), quantile
+
+
+class Group:
+    """The tests of items of a class, or of all, as ratios of sums over items and periods."""
+
+    def __init__(self, tests: Sequence[Backtest]) -> None:
+        self.tests, first = tests, min(test.first for test in tests)
+        lengths = [len(test.demands) for test in tests]
+        self.items = np.repeat(np.arange(len(tests)), lengths)
+        self.blocks = np.concatenate([test.first - first + np.arange(length) for test, length in
+                                      zip(tests, lengths)]) // BLOCK
+        self.means = np.repeat([test.mean for test in tests], lengths)
+        self.asked = self._joined(test.demands for test in tests) / self.means
+
+    @staticmethod
+    def _joined(rows: Iterable[Sequence[float]]) -> Floats:
+        return np.concatenate([np.array(row, float) for row in rows])
+
+    def _ratio(self, above: Floats, below: Floats) -> Ratio:
+        return Ratio(above, below, self.items, self.blocks)
+
+    def outcomes(self, policy: str) -> list[Outcome]:
+        """Returns what a policy comes to, by item."""
+        return [getattr(test, policy) for test in self.tests]
+
+    def unmet(self, policy: str) -> Ratio:
+        """Returns the share of demand that was not met at once."""
+        return self._ratio(self._joined(it.unmet for it in self.outcomes(policy)) / self.means, self.asked)
+
+    def _promised(self, plans: Iterable[Outcome | None]) -> Floats:
+        """Returns the share of demand that plans promised not to meet at once, in each period."""
+        shares: Floats = np.array([1 - (plan and plan.promised_fill or 0.0) for plan in plans])[self.items]
+        return shares
+
+    def promised(self) -> Ratio:
+        """Returns the share of demand that the kept plan promised not to meet at once."""
+        return self._ratio(self._promised(self.outcomes(KEPT)) * self.asked, self.asked)
+
+    def missed(self) -> Ratio:
+        """Returns what the kept plan missed of its promise."""
+        return self._ratio(self.unmet(KEPT).above - self.promised().above, self.asked)
+
+    def by_chance(self) -> Ratio:
+        """Returns what the kept plan missed with all periods in a random order."""
+        plans = [test.shuffled for test in self.tests]
+        asked = self._joined(test.shuffled_demands for test in self.tests) / self.means
+        unmet = self._joined(plan.unmet for plan in plans if plan) / self.means
+        above = unmet - self._promised(plans) * asked
+        return Ratio(above, asked, self.items, np.full(len(self.items), NO_BLOCK))
+
+    def costs(self, policy: str) -> Floats:
+        """Returns the costs of a policy by item and period."""
+        return self._joined(it.costs for it in self.outcomes(policy))
+
+    def dearer(self) -> Ratio:
+        """Returns what the kept plan cost more than it promised, as a share of the promise."""
+        promised = np.array([it.promised_cost or 0.0 for it in self.outcomes(KEPT)])[self.items]
+        return self._ratio(self.costs(KEPT) - promised, promised)
+
+    def beside(self, policy: str) -> Ratio:
+        """Returns what a policy cost more than the kept plan, as a share of what that cost."""
+        kept = self.costs(KEPT)
+        return self._ratio(self.costs(policy) - kept, kept)
+
+
+@dataclass(frozen=True)
+class Sums:
+    """What the tests of the items of a class, or of all, add up to.
+
+    `promised` is the fill that the kept plan promised, `unmet` the share of demand by policy that was not met at once,
+    `dearer` what the kept plan cost over its promise, `beside` by policy what it cost over the kept plan. `missed` is
+    what the kept plan missed of the promised fill, of which `chance` remains in a random order and `time` does not. So
+    many items have `broken` it by more than a point, and a largest later demand `above` the largest before.
+    """
+
+    group: str
+    items: int
+    promised: float
+    unmet: Mapping[str, Estimate]
+    dearer: Estimate
+    beside: Mapping[str, Estimate]
+    missed: Estimate
+    chance: Estimate
+    time: Estimate
+    broken: int
+    above: int
+
+    @classmethod
+    def of(cls, group: str, tests: Sequence[Backtest]) -> Sums:
+        """Adds up tests."""
+        parts = Group(tests)
+        missed, chance = parts.missed(), parts.by_chance()
+        broken = sum(test.kept.fill is not None and (test.kept.promised_fill or 0) - test.kept.fill > SLACK
+                     for test in tests)
+        return cls(group, len(tests), 1 - parts.promised().value,
+                   {policy: parts.unmet(policy).estimate for policy in POLICIES}, parts.dearer().estimate,
+                   {policy: parts.beside(policy).estimate for policy in POLICIES if policy != KEPT}, missed.estimate,
+                   chance.estimate, missed.less(chance), broken, sum((test.above or math.inf) > 1 for test in tests))
+
+    @property
+    def verdict(self) -> str:
+        """Returns what breaks the promised fill, if anything does."""
+        if self.items < LEAST_ITEMS:
+            return FEW
+        rare = self.chance.low > SLACK
+        time = self.time.low > 0 and min(self.time.value, self.missed.value) > SLACK
+        if self.missed.low > SLACK and not rare and not time:  # by both together
+            time = self.time.value > self.chance.value
+            rare = not time
+        if not rare and not time:
+            return HOLDS if self.missed.value <= SLACK else UNSURE
+        return BOTH if rare and time else TIME if time else RARE
+
+
+def summed(test: Backtest) -> bool:
+    """Returns whether an item is in sums: if it is asked for, and has a plan in either order. Else those in a random
+    order would be others: items that are asked for more."""
+    return test.shuffled is not None and test.mean > 0
+
+
+def is_asked(tests: Sequence[Backtest]) -> bool:
+    """Returns whether anything is asked for in the later periods, in time and in a random order."""
+    return any(any(test.demands) for test in tests) and any(any(test.shuffled_demands) for test in tests)
+
+
+def sums_of(tests: Iterable[Backtest]) -> list[Sums]:
+    """Returns the sums of all items, and of each class."""
+    groups = defaultdict[str, list[Backtest]](list)
+    for test in tests:
+        if summed(test):
+            groups[ALL_ITEMS].append(test)
+            if test.group:
+                groups[test.group].append(test)
+    return [Sums.of(name, groups[name]) for name in sorted(groups) if is_asked(groups[name])]

@@ -1,0 +1,183 @@
+"""Tests the test of a whole catalogue on its past: by the command and in Python, resumed, and with other workers."""
+from __future__ import annotations
+
+import csv
+import dataclasses
+import datetime
+import shutil
+from collections.abc import Mapping
+from pathlib import Path
+from typing import Any
+
+import pytest
+
+import crnplan as package
+from crnplan.demand.learning import Prior
+from crnplan.pages.backtest_tables import BACKTEST_COLUMNS, SUM_COLUMNS, VERDICTS
+from crnplan.plan.backtest.one import Walk, backtest_one
+from crnplan.plan.backtest.sums import TIME
+from crnplan.plan.question import NONE, Settings
+from crnplan.records.item import Item
+from planner.tests.conftest import Command, rows_of
+from planner.tests.pages.page_reader import Page
+from planner.tests.plan.items import several
+
+ITEMS, START = 14, datetime.date(2024, 1, 1)  # a Monday
+WORDS = "--record", "40", "--every", "10", "--window", "30"
+WALK: dict[str, Any] = {"record": 40, "every": 10, "window": 30, "jobs": 1}
+FILES = "backtest.csv", "backtest_sums.csv", "backtest.txt", "backtest.html"
+
+
+def write(folder: Path, items: Mapping[str, Item], later: int = 1) -> list[Path]:
+    """Writes the two tables of items into a folder, with so many times the demand from week 40 on. Item I-013 comes in
+    week 30."""
+    folder.mkdir(parents=True, exist_ok=True)
+    with (folder / "demand.csv").open("w", newline="") as file:
+        rows = csv.writer(file)
+        rows.writerow(("item", "date", "quantity", "returned"))
+        for item in items.values():
+            for week, asked in enumerate(item.counts):
+                if item.name == "I-013" and week < 30:
+                    continue
+                returned = item.returns[week] if item.returns else 0
+                asked *= later if week >= 40 else 1
+                if asked or returned:
+                    rows.writerow((item.name, START + datetime.timedelta(7 * week), asked, returned))
+    with (folder / "items.csv").open("w", newline="") as file:
+        rows = csv.writer(file)
+        rows.writerow(("item", "class", "setup", "holding", "backlog", "fill", "lead", "s", "S"))
+        rows.writerows((it.name, "ab"[place % 2], float(it.setup), float(it.holding),
+                        "" if it.backlog is None else float(it.backlog), "" if it.fill is None else float(it.fill),
+                        " ".join(map(str, it.leads)), *it.levels) for place, it in enumerate(items.values()))
+    return [folder / "demand.csv", folder / "items.csv"]
+
+
+@pytest.fixture(scope="module")
+def items() -> Mapping[str, Item]:
+    return {item.name: item for item in several(ITEMS)}
+
+
+@pytest.fixture(scope="module")
+def made(items: Mapping[str, Item], tmp_path_factory: pytest.TempPathFactory) -> Path:
+    """Returns a folder with the two tables of a small catalogue and its test in `out`, which nobody changes."""
+    room = tmp_path_factory.mktemp("past")
+    package.backtest(*write(room, items), out=room / "out", **WALK)
+    return room
+
+
+def read(folder: Path) -> dict[str, bytes]:
+    return {name: (folder / name).read_bytes() for name in FILES}
+
+
+@pytest.fixture
+def room(made: Path, tmp_path: Path, monkeypatch: pytest.MonkeyPatch) -> Path:
+    """Returns a folder of its own with the same, where no settings are."""
+    monkeypatch.chdir(tmp_path)
+    return Path(shutil.copytree(made, tmp_path / "room"))
+
+
+def test_same_bytes_whatever_the_workers(room: Path, crnplan: Command) -> None:
+    """The command writes with two processes what Python does with one, and prints the summary."""
+    answer = crnplan("backtest", room / "demand.csv", room / "items.csv", *WORDS, "--out", room / "two", "--jobs", 2)
+    assert answer.status == 0 and answer.output == (room / "out/backtest.txt").read_text("utf-8")
+    assert read(room / "two") == read(room / "out")
+
+
+def test_only_what_has_changed_is_tested_again(room: Path, crnplan: Command) -> None:
+    """Tested again, nothing is tested; after a change of a master, its item is."""
+    words = "backtest", room / "demand.csv", room / "items.csv", *WORDS, "--out", room / "out", "--jobs", 1
+    before, files = rows_of(room / "out/backtest.csv"), read(room / "out")
+    again = crnplan(*words)
+    assert again.status == 0 and read(room / "out") == files and "of 14 items" not in again.errors
+    text = (room / "items.csv").read_text("utf-8")
+    (room / "items.csv").write_text(text.replace("I-004,a,24.0", "I-004,a,25.0"), "utf-8")
+    assert "13 of 14 items (13 kept)" in crnplan(*words).errors
+    after = rows_of(room / "out/backtest.csv")
+    assert [name for name in before if before[name] != after[name]] == ["I-004"]
+
+
+def test_rows_are_those_of_each_item(made: Path, items: Mapping[str, Item]) -> None:
+    """Each row has the figures of its item by itself, and an item that came late says why it has none."""
+    rows = rows_of(made / "out/backtest.csv")
+    assert rows.keys() == items.keys()
+    assert [*rows["I-001"]] == [column.name for column in BACKTEST_COLUMNS]
+    assert {name for name, row in rows.items() if row["left_out"]} == {"I-013"}
+    assert rows["I-013"]["left_out"] == "it has 30 periods, and a test needs 50. test it with a shorter record"
+    for name in ("I-002", "I-003"):
+        test = backtest_one(items[name], Settings(borrow=NONE, every="week"), Prior(NONE), Walk(40, 10, 30))
+        for policy in ("today", "kept", "refitted", "smoothed", "shuffled"):
+            outcome = getattr(test, policy)
+            assert rows[name][f"s_{policy}"] == str(outcome.point) and rows[name][f"S_{policy}"] == str(outcome.level)
+            assert float(rows[name][f"cost_{policy}"]) == pytest.approx(outcome.cost, abs=0.006)
+            assert float(rows[name][f"fill_{policy}"]) == pytest.approx(outcome.fill, abs=6e-5)
+
+
+def test_values_of_a_notebook(room: Path) -> None:
+    """A Catalogue that was read gives the same value: rows, sums, text and page."""
+    catalogue = package.read_catalogue(room / "demand.csv", room / "items.csv")
+    tests = package.backtest(catalogue, out=room / "out", **WALK)
+    assert tests.tested.now == 0 and tests.tested.kept == ITEMS
+    assert tests.table.csv.encode() == (room / "out/backtest.csv").read_bytes()
+    assert tests.text == tests.notes == (room / "out/backtest.txt").read_text("utf-8")
+    assert tests.page == (room / "out/backtest.html").read_text("utf-8")
+    assert [*tests.sums] == [column.name for column in SUM_COLUMNS]
+    assert tests.sums["class"].tolist() == ["", "a", "b"] and tests.verdict in VERDICTS.values()
+
+
+def test_page(made: Path) -> None:
+    """The page says what the text says, has a row for each class, and asks for no other file."""
+    page, text = Page(made / "out/backtest.html"), (made / "out/backtest.txt").read_text("utf-8")
+    page.check_alone()
+    assert text.splitlines()[0] in page.words
+    sums = page.tables["Sums of all items and of each class"]
+    assert [row[0] for row in sums] == ["class", "all", "a", "b"]
+    rows, written = rows_of(made / "out/backtest.csv"), rows_of(made / "out/backtest_sums.csv", "class")
+    for row in sums[1:]:
+        own = written[row[0].replace("all", "")]
+        assert row[1:4] == [own["verdict"], own["items"], own["broken"]]
+        assert float(row[4].rstrip("%")) == pytest.approx(100 * float(own["promised_fill"]), abs=0.06)
+        fills = dict(zip(sums[0][5:], row[5:], strict=True))
+        for policy, shown in fills.items():
+            value, error = (100 * float(own[f"fill_{policy}{end}"]) for end in ("", "_error"))
+            assert [float(word) for word in shown.rstrip("%").split(" ± ")] == pytest.approx([value, error], abs=0.06)
+    worst = page.tables["The items that missed most"][1:]
+    assert worst and {row[0] for row in worst} <= {name for name, row in rows.items() if not row["left_out"]}
+    assert worst[0][2] == f"{float(rows[worst[0][0]]['promised_fill_kept']):.1%}"
+
+
+def test_level_shift_is_seen(items: Mapping[str, Item], tmp_path: Path) -> None:
+    """Demand that doubles after the record breaks promises, by time."""
+    tests = package.backtest(*write(tmp_path, items, later=2), **WALK)
+    assert tests.verdict == VERDICTS[TIME]
+
+
+def test_no_item_in_sums(items: Mapping[str, Item], tmp_path: Path) -> None:
+    """An item of which all demand is in the record has a test, but none in a random order that puts it all after it.
+    The other one can't be planned, and is counted."""
+    ended = dataclasses.replace(items["I-000"], counts=(0, 9, 0, 0, 9) + (0,) * 495, returns=())
+    nothing = dataclasses.replace(items["I-001"], counts=(0,) * 500, returns=())
+    tables = write(tmp_path, {"I-000": ended, "I-001": nothing})
+    tests = package.backtest(*tables, start=START, end=START + datetime.timedelta(7 * 500 - 1), **WALK)
+    assert tests.verdict == tests.text.splitlines()[0] == "No item has a test on its own past."
+    assert "items: 2 named = 1 tested + 0 without a test" in tests.text and "1 that can't be planned" in tests.text
+    row, = csv.DictReader(tests.table.csv.splitlines())
+    assert row["item"] == "I-000" and float(row["cost_kept"]) > 0 and row["S_shuffled"] == row["cost_shuffled"] == ""
+    assert "No item has a test" in tests.page and "Met at once in time" not in tests.page
+
+
+def test_planned_folder(items: Mapping[str, Item], tmp_path: Path, crnplan: Command, program: Path) -> None:
+    """A folder of crnplan catalogue is tested with the settings of its plan, and keeps its plan."""
+    tables, out = write(tmp_path, {name: items[name] for name in ("I-000", "I-001")}), tmp_path / "plan"
+    crnplan("catalogue", *tables, "--out", out, "--seed", "other", "--jobs", 1, "--program", program)
+    plan = (out / "decisions.csv").read_bytes()
+    assert crnplan("backtest", out, *WORDS, "--jobs", 1).status == 0
+    assert (out / "decisions.csv").read_bytes() == plan
+    assert package.backtest(*tables, seed="other", **WALK).table.csv.encode() == (out / "backtest.csv").read_bytes()
+
+
+@pytest.mark.parametrize("given, said", [
+    (["plan"], "no plan is in it"), (["demand.csv", "items.csv"], "two tables and --out"),
+    (["plan", "--out", "other"], "leave them out")])
+def test_words_that_are_refused(crnplan: Command, given: list[str], said: str) -> None:
+    answer = crnplan("backtest", *given)
+    assert answer.status == 2 and said in answer.errors

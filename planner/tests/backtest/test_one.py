@@ -1,0 +1,127 @@
+"""Tests the test of an item on its past: plans as `plan_one` makes them, of the record alone, and what came."""
+from __future__ import annotations
+
+import dataclasses
+from fractions import Fraction
+from pathlib import Path
+
+import numpy as np
+import pytest
+
+from crnplan.demand.learning import Prior
+from crnplan.errors import Refused
+from crnplan.plan.answer import Answer
+from crnplan.plan.backtest.one import (SHORT_RECORD, Backtest, Walk, Walked, backtest_item, backtest_one, part_of,
+                                       shuffled)
+from crnplan.plan.one import plan_one
+from crnplan.plan.question import NONE, Settings, question_of
+from crnplan.records.item import Item
+from crnplan.remarks import Remark
+from planner.tests.plan.items import alone, item_of, several
+
+WALK = Walk(record=40, every=7, window=30)
+OWN = Prior(NONE)
+
+
+def past_of(item: Item, walk: Walk = WALK) -> Backtest:
+    return backtest_one(item, alone(), OWN, walk)
+
+
+def planned(item: Item, program: Path) -> Answer:
+    return plan_one(question_of(item, alone(), OWN), str(program))
+
+
+def test_stretches_by_hand() -> None:
+    """Of 60 periods, plans are for 40 to 46, 47 to 53 and 54 to 59; each refit is of the last 30."""
+    assert [*WALK.stretches(60)] == [(0, 40, 47), (17, 47, 54), (24, 54, 60)]
+
+
+@pytest.mark.parametrize("field", ["record", "every", "window"])
+def test_no_periods_are_refused(field: str) -> None:
+    with pytest.raises(Refused, match=f"{field}.*0"):
+        Walk(**{field: 0})
+
+
+@pytest.mark.parametrize("place", range(5))
+def test_plan_is_that_of_its_record(place: int, program: Path) -> None:
+    """Levels and promises are those of the plan of the item as it was, and today's those that it shows beside."""
+    item = [*several(5)][place]
+    answer, test = planned(part_of(item, 0, WALK.record), program), past_of(item)
+    for policy, outcome in ((answer.chosen, test.kept), (answer.today, test.today)):
+        assert (policy.point, policy.level) == (outcome.point, outcome.level)
+        assert outcome.promised_cost == pytest.approx(policy.cost, rel=1e-12)
+        assert outcome.promised_fill == pytest.approx(policy.fill, rel=1e-12)
+
+
+def test_refits_are_plans_of_their_windows(program: Path) -> None:
+    """The promise of refitted plans is the mean of theirs over the periods of each."""
+    item = item_of(3)
+    plans = [(planned(part_of(item, start, origin), program).chosen, end - origin)
+             for start, origin, end in WALK.stretches(len(item.counts))]
+    periods = sum(weight for _, weight in plans)
+    assert len({policy.levels for policy, _ in plans}) > 1
+    refitted = past_of(item).refitted
+    assert refitted.promised_cost == pytest.approx(sum(plan.cost * weight for plan, weight in plans) / periods)
+    assert refitted.promised_fill == pytest.approx(sum(plan.fill * weight for plan, weight in plans) / periods)
+
+
+def test_no_later_period_is_seen() -> None:
+    """Other later periods change nothing of what was planned, nor the first period after the record."""
+    item = item_of(4)
+    other = dataclasses.replace(item, counts=(*item.counts[:41], *(9 * it + 5 for it in item.counts[41:])))
+    for policy in ("today", "kept", "smoothed"):
+        first, second = (getattr(past_of(it), policy) for it in (item, other))
+        assert first.costs[0] == second.costs[0]
+        assert (first.point, first.level, first.promised_cost) == (second.point, second.level, second.promised_cost)
+        assert first.costs[1:] != second.costs[1:]
+
+
+def test_steady_item() -> None:
+    """A steady demand of 6 with a lead time of 1 and no setup cost is met from 12 items: no stock is left, and nothing
+    is owed. A period costs nothing."""
+    item = item_of(counts=(6,) * 60, leads=(1,), setup=Fraction(0), levels=(12, 12))
+    test = backtest_one(item, Settings(fit="empirical", borrow=NONE), OWN, WALK)
+    for outcome in (test.today, test.kept, test.refitted, test.shuffled):
+        assert outcome and (outcome.cost, outcome.fill, outcome.stock, outcome.orders) == (0, 1, 0, 1)
+    # The rule of thumb has S = 18: it orders 12 in every second period, and 6 of them are left in stock for one.
+    rule = test.smoothed
+    assert (rule.cost, rule.fill, rule.stock, rule.orders) == (pytest.approx(3 * 0.55), 1, 3, 0.5)
+    assert test.above == test.shuffled_above == 1 and test.mean == 6
+
+
+def test_promise_holds_where_the_law_is_known() -> None:
+    """With a long record of independent demand, cost, fill, stock and orders of a long time after it are as promised.
+    """
+    source = np.random.default_rng(7)
+    item = item_of(counts=tuple(source.poisson(3, 50_000).tolist()), leads=(1, 2, 4), setup=Fraction(30))
+    walk = Walk(record=25_000, every=25_000)
+    walked = Walked(item, Settings(fit="empirical", borrow=NONE), OWN, walk)
+    kept, figures = walked.kept(), walked.plan
+    assert kept.cost == pytest.approx(figures.cost, rel=0.01)
+    assert kept.fill == pytest.approx(figures.fill, abs=0.003)
+    assert kept.stock == pytest.approx(figures.stock, rel=0.01)
+    assert kept.orders == pytest.approx(figures.orders, rel=0.01)
+
+
+def test_shuffled_has_the_same_periods() -> None:
+    """A random order keeps the demand of each period with what came back, and follows from the seed."""
+    item = item_of(4, returns=tuple(range(60)))
+    other = shuffled(item, 1)
+    assert sorted(zip(other.counts, other.returns)) == sorted(zip(item.counts, item.returns))
+    assert other.counts != item.counts and other == shuffled(item, 1) and other != shuffled(item, 2)
+
+
+def test_no_test() -> None:
+    """A record that is too short, and one without demand, are named."""
+    short = backtest_item(item_of(), alone(), OWN, Walk(record=52, every=13))
+    assert short == Remark(SHORT_RECORD, {"periods": 60, "needed": 65})
+    silent = item_of(counts=(0,) * 50 + (1,) * 10)
+    assert isinstance(backtest_item(silent, alone(), OWN, WALK), Remark)
+
+
+def test_window_without_demand_keeps_the_plan() -> None:
+    """If no plan can be made of a window, the last one is kept."""
+    item = item_of(counts=(4, 0, 2, 6) * 10 + (0,) * 80)
+    walk = Walk(record=40, every=40, window=40)
+    test = past_of(item, walk)
+    assert test.refitted == test.kept
