@@ -11,9 +11,9 @@ import collections
 import contextlib
 import fcntl
 import os
+import sys
 import tempfile
 from collections.abc import Callable, Iterable, Iterator
-from functools import partial
 from pathlib import Path
 from typing import Any
 
@@ -29,7 +29,7 @@ PROGRAM = TOP / "crates" / "crnsim" / "out" / "crnsim"
 # The property of a test that stands for so many cases.
 CASES = "cases"
 LOCK = "serial_lock"
-# The property of a run that has which lines are run, by test.
+# The property of a run that has which lines are run.
 MEASURED = "measured_lines"
 # A worker of a parallel run has at most so many tests waiting, and gets more if half of them are done.
 MOST_WAITING = 6
@@ -57,11 +57,8 @@ def pytest_configure(config: pytest.Config) -> None:
     settings.register_profile("free", print_blob=True, **shared)
     settings.load_profile("free" if config.getoption("--free") else "gate")
     if config.getoption("--lines"):
-        from planner.lines import keep, measure
-        measured = measure(config.getoption("--lines"))
-        config.add_cleanup(partial(keep, measured))
-        if config.getoption("--by-test"):
-            setattr(config, MEASURED, measured)
+        from planner.lines import measure
+        setattr(config, MEASURED, measure(config.getoption("--lines")))
     named = config.getoption("--program")
     if named and not os.access(named, os.X_OK):
         raise pytest.UsageError(f"--program {named}: there is no such program")
@@ -70,6 +67,14 @@ def pytest_configure(config: pytest.Config) -> None:
         os.close(handle)
         config.add_cleanup(lambda: os.unlink(path))
         setattr(config, LOCK, path)
+
+
+@pytest.hookimpl(trylast=True)
+def pytest_sessionfinish(session: pytest.Session) -> None:
+    """Keeps which lines were run. A worker that has said that it is done may be killed, so this comes before."""
+    if hasattr(session.config, MEASURED):
+        from planner.lines import keep
+        keep(getattr(session.config, MEASURED))
 
 
 @pytest.hookimpl(optionalhook=True)
@@ -115,8 +120,12 @@ def is_serial(item: pytest.Item) -> bool:
 @pytest.hookimpl(hookwrapper=True, tryfirst=True)
 def pytest_runtest_protocol(item: pytest.Item) -> Iterator[None]:
     """Runs a test, in a worker under a lock that all share but those that run alone. Waiting is not timed."""
-    if hasattr(item.config, MEASURED):
-        getattr(item.config, MEASURED).switch_context(item.nodeid)
+    measured = getattr(item.config, MEASURED, None)
+    if measured and sys.gettrace() is None:  # A test has taken the measurement away.
+        measured.stop()
+        measured.start()
+    if measured and item.config.getoption("--by-test"):
+        measured.switch_context(item.nodeid)
     path = getattr(item.config, "workerinput", {}).get(LOCK)
     with open(path, encoding="ascii") if path else contextlib.nullcontext() as file:
         if file:

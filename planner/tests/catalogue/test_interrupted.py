@@ -234,8 +234,10 @@ def test_cut_off(folder: Path, whole: Path, crnplan: Command, holding: Path, sta
     assert 0 < there == goes_on(folder, whole, crnplan, holding)[1] < FEW
 
 
-def test_no_room_to_read(folder: Path, crnplan: Command, holding: Path, start: Start) -> None:
+def test_no_room_to_read(folder: Path, crnplan: Command, holding: Path, start: Start,
+                         monkeypatch: pytest.MonkeyPatch) -> None:
     """Lets no file grow at all: one line, no half catalogue, and no parts are left."""
+    monkeypatch.delenv("COVERAGE_PROCESS_START", raising=False)  # What it keeps would be cut off too.
     process = start(before=lambda: resource.setrlimit(resource.RLIMIT_FSIZE, (9_000, 9_000)))
     _, errors = process.communicate(timeout=60)
     lines = [it for it in errors.decode().splitlines() if it.startswith("crnplan:")]
