@@ -9,7 +9,7 @@ from crnplan.crnsim import long_run as exact_long_run
 from crnplan.crnsim import report, trajectory
 from crnplan.curve import exchange_curve
 from crnplan.decide import doubt, sensitivity, verdicts
-from crnplan.pages import backtest_tables, catalogue_tables, item_words
+from crnplan.pages import backtest_tables, catalogue_tables, item_page
 from crnplan.table import Column
 from crnplan.theory import suggestions
 
@@ -31,13 +31,13 @@ TABLES: Mapping[str, tuple[str, Sequence[Column]]] = {
     "curve.csv": ("The exchange curve: named points, then the curve by rising price.", exchange_curve.COLUMNS),
     "curve_policies.csv": ("The policies of one point of the curve.", exchange_curve.POLICY_COLUMNS),
     "curve_left_out.csv": ("Items that are not on the curve.", exchange_curve.LEFT_OUT_COLUMNS),
-    "policies.csv": ("The policies of an item that is planned alone, the cheapest first.", item_words.POLICY_COLUMNS),
-    "coming.csv": ("The same over the coming periods, with `[run] horizon`.", item_words.COMING_COLUMNS),
+    "policies.csv": ("The policies of an item that is planned alone, the cheapest first.", item_page.POLICY_COLUMNS),
+    "coming.csv": ("The same over the coming periods, with `[run] horizon`.", item_page.COMING_COLUMNS),
     "doubt.csv, crnplan doubt": ("Policies under the laws that a history allows. A column stands if there is a figure.",
                                  doubt.COLUMNS),
     "sensitivity.csv": ("How the best policy of an item moves.", sensitivity.MOVES),
     "trajectory.csv, crnplan trajectory": ("Policies period by period.", trajectory.COLUMNS),
-    "laws.csv": ("The laws of an item.", item_words.LAW_COLUMNS),
+    "laws.csv": ("The laws of an item.", item_page.LAW_COLUMNS),
     "crnplan suggest": ("Suggested policies.", [*suggestions.COLUMNS, suggestions.REASONS]),
     "crnplan run": ("A report of crnsim, exactly.", report.COLUMNS),
     "crnplan decide, crnplan check": ("Policies beside the base, over the coming periods.", verdicts.COLUMNS),

@@ -20,8 +20,8 @@ ALLOWED = {
     ("commands/__init__.py", "message.endswith(('?', '.'))"): "click's message",
     ("errors.py", "message.split(MARK)"): "marks about the arguments of a message, which a user never sees",
     ("formats.py", "re.sub(' [0-9]+$', '', fault)"): "the number of a fault of the program, in a table of formats.toml",
-    ("toml/texts.py", "message.startswith(beginning)"): "a message of tomllib",
-    ("toml/texts.py", "message.startswith('Cannot declare')"): "a message of tomllib",
+    ("toml/documents.py", "message.startswith(beginning)"): "a message of tomllib",
+    ("toml/documents.py", "message.startswith('Cannot declare')"): "a message of tomllib",
     ("toml/documents.py", "str(fault).rpartition(' (at ')"): "a message of tomllib"}
 
 

@@ -16,8 +16,7 @@ from .errors import Refused, argument
 from .files import Folder, own_folder
 from .pages.catalogue_tables import catalogue_summary, decisions_of, faults_of, rejects_of
 from .pages.exports import CATALOGUE_FILES, plan_item as plan_one_item, report
-from .pages.item_page import item_page
-from .pages.item_words import ItemWords, item_summary, policies_of
+from .pages.item_page import ItemWords, item_page, item_summary, policies_of
 from .plan.catalogue import Lost, Totals, plan_into, planned_folder
 from .plan.item import Depth
 from .plan.question import Settings

@@ -6,7 +6,7 @@ from fractions import Fraction
 from typing import Any, SupportsFloat
 
 from . import formats
-from .toml.texts import shown
+from .toml.documents import shown
 from .errors import Refused
 
 # A number of Python, numpy, Decimal or Fraction; an amount of money may be a text such as "12.50" too.

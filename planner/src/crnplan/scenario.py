@@ -17,9 +17,8 @@ from pathlib import Path
 from typing import TYPE_CHECKING, Any
 
 from . import formats
-from .toml.documents import check_size, read_bytes, text_of_document
+from .toml.documents import check_size, read_bytes, shown, text_of_document
 from .toml.scenarios import checked_tree, error_of, plain_text, read_scenario, toml_text
-from .toml.texts import shown
 from .errors import Refused
 from .law import Law
 from .money import Amount, Number, scaled_costs, whole

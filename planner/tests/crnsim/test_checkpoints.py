@@ -9,7 +9,7 @@ from pathlib import Path
 
 import pytest
 
-from crnplan.crnsim.checkpoints import State, checkpoint_text, replication_costs, resume_all
+from crnplan.crnsim.program import State, checkpoint_text, replication_costs, resume_all
 from crnplan.crnsim.report import read_rows
 from crnplan.law import Law
 from crnplan.scenario import Costs, Policy, Scenario

@@ -7,8 +7,7 @@ import pytest
 from crnplan.demand.fitted import Diagnostics, FittedLaw
 from crnplan.demand.fitting import fit_demand
 from crnplan.law import Law
-from crnplan.pages.item_words import LAW_COLUMNS, laws_of
-from crnplan.pages.item_words import law_words
+from crnplan.pages.item_page import LAW_COLUMNS, law_words, laws_of
 from crnplan.plan.question import Settings, question_of
 from planner.tests.plan.items import item_of
 

@@ -37,7 +37,7 @@ def item(history: str, settings: str, out: str, program: str | None) -> None:
     With [run] horizon the policies are compared over so many coming periods from [today] stock too.
     """
     from ..pages.exports import plan_item
-    from ..pages.item_words import item_summary
+    from ..pages.item_page import item_summary
 
     def told(part: str) -> None:
         if sys.stderr.isatty():

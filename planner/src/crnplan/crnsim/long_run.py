@@ -32,8 +32,7 @@ from ..errors import Refused, argument
 from ..law import Law
 from ..scenario import Costs, Scenario, key_words
 from ..table import DataTable, Result, exact
-from .checkpoints import MOST_STOCK, PERIODS_OF_BLOCK, State, checkpoint_text, resume_all
-from .program import find_program
+from .program import MOST_STOCK, PERIODS_OF_BLOCK, State, checkpoint_text, find_program, resume_all
 from .report import COLUMNS as REPORT_COLUMNS, Row, joined, parts_of, pooled, rows_of
 
 if TYPE_CHECKING:

@@ -26,8 +26,8 @@ from pathlib import Path
 from typing import TYPE_CHECKING, Any
 
 from .. import formats
+from ..toml.documents import shown
 from ..toml.scenarios import checked_tree, name_faults, plain_text
-from ..toml.texts import shown
 from ..errors import Fault, ProgramError, Refused, argument
 from ..scenario import Costs, Policy, Scenario
 from ..table import DataTable, Json, Result, exact, text, whole

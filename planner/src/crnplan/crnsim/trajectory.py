@@ -23,8 +23,7 @@ from .. import formats
 from ..errors import Refused, argument
 from ..scenario import Costs, Policy, Scenario
 from ..table import DataTable, text, whole
-from .checkpoints import PERIODS_OF_BLOCK, replication_costs
-from .program import find_program, run_all
+from .program import PERIODS_OF_BLOCK, find_program, replication_costs, run_all
 from .report import read_rows
 
 JOBS = 8  # runs at a time: each is short, so that starting it takes most of its time

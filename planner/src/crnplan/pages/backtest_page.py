@@ -9,12 +9,12 @@ from ..plan.backtest.one import Backtest
 from ..plan.backtest.sums import ALL_ITEMS, BLOCK, KEPT, POLICIES, Group, Sums, summed
 from ..records.item import Item
 from .backtest_tables import SINGLE, VERDICTS, backtest_summary, fills_of, first_line
-from .page import CHOSEN, TODAY, UNITS, Line, Plot, Scale, marks_of, percent, rendered, tick
+from .page import OF_CHOSEN, OF_TODAY, UNITS, Line, Plot, Scale, marks_of, percent, rendered, tick
 
 MOST_DOTS, MOST_WORST = 3_000, 12
 DOTS, PROMISED = "dots", "of-promised"
 SUM_HEADINGS = "class", "verdict", "items", "missed by over a point", "promised", *POLICIES
-LINES = {KEPT: CHOSEN, "refitted": "of-better", "smoothed": TODAY}
+LINES = {KEPT: OF_CHOSEN, "refitted": "of-better", "smoothed": OF_TODAY}
 
 
 class Worst(NamedTuple):
@@ -41,7 +41,7 @@ def promise_plot(tests: Sequence[Backtest]) -> Plot:
     return Plot("Demand met at once, by item: what came against what was promised",
                 f"{len(pairs):,} items, of which {met:,} met at least what was promised.", up,
                 [(across.at(value), tick(value), "") for value in across.ticks], "promised, %",
-                [Line("as promised", PROMISED, equal), Line("an item", f"{DOTS} {CHOSEN}", dots)])
+                [Line("as promised", PROMISED, equal), Line("an item", f"{DOTS} {OF_CHOSEN}", dots)])
 
 
 def time_plot(tests: Sequence[Backtest], promised: float, every: str) -> Plot:

@@ -18,7 +18,7 @@ from ..records.catalogue_reading import missing_of
 from ..records.item import Item
 from ..table import DataTable
 from .catalogue_tables import DECISION_COLUMNS, decision_row, faults_of, planned_of, reasons_of
-from .page import CHOSEN, ROOM, UNITS, Line, Plot, Scale, curve_ends, number, percent, rendered
+from .page import OF_CHOSEN, ROOM, UNITS, Line, Plot, Scale, curve_ends, number, percent, rendered
 
 MOST_ROWS = 5_000  # items in the table
 MOST_SAVINGS = 15
@@ -125,7 +125,7 @@ def exchange_plot(curve: Sequence[tuple[str, Point]],
     said = "; ".join(f"{name}: {percent(point.fill, 2)} met at once with a stock of {money(point.value)}"
                      for name, point in named.items())
     return Plot("Exchange curve: demand met at once against the value of the stock", f"{said}.", up, across.marks,
-                f"value of the mean stock{unit_name}", [Line("", CHOSEN, f"M{path}")]), points
+                f"value of the mean stock{unit_name}", [Line("", OF_CHOSEN, f"M{path}")]), points
 
 
 def savings(rows: Sequence[Shown]) -> dict[str, object]:

@@ -14,8 +14,8 @@ from ..table import DataTable, whole
 from .catalogue_page import ITEMS, catalogue_page, file_name
 from .catalogue_tables import (DECISIONS, EXACT, REJECTS, catalogue_summary, decisions_of, exact_of, faults_of,
                                planned_of, rejects_of)
-from .item_page import item_page
-from .item_words import ItemWords, coming_of, demand_of, item_summary, laws_of, periods_of, policies_of
+from .item_page import (ItemWords, coming_of, demand_of, item_page, item_summary, laws_of, periods_of,
+                        policies_of)
 
 SUMMARY, PAGE, ITEM_PAGE, FOUND = "summary.txt", "report.html", "summary.html", "found.toml"
 CATALOGUE_FILES = (DECISIONS, EXACT, REJECTS, SUMMARY, PAGE, FOUND)

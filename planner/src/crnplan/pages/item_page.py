@@ -1,22 +1,341 @@
-"""Draws the plan of one item as an HTML page, from top to bottom: the same for `crnplan item` and for a catalogue."""
+"""Says in sentences and tables what was decided for an item, and draws its page, from top to bottom: the same for its
+page, its files and a notebook, for `crnplan item` and for a catalogue. Amounts are items and money."""
 from __future__ import annotations
 
 import itertools
+import textwrap
 from collections import Counter
-from collections.abc import Iterable
+from collections.abc import Iterable, Sequence
+from dataclasses import astuple, replace
+from functools import cached_property
+from pathlib import Path
+from typing import Any
 
-from ..demand.fitted import QUANTILES
-from ..table import DataTable
+from ..crnsim.trajectory import COLUMNS as PERIOD_COLUMNS
+from ..decide.doubt import WITHIN
+from ..decide.verdicts import POLICY
+from ..demand import EMPIRICAL
+from ..demand.checks import check_history
+from ..demand.fitted import QUANTILES, FittedLaw, fit_words
+from ..errors import Fault, spelt, worded
+from ..plan.answer import CHEAPER, CHOSEN, DEARER, SAME, SERVICE, THEORY, TODAY, UNDECIDED, Figures
+from ..plan.item import Coming, Depth, Facts, planned
+from ..plan.question import Question
+from ..plan.settings import as_setting
+from ..records.cells import EVERY, period_name
+from ..remarks import Remark
+from ..table import MONEY, Cell, DataTable, number as numbers, text, whole
+from ..words import advised, exactness, sentence
 from .catalogue_tables import DECISION_COLUMNS, decision_row, exact_of
-from .item_words import ALONE, ItemWords, laws_of
-from .page import CHOSEN, TODAY, UNITS, Line, Plot, Scale, marks_of, number, rendered, tick
+from .page import (OF_CHOSEN, OF_TODAY, UNITS, Line, Plot, Scale, capital, marks_of, number, percent, rendered,
+                   tick)
 
+VERDICTS = {CHEAPER: "cheaper than today's policy ({})", DEARER: "dearer than today's policy ({})",
+            UNDECIDED: "not told apart from today's policy ({})", SAME: "keep today's policy",
+            SERVICE: "for the fill rate that today's policy ({}) misses"}
+COMING = 64  # replications of the coming periods
+MOST_DECIMALS = 6
+ALONE = "the law of this item alone"
+VERDICT = text("verdict", f"beside {TODAY}: base, better, worse or undecided")
+POLICY_COLUMNS = (
+    *POLICY, numbers("cost", "money a period", "cost in the long run: by theory if exact, else by crnsim", MONEY),
+    numbers("difference", "money a period", "that cost less today's", MONEY), VERDICT,
+    numbers("theory_cost", "money a period", "cost by theory", MONEY),
+    numbers("fill", "share", "demand met at once, by theory", ".10g"),
+    numbers("short", "share", "periods that end with items owed, by theory", ".10g"),
+    numbers("stock", "items", "mean stock, by theory", ".10g"),
+    numbers("orders", "orders a period", "by theory", ".10g"),
+    numbers("run_cost", "money a period", "cost by crnsim's run, less the bias of the start", MONEY),
+    numbers("run_cost_low", "money a period", "low end of the interval of that cost, by itself", MONEY),
+    numbers("run_cost_high", "money a period", "high end of that interval", MONEY),
+    numbers("run_difference", "money a period", "cost by the run less today's", MONEY),
+    numbers("run_low", "money a period", "low end of the interval of that difference, by itself", MONEY),
+    numbers("run_high", "money a period", "high end of that interval", MONEY), text("reasons", "why it is looked at"))
+COMING_COLUMNS = (
+    *POLICY, numbers("cost", "money a period", "mean cost over the coming periods, by crnsim", MONEY),
+    numbers("difference", "money a period", "that cost less today's", MONEY),
+    numbers("low", "money a period", "low end of the interval of that difference; all hold together", MONEY),
+    numbers("high", "money a period", "high end of that interval", MONEY), VERDICT)
+LAW_COLUMNS = (
+    text("table", "demand, returns or lead"), text("law", "what was seen, or the law that was fitted to it"),
+    numbers("mean", "boxes or periods", "its mean", ".4f"), numbers("variance", "squared", "its variance", ".4f"),
+    *(whole(f"{share:.1%}", "boxes or periods", "what this share of periods does not exceed") for share in QUANTILES),
+    whole("largest", "boxes or periods", "its largest value"))
+# The summary has so many lines of so many characters. Its table needs four: the heading, two policies, and a blank one.
+LINES, WIDTH, LEAST_TABLE = 24, 80, 4
+# The page has all warnings; in the summary each is cut to one or two lines.
+MOST_WARNED, TWO_LINES = 4, 150
+# From here on amounts of money in the summary have no decimals.
+LARGE = 100_000
+# The columns of the summary's table, with their headings and how they are spelt; and those that are left out if a line
+# is too long, in this order.
+SCREEN = {"policy": ("policy", ""), "s": ("s", ""), "S": ("S", ""), "theory_cost": ("theory", MONEY),
+          "fill": ("fill", ".1%"), "short": ("short", ".1%"), "stock": ("stock", ",.1f"), "orders": ("orders", ".3f"),
+          "run_cost": ("crnsim", MONEY), "verdict": ("verdict", "")}
+OPTIONAL = ("orders", "stock", "short", "run_cost", "fill")
 Range = tuple[str, float, float | None, float | None, str]  # a policy, a mean with both ends, and a verdict
 MOST_DOUBTED = 10  # policies of which the page shows the doubt
 MOST_BARS = 520
 # The classes of lines of the law of a period's demand (its mean, and what 99 of 100 periods do not exceed), and of the
 # law of the item alone.
 MEAN, HIGH, OF_ALONE = "of-mean", "of-high", "of-alone"
+
+
+def law_words(law: FittedLaw) -> str:
+    """Returns in words what a figure is by that rests on a law: on a fitted one, or on the history."""
+    its, method = law.diagnostics, law.diagnostics.method
+    if law.family == EMPIRICAL:
+        is_unlike = method != EMPIRICAL and not law.is_of_leads
+        return "this history" + f" ({method}: no family gives it back)" * is_unlike
+    if its.borrowed and not its.borrowed.alone:
+        borrowed = its.borrowed
+        source = "all items of the catalogue" if borrowed.prior == "all" else f"the items of class {borrowed.prior}"
+        return f"the law learned from {source}" + f" ({1 - borrowed.share:.0%} from what was seen)" * (
+            borrowed.share < 1)
+    others = len(its.families) - 1
+    named = law.family + f" {its.families.get(law.family, 1):.0%} and {others} more" * (others > 0)
+    seen = f"; {1 - its.share:.0%} from what was seen" * (its.share < 1)
+    return f"the law fitted to this history ({f'{method}: ' * (method != law.family)}{named}{seen})"
+
+
+def note_words(note: Fault | Remark) -> str:
+    """Returns what is said of a file: by its name without folders, with the keys of the settings for arguments."""
+    with spelt(as_setting):
+        return advised(note) if isinstance(note, Remark) else worded(
+            replace(note, file=Path(note.file).name).message)
+
+
+class ItemWords:
+    """The words on an item. A period is a day, week, month or period (`every`); money has so many decimals. `coming`
+    are the policies over coming periods, if they were asked for. `heard` is what is to be said of the files."""
+
+    def __init__(self, depth: Depth, every: str, decimals: int, coming: Coming | None = None,
+                 heard: Sequence[Fault | Remark] = ()) -> None:
+        self.depth, self.every, self.decimals, self.coming, self.heard = depth, every, decimals, coming, heard
+        self.question, self.answer = depth.question, depth.answer
+        self.item, self.settings = depth.question.item, depth.question.settings
+        self.level, self.near = f"{100 * self.settings.level:g}%", f"within {100 * WITHIN:g}%"
+        self.law, step = law_words(self.question.demand), self.answer.step * self.item.box
+        self.exactness = exactness(None if self.answer.source == THEORY else step)
+
+    @classmethod
+    def of(cls, facts: Facts, program: str | Path | None = None) -> ItemWords:
+        """Plans an item alone. Money has as many decimals as its costs need, at least 2. Raises Refused, Disagreement
+        and ProgramError."""
+        item, run, depth = facts.item, facts.settings["run"], planned(facts, program)
+        costs = [cost for cost in (item.setup, item.holding, item.backlog, item.unit) if cost is not None]
+        decimals = next((digits for digits in range(2, MOST_DECIMALS)
+                         if all((cost * 10**digits).denominator == 1 for cost in costs)), MOST_DECIMALS)
+        coming = depth.coming(run["horizon"], run["replications"] or COMING) if run["horizon"] else None
+        heard: list[Fault | Remark] = [*facts.history.notes, *(facts.leads.notes if facts.leads else ())]
+        heard += check_history(facts.history, season=facts.settings["history"]["season"]).unknown
+        return cls(depth, facts.settings["history"]["every"] or "period", decimals, coming, heard)
+
+    @cached_property
+    def figures(self) -> dict[str, Figures]:
+        return {policy.name: policy.figures for policy in self.depth.compared}
+
+    @cached_property
+    def doubt(self) -> DataTable:
+        """Returns what each policy costs and meets under the laws that the history allows, the least mean cost first;
+        no policy if none of these laws has a long run."""
+        doubt, rows = self.depth.doubt, list[list[Cell]]()
+        if doubt is None:
+            return DataTable(POLICY, rows, self.decimals, index="policy")
+        columns = doubt.table.columns
+        for place in doubt.order:
+            name = doubt.policies[place].name
+            cost, *shares = (float(doubt.columns[column.name][place]) for column in columns[len(POLICY):])
+            rows.append([name, *self.figures[name].levels, self.question.money(cost), *shares])
+        columns = [replace(column, written=MONEY, shown="") if column.name == "cost" else column for column in columns]
+        return DataTable(columns, rows, self.decimals, index="policy")
+
+    @cached_property
+    def doubted(self) -> dict[str, dict[str, Any]]:
+        return {str(row["policy"]): row for row in self.doubt.records}
+
+    @property
+    def period_names(self) -> list[str]:
+        places = range(self.item.first, self.item.first + len(self.item.counts))
+        return [period_name(place, self.every) if self.every in EVERY else str(place) for place in places]
+
+    def money(self, amount: float | None) -> str:
+        """Returns an amount of money; - if there is none."""
+        return "-" if amount is None else number(amount, self.decimals)
+
+    def spoken(self, saving: float) -> str:
+        return f"{self.money(abs(saving))} {'more' if saving < 0 else 'less'}"
+
+    @property
+    def title(self) -> str:
+        group = f"class {self.item.group}" if self.item.group else ""
+        return ", ".join(filter(None, (self.item.name, self.item.description, group)))
+
+    @property
+    def headline(self) -> str:
+        today, chosen = self.answer.today, self.answer.chosen
+        verdict = VERDICTS[self.answer.verdict].format(f"{today.point:,}, {today.level:,}")
+        return f"Below {chosen.point:,}, order up to {chosen.level:,}: {verdict}"
+
+    @property
+    def saving(self) -> str:
+        """Returns what the chosen policy saves, and what the run beside says."""
+        answer, run = self.answer, self.answer.run
+        if answer.verdict == SAME:
+            return (f"The policy costs {self.money(answer.cost_chosen)} a {self.every} in the long run, by theory, "
+                    f"{self.exactness}. Theory finds no better one.")
+        sample = f"{self.settings.replications:,} replications of {self.settings.periods:,} {self.every}s"
+        ends = "without an interval" if run.low is None or run.high is None else (
+            f"from {self.spoken(run.low)} to {self.spoken(run.high)} at {self.level}")
+        if answer.source == THEORY:
+            return (f"In the long run the chosen policy costs {self.spoken(answer.saving)} a {self.every} than "
+                    f"today's, by theory, {self.exactness}. By crnsim's run beside it ({sample}) it is "
+                    f"{self.spoken(run.saving)}, {ends}.")
+        return (f"In the long run, by crnsim ({sample}), the chosen policy costs {self.spoken(answer.saving)} a "
+                f"{self.every} than today's, {ends}. Theory is {self.exactness}.")
+
+    @property
+    def service(self) -> str:
+        if self.item.fill is None:
+            return ""
+        return (f"A fill rate of {100 * float(self.item.fill):g}% is wanted. By theory the chosen policy meets "
+                f"{percent(self.answer.chosen.fill)} of demand at once, and today's {percent(self.answer.today.fill)}.")
+
+    @property
+    def promise(self) -> str:
+        """Returns how sure the choice is under the laws that the history allows, and which cost to promise."""
+        row = self.doubted.get(self.depth.chosen)
+        if row is None or not self.question.has_backlog:
+            return ""
+        name = "The chosen policy" if self.depth.chosen == CHOSEN else "Today's policy"
+        return (f"{name} is {self.near} of the best of these {len(self.doubted)} policies under {row['within']:.0%} of "
+                f"the laws that this history allows. The cost to promise is {self.money(row['cost'])} a {self.every} "
+                "in the long run, the mean over these laws.")
+
+    @property
+    def said(self) -> list[str]:
+        return [*filter(None, (self.saving, self.service, self.promise))]
+
+    @property
+    def facts(self) -> str:
+        """Returns what is known of the history and of the lead times."""
+        item, periods = self.item, f"{self.every}s"
+        least, most = min(item.leads), max(item.leads)
+        span = str(least) if least == most else f"{least} to {most}"
+        back = f", {sum(item.returns):,} returned" if item.returns else ""
+        return (f"{item.name}: {len(item.counts):,} {periods}, {sum(item.counts):,} items{back}, "
+                f"{item.counts.count(0):,} {periods} without demand. Lead times: {len(item.leads):,}, of {span} "
+                f"{periods}.")
+
+    @property
+    def warnings(self) -> list[str]:
+        return [capital(sentence(remark)) for remark in self.answer.remarks]
+
+    @property
+    def notes(self) -> list[str]:
+        """Returns what is to be said of the history, and of how its law was fitted."""
+        return [capital(note) for note in (*map(note_words, self.heard), *map(sentence, self.item.remarks),
+                                           *fit_words(self.question.demand))]
+
+    @property
+    def over_coming_periods(self) -> str:
+        """Returns what the coming periods say of the policies; nothing if they were not asked for."""
+        if self.coming is None:
+            return ""
+        scenario, chosen = self.coming.scenario, self.depth.chosen
+        verdict = next(row.verdict for row in self.coming.rows if row.policy == chosen)
+        better = [row.policy for row in self.coming.rows if row.verdict == "better"]
+        said = f"{chosen} is {verdict} than {TODAY}" if verdict in ("better", "worse") else (
+            f"{chosen} can't be told apart from {TODAY}" if chosen != TODAY else
+            f"{', '.join(better)} better than {TODAY}" if better else f"no policy is better than {TODAY}")
+        return (f"Over the coming {scenario.periods:,} {self.every}s ({scenario.replications:,} replications, "
+                f"summary.html): {said}.")
+
+
+def policies_of(words: ItemWords) -> DataTable:
+    rows: list[list[Cell]] = [
+        [row.name, *row.figures.levels, row.cost, row.difference, row.verdict, *astuple(row.figures)[2:], row.run.cost,
+         *row.own_ends, row.run.difference, *row.ends, "; ".join(row.reasons)] for row in words.depth.compared]
+    return DataTable(POLICY_COLUMNS, rows, words.decimals, index="policy")
+
+
+def periods_of(words: ItemWords) -> DataTable:
+    """Returns today's and the chosen policy period by period."""
+    rows: list[list[Cell]] = [
+        [name, place, *(words.item.box * count for count in period)]
+        for name, periods in words.depth.trajectory.items() for place, period in enumerate(periods)]
+    return DataTable(PERIOD_COLUMNS, rows)
+
+
+def coming_of(words: ItemWords) -> DataTable | None:
+    """Returns the policies over the coming periods; None if they were not asked for."""
+    if words.coming is None:
+        return None
+    rows: list[list[Cell]] = [
+        [row.policy, *words.figures[row.policy].levels, row.cost, row.diff, row.low, row.high, row.verdict]
+        for row in words.coming.rows]
+    return DataTable(COMING_COLUMNS, rows, words.decimals, index="policy")
+
+
+def demand_of(words: ItemWords) -> DataTable:
+    returns = [whole("returns", "items", "what came back")] * bool(words.item.returns)
+    counts = zip(words.period_names, words.item.counts, *([words.item.returns] if returns else []))
+    return DataTable([text("period", "its name"), whole("demand", "items", "what was asked for"), *returns], [*counts])
+
+
+def laws_of(question: Question, single: FittedLaw | None) -> DataTable:
+    """Returns the figures of the laws: of what was seen, and its own if a law was fitted. Below a law that is learned
+    from others stands that of the item alone, `single`, if there is one."""
+    rows = list[list[Cell]]()
+    for name, law in {"demand": question.demand, "returns": question.returns, "lead": question.lead}.items():
+        if law is None:
+            continue
+        seen, named = law.diagnostics.history, law_words(law)
+        titles = {named: seen} if law.family == EMPIRICAL else {"what was seen": seen, named: law.figures}
+        if name == "demand" and single is not None:
+            titles[ALONE] = single.figures
+        rows += [[name, title, figures.mean, figures.variance, *figures.quantiles.values(), figures.most]
+                 for title, figures in titles.items()]
+    return DataTable(LAW_COLUMNS, rows)
+
+
+def screen_table(words: ItemWords, most: int) -> str:
+    """Returns the cheapest policies, so many with today's and the chosen one, with as many columns as fit the screen.
+    """
+    must, costs = {TODAY, words.depth.chosen}, {policy.name: policy.cost for policy in words.depth.compared}
+    kept = must.union([name for name in costs if name not in must][:max(most - len(must), 0)])
+    money = f",.{0 if any(abs(costs[name]) >= LARGE for name in kept) else min(words.decimals, 2)}f"
+    table = policies_of(words)
+    table = replace(table, rows=[row for row in table.rows if row[0] in kept])
+    for left_out in range(len(OPTIONAL) + 1):
+        shown = table.with_columns([name for name in SCREEN if name not in OPTIONAL[:left_out]])
+        screen = ((column, *SCREEN[column.name]) for column in shown.columns)
+        lines = replace(shown, columns=[replace(column, name=heading, shown=money if style == MONEY else style)
+                                        for column, heading, style in screen]).text
+        if max(map(len, lines.splitlines())) <= WIDTH:
+            break
+    return lines
+
+
+def wrapped(*texts: str) -> list[str]:
+    return [line for words in texts for line in textwrap.wrap(words, WIDTH, break_on_hyphens=False)]
+
+
+def item_summary(words: ItemWords) -> str:
+    """Returns what comes of an item's plan on one screen: at most 24 lines of 80 characters."""
+    above = [*wrapped(words.headline), "", *wrapped(words.facts), ""]
+    warned = [f"WARNING: {warning}" for warning in words.warnings]
+    count = f" ({len(warned)} warning{'s' * (len(warned) > 1)})" if warned else ""
+    below = wrapped(f"All by {words.law}. Theory is of the long run, {words.exactness}, unproved; crnsim is a run, "
+                    "proved for its stream. Verdicts are by "
+                    f"{'theory' if words.answer.source == THEORY else 'crnsim'}.",
+                    f"See summary.html and notes.txt{count}.")
+    said = wrapped(*filter(None, (*words.said, words.over_coming_periods)))
+    room = min(LINES - LEAST_TABLE - len([*above, *said, *below]), MOST_WARNED)
+    width = TWO_LINES if 2 * len(warned) <= room else WIDTH
+    said += wrapped(*(textwrap.shorten(line, width, placeholder=" ..") for line in warned))[:max(room, 0)]
+    rows = screen_table(words, LINES - len([*above, *said, *below]) - 2).splitlines()
+    return "".join(f"{line}\n" for line in [*above, *rows, "", *said, *below])
 
 
 def item_page(words: ItemWords) -> str:
@@ -38,7 +357,7 @@ def item_page(words: ItemWords) -> str:
 
 def scale_of(rows: Iterable[Range]) -> Scale:
     """Returns the scale of a picture of intervals."""
-    return Scale.of([number for _, *numbers, _ in rows for number in numbers if number is not None])
+    return Scale.of([end for _, *ends, _ in rows for end in ends if end is not None])
 
 
 def history_plot(words: ItemWords) -> Plot:
@@ -66,8 +385,8 @@ def law_plot(words: ItemWords) -> Plot:
     """Returns in how many periods demand is at least so large, as it was seen, by the law, and by that of the item
     alone, as lines with a step behind each value. Its words say it at the marks of the axis."""
     law, single, box, every = words.question.demand, words.depth.single, words.item.box, words.every
-    laws = {"what was seen": (TODAY, sorted(Counter(-(-count // box) for count in words.item.counts).items()))}
-    for name, css, own in (("the law", CHOSEN, law), (ALONE, OF_ALONE, single)):
+    laws = {"what was seen": (OF_TODAY, sorted(Counter(-(-count // box) for count in words.item.counts).items()))}
+    for name, css, own in (("the law", OF_CHOSEN, law), (ALONE, OF_ALONE, single)):
         counts = [*zip(own.values, own.weights)] if own else []
         if counts and counts != laws["what was seen"][1]:
             laws[name] = css, counts
@@ -96,7 +415,7 @@ def stock_plot(words: ItemWords) -> Plot:
         heights = [f"{UNITS - scale.at(stock):g}" for stock in own]
         ends = (f"{UNITS * (place + 1) / len(own):g}" for place in range(len(own)))
         path = f"M0 {heights[0]}" + "".join(f"V{height}H{end}" for height, end in zip(heights, ends))
-        lines.append(Line(name, CHOSEN if name == words.depth.chosen else TODAY, path))
+        lines.append(Line(name, OF_CHOSEN if name == words.depth.chosen else OF_TODAY, path))
         said.append(f"{name}: from {number(min(own))} to {number(max(own))}, {number(sum(own) / len(own), 1)} in the "
                     f"mean, items owed at the end of {sum(stock < 0 for stock in own)} {every}s")
     return Plot(f"Stock at the end of each {every} of one run", f"{len(own):,} {every}s; {'; '.join(said)}.", scale,

@@ -25,7 +25,7 @@ MOST_SIGNS = 12  # of texts at an axis that have room on a narrow page
 MARKS = 4
 ROOM, BELOW = 1.35, 4.0  # times the greatest stock of a named point, and percent below the least service of one
 # The classes of lines: of today's policy or what was seen, and of the chosen policy or its law.
-TODAY, CHOSEN = "of-today", "of-chosen"
+OF_TODAY, OF_CHOSEN = "of-today", "of-chosen"
 Mark = tuple[float, str, str]  # its place, its text and its class
 
 

@@ -20,10 +20,9 @@ from ..records.columns import COLUMNS, ROLES, unit_fault
 from ..records.item import BORROW
 from ..records.items import KEEP, LEAVE_OUT
 from ..records.sources import DELIMITERS
-from ..toml.documents import Path as Place, TreeFault
+from ..toml.documents import Path as Place, TreeFault, shown
 from ..toml.rules import (MISSING, RANGE, Key, Table, choice, date, flag, money, number, numbers, read_tables, share,
                           text, texts)
-from ..toml.texts import shown
 
 Tables = Mapping[str, Mapping[str, Any]]
 CONFIG = "crnplan.toml"

@@ -1,7 +1,10 @@
 """Reads TOML documents: their trees, fault 1 of a text that is none, and the place of each table, key and entry.
 
-Python's tomllib takes some documents that crnsim refuses, and the other way round; what is known of that is put right
-here. Which documents crnsim takes is proved of the program; this module is not.
+crnsim reads TOML 1.1 and Python's tomllib TOML 1.0. TOML 1.1 has more inline tables (line ends, comments and a comma at
+their end), more escapes (backslash e, and backslash x with two digits) and times without seconds. So a document is read
+in its older spelling. All else stays at its place there, but for what follows such an escape or time. Leap seconds and
+the year 0, which crnsim knows too, have no older spelling. Which documents crnsim takes is proved of the program; this
+module is not.
 """
 from __future__ import annotations
 
@@ -9,6 +12,7 @@ import math
 import re
 import sys
 import tomllib
+import unicodedata
 from bisect import bisect_right
 from collections.abc import Callable, Iterator
 from operator import itemgetter
@@ -17,7 +21,142 @@ from typing import Any, NamedTuple
 
 from ..errors import Fault, Refused
 from ..formats import MOST_BYTES, MOST_LEVELS
-from .texts import TOKEN, TooDeep, older_text, shown, usual_cause
+
+TEXT = r'"""(?:\\.|[^\\])*?"{3,5}|\'\'\'.*?\'{3,5}|"(?:\\.|[^"\\\n])*"|\'[^\'\n]*\''
+TOKEN = re.compile(rf"{TEXT}|#[^\n]*|(?<![+0-9-])[0-9]{{2}}:[0-9]{{2}}(?::[0-9]{{2}})?|[^\S\n]+|.", re.DOTALL)
+SHORT_TIME = re.compile("[0-9]{2}:[0-9]{2}")
+ESCAPE = re.compile(r"\\(?:x([0-9A-Fa-f]{2})|(e)|.)", re.DOTALL)
+# Blanks, line ends and comments, and the character behind them.
+NEXT = re.compile(r"(?:\s|#[^\n]*)*(.?)")
+
+# What to do about characters that look like others or like nothing.
+INSTEAD = {**dict.fromkeys("\u00a0\u1680\u2000\u2001\u2002\u2003\u2004\u2005\u2006\u2007\u2008\u2009\u200a\u202f\u205f"
+                           "\u3000", "write an ordinary space"),
+           **dict.fromkeys("\u00ad\u200b\u200c\u200d\u200e\u200f\u2060\ufeff", "remove it"),
+           **dict.fromkeys("\u2010\u2011\u2012\u2013\u2014\u2015\u2212\ufe63", "write -"),
+           **dict.fromkeys("\u2018\u2019\u201a\u201b\u201c\u201d\u201e\u201f\u2032\u2033\u00ab\u00bb\u2039\u203a",
+                           'write "')}
+NAMES = {"\u2212": "Unicode minus", "\ufeff": "byte order mark", "\u00a0": "no-break space",
+         "\u200b": "zero-width space"}
+NOT_ASCII = re.compile(r"[^\x00-\x7f]")
+FULL_WIDTH = range(0xff01, 0xff5f)
+
+APOSTROPHES = re.compile(r"(?<![\w'\"])[0-9]{1,3}(?:'[0-9]{3})+(?![\w'])")
+NUMBER = r"(?:^|[=\[,])\s*[+-]?"
+# What a line has, outside of texts and comments, and what to do.
+HABITS = [
+    (r";", "no ; here: write , between entries, nothing at the end of a line, and # before a comment"),
+    (r"//", "write # before a comment"),
+    (NUMBER + r"[0-9]{1,3}(?:,[0-9]{3})+\s*$", "no comma within a number: {plain} or {grouped}"),
+    (r"=\s*[0-9]+,[0-9]+\s*$", "no comma within a number; where it is a decimal comma, count in a smaller unit"),
+    (NUMBER + r"[0-9]{1,3}(?: [0-9]{3})+(?![0-9])", "no space within a number: {plain} or {grouped}"),
+    (NUMBER + r"[0-9]{1,3}(?:\.[0-9]{3}){2,}(?![0-9])", "no point within a number: {plain} or {grouped}"),
+    (NUMBER + r"0[0-9_]*[0-9](?![0-9.xob:-])", "no leading zeros: write {plain}"),
+    (r"=\s*[+-]?[0-9_.]+ *[A-Za-z%$]", "write the number alone, without a unit or a currency"),
+    (r"^\s*[A-Za-z]+\s*:", "write key = value"),
+    (r"=\s*[A-Za-z]", 'write a text in double quotes, as "A"'),
+    (r"=\s*$", "write a value after the ="),
+]
+# How Python's reader begins a message, and what to do.
+ADVICE = [
+    ("Cannot declare ('policy',)", "write [[policy]] in place of [policy]"),
+    ("Cannot declare", "this table stands twice: join both"),
+    ("Cannot overwrite", "this key stands twice in one table: remove one"),
+    ("Duplicate inline table key", "this key stands twice in one table: remove one"),
+    ("Unclosed array", "write , between entries and ] at the end of the list"),
+    ("Unclosed inline table", "write , between keys and } at the end of the table"),
+    ("Unterminated string", "a quote is missing: write one at the end of the text"),
+    ("Expected '='", "write key = value"), ("Invalid statement", "write key = value, a [table], or # before a comment"),
+    ("Invalid initial character for a key", "write a key of letters, digits, _ and - before the ="),
+    ("Illegal character", "a quote may be missing; remove line ends and control characters from the text"),
+    ("Unescaped '\\\\'", "write \\\\ for a backslash"), ("Expected ']", "write ] after the name of the table"),
+    ("Expected newline", "write one key = value on a line, and # before a comment"),
+    ("Invalid value", "write a whole number, a text in double quotes, or a list in [ ]"),
+    ("", "compare this line with an example in docs/FORMATS.md")]
+
+
+def shown(value: Any) -> str:
+    """Returns a value as text, cut if it is long."""
+    if type(value) is int and value.bit_length() >= 1000:
+        return "with some hundreds of digits"
+    text = ascii(value) if type(value) in (str, list, dict) else getattr(value, "spelt", str(value).lower())
+    return text if len(text) <= 40 else f"{text[:40]}..."
+
+
+def older_text(text: str) -> str:
+    """Returns the text as TOML 1.0 spells it. Raises RecursionError if more is within each
+    other than crnsim takes."""
+    older, brackets = list[str](), list[str]()
+    last, dots = "", 0
+    for match in TOKEN.finditer(text):
+        token = spelt = match[0]
+        if token in ('"', "'"):
+            # A text that does not end: nothing after it is known, and no reader takes it.
+            return "".join(older) + text[match.start():]
+        if brackets and brackets[-1] == "{" and token[0] in "\n#,":
+            following = NEXT.match(text, match.end())
+            after = following[1] if following else ""
+            is_inner_end = token == "\n" and not {last, after} & {"=", "."}
+            if token[0] == "#" or is_inner_end or token == "," and after == "}" and last != "{":
+                spelt = " " * len(token)
+        elif token in "[{":
+            brackets.append(token)
+        elif token in "]}" and brackets:
+            brackets.pop()
+        elif token[0] == '"':
+            spelt = ESCAPE.sub(lambda sign: f"\\u00{sign[1] or '1b'}" if sign[1] or sign[2] else sign[0], token)
+        elif SHORT_TIME.fullmatch(token):
+            spelt = f"{token}:00"
+        dots = 0 if token in "=,[]{}\n" else dots + (token == ".")
+        if max(len(brackets), dots + 1) > MOST_LEVELS:
+            raise RecursionError
+        if not token.isspace() and not token.startswith("#"):
+            last = token
+        older.append(spelt)
+    return "".join(older)
+
+
+def odd_advice(text: str) -> str:
+    """Returns a hint on the first character of a text that is not ASCII; the empty text if there is none."""
+    odd = NOT_ASCII.search(text)
+    if odd is None:
+        return ""
+    character, digit = odd[0], unicodedata.digit(odd[0], None)
+    name = NAMES.get(character) or unicodedata.name(character, "unnamed character").lower()
+    if ord(character) in FULL_WIDTH:
+        advice = f"write {chr(ord(character) - 0xfee0)}"
+    else:
+        advice = INSTEAD.get(character) or ("write ASCII characters here" if digit is None else f"write {digit}")
+    return f"it has U+{ord(character):04X} ({name}): {advice}"
+
+
+def usual_cause(text: str, offset: int, message: str) -> str:
+    """Returns what a text usually comes from that is no document at an offset, by the message of Python's reader."""
+    start, end = text.rfind("\n", 0, offset) + 1, text.find("\n", offset)
+    line = text[start:end if end >= 0 else len(text)]
+    if "\0" in line:
+        return "there are NUL characters: this may be UTF-16; save the file as UTF-8"
+    # The line with blanks in place of its texts and comments: each character keeps its place.
+    code = "".join(" " * len(token) if token[0] == "#" or token[0] in "\"'" and len(token) > 1 else token
+                   for token in TOKEN.findall(line))
+    odd = NOT_ASCII.search(code)
+    if odd:
+        return f"column {odd.start() + 1}: {odd_advice(code)}"
+    advice = next(advice for beginning, advice in ADVICE if message.startswith(beginning))
+    if message.startswith("Cannot declare"):
+        return advice
+    if message == "Invalid value" and re.match(r"\s*\[\[?[A-Za-z]+\]", code):
+        return "the list above this line does not end: write ] at its end"
+    grouped = APOSTROPHES.search(line)
+    if grouped:
+        return f"no ' within a number: {grouped[0].replace(chr(39), '')} or {grouped[0].replace(chr(39), '_')}"
+    for pattern, habit in HABITS:
+        match = re.search(pattern, code)
+        if match:
+            plain = re.sub("[^0-9]", "", match[0]).lstrip("0") or "0"
+            return habit.format(plain=plain, grouped=f"{int(plain[:30]):_}")
+    return advice
+
 
 MARK = b"\xef\xbb\xbf"
 BYTE_ORDER_MARKS = (b"\xff\xfe", b"\xfe\xff")
@@ -155,7 +294,7 @@ def read_document(data: bytes) -> tuple[Tree, list[TreeFault]]:
         return {}, [_unread(text, older, fault)]
     except OverflowError as fault:
         return {}, [_no_document(f"the number {str(fault)[:40]} is too great", "write a number within its range")]
-    except (TooDeep, RecursionError):
+    except RecursionError:
         return {}, [_no_document(f"lists and tables within each other, or parts of a key, are more than {MOST_LEVELS}",
                                  "a scenario needs three")]
     except ValueError:

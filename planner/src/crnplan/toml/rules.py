@@ -6,6 +6,7 @@ wrong, and what to do.
 from __future__ import annotations
 
 import datetime
+import math
 import re
 from collections.abc import Callable, Container, Hashable, Iterable, Mapping
 from dataclasses import dataclass, field
@@ -16,8 +17,7 @@ from typing import Any
 from .. import formats
 from ..errors import Fault, RefusedFaults
 from ..table import names_of
-from .documents import DOCUMENT, Path, Tree, TreeFault, read_bytes, read_judged
-from .texts import odd_advice, shown
+from .documents import DOCUMENT, Path, Tree, TreeFault, odd_advice, read_bytes, read_judged, shown
 
 # A check of a value at a path: it returns its faults.
 Check = Callable[[Path, Any], list[TreeFault]]
@@ -134,49 +134,51 @@ def numbers(least: int, most: int) -> Check:
     return check
 
 
-def _has_kind(kind: str, is_good: Callable[[Any], bool]) -> Check:
-    """Returns the check of a value of a kind, by a function that says whether it is of it."""
-    return lambda path, value: [] if is_good(value) else wrong_kind(path, value, kind)
+def check_of(kind: str, is_of_kind: Callable[[Any], bool], is_good: Callable[[Any], object] = lambda value: True,
+             words: Callable[[Any], tuple[str, str]] = lambda value: ("", ""), rule: int = RANGE) -> Check:
+    """Returns the check of a value: of its kind first, then whether it is good. If it is not, it breaks a rule, and
+    `words` gives what is wrong with it and what to do."""
+    def check(path: Path, value: Any) -> list[TreeFault]:
+        if not is_of_kind(value):
+            return wrong_kind(path, value, kind)
+        return [] if is_good(value) else [TreeFault(rule, path, *words(value))]
+    return check
 
 
-def _is_text(value: Any) -> bool:
-    """Returns whether a value is a text with a character at least."""
-    return isinstance(value, str) and bool(value)
+def is_string(value: Any) -> bool:
+    return isinstance(value, str)
 
 
-text = _has_kind("a text", _is_text)
-texts = _has_kind("a list of texts", lambda value: isinstance(value, list) and all(map(_is_text, value)))
-flag = _has_kind("true or false", lambda value: isinstance(value, bool))
-date = _has_kind("a date", lambda value: _is_text(value) or type(value) is datetime.date)
-any_number = _has_kind("a number", lambda value: type(value) is int or isinstance(value, float))
+def is_text(value: Any) -> bool:
+    return isinstance(value, str) and value != ""
 
 
-def money(path: Path, value: Any) -> list[TreeFault]:
-    """Returns the faults of an amount of money: a number that is not below 0."""
-    faults = any_number(path, value)
-    if faults or 0 <= value < float("inf"):
-        return faults
-    return [TreeFault(RANGE, path, f"{shown(value)} is no cost", "write 0 or more")]
+def is_whole(value: Any) -> bool:
+    return type(value) is int
+
+
+text = check_of("a text", is_text)
+texts = check_of("a list of texts", lambda value: isinstance(value, list) and all(map(is_text, value)))
+flag = check_of("true or false", lambda value: isinstance(value, bool))
+date = check_of("a date", lambda value: is_text(value) or type(value) is datetime.date)
+# An amount of money: a number that is not below 0.
+money = check_of("a number", lambda value: is_whole(value) or isinstance(value, float),
+                 lambda value: 0 <= value < math.inf, lambda value: (f"{shown(value)} is no cost", "write 0 or more"))
 
 
 def share(example: str) -> Check:
     """Returns the check of a share between 0 and 1. `example` says what to write for what."""
-    def check(path: Path, value: Any) -> list[TreeFault]:
-        is_share = isinstance(value, float) and 0 < value < 1
-        return [] if is_share else [TreeFault(RANGE, path, f"{shown(value)} is not between 0 and 1",
-                                              f"write {example}")]
-    return check
+    return check_of("", lambda value: True, lambda value: isinstance(value, float) and 0 < value < 1,
+                    lambda value: (f"{shown(value)} is not between 0 and 1", f"write {example}"))
 
 
 def choice(*values: str) -> Check:
     """Returns the check of one of some texts. If they are many, the first ones are named."""
-    def check(path: Path, value: Any) -> list[TreeFault]:
-        if value in values:
-            return []
+    def words(value: Any) -> tuple[str, str]:
         close = get_close_matches(str(value), values, 1)
         advice = " or ".join(f'"{one}"' for one in close or values[:MOST_NAMED])
-        return [TreeFault(RANGE, path, f"{shown(value)} is none of {names_of(values, MOST_NAMED)}", f"write {advice}")]
-    return check
+        return f"{shown(value)} is none of {names_of(values, MOST_NAMED)}", f"write {advice}"
+    return check_of("", lambda value: True, values.__contains__, words)
 
 
 def meant(name: str, known: Mapping[str, Any]) -> str:

@@ -14,9 +14,9 @@ from typing import Any, TypeGuard
 
 from .. import formats
 from ..errors import ScenarioError
-from .documents import DOCUMENT, Path, Tree, TreeFault, read_judged
-from .rules import RANGE, Check, Judge, Key, Table, number, numbers, once_each, wrong_kind
-from .texts import odd_advice, older_text, shown
+from .documents import DOCUMENT, Path, Tree, TreeFault, odd_advice, older_text, read_judged, shown
+from .rules import (RANGE, Check, Judge, Key, Table, check_of, is_string, is_whole, number, numbers, once_each,
+                    wrong_kind)
 
 VERSION, LENGTHS, ORDER, SUM, LEVELS, NAME, RING, COUNT = (
     formats.RULES[name] for name in ("Version", "Lengths", "Order", "WeightSum", "Levels", "Name", "RingSize",
@@ -28,15 +28,14 @@ MOST_SHOWN = 20
 COMMENT_AT_END = re.compile(r"\n\n(#[^\n]*\n)+\Z")
 
 
-def _word_faults(path: Path, word: Any) -> list[TreeFault]:
-    """Returns the faults of one word of the key."""
-    if not isinstance(word, str):
-        return wrong_kind(path, word, "a text of 16 digits of 0-9a-f")
-    if formats.WORD.fullmatch(word):
-        return []
+def _word_words(word: str) -> tuple[str, str]:
+    """Returns what is wrong with a word of the key, and what to do."""
     advice = "write a-f in lower case" if formats.WORD.fullmatch(word.lower()) else odd_advice(word)
     advice = advice or (f"it has {len(word)} characters" if len(word) != 16 else "write digits of 0-9a-f alone")
-    return [TreeFault(RANGE, path, f"{shown(word)} is not 16 digits of 0-9a-f", advice)]
+    return f"{shown(word)} is not 16 digits of 0-9a-f", advice
+
+
+_word_faults = check_of("a text of 16 digits of 0-9a-f", is_string, formats.WORD.fullmatch, _word_words)
 
 
 def _key_faults(path: Path, value: Any) -> list[TreeFault]:
@@ -49,25 +48,18 @@ def _key_faults(path: Path, value: Any) -> list[TreeFault]:
     return count + once_each((fault.advice if fault.rule == RANGE else fault.rule, fault) for fault in faults)
 
 
-def _ring_faults(path: Path, value: Any) -> list[TreeFault]:
-    """Returns the faults of the size of the ring."""
-    if type(value) is not int:
-        return wrong_kind(path, value, "a whole number")
-    sizes = formats.RING_SIZES
-    what = f"{shown(value)} is not one of {', '.join(map(str, sizes[:4]))}, .., {sizes[-1]:,}"
-    return [] if value in sizes else [TreeFault(RING, path, what, f"write ring = {sizes[-1]}")]
-
-
-def name_faults(path: Path, value: Any) -> list[TreeFault]:
-    """Returns the faults of a policy's name by itself."""
-    if not isinstance(value, str):
-        return wrong_kind(path, value, "a text")
-    if formats.NAME.fullmatch(value):
-        return []
+def _name_words(name: str) -> tuple[str, str]:
+    """Returns what is wrong with the name of a policy by itself, and what to do."""
     least, most = formats.limits("policy", "name")
-    advice = odd_advice(value) or (f"it has {len(value)} characters: write {least} to {most}"
-                                   if not least <= len(value) <= most else "write letters, digits, _ and - alone")
-    return [TreeFault(NAME, path, f"{shown(value)} is not {least} to {most} of A-Z a-z 0-9 _ -", advice)]
+    advice = odd_advice(name) or (f"it has {len(name)} characters: write {least} to {most}"
+                                  if not least <= len(name) <= most else "write letters, digits, _ and - alone")
+    return f"{shown(name)} is not {least} to {most} of A-Z a-z 0-9 _ -", advice
+
+
+name_faults = check_of("a text", is_string, formats.NAME.fullmatch, _name_words, NAME)
+RINGS = f"{', '.join(map(str, formats.RING_SIZES[:4]))}, .., {formats.RING_SIZES[-1]:,}"
+_ring_faults = check_of("a whole number", is_whole, formats.RING_SIZES.__contains__, lambda value: (
+    f"{shown(value)} is not one of {RINGS}", f"write ring = {formats.RING_SIZES[-1]}"), RING)
 
 
 def _are_whole(values: Any) -> TypeGuard[list[int]]:
