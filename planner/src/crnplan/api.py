@@ -196,9 +196,10 @@ def plan(sales: str | Path | pd.DataFrame | Catalogue, masters: str | Path | pd.
          twice: str = KEEP, far: str = LEAVE_OUT, least: int = 13, factors: Mapping[str, int] | None = None,
          delimiter: str | None = None, encoding: str | None = None, decimal: str | None = None,
          date_formats: Sequence[str] = (), fit: str = "auto", borrow: str | None = None,
-         confidence: float | None = None, level: float = 0.95, seed: str | int = "crnplan", periods: int = 1024,
-         replications: int = 24, jobs: int | None = None, cluster: str | None = None,
-         program: str | Path | None = None, learn_again: bool = False, progress: bool = False) -> Plan:
+         confidence: float | None = None, window: int | None = None, level: float = 0.95,
+         seed: str | int = "crnplan", periods: int = 1024, replications: int = 24, jobs: int | None = None,
+         cluster: str | None = None, program: str | Path | None = None, learn_again: bool = False,
+         progress: bool = False) -> Plan:
     """Plans all items of a catalogue, and returns the plan. Nothing is written unless `out` names a folder.
 
         plan = crn.plan(sales, masters)
@@ -217,8 +218,9 @@ def plan(sales: str | Path | pd.DataFrame | Catalogue, masters: str | Path | pd.
     the reason and advice.
 
     **How it is planned.** `fit` is how laws of demand are fitted (auto, predictive, empirical, or a family). Items
-    `borrow` laws from one another (all, class, none; by default all if there are 100). `confidence` keeps a wanted fill
-    rate under this share of the laws that a history allows. Intervals hold at `level`. Each item is run by crnsim under
+    `borrow` laws from one another (all, class, none; by default all if there are 100). With a `window`, laws are
+    fitted, learned and checked on the last so many periods alone. `confidence` keeps a wanted fill rate under this
+    share of the laws that a history allows. Intervals hold at `level`. Each item is run by crnsim under
     `replications` of `periods` periods, with random numbers that follow from the `seed` (a text or a whole number) and
     its name alone. `jobs` processes work, by default one for each processor, or those of a Dask `cluster`; the result
     is the same. `program` is the path of crnsim, if it is not found by itself.
@@ -228,7 +230,7 @@ def plan(sales: str | Path | pd.DataFrame | Catalogue, masters: str | Path | pd.
 
     Raises Refused (a ValueError) for what can't be read or meant, ProgramError, and Lost if counts do not add up.
     """
-    settings = Settings(str(seed), fit, borrow, confidence, level, periods, replications)
+    settings = Settings(str(seed), fit, borrow, confidence, level, periods, replications, window=window)
     words = Words(every=every, columns=columns or {}, units=units or {}, start=start, end=end,
                   today=today or datetime.date.today(), net=net, twice=twice, far=far, least=least,
                   factors=factors or {}, delimiter=delimiter, encoding=encoding, decimal=decimal,

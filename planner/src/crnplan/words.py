@@ -250,6 +250,8 @@ WORDS: dict[str, tuple[Say, Say]] = {
     "no policy": (lambda it: "no policy " + (
         "is best" if it["fill"] is None else f"meets {it['fill']:g} of demand at once") + (
         f" within s and S up to {MOST_ITEMS:,}"), "count in larger units"),
+    "no demand in window": ("its last {periods:,} periods, which count alone, have no demand",
+                            "let more periods count, or leave it out of the masters"),
     "disagrees": ("crnsim and theory differ by more than chance allows: {figure} is {run:g} by the run and {theory:g} "
                   "by theory, with a standard error of {error:g}", REPORT),
     "failed": ("crnplan failed ({kind}: {what})", REPORT),
@@ -258,6 +260,7 @@ WORDS: dict[str, tuple[Say, Say]] = {
     "learned": (lambda it: f"laws of demand were learned from {counted(it['items'], 'item')}"
                 + f" and {it['classes']:,} classes" * bool(it["classes"])
                 + " in an earlier run" * bool(it["earlier"]), ""),
+    "window": ("the last {periods:,} periods of each history count alone", ""),
     "masters say otherwise": ("the masters say otherwise for {items:,} items (borrow)", ""),
     # Of an item that has no test on its past (plan/backtest/one.py).
     "short record": ("it has {periods:,} periods, and a test needs {needed:,}", "test it with a shorter record"),

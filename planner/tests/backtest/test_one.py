@@ -11,8 +11,7 @@ import pytest
 from crnplan.demand.learning import Prior
 from crnplan.errors import Refused
 from crnplan.plan.answer import Answer
-from crnplan.plan.backtest.one import (SHORT_RECORD, Backtest, Walk, Walked, backtest_item, backtest_one, part_of,
-                                       shuffled)
+from crnplan.plan.backtest.one import SHORT_RECORD, Backtest, Walk, Walked, backtest_item, backtest_one, shuffled
 from crnplan.plan.one import plan_one
 from crnplan.plan.question import NONE, Settings, question_of
 from crnplan.records.item import Item
@@ -46,7 +45,7 @@ def test_no_periods_are_refused(field: str) -> None:
 def test_plan_is_that_of_its_record(place: int, program: Path) -> None:
     """Levels and promises are those of the plan of the item as it was, and today's those that it shows beside."""
     item = [*several(5)][place]
-    answer, test = planned(part_of(item, 0, WALK.record), program), past_of(item)
+    answer, test = planned(item.part(0, WALK.record), program), past_of(item)
     for policy, outcome in ((answer.chosen, test.kept), (answer.today, test.today)):
         assert (policy.point, policy.level) == (outcome.point, outcome.level)
         assert outcome.promised_cost == pytest.approx(policy.cost, rel=1e-12)
@@ -56,13 +55,25 @@ def test_plan_is_that_of_its_record(place: int, program: Path) -> None:
 def test_refits_are_plans_of_their_windows(program: Path) -> None:
     """The promise of refitted plans is the mean of theirs over the periods of each."""
     item = item_of(3)
-    plans = [(planned(part_of(item, start, origin), program).chosen, end - origin)
+    plans = [(planned(item.part(start, origin), program).chosen, end - origin)
              for start, origin, end in WALK.stretches(len(item.counts))]
     periods = sum(weight for _, weight in plans)
     assert len({policy.levels for policy, _ in plans}) > 1
     refitted = past_of(item).refitted
     assert refitted.promised_cost == pytest.approx(sum(plan.cost * weight for plan, weight in plans) / periods)
     assert refitted.promised_fill == pytest.approx(sum(plan.fill * weight for plan, weight in plans) / periods)
+
+
+def test_window_of_the_plan_counts_for_all(program: Path) -> None:
+    """If the plan has a window, it is made of the last periods of the record, and so is each refit."""
+    item, settings = item_of(3), alone(window=25)
+    test = backtest_one(item, settings, OWN, WALK)
+    kept = planned(item.part(15, 40), program).chosen
+    assert (test.kept.point, test.kept.level) == kept.levels != past_of(item).kept.point
+    plans = [(planned(item.part(origin - 25, origin), program).chosen, end - origin)
+             for _, origin, end in WALK.stretches(len(item.counts))]
+    costs = sum(plan.cost * weight for plan, weight in plans)
+    assert test.refitted.promised_cost == pytest.approx(costs / sum(weight for _, weight in plans))
 
 
 def test_no_later_period_is_seen() -> None:

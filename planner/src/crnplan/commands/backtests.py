@@ -12,6 +12,7 @@ from ..errors import Refused
 from ..files import own_folder
 from ..plan.backtest.one import Walk
 from ..plan.catalogue import planned_folder
+from ..plan.question import Settings
 from ..plan.settings import read_config
 from ..records.catalogue_reading import read_into
 from ..records.catalogued import CATALOGUE
@@ -28,11 +29,11 @@ from .words import worker_options
               help="The periods from which each item is planned first.")
 @click.option("--every", type=click.IntRange(1), default=13, show_default=True, metavar="N",
               help="Refit after so many periods.")
-@click.option("--window", type=click.IntRange(1), default=52, show_default=True, metavar="N",
-              help="Refit on the last so many periods.")
+@click.option("--window", type=click.IntRange(1), metavar="N",
+              help="Refit on the last so many periods; by default as the plan does, else on 52.")
 @click.option("--config", metavar="FILE.toml", help="Settings; by default crnplan.toml, if it is here.")
 @worker_options
-def backtest(tables: Sequence[Path], orders: str | None, out: Path | None, record: int, every: int, window: int,
+def backtest(tables: Sequence[Path], orders: str | None, out: Path | None, record: int, every: int, window: int | None,
              config: str | None, jobs: int | None, cluster: str | None, program: str | None) -> int:
     """Test plans on the catalogue's own past: what they would have promised, and what came.
 
@@ -48,20 +49,21 @@ def backtest(tables: Sequence[Path], orders: str | None, out: Path | None, recor
     backtest.txt and backtest.html. Run again, only what has changed is tested; after an interruption it goes on. The
     bytes do not depend on how many processes or workers there are.
     """
-    walk = Walk(record, every, window)
+    def walk_of(settings: Settings) -> Walk:
+        return Walk(record, every, window or settings.window or Walk.window)
     if len(tables) == 1:
         if out or orders or config:
             raise Refused("a planned folder has its own --out, --orders and --config: leave them out")
         with planned_folder(tables[0]) as planned:
             settings = planned.settings
         with own_folder(tables[0], CATALOGUE) as folder:
-            tests = write_backtest(folder, settings, walk, jobs=jobs, address=cluster, shown=True)
+            tests = write_backtest(folder, settings, walk_of(settings), jobs=jobs, address=cluster, shown=True)
     elif len(tables) == 2 and out:
         stated: dict[str, Any] = {"columns": {}, "units": {}, "factors": {}, "date_formats": ()}
         words, settings = words_of(stated, read_config(config))
         with own_folder(out, CATALOGUE) as folder:
             read_into(folder, {"demand": tables[0], "items": tables[1], "orders": orders}, words)
-            tests = write_backtest(folder, settings, walk, jobs=jobs, address=cluster, shown=True)
+            tests = write_backtest(folder, settings, walk_of(settings), jobs=jobs, address=cluster, shown=True)
     else:
         raise Refused("name a folder of crnplan catalogue, or two tables and --out")
     click.echo(tests.text, nl=False)

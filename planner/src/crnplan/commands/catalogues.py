@@ -73,6 +73,8 @@ TAKEN = (KEEP, LEAVE_OUT)
 @click.option("--learn-again", "again", is_flag=True, help="Learn laws anew, not as in an earlier run in FOLDER.")
 @click.option("--confidence", type=float, metavar="SHARE",
               help="Keep a wanted fill rate under this share of the laws that the item's history allows.")
+@click.option("--window", type=click.IntRange(1), metavar="N",
+              help="Fit laws to the last N periods alone, and learn from these; by default to all.")
 @click.option("--level", type=float, metavar="SHARE", help="The level of the intervals; by default 0.95.")
 @click.option("--seed", metavar="TEXT", help="The keys of all items follow from it; by default crnplan.")
 @click.option("--config", metavar="FILE.toml", help="Settings; by default crnplan.toml, if it is here.")

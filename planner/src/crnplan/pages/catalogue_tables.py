@@ -45,8 +45,9 @@ DECISION_COLUMNS = (
     whole("s_alone", "items", "s of the policy by the item's own history alone"), whole("S_alone", "items", "its S"),
     money("cost_alone", "what that policy costs under the law that the item has, by theory"),
     number("fill_alone", "share", "of demand that it meets at once", ".4f"),
-    number("demand", "items a period", "the mean of the law", ".5g"), whole("periods", "periods", "of the history"),
-    whole("periods_with_demand", "periods", "of the history"), text("law", "the family of the law"),
+    number("demand", "items a period", "the mean of the law", ".5g"),
+    whole("periods", "periods", "of the history that count"),
+    whole("periods_with_demand", "periods", "of these, with demand"), text("law", "the family of the law"),
     number("law_share", "share", "of the family in the law; the rest is what was seen", ".5g"),
     number("log10_bayes", "log10", "of the Bayes factor for what was learned from others", ".5g"),
     text("codes", "codes of all that must be said of the item"), text("warnings", "the same in words"))

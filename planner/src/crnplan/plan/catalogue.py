@@ -33,7 +33,7 @@ from .one import plan_batch
 from .question import ALL, CLASS, NONE, Question, Settings, question_of
 
 ANSWERS = "answers.sqlite"
-PLANNED, PRIOR = "planned", "prior"  # facts of the store
+PLANNED, PRIOR, PRIOR_WINDOW = "planned", "prior", "window of prior"  # facts of the store
 AGAIN = "run crnplan catalogue again"
 # Items whose histories are looked at for the law of a whole catalogue: it is estimated on 3,000 of them.
 MOST_READ = 10_000
@@ -197,12 +197,12 @@ def planned_folder(path: Path) -> Iterator[PlannedFolder]:
     advice = f"run crnplan catalogue DEMAND.csv ITEMS.csv --out {path} first"
     if not (path / READ).is_file() or not (path / ANSWERS).is_file():
         raise Refused(f"{path}: no plan is in it", advice)
-    with (contextlib.closing(Catalogued(path / READ)) as read,
-          contextlib.closing(Store(path / ANSWERS, Answer)) as answers):
+    with contextlib.closing(Store(path / ANSWERS, Answer)) as answers:
         planned = Planned.of(answers)
         if planned is None:
             raise Refused(f"{path}: no plan is in it", advice)
-        yield PlannedFolder(path, read, answers, planned)
+        with contextlib.closing(Catalogued(path / READ, planned.settings.window)) as read:
+            yield PlannedFolder(path, read, answers, planned)
 
 
 class Learned(NamedTuple):
@@ -230,8 +230,8 @@ def learned_of(answers: Store[Any], read: Catalogued, settings: Settings, again:
     """Returns what the items of a catalogue learn from one another.
 
     With `settings.borrow` None an item learns from all if there are 100 items. What was learned before in this way is
-    used again as it is, also if items change, unless it is to be learned `again`: otherwise each new row would change
-    the plan of every item. Raises Refused if fewer than 30 items are to learn.
+    used again as it is, also if items change, unless it is to be learned `again` or by another window: otherwise each
+    new row would change the plan of every item. Raises Refused if fewer than 30 items are to learn.
     """
     if settings.fit != "auto":
         return own_laws(f"fit = {settings.fit}")
@@ -241,7 +241,7 @@ def learned_of(answers: Store[Any], read: Catalogued, settings: Settings, again:
         return own_laws(f"borrow = {NONE}")
     way, least = CLASS if CLASS in asked else ALL, LEAST_ON_REQUEST if asked else LEAST_ITEMS
     try:
-        earlier = None if again else kept_prior(answers, way, least)
+        earlier = None if again else kept_prior(answers, read.window, way, least)
         prior = earlier or learned_now(answers, read, way, least)
     except Refused as few:
         if asked:
@@ -256,10 +256,11 @@ def learned_of(answers: Store[Any], read: Catalogued, settings: Settings, again:
     return Learned(prior, usual, (*own, remark, *otherwise))
 
 
-def kept_prior(answers: Store[Any], way: str, least: int) -> Prior | None:
-    """Returns what at least so many items have learned in this way in an earlier run; None if that is not kept."""
+def kept_prior(answers: Store[Any], window: int | None, way: str, least: int) -> Prior | None:
+    """Returns what at least so many items have learned in this way and by this window in an earlier run; None if that
+    is not kept."""
     text = answers.fact(PRIOR)
-    prior = None if text is None else Prior.parse(text, str(answers.path))
+    prior = None if text is None or answers.fact(PRIOR_WINDOW) != str(window) else Prior.parse(text, str(answers.path))
     return prior if prior and prior.borrow == way and prior.items - prior.outside >= least else None
 
 
@@ -270,7 +271,7 @@ def learned_now(answers: Store[Any], read: Catalogued, way: str, least: int) -> 
         histories.append(np.array(item.counts, np.uint32))
         groups.append(item.group)
     prior = learn(histories, groups if way == CLASS else None, way, least=least)
-    answers.keep_facts({PRIOR: prior.text})
+    answers.keep_facts({PRIOR: prior.text, PRIOR_WINDOW: str(read.window)})
     return prior
 
 
@@ -296,9 +297,11 @@ def plan_into(folder: Folder, settings: Settings, *, jobs: int | None = None, ad
     """Plans the catalogue that was read into a folder, and writes its tables and pages: see `plan`."""
     from ..pages.exports import write_catalogue, write_rejects
     path = program_for(program, address)
-    with (faults_of(folder.path), contextlib.closing(Catalogued(folder.path / READ)) as read,
+    with (faults_of(folder.path), contextlib.closing(Catalogued(folder.path / READ, settings.window)) as read,
           contextlib.closing(Store(folder.store(ANSWERS), Answer)) as answers):
         prior, usual, remarks = learned_of(answers, read, settings, again)
+        if settings.window is not None:
+            remarks += (Remark("window", {"periods": settings.window}),)
         settings = dataclasses.replace(settings, borrow=usual, every=read.fact("every"))
         planned = Planned(settings, prior, settings.common(program_digest(path, address), prior))
         planned.keep(answers)

@@ -60,7 +60,8 @@ class Unplanned(CrnplanError):
 
 
 class NoPolicy(Unplanned, Refused):
-    """There is no best policy within the ranges of s and S, or none with the wanted share of demand met at once."""
+    """There is no best policy within the ranges of s and S, or none with the wanted share of demand met at once, or
+    nothing to plan for."""
 
 
 class Disagreement(Unplanned, Failed):
@@ -263,7 +264,10 @@ def plan_one(question: Question, program: str) -> Answer:
     Raises Refused if the item can't be planned, Disagreement if the run is further from theory than chance allows, and
     ProgramError.
     """
-    item, theory = question.item, question.theory()
+    item = question.item
+    if not any(question.demand.values):
+        raise NoPolicy(Remark("no demand in window", {"periods": len(item.counts)}))
+    theory = question.theory()
     choice = choice_of(theory, question)
     report = report_of(scenario_of(question, theory, choice.levels), program)
     sample = sample_of(question, report)

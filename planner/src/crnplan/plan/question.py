@@ -15,14 +15,14 @@ from ..demand.borrowing import law_of
 from ..demand.learning import Prior
 from ..demand import LEAD_METHODS, METHODS
 from ..errors import Refused, argument
-from ..formats import MOST_PERIODS, MOST_REPLICATIONS, limits
+from ..formats import MOST_PERIODS, MOST_REPLICATIONS, MOST_WEIGHT, limits
 from ..money import rounded_costs
 from ..records.item import BORROW, Item
 from ..scenario import Scenario
 from ..theory.lattice import lattice_of, shape_of, theory_on
 from ..theory.long_run import LongRun
 
-VERSION = 4  # Answers of others are not used again.
+VERSION = 5  # Answers of others are not used again.
 NONE, CLASS, ALL = BORROW
 MOST_GAPS = 4_000  # of a lattice: with 150 times as many, a search takes half a minute
 Levels = tuple[int, int]
@@ -34,7 +34,8 @@ class Settings:
 
     `borrow` says from whom an item learns its law if its master does not; with None the number of items decides that.
     With a `confidence`, wanted fill rates are kept under that share of the laws that a history allows. A period is a
-    day, week or month (`every`), or has no dates; `season` is the number of periods of a season that is looked for.
+    day, week or month (`every`), or has no dates; `season` is the number of periods of a season that is looked for. Laws
+    are fitted, learned and checked on the last `window` periods of each history alone, or on all.
     """
 
     seed: str = "crnplan"
@@ -47,6 +48,7 @@ class Settings:
     lead_fit: str = "auto"
     every: str | None = None
     season: int | None = None
+    window: int | None = None
 
     def __post_init__(self) -> None:
         for name, word, words in (("fit", self.fit, METHODS), ("lead_fit", self.lead_fit, LEAD_METHODS),
@@ -61,8 +63,9 @@ class Settings:
             if share is not None and not 0 < share < 1:
                 raise Refused(f"{argument(name, f'{share:g}')} is not between 0 and 1", f"write {example}")
         for name, number, least, most in (("periods", self.periods, 1, MOST_PERIODS),
-                                          ("replications", self.replications, 2, MOST_REPLICATIONS)):
-            if not least <= number <= most:
+                                          ("replications", self.replications, 2, MOST_REPLICATIONS),
+                                          ("window", self.window, 1, MOST_WEIGHT)):
+            if number is not None and not least <= number <= most:
                 raise Refused(f"{argument(name, str(number))} is not from {least} to {most:,}")
 
     def common(self, program: str, prior: Prior) -> str:

@@ -42,11 +42,12 @@ ADD_ITEM, ADD_REJECT = ITEM.insert("items"), REJECT.insert("rejects")
 class Catalogued:
     """What was read of a catalogue: its items in order of their names, what was left out, and facts by name."""
 
-    def __init__(self, path: Path) -> None:
-        """Opens a file that was written by `Writer`. Raises Refused if it is not there, and Damaged."""
+    def __init__(self, path: Path, window: int | None = None) -> None:
+        """Opens a file that was written by `Writer`, whose items are given by their last `window` periods, or by all.
+        Raises Refused if it is not there, and Damaged."""
         if not path.is_file():
             raise Refused(f"{path.parent}: no catalogue was read into this folder", "run crnplan catalogue first")
-        self.path = path
+        self.path, self.window = path, window
         self.base = sqlite3.connect(f"file:{path}?mode=ro", uri=True)
         check_whole(self.base, path)
 
@@ -82,11 +83,11 @@ class Catalogued:
 
     def items(self) -> Iterator[Item]:
         """Yields the items."""
-        yield from map(ITEM.value, self._rows("*"))
+        yield from (ITEM.value(row).last(self.window) for row in self._rows("*"))
 
     def item(self, name: str) -> Item | None:
         """Returns the item of a name; None if there is none."""
-        return next(map(ITEM.value, self._rows("*", name)), None)
+        return next((ITEM.value(row).last(self.window) for row in self._rows("*", name)), None)
 
     def close(self) -> None:
         """Closes the file."""

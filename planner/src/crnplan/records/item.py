@@ -4,7 +4,7 @@ from __future__ import annotations
 
 import re
 from collections.abc import Callable, Mapping, Sequence
-from dataclasses import dataclass, fields
+from dataclasses import dataclass, fields, replace
 from fractions import Fraction
 from functools import partial
 from typing import Any
@@ -64,6 +64,17 @@ class Item:
     def box(self) -> int:
         """Returns how many items are counted as one, so that the demand of a period is within the program's range."""
         return max(1, -(-max((*self.counts, *self.returns)) // MOST_DEMAND))
+
+    def part(self, start: int, stop: int) -> Item:
+        """Returns the item as it is known by some of its periods alone: from one on, counted from 0, before another."""
+        returns = self.returns[start:stop]
+        return replace(self, counts=self.counts[start:stop], returns=returns if any(returns) else (),
+                       first=self.first + start)
+
+    def last(self, window: int | None) -> Item:
+        """Returns the item as it is known by its last so many periods, or by all if that is None."""
+        periods = len(self.counts)
+        return self if window is None or window >= periods else self.part(periods - window, periods)
 
 
 # The facts that a plan depends on.

@@ -17,21 +17,22 @@ from ...remarks import Remark
 from ...stored import Store
 from ..catalogue import learned_of
 from ..question import Settings
-from .one import Backtest, Walk, backtest_item, part_of
+from .one import Backtest, Walk, backtest_item
 from .sums import Sums, sums_of
 
 TESTS = "backtest.sqlite"
 
 
 class Records(Catalogued):
-    """A catalogue as it was at the end of the record of each item, but for `item`, which has all of it."""
+    """A catalogue as it was at the end of the record of each item, by the last periods of that which count for a plan,
+    but for `item`, which has all periods."""
 
-    def __init__(self, path: Path, record: int) -> None:
+    def __init__(self, path: Path, record: int, counting: int | None) -> None:
         super().__init__(path)
-        self.record = record
+        self.record, self.counting = record, counting
 
     def items(self) -> Iterator[Item]:
-        yield from (part_of(item, 0, self.record) for item in super().items())
+        yield from (item.part(0, self.record).last(self.counting) for item in super().items())
 
 
 @dataclass(frozen=True)
@@ -59,7 +60,7 @@ def backtest_into(folder: Folder, settings: Settings, walk: Walk, *, jobs: int |
                   address: str | None = None, shown: bool = False) -> Tested:
     """Tests the catalogue that was read into a folder, and keeps all tests there. Items learn from one another as they
     would have at the end of their records."""
-    with (faults_of(folder.path), contextlib.closing(Records(folder.path / READ, walk.record)) as read,
+    with (faults_of(folder.path), contextlib.closing(Records(folder.path / READ, walk.record, settings.window)) as read,
           contextlib.closing(Store(folder.store(TESTS), Backtest)) as tests):
         prior, usual, learned = learned_of(tests, read, settings, again=True)
         settings = dataclasses.replace(settings, borrow=usual, every=read.fact("every"))

@@ -32,7 +32,8 @@ SHORT_RECORD = "short record"  # periods, needed
 @dataclass(frozen=True)
 class Walk:
     """How the past is walked through: a plan is made of the first `record` periods, and is kept or refitted after each
-    `every` periods more, on the last `window` of them. Raises Refused for what can't be meant."""
+    `every` periods more, on the last `window` of them. If the plan has a window, no more than that counts in either.
+    Raises Refused for what can't be meant."""
 
     record: int = 52
     every: int = 13
@@ -91,12 +92,6 @@ class Backtest:
     shuffled_above: float | None
 
 
-def part_of(item: Item, start: int, stop: int) -> Item:
-    """Returns an item as it was known when some of its periods were."""
-    returns = item.returns[start:stop]
-    return dataclasses.replace(item, counts=item.counts[start:stop], returns=returns if any(returns) else ())
-
-
 def ratio(demands: Sequence[int], record: int) -> float | None:
     """Returns the largest later demand over the largest before."""
     before = max(demands[:record])
@@ -128,7 +123,7 @@ class Walked:
         self.plan = chosen(self.question, self.theory)
 
     def _asked(self, start: int, stop: int) -> Question:
-        return question_of(part_of(self.item, start, stop), self.settings, self.prior)
+        return question_of(self.item.part(start, stop).last(self.settings.window), self.settings, self.prior)
 
     def outcome(self, levels: Iterable[Levels], promises: Sequence[tuple[float, float]] = ()) -> Outcome:
         """Returns what s and S of each period come to, with promises of cost and fill for each later one."""
