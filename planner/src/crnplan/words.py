@@ -228,6 +228,10 @@ ALONE = {"nothing borrowed": "nothing is borrowed", "demand in boxes": "demand i
          "large sizes in packs": "the mean size of a demand is above {most:g} packs",
          "unlike histories": "drawn histories do not look like the real one"}
 LAWS: dict[str, tuple[Say, Say]] = {
+    # Of a law of demand (demand/fitted.py).
+    "law below history": ("the law has less than what was seen: a mean of {mean:.4g} for {seen_mean:.4g}, and a variance "
+                          "of {variance:.4g} for {seen_variance:.4g}",
+                          f"Look at the largest periods; {argument('fit', 'empirical')} keeps what was seen"),
     **{code: (said, "") for code, said in CHECKS.items()},
     **{code: (f"its law is learned from no others: {reason}", "") for code, reason in ALONE.items()},
     **{name: (partial(_warned, name), partial(_heeded, name)) for name in TESTS},

@@ -14,11 +14,11 @@ from hypothesis import given, settings
 from hypothesis import strategies as st
 from scipy import integrate, stats
 
-from crnplan.demand import FAMILIES, METHODS
+from crnplan.demand import FAMILIES, METHODS, fitting
 from crnplan.chances import blurred, in_items
 from crnplan.demand.families import fits_of, predictive_of
 from crnplan.demand.fitted import Borrowed, Diagnostics, FittedLaw, notes_of
-from crnplan.demand.fitting import cap_of, fit_demand, fit_lead, share_of
+from crnplan.demand.fitting import cap_of, fit_demand, fit_lead, seen_share, share_of
 from crnplan.demand.sample import Sample, Shares
 from crnplan.errors import Refused, RefusedFaults
 from crnplan.law import Law
@@ -144,6 +144,33 @@ def test_share_of_the_law(seed: int, size: int, mean: float) -> None:
         assert np.abs(grid / periods - 1).min() < 1e-9 and likelihood(periods) == pytest.approx(max(values), abs=1e-6)
 
 
+def test_share_of_what_was_seen() -> None:
+    """The share is the least of a grid whose mixture has a mean of 0.97 and a variance of 0.8 of those seen."""
+    grid, values = np.linspace(0, 1, 2001), np.arange(120)
+    for seed in range(100):
+        random = np.random.default_rng(seed)
+        numbers = random.poisson(3, random.integers(6, 60))
+        numbers[0] *= random.integers(1, 7)
+        law = stats.poisson.pmf(values, random.uniform(0.5, 6))
+        seen = np.bincount(numbers, minlength=len(values)) / len(numbers)
+        means, squares = ((1 - grid) * (law @ power) + grid * (seen @ power) for power in (values, values**2))
+        kept = (means >= 0.97 * numbers.mean()) & (squares - means**2 >= 0.8 * numbers.var(ddof=1))
+        assert seen_share(Sample.of(numbers.tolist()), law) == pytest.approx(grid[kept.argmax()], abs=6e-4)
+
+
+@pytest.mark.parametrize("seed", [27, 83, 135])
+def test_promotions_keep_both_moments(seed: int, monkeypatch: pytest.MonkeyPatch) -> None:
+    """Weeks with promotions have a mean or a variance that families lose; without them the law would be named."""
+    random = np.random.default_rng(seed)
+    weeks = np.where(random.random(52) < 0.15, random.integers(80, 430, 52), random.negative_binomial(1, 1 / 31, 52))
+    law = fit_demand(weeks)
+    assert law.diagnostics.share < 1 and law.lower is None
+    assert law.figures.mean >= 0.9699 * weeks.mean() and (law.figures.variance or 0) >= 0.7999 * weeks.var(ddof=1)
+    monkeypatch.setattr(fitting, "seen_share", lambda *_: 0.0)
+    lower = fit_demand(weeks).lower
+    assert lower and lower.facts["seen_mean"] == pytest.approx(weeks.mean())
+
+
 @pytest.mark.parametrize("demands, cap", [(2, 30), (6, 30), (10, 24), (15, 21), (20, 20), (500, 20)])
 def test_cap(demands: int, cap: int) -> None:
     """The cap is 3 times the largest demand after few demands, and twice after many."""
@@ -206,33 +233,35 @@ SHARES, GUARD = Shares(0.01, 0.02, 0.03, 0.04, 0.05), (
     "varies as much with chance 0.01, as little with 0.02, is as far off with 0.03, has no larger demand with 0.04, as "
     "large a one with 0.05")
 LIKELY = "times as likely under what was learned as without it"
+LOWER = ("the law has less than what was seen: a mean of 1 for 2, and a variance of 3 for 8. Look at the largest periods; "
+         "fit=empirical keeps what was seen")
 
 
 @pytest.mark.parametrize("family, method, facts, lines", [
     ("empirical", "empirical", {}, []),
     ("empirical", "auto", {"pack": 6}, ["all demands are packs of 6, so packs are fitted",
                                         "no family gives back this history, so it stays as it is", SEEN]),
-    ("poisson", "poisson", {}, ["poisson", SEEN, LAW]),
+    ("poisson", "poisson", {}, ["poisson", SEEN, LAW, LOWER]),
     ("poisson", "auto", {
         "families": {"poisson": 0.62, "bulk": 0.376, "hurdle-poisson": 0.004}, "cap": 18, "share": 0.75,
         "bulks": (2, 25), "bic": {"poisson": 10.25, "bulk": 12.5},
         "guard": {"poisson": Shares(*[0.5] * 5), "bulk": SHARES}},
      ["poisson 62%, bulk 38%, mixed with 25% of what was seen; at most 18, as 6 is the largest demand seen",
       "for the family bulk, the 2 demands of at least 25 are bulks", "BIC above the least: poisson 0.0, bulk 2.2",
-      f"guard: a history of bulk {GUARD}: rejected", SEEN, LAW]),
+      f"guard: a history of bulk {GUARD}: rejected", SEEN, LAW, LOWER]),
     ("blurred", "auto", {"side": 0.125}, [
         "of each of the 4 lead times seen, 12.5% count one period earlier, and as much one later", STUDY, SEEN, LAW]),
     ("empirical", "auto", {"side": 0.0}, [STUDY, SEEN]),
     ("borrowed", "borrowed", {"borrowed": Borrowed(1, "all", None, 1.0, None, 2.04)}, [
         "learned from the whole catalogue, with 1 demand seen", "with so few demands the law is all but that of the "
-        "catalogue; look at it", f"the history is 10^2.0 {LIKELY}", SEEN, LAW]),
+        "catalogue; look at it", f"the history is 10^2.0 {LIKELY}", SEEN, LAW, LOWER]),
     ("borrowed", "borrowed", {"borrowed": Borrowed(2, "A", None, 0.4, SHARES, -1.3)}, [
         "learned from class A, with 2 demands seen, mixed with 60% of what was seen",
         f"the history is 10^-1.3 {LIKELY}: unlike the catalogue; look at it",
-        f"guard: a history of what was learned {GUARD}", SEEN, LAW]),
+        f"guard: a history of what was learned {GUARD}", SEEN, LAW, LOWER]),
     ("poisson", "auto", {"borrowed": Borrowed(4, "all", Remark("demand in boxes", {"box": 10}), guard=SHARES)}, [
         "its law is learned from no others: demand is counted in boxes of 10",
-        f"guard: a history of what was learned {GUARD}: rejected", "poisson", SEEN, LAW])], ids=lambda it: str(it)[:20])
+        f"guard: a history of what was learned {GUARD}: rejected", "poisson", SEEN, LAW, LOWER])], ids=lambda it: str(it)[:20])
 def test_notes(family: str, method: str, facts: dict[str, Any], lines: list[str]) -> None:
     """Notes say how a law was fitted, the families that the guard rejects, and figures of history and law."""
     law = FittedLaw.made(Law((0, 4), (3, 1)), family, Diagnostics(Law((0, 2, 6), (2, 1, 1)), method, **facts))

@@ -6,6 +6,7 @@ from fractions import Fraction
 from pathlib import Path
 from typing import Any
 
+import numpy as np
 import pytest
 
 from crnplan.plan import one, question as questions
@@ -130,6 +131,18 @@ def test_costs_that_are_rounded(program: Path) -> None:
     answer = answer_of(item_of(unit=Fraction(9_000), holding=Fraction(1), backlog=Fraction("2.55")), alone(), program)
     remark, = (it for it in answer.remarks if it.code == "rounded costs")
     assert remark.facts["error"] == pytest.approx(3 / 2.55 - 1)
+
+
+def test_a_law_below_the_history_is_named(program: Path) -> None:
+    """A law with much less variance than the history is named with both; the history itself is not."""
+    item = item_of(counts=(*[1, 2, 3] * 15, 40, 60), levels=(9, 30))
+    mean = np.mean(item.counts)
+    codes = {fit: {it.code: it.facts for it in answer_of(item, alone(fit=fit), program).remarks}
+             for fit in ("poisson", "empirical")}
+    facts = codes["poisson"]["law below history"]
+    assert [facts["seen_mean"], facts["seen_variance"]] == pytest.approx([mean, np.var(item.counts, ddof=1)])
+    assert [facts["mean"], facts["variance"]] == pytest.approx([mean, mean], rel=0.05)
+    assert "law below history" not in codes["empirical"]
 
 
 def test_no_law_with_a_long_run(program: Path) -> None:

@@ -15,12 +15,13 @@ from ..money import whole
 from ..records.reading import RefusedFiles
 from ..records.observed import Observed
 from ..remarks import Remark
-from ..words import counted, sentence
+from ..words import advised, counted, sentence
 from . import EMPIRICAL, LEAST_DEMANDS
 from .sample import Shares
 
 QUANTILES = (0.95, 0.99, 0.999)
 LEAST_WEIGHT = 0.005  # of a family that is named
+LEAST_MEAN, LEAST_VARIANCE = 0.97, 0.8  # of a law of demand, beside those of what was seen; less is named
 # How much dearer than the best policy the chosen one is after so many lead times, in percent, if the demand is known:
 # the least and the most of the cases of the study planner/studies/laws_leads.py.
 DOUBT = {5: (2.3, 4.4), 10: (1.0, 3.0), 20: (0.5, 1.9)}
@@ -130,6 +131,20 @@ class FittedLaw(Law):
     def is_of_leads(self) -> bool:
         """Returns whether this is a law of lead times."""
         return self.diagnostics.side is not None
+
+    @property
+    def lower(self) -> Remark | None:
+        """Returns a remark if a law of demand has a much lower mean or variance than what was seen; both are in
+        items."""
+        seen, law = self.diagnostics.history, self.figures
+        if self.is_of_leads or self.family == EMPIRICAL or not seen.variance or self.diagnostics.share == 0:
+            return None
+        assert law.variance is not None
+        if round(law.mean / seen.mean, 2) >= LEAST_MEAN and round(law.variance / seen.variance, 2) >= LEAST_VARIANCE:
+            return None
+        return Remark("law below history", {
+            "mean": law.mean * self.box, "seen_mean": seen.mean * self.box, "variance": law.variance * self.box**2,
+            "seen_variance": seen.variance * self.box**2})
 
 
 def numbers_of(observed: Observed | Iterable[Any], what: str,
@@ -249,4 +264,6 @@ def notes_of(law: FittedLaw, name: str) -> list[str]:
     rows = {} if law.diagnostics.method == EMPIRICAL else {"seen": law.diagnostics.history}
     if law.family != EMPIRICAL:
         rows["law"] = law.figures
-    return [f"{name}: {line}" for line in (*fit_words(law), *(f"{title}: {its}" for title, its in rows.items()))]
+    lines = [*fit_words(law), *(f"{title}: {its}" for title, its in rows.items())]
+    lines += [advised(law.lower)] if law.lower else []
+    return [f"{name}: {line}" for line in lines]

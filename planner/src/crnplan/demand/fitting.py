@@ -21,7 +21,7 @@ from ..money import Number
 from ..records.observed import Observed
 from . import EMPIRICAL, LEAD_METHODS, METHODS
 from .families import REGISTRY, fits_of, near_of, parts_of, predictive_of
-from .fitted import Diagnostics, FittedLaw, numbers_of
+from .fitted import LEAST_MEAN, LEAST_VARIANCE, Diagnostics, FittedLaw, numbers_of
 from .sample import Sample, shares_of
 
 if TYPE_CHECKING:
@@ -74,6 +74,24 @@ def share_of(sample: Sample, base: Floats) -> float:
     return float(periods[best] / (periods[best] + sample.size))
 
 
+def seen_share(sample: Sample, law: Floats) -> float:
+    """Returns the least share of what was seen with which its mixture with a law has a mean of at least `LEAST_MEAN`
+    and a variance of at least `LEAST_VARIANCE` of those that were seen."""
+    values = np.arange(len(law))
+    mean = float(law @ values)
+    variance, own = float(law @ (values - mean)**2), sample.squares / sample.size
+    lower, missing = sample.mean - mean, LEAST_VARIANCE * sample.variance - variance
+    of_mean = 1 - (1 - LEAST_MEAN) * sample.mean / lower if mean < LEAST_MEAN * sample.mean else 0.0
+    if missing <= 0:
+        return of_mean
+    # With a share x of what was seen the variance is higher by x (own - variance + lower^2) - x^2 lower^2.
+    rise = own - variance + lower**2
+    square = rise**2 - 4 * missing * lower**2
+    if rise <= 0 or square < 0:  # of fewer than five periods: the unbiased variance is above that of the history
+        return 1.0
+    return min(max(of_mean, 2 * missing / (rise + math.sqrt(square))), 1.0)
+
+
 def cap_of(sample: Sample) -> int:
     """Returns the largest demand that `auto` allows: that of 300 demands, two to three times the largest one seen.
 
@@ -105,7 +123,8 @@ def family_law(boxes: Sequence[int], method: str, box: int = 1) -> FittedLaw:
     likely = [math.exp((fits[names[0]].bic - fits[name].bic) / 2) for name in names]
     weights, cap = [value / sum(likely) for value in likely], cap_of(sample)
     law = scaled(mixture(zip(weights, laws))[:cap + 1])
-    share, parts = share_of(sample, law), parts_of(packs) if "bulk" in names else None
+    share = min(share_of(sample, law), 1 - seen_share(sample, law))
+    parts = parts_of(packs) if "bulk" in names else None
     known = replace(known, families=dict(zip(names, weights)), cap=cap, share=share,
                     bulks=parts and (parts.bulks.size, pack * int(parts.bulks.values[0])))
     law = mixture([(share, law), (1 - share, sample.law)])
@@ -124,8 +143,9 @@ def fit_demand(observed: Observed | Iterable[Number], *, method: str = "auto", b
       periods it orders too much if sizes are bounded or those of a price list (`rare-bulk` and `prices` in the study
       planner/studies/laws.py).
     - `auto`: the mixture of such laws by the likelihood of their families, without demands above two to three times
-      the largest one seen. It is mixed with what was seen too, if that speaks against it. It costs more than what was
-      seen most where a law ends abruptly (`cut-NB` in the study).
+      the largest one seen. It is mixed with what was seen too, if that speaks against it, or if the mean would be
+      below 0.97 or the variance below 0.8 of what was seen. It costs more than what was seen most where a law ends
+      abruptly (`cut-NB` in the study).
     - the name of a family (`FAMILIES`): its posterior predictive law, whether it fits or not. In `bulk`, ordinary
       demand is Poisson or negative binomial, and in some periods a much larger bulk comes in its place.
 

@@ -240,6 +240,8 @@ def remarks_of(question: Question, theory: LongRun, sample: Sample, choice: Choi
     """Yields what must be said of the history of an item, and of its figures."""
     item, settings = question.item, question.settings
     yield from checked(item.counts, settings.every, item.first, settings.season)
+    if question.demand.lower:
+        yield question.demand.lower
     borrowed, learned = question.demand.diagnostics.borrowed, question.learned
     demands = sum(count > 0 for count in item.counts)
     if demands < LEAST_DEMANDS:
