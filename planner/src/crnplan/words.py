@@ -275,12 +275,12 @@ WORDS: dict[str, tuple[Say, Say]] = {
 
 
 def _said(say: Say, facts: Facts) -> str:
-    return worded(say.format_map(facts) if isinstance(say, str) else say(facts))
+    return say.format_map(facts) if isinstance(say, str) else say(facts)
 
 
 def sentence(remark: Remark) -> str:
     """Returns what is said of a remark, without a full stop."""
-    return _said(WORDS[remark.code][0], remark.facts)
+    return worded(_said(WORDS[remark.code][0], remark.facts))
 
 
 class _Blank(str):
@@ -303,9 +303,14 @@ def pattern(remark: Remark) -> str:
 
 def advice(remark: Remark) -> str:
     """Returns what to do about a remark; nothing if there is no advice."""
-    return _said(WORDS[remark.code][1], remark.facts)
+    return worded(_said(WORDS[remark.code][1], remark.facts))
+
+
+def message(remark: Remark, sign: str = "; ") -> str:
+    """Returns what is said of a remark, and what to do about it, before arguments are spelt."""
+    return sign.join(filter(None, (_said(say, remark.facts) for say in WORDS[remark.code])))
 
 
 def advised(remark: Remark) -> str:
     """Returns what is said of a remark, and what to do about it."""
-    return ". ".join(filter(None, (sentence(remark), advice(remark))))
+    return worded(message(remark, ". "))

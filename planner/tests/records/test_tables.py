@@ -192,7 +192,7 @@ def test_a_file_that_changes_is_refused(tmp_path: Path) -> None:
 def test_half_a_letter_of_utf_16_far_down(tmp_path: Path) -> None:
     """Half of a pair of UTF-16 beyond what is looked at first is refused. Each row has 30 bytes."""
     data = ("item,date,quantity\n" + "A,2026-03-02,1\n" * 40_000 + "\udc00").encode("utf-16", "surrogatepass")
-    with pytest.raises(RefusedFaults, match="demand.csv: a byte is not utf-16; say another encoding"):
+    with pytest.raises(RefusedFaults, match="demand.csv:40002:1: the byte 0x00 is not utf-16; say another encoding"):
         read(tmp_path, data)
 
 

@@ -205,7 +205,7 @@ def _date_lines(rows: Rows, reader: DateReader) -> Iterator[str]:
         try:
             form = reader.read(cell)[1]
         except Unreadable as why:
-            unclear += count * (why.remark.code == "day or month")
+            unclear += count * (why.remark.code in ("day or month", "day and month"))
             continue
         firsts.setdefault(form, text_of(cell))
         counts[form] += count

@@ -9,23 +9,29 @@ from __future__ import annotations
 import contextlib
 import datetime
 import re
+import tomllib
 from collections.abc import Callable, Iterable, Sequence
 from fractions import Fraction
-from typing import Union
+from pathlib import Path
+from typing import Any, Union
 
-from ..errors import Refused, argument
+import numpy as np
+import numpy.typing as npt
+
+from ..errors import Refused, argument, worded
 from ..money import MOST_DECIMALS, exact
 from ..remarks import Remark, Value
-from ..words import advice, sentence
+from ..words import message
 
 # A cell of a file is a text; one of a sheet or a frame is what these store.
 Cell = Union[str, int, float, datetime.date, None]
 CellFault = tuple[str, Cell, Remark]  # a role, its cell, and what is wrong
+Numbers = npt.NDArray[np.int64]
 MOST_NAMED = 8  # lines of a note
 UNPRINTABLE = re.compile(r"[\x00-\x1f\x7f-\x9f\u2028\u2029]+")
-# Words of a row that has the sum of those above.
-TOTAL = re.compile(r"\W*(?:grand |sub)?(?:totals?|totale|totaal|sum|summe|gesamt\w*|insgesamt|zwischensumme|somme|suma)"
-                   r"\b", re.IGNORECASE)
+HEADINGS = tomllib.loads(Path(__file__).with_name("headings.toml").read_text("utf-8"))
+# A row that has the sum of those above.
+TOTAL = re.compile(rf"\W*(?:grand |sub)?(?:{'|'.join(HEADINGS['total']['words'])})\b", re.IGNORECASE)
 DECIMALS = (".", ",")
 # Between groups of three digits: blanks (also no-break, thin and narrow no-break), apostrophes, and the other sign.
 GROUPS = " \u00a0\u2009\u202f'\u2019"
@@ -38,20 +44,24 @@ FORMS = {sign: re.compile(
     rf"(?P<sign>[{MINUS}+]?) *(?P<whole>[0-9]+|[1-9][0-9]{{0,2}}(?P<group>[{other}{GROUPS}])[0-9]{{3}}"
     rf"(?:(?P=group)[0-9]{{3}})*)(?:{re.escape(sign)}(?P<part>[0-9]+))?(?P<after>-?)")
     for sign, other in ((".", ","), (",", "."))}
-# What a number of a kind must be, each with the code of one that is not.
-NUMBER = [("digits", lambda number: abs(number) < 10**MOST_DIGITS)]
-AMOUNT = [*NUMBER, ("below 0", lambda number: number >= 0),
-          ("decimals", lambda number: (number * 10**MOST_DECIMALS).denominator == 1)]
-CHECKS: dict[str, list[tuple[str, Callable[[Fraction], bool]]]] = {
-    "number": NUMBER, "whole": [*NUMBER, ("not whole", lambda number: number.denominator == 1)], "money": AMOUNT,
-    "cost": [*AMOUNT, ("zero", bool)],
-    "items": [*NUMBER, ("no whole items", lambda number: number >= 0 and number.denominator == 1)]}
-# Signs and codes of money, before or behind an amount, and the code that a sign stands for.
-CODES = ("AED AUD BGN BRL CAD CHF CNY CZK DKK EUR GBP HKD HUF IDR ILS INR JPY KRW MXN MYR NOK NZD PHP PLN RON RUB SAR "
-         "SEK SGD THB TRY TWD UAH USD VND ZAR").split()
-SIGNS = {"€": "EUR", "£": "GBP", "₹": "INR", "zł": "PLN", "Kč": "CZK", "US$": "USD", "R$": "BRL", "元": "CNY",
-         "円": "JPY", "₽": "RUB", "₺": "TRY", "₩": "KRW", "₪": "ILS", "Ft": "HUF"}
-CURRENCY = "|".join(map(re.escape, [*SIGNS, *CODES, "$", "¥", "kr", "Fr."]))
+# What a number must be, by the code of one that is not.
+RULES: dict[str, Callable[[Fraction], Any]] = {
+    "digits": lambda number: abs(number) < 10**MOST_DIGITS, "not whole": lambda number: number.denominator == 1,
+    "decimals": lambda number: (number * 10**MOST_DECIMALS).denominator == 1,
+    "no whole items": lambda number: number >= 0 and number.denominator == 1, "zero": bool,
+    "below 1": lambda number: number >= 1, **dict.fromkeys(
+        ("below 0", "negative", "negative period", "negative movement"), lambda number: number >= 0)}
+# Kinds of numbers: the code of an empty cell, none if that is 0, and which of RULES a number meets beside the digits.
+KINDS = {
+    "number": ("no amount",), "money": ("no amount", "below 0", "decimals"),
+    "cost": ("no amount", "below 0", "decimals", "zero"), "items": ("no amount", "no whole items"),
+    "whole": ("no quantity", "not whole"), "sales": ("no quantity", "not whole", "negative"),
+    "period": ("no quantity", "not whole", "negative period"),
+    "movement": ("no quantity", "not whole", "negative movement"), "returns": ("", "not whole", "negative"),
+    "lead": ("no lead", "not whole", "below 1")}
+# Signs and codes of money stand before or behind an amount. A sign may stand for a code.
+SIGNS: dict[str, str] = dict(HEADINGS["money"]["signs"])
+CURRENCY = "|".join(map(re.escape, [*SIGNS, *HEADINGS["money"]["codes"]]))
 MONEY = re.compile(rf"(?P<sign>[{MINUS}+]?) ?(?P<before>{CURRENCY})? ?(?P<number>.*?) ?(?P<behind>{CURRENCY})?")
 
 
@@ -69,12 +79,7 @@ class Unreadable(ValueError):
 
     def __str__(self) -> str:
         """Returns why, and what to do."""
-        return said(self.remark)
-
-
-def said(remark: Remark) -> str:
-    """Returns what is wrong, and what to do."""
-    return "; ".join(filter(None, (sentence(remark), advice(remark))))
+        return worded(message(self.remark))
 
 
 def shown(text: str) -> str:
@@ -164,22 +169,18 @@ class AmountReader:
             return None
         return f"{NAMES[self.sign]} in {shown(self.sides[self.sign])}"
 
-    def number(self, cell: Cell, kind: str = "number", if_empty: str = "no amount") -> Fraction:
-        """Returns the number of a cell, which is of a kind of CHECKS. `if_empty` is the code for an empty cell. Raises
-        Unreadable."""
-        if cell == "":
+    def number(self, cell: Cell, kind: str = "number") -> Fraction:
+        """Returns the number of a cell, which is of a kind of KINDS. Raises Unreadable."""
+        if_empty, *rules = KINDS[kind]
+        if cell == "" and if_empty:
             raise Unreadable(if_empty)
-        number = self._read(cell) if isinstance(cell, str) else exact(cell)
+        number = Fraction(0) if cell == "" else self._read(cell) if isinstance(cell, str) else exact(cell)
         if number is None:
             raise Unreadable("no number", cell)
-        for code, holds in CHECKS[kind]:
-            if not holds(number):
+        for code in ("digits", *rules):
+            if not RULES[code](number):
                 raise Unreadable(code, cell, digits=MOST_DIGITS, decimals=MOST_DECIMALS)
         return number
-
-    def whole(self, cell: Cell, if_empty: str = "no quantity") -> int:
-        """Returns the whole number of a cell, which may be negative. Raises Unreadable."""
-        return int(self.number(cell, "whole", if_empty))
 
     def _read(self, text: str) -> Fraction:
         """Returns the number of a text. Raises Unreadable."""
@@ -190,19 +191,19 @@ class AmountReader:
         if is_doubtful and self.sign is None:
             small, large = (f"{float(number):.15g}" for number in sorted(numbers.values(), key=abs))
             signs = " and ".join(repr(shown(it)) for it in self.sides.values())
-            raise Unreadable("two readings", text, large=large, small=small, signs=signs)
+            raise Unreadable("two signs" if signs else "two readings", text, large=large, small=small, signs=signs)
         for sign, number in numbers.items():
             if sign == self.sign or not self.stated and not is_doubtful:
                 return number
-        other = [sign for sign in DECIMALS if self.stated not in (None, sign) and FORMS[sign].fullmatch(text)]
-        raise Unreadable("no number", text, other=other[0] if other else None)
+        other = next((sign for sign in DECIMALS if self.stated not in (None, sign) and FORMS[sign].fullmatch(text)), "")
+        raise Unreadable("no number by this sign" if other else "no number", text, other=other)
 
     def share(self, cell: Cell, in_percent: bool = False) -> Fraction:
         """Returns a share between 0 and 1, which may be written in percent, or be in percent. Raises Unreadable."""
         has_sign = isinstance(cell, str) and cell.endswith("%")
         number = self.number(cell.rstrip("% ") if isinstance(cell, str) else cell)
         if in_percent and not has_sign and 0 < number < 1:
-            raise Unreadable("small percent", cell, role="fill")
+            raise Unreadable("small percent of fill", cell)
         if has_sign or in_percent:
             number /= 100
         if not 0 < number < 1:
@@ -225,6 +226,7 @@ def other_reading(text: str, decimal: str) -> str | None:
 
 
 EVERY = ("day", "week", "month")
+EPOCH = datetime.date(1970, 1, 1).toordinal()
 NEED_PERIOD = ("dates of movements and of orders need the period: say "
                + ", ".join(argument("every", every) for every in EVERY[:-1]) + f" or {argument('every', EVERY[-1])}")
 FIRST_YEAR, LAST_YEAR = 1980, 2199
@@ -305,12 +307,12 @@ class DateReader:
         bare = TIME.sub("", text)
         parts = next((parts for pattern in DATE_FORMS if (parts := pattern.fullmatch(bare))), None)
         if parts is None:
-            raise Unreadable("no form", text, is_number=int(bare.isdecimal()))
+            raise Unreadable("number of a day" if bare.isdecimal() else "no form", text)
         day, month, year, form = int(parts["day"]), int(parts["month"]), int(parts["year"]), DATE_FORMS[parts.re]
         if parts.re is SLASHED:
             if day <= 12 and month <= 12 and day != month and len(self.sides) != 1:
                 sides = " and ".join(repr(shown(side)) for side in self.sides.values())
-                raise Unreadable("day or month", text, sides=sides)
+                raise Unreadable("day and month" if sides else "day or month", text, sides=sides)
             if not (day > 12 if (day > 12) != (month > 12) else True in self.sides):
                 day, month, form = month, day, "03/31/2026"
         if len(parts["year"]) == 2:
@@ -321,11 +323,18 @@ class DateReader:
             raise Unreadable("no day", text) from fault
 
 
-def period_of(date: datetime.date, every: str) -> int:
-    """Returns the number of the day, ISO week (from Monday) or month of a date; the next one has the next number."""
+def periods_of_days(days: Numbers, every: str) -> Numbers:
+    """Returns the numbers of the days, ISO weeks (from Monday) or months of dates, which are given as ordinal numbers.
+    The next period has the next number."""
     if every == "month":
-        return 12 * date.year + date.month - 1
-    return date.toordinal() if every == "day" else (date.toordinal() - 1) // 7
+        months: Numbers = (days - EPOCH).astype("datetime64[D]").astype("datetime64[M]").astype(np.int64) + 12 * 1970
+        return months
+    return days if every == "day" else (days - 1) // 7
+
+
+def period_of(date: datetime.date, every: str) -> int:
+    """Returns the number of the day, ISO week or month of a date."""
+    return int(periods_of_days(np.array([date.toordinal()]), every)[0])
 
 
 def first_day(period: int, every: str) -> datetime.date:

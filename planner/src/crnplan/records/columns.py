@@ -7,21 +7,19 @@ weeks, months and years are of 1, 7, 30.4375 and 365.25 days, so a year has 52.1
 from __future__ import annotations
 
 import re
-import tomllib
 import unicodedata
 from collections.abc import Mapping, Sequence
 from dataclasses import replace
 from fractions import Fraction
-from pathlib import Path
 from typing import TYPE_CHECKING
 
 from ..errors import Fault, RefusedFaults, argument
+from .cells import HEADINGS
 from .sources import Column, Sheet
 
 if TYPE_CHECKING:
     from .items import Words
 
-NAMES = tomllib.loads(Path(__file__).with_name("headings.toml").read_text("utf-8"))
 # The roles of each table in order, and those that each must have. s and S differ by their case.
 ROLES = {"demand": ["item", "date", "quantity", "returned", "measure"],
          "items": ["item", "description", "setup", "holding", "backlog", "fill", "lead", "s", "S", "stock", "price",
@@ -31,9 +29,9 @@ COLUMNS = [f"{kind}.{role}" for kind, roles in ROLES.items() for role in roles]
 NEEDED = {"item", "date", "quantity", "setup", "holding", "s", "S", "ordered", "received"}
 # Letters that are no letter with an accent.
 LETTERS = str.maketrans({"ł": "l", "ø": "o", "æ": "ae"})
-UNITS: dict[str, str] = {word: unit for unit, words in NAMES["units"].items() for word in words}
-BESIDE = {*NAMES["beside"]["words"]}
-IMPLIED = {name: unit for unit, names in NAMES["implied"].items() for name in names}
+UNITS: dict[str, str] = {word: unit for unit, words in HEADINGS["units"].items() for word in words}
+BESIDE = {*HEADINGS["beside"]["words"]}
+IMPLIED = {name: unit for unit, names in HEADINGS["implied"].items() for name in names}
 DAYS = {"day": Fraction(1), "week": Fraction(7), "month": Fraction(487, 16), "year": Fraction(1461, 4)}
 # What the numbers of a role may count. A length is a time, a rate is money for one item and period.
 ROLE_UNITS = {"quantity": "count", "returned": "count", "s": "count", "S": "count", "stock": "count", "lead": "length",
@@ -128,7 +126,7 @@ class Finder:
         self.kind, self.every = kind, words.every
         self.stated, self.units = words.columns.get(kind, {}), words.units.get(kind, {})
         more = words.names.get(kind, {})
-        self.names = {role: {*NAMES["all" if role == "item" else kind][role], *map(plain_name, more.get(role, ()))}
+        self.names = {role: {*HEADINGS["all" if role == "item" else kind][role], *map(plain_name, more.get(role, ()))}
                       for role in ROLES[kind]}
         self.role_of = {name: role for role, names in self.names.items() for name in names}
         self.columns: dict[str, Column] = {}
@@ -196,8 +194,13 @@ def listed(heading: Sequence[str]) -> str:
 
 
 def stated_columns(heading: Sequence[str], names: Mapping[str, str]) -> tuple[dict[str, Column], list[str]]:
-    """Returns the columns that are stated for roles, and what is wrong with those that a heading doesn't have once."""
-    columns = {role: Column(name, heading.index(name)) for role, name in names.items() if heading.count(name) == 1}
+    """Returns the columns that are stated for roles, and what is wrong with those that a heading doesn't have once. A
+    heading may name packs of so many items, and a time of lead times. Other units are the item's own, as kilograms."""
+    columns = {}
+    for role, name in ((role, name) for role, name in names.items() if heading.count(name) == 1):
+        unit, kind = bare_name(plain_name(name))[1], ROLE_UNITS.get(role)
+        is_known = unit.isdecimal() if kind == "count" else kind == "length" and unit in DAYS
+        columns[role] = Column(name, heading.index(name), unit=unit if is_known else "")
     wrong = []
     for role, name in ((role, name) for role, name in names.items() if role not in columns):
         how_many, advice = ("more than one", "; rename all but one") if name in heading else ("no", "")

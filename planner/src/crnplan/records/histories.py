@@ -1,20 +1,80 @@
-"""Reads the record of one item: demand by period or by dated movements, and lead times or the dates of orders."""
+"""Reads the record of one item: demand by period or by dated movements, and lead times or the dates of orders. All
+faults and notes are collected in one pass."""
 from __future__ import annotations
 
-import contextlib
 import datetime
-from collections.abc import Mapping, Sequence
-from dataclasses import replace
-from typing import Any
+from collections.abc import Iterator, Mapping, Sequence
+from dataclasses import dataclass, replace
+from pathlib import Path
 
 import numpy as np
+import numpy.typing as npt
 
-from ..errors import Fault, Refused, RefusedFaults, argument
-from .cells import EVERY, NEED_PERIOD, Unreadable, first_day, named_lines, period_name, period_of
-from .columns import conversion, converted, periods_of
-from .observed import CHANGE, Day, History, LeadTimes, ends_of, summed, too_long
-from .reading import Reading, RefusedFiles, Said
-from .sources import Rules, Sheet, Table, opened
+from ..errors import Fault, Refused, RefusedFaults, argument, worded
+from ..files import new_file
+from ..formats import MOST_WEIGHT
+from ..remarks import Remark, Value
+from ..table import DataTable, text, whole
+from ..words import message
+from .cells import (DECIMALS, EVERY, KINDS, MOST_NAMED, NEED_PERIOD, TOTAL, Numbers, first_day,
+                    named_lines, other_reading, period_name, period_of, periods_of_days,
+                    shown, text_of)
+from .columns import NO_ROW, conversion, converted, periods_of, stated_columns
+from .observed import Day, History, LeadTimes, ends_of, summed
+from .rows import DATES, TIMES_NEXT, Rows, far_above
+from .sources import Rules, Sheet, Table, opened, sample
+
+# What is said: the line of a row, 0 for the file, the place of a cell in the row, -1 for the row, and a text.
+Said = tuple[int, int, str]
+# A way of writing that at most one row in so many has is suspicious.
+RARE = 10
+# A sum of fewer rows may well come again below them.
+LEAST_SUMMED = 6
+# So many faults are printed. The rejects have all.
+MOST_PRINTED = 20
+# By whether the first and the last period of a record may be partial.
+ENDS = {(False, False): "all whole", (True, False): "first", (False, True): "last", (True, True): "both"}
+
+
+@dataclass(frozen=True)
+class Reject(Fault):
+    """A fault of a row, with the text of that row."""
+
+    row: str = ""
+
+
+def printed(faults: Sequence[Fault]) -> Iterator[str]:
+    """Yields the first faults as lines, and one line that says how many more there are."""
+    yield from (it.message for it in faults[:MOST_PRINTED])
+    if len(faults) > MOST_PRINTED:
+        yield f"and {len(faults) - MOST_PRINTED:,} more faults; {argument('faults')} has all"
+
+
+class RefusedFiles(RefusedFaults):
+    """Files with faults, and the notes that were due before: so one pass says all."""
+
+    def __init__(self, faults: Sequence[Fault], notes: Sequence[Fault] = ()) -> None:
+        lines = list(printed(faults))
+        if len(faults) > 1:
+            rows = len({(it.file, it.line) for it in faults})
+            has_rows = any(isinstance(it, Reject) for it in faults)
+            advice = f"; correct them, or say {argument('leave_out')} to go on without bad rows" if has_rows else ""
+            lines.append(f"{len(faults):,} faults in {rows:,} rows{advice}")
+        self.notes = tuple(notes)
+        super().__init__(faults, "\n".join([*lines, *(it.message for it in notes)]))
+
+
+REJECTS = (text("file", "name of the file"), whole("line", "", "line of the fault, 0 if there is none"),
+           whole("column", "", "column, 0 if there is none"), text("what", "what is wrong"),
+           text("row", "text of the row"))
+
+
+def write_rejects(path: Path, faults: Sequence[Fault]) -> None:
+    """Writes all faults as CSV: file, line and column (0 if there is none), what is wrong, and the text of the row."""
+    with new_file(path) as file:
+        file.writelines(DataTable(REJECTS, (
+            [fault.file, fault.line, fault.column, worded(fault.what),
+             fault.row.replace("\r", "\\r") if isinstance(fault, Reject) else ""] for fault in faults)).lines)
 
 
 def read_history(table: Table, *, demand: str, returns: str | None = None, date: str | None = None,
@@ -42,13 +102,14 @@ def read_history(table: Table, *, demand: str, returns: str | None = None, date:
             return _undated(Reading(sheet, names, counts_blank=True), [*names])
     if every not in EVERY:
         raise Refused(NEED_PERIOD)
-    first, last = ends_of(start, end)
+    ends = ends_of(start, end)
     with opened(table, "history", rules) as sheet:
-        movements = Movements(sheet, names, date, every, net)
-        movements.cut(first, last)
-        periods = movements.spanned(first, last, whole)
-        movements.suspect()
-        return movements.summed(periods)
+        reading = Reading(sheet, {**names, "date": date})
+        _read_movements(reading, [*names], net)
+        _cut(reading, *ends)
+        periods = _spanned(reading, every, *ends, whole)
+        reading.suspect()
+        return _summed(reading, [*names], every, periods)
 
 
 def read_lead_times(table: Table, *, lead: str | None = None, every: str | None = None, ordered: str = "ordered",
@@ -79,6 +140,223 @@ def column_names(table: Table, rules: Rules) -> list[str]:
         return [*filter(None, sheet.heading)][:100]
 
 
+class Reading:
+    """A table of one item while it is read: the rows of use, the numbers of all rows by role (a date is its ordinal
+    number), what is wrong with cells, and what is to be said of them."""
+
+    def __init__(self, sheet: Sheet, names: Mapping[str, str], *, own_item: bool = False,
+                 counts_blank: bool = False) -> None:
+        """Reads the cells of the columns that are named for roles. Only the history must have the columns of the item;
+        other tables may be of one item alone. Blank rows are passed over, or count as amounts that are missing. Raises
+        RefusedFaults."""
+        self.sheet, self.rules = sheet, sheet.rules
+        sheet.find_heading([*names.values(), *(() if own_item else self.rules.item)])
+        items = {f"item {name}": name for name in self.rules.item if not own_item or name in sheet.heading}
+        sheet.columns, wrong = stated_columns(sheet.heading, {**names, **items})
+        try:
+            if wrong:
+                raise RefusedFaults([Fault(what, sheet.name, sheet.line) for what in wrong])
+            self.rows = Rows(sheet)
+            if not len(self.rows):
+                raise RefusedFaults([Fault(NO_ROW, sheet.name, sheet.line + 1)])
+        except RefusedFaults as refused:
+            # What else is wrong may come from the encoding.
+            raise RefusedFaults([sheet.fault] if sheet.fault else refused.faults) from refused
+        self.reader = self.rows.date_reader()
+        self.numbers, self.wrong = dict[str, Numbers](), dict[str, Mapping[int, Remark]]()
+        self.has_rest = sum(map(bool, sheet.heading)) > sum(role not in DATES for role in names)
+        self._faults, self._notes = list[Said](), list[Said]()
+        if sheet.titles:
+            texts = ", ".join(repr(shown(" ".join(filter(None, cells)))) for _, cells in sheet.titles)
+            self.note("titles", lines=named_lines([line for line, _ in sheet.titles]), texts=texts)
+        blank = [] if items else [line for line in self.rows.blank if line < self.rows.lines[-1]]
+        self.missing = blank if counts_blank else []
+        if blank and not counts_blank:
+            self.note("blank rows", count=len(blank), lines=named_lines(blank))
+        self._choose(items)
+
+    def _choose(self, items: Mapping[str, str]) -> None:
+        """Chooses the rows of the item, which are all rows if none is asked for. Those with too many cells have a
+        fault. Raises Refused if there are none."""
+        chosen = np.ones(len(self.rows), bool)
+        for role, name in items.items():
+            text, values = self.rules.item[name], list(map(text_of, self.rows.columns[role].distinct))
+            if text not in values:
+                others = [repr(shown(it)) for it in values if it]
+                raise Refused(f"{self.sheet.name}: no row has {text!r} in column {name!r}, which has {len(others):,} "
+                              f"others: {', '.join(others[:MOST_NAMED])}" + ", .." * (len(others) > MOST_NAMED))
+            chosen &= self.rows.having(role, [code for code, value in enumerate(values) if value == text])
+        if items:
+            wanted = " and ".join(f"{name} = {self.rules.item[name]}" for name in items.values())
+            self.note("rows of the item", wanted=wanted, count=int(chosen.sum()), rows=len(self.rows))
+        for row in (row for row in self.rows.wide if chosen[row]):
+            words = message(self.rows.long(row))
+            self._faults.append((int(self.rows.lines[row]), len(self.sheet.heading), words))
+        self.count = int(chosen.sum()) + len(self.missing)
+        self.used: npt.NDArray[np.int64] = np.flatnonzero(chosen & self.rows.good)
+
+    def text(self, role: str, row: int) -> str:
+        return text_of(self.rows.cell(role, row))
+
+    def said(self, what: str | Remark, row: int | None = None, role: str = "") -> Said:
+        """Returns what is said of the file, of a row, or of a cell."""
+        line, column = 0 if row is None else int(self.rows.lines[row]), self.sheet.columns.get(role)
+        words = what if isinstance(what, str) else message(what)
+        return (line, column.place, f"column {column.name!r}: {words}") if column else (line, -1, words)
+
+    def note(self, code: str, row: int | None = None, role: str = "", **facts: Value) -> None:
+        self._notes.append(self.said(Remark(code, facts), row, role))
+
+    def reject(self, what: Remark, row: int, role: str) -> None:
+        """Takes a row out for a fault of one of its cells, beside which others are not said."""
+        self._faults.append(self.said(what, row, role))
+        self.used = self.used[self.used != row]
+
+    def note_unit(self, role: str, every: str = "") -> None:
+        """Notes that the numbers of a column are converted from its unit."""
+        self._notes.append((0, -1, converted(self.sheet.columns[role], role, every)))
+
+    def refused(self, code: str, row: int | None = None, role: str = "", **facts: Value) -> RefusedFaults:
+        """Returns the error of the file, or of a cell for which the whole file is refused."""
+        return RefusedFaults(self.placed([self.said(Remark(code, facts), row, role)]))
+
+    def of(self, role: str) -> list[int]:
+        """Returns the numbers of a column in the rows of use."""
+        numbers: list[int] = self.numbers[role][self.used].tolist()
+        return numbers
+
+    def cells(self, role: str) -> list[Said]:
+        """Returns the cells of a column in the rows of use, each with its text."""
+        return [self.said(self.text(role, row), row, role) for row in self.used.tolist()]
+
+    def read_dates(self, role: str) -> None:
+        """Reads the days of a column."""
+        self.numbers[role], self.wrong[role] = self.rows.days(role, lambda cell: self.reader.read(cell)[0])
+
+    def read_amounts(self, role: str, kind: str) -> None:
+        """Reads the amounts of a column, which are of a kind of KINDS."""
+        reader, unit = self.rows.amount_reader(role), self.sheet.columns[role].unit
+        packs = unit if unit.isdecimal() else ""
+        if reader.decided:
+            self.note("decimal sign", role=role, sign=reader.decided)
+        if packs:
+            self.note_unit(role)
+        _, place, words = self.said(Remark(KINDS[kind][0]), role=role)
+        self._faults += [(line, place, words) for line in self.missing]
+        self.numbers[role], self.wrong[role] = self.rows.amounts(role, reader, kind, packs)
+
+    def keep(self) -> None:
+        """Keeps the rows whose cells were all read. Raises RefusedFaults for faults. If rows with faults are to be left
+        out, this is noted, and one at least must be left."""
+        bad = self.rows.faulty(self.wrong)[self.used]
+        self._faults += [self.said(remark, row, role) for row in self.used[bad].tolist()
+                         for role, _, remark in self.rows.faults(row, self.wrong)]
+        self.used = self.used[~bad]
+        of_file = [self.sheet.fault] if self.sheet.fault else []
+        if of_file or self._faults and not self.rules.leave_out:
+            notes, faults = self.finish()
+            raise RefusedFiles([*of_file, *faults], notes)
+        if self._faults:
+            lines = sorted({line for line, _, _ in self._faults})
+            self.note("rows left out", count=len(lines), rows=self.count, lines=named_lines(lines))
+        if not len(self.used):
+            raise RefusedFiles([*self.finish()[1], *self.refused("no row left").faults])
+
+    def placed(self, said: Sequence[Said]) -> list[Reject]:
+        """Returns what is said with its places, and with the texts of rows."""
+        texts = self.sheet.texts({line for line, place, _ in said if line and place >= 0})
+        return [Reject(what, self.sheet.name, *self.sheet.place(texts[line], line, place), texts[line])
+                if line in texts and place >= 0 else Reject(what, self.sheet.name, line) for line, place, what in said]
+
+    def finish(self) -> tuple[tuple[Fault, ...], tuple[Fault, ...]]:
+        """Returns all notes, and the faults of the rows that were left out, by place."""
+        faults = sorted(self.placed(self._faults), key=lambda fault: (fault.line, fault.column))
+        return tuple(self.placed(self._notes)), tuple(faults)
+
+    def places(self, cells: Sequence[Said | None]) -> tuple[Fault | None, ...]:
+        """Returns the places of numbers, each with how a message names it; None stays None."""
+        placed = iter(self.placed([cell for cell in cells if cell]))
+        faults = (next(placed) if cell else None for cell in cells)
+        return tuple(fault and Fault(fault.what, fault.file, fault.line, fault.column) for fault in faults)
+
+    def history(self, counts: Mapping[str, Sequence[int]], cells: Mapping[str, Sequence[Said | None]],
+                every: str | None = None, first: int = 1) -> History:
+        """Returns the history of demand, with that of returns in it if there is one: counts and cells by role."""
+        made = {role: History(tuple(counts[role]), self.places(cells[role]), *self.finish(), every, first)
+                for role in counts}
+        return replace(made["quantity"], returns=made.get("returned"))
+
+    def total_reason(self, row: int, number: int | None, others: Sequence[int]) -> str | None:
+        """Returns why a row looks like a total of the rows above, whose numbers are given; None if it doesn't."""
+        text = self.sheet.texts([self.rows.lines[row]])[int(self.rows.lines[row])]
+        cells = (cell for _, row in sample(text, self.sheet.delimiter) for cell in row)
+        word = next(filter(TOTAL.match, cells), None)
+        if word is not None:
+            return f"it has {shown(word)!r}"
+        is_sum = len(others) >= LEAST_SUMMED and number == sum(others) and sum(map(bool, others)) > 1
+        return f"{number} is the sum of all others" if is_sum else None
+
+    def suspect(self) -> None:
+        """Notes what is suspicious in the rows of use: several forms of dates, rows that stand twice, and amounts."""
+        for role in (it for it in self.numbers if it in DATES):
+            self._note_forms(role)
+        self._note_twins()
+        for role in (it for it in self.numbers if it not in DATES):
+            self._note_amounts(role)
+
+    def _note_amounts(self, role: str) -> None:
+        """Notes a last row that looks like a total, amounts far above all others, and rare ways of writing."""
+        rows, numbers = self.used.tolist(), self.of(role)
+        why = self.total_reason(rows[-1], numbers[-1], numbers[:-1]) if rows[-1] == len(self.rows) - 1 else None
+        if why:
+            self.note("last total", rows[-1], role, why=why)
+            rows, numbers = rows[:-1], numbers[:-1]
+        amounts = np.array(numbers, np.int64)
+        far, ranked = far_above(amounts, TIMES_NEXT), np.argsort(-amounts, kind="stable").tolist()
+        for place in sorted(ranked[:far]):
+            below = numbers[ranked[far]]
+            self.note("next largest", rows[place], role, number=numbers[place], times=numbers[place] // below,
+                      next=below, line=int(self.rows.lines[rows[ranked[far]]]))
+        for row, count, other in rare_signs({row: self.text(role, row) for row in rows}, self.rules.decimal):
+            self.note("rare sign", row, role, text=shown(self.text(role, row)), number=int(self.numbers[role][row]),
+                      count=count, rows=len(rows), other=other)
+
+    def _note_twins(self) -> None:
+        """Notes rows that are the same as others, but for rows of nothing but amounts, which can't be told apart."""
+        first = self.rows.twins()
+        again = self.used[self.has_rest & (first[self.used] != self.used) & np.isin(first[self.used], self.used)]
+        if len(again):
+            more = self.rows.lines[again[1:]].tolist()
+            self.note("twin rows" if more else "twin row", int(again[0]), count=len(more), lines=named_lines(more),
+                      first=int(self.rows.lines[first[again[0]]]))
+
+    def _note_forms(self, role: str) -> None:
+        firsts: dict[str, tuple[int, str]] = {}
+        for row in self.used[np.sort(np.unique(self.rows.codes[role][self.used], return_index=True)[1])].tolist():
+            day, form = self.reader.read(self.rows.cell(role, row))
+            firsts.setdefault(form, (row, f"{shown(self.text(role, row))!r} (line {self.rows.lines[row]}) is {day}"))
+        if len(firsts) > 1:
+            rows, named = zip(*firsts.values())
+            self.note("forms", max(rows), role, count=len(firsts), forms=", ".join(named))
+
+    def check_count(self, role: str, what: str) -> None:
+        """Rejects more rows than a table can count, each of which would count 1."""
+        if len(self.used) > MOST_WEIGHT:
+            raise self.refused("too many rows", self.used[MOST_WEIGHT], role, count=len(self.used), what=what,
+                               most=MOST_WEIGHT)
+
+
+def rare_signs(texts: Mapping[int, str], decimal: str | None) -> Iterator[tuple[int, int, str]]:
+    """Yields the row of the first number that another decimal sign than the stated one would make a thousand times
+    smaller, or larger, how many are written so, if they are few, and what it would be."""
+    others = {text: other_reading(text, decimal) for text in {*texts.values()} if decimal}
+    for is_grouped in (True, False):
+        rows = [row for row, text in texts.items() if others.get(text) and (
+            DECIMALS[decimal == "."] in text) == is_grouped]
+        if 0 < len(rows) <= max(1, len(texts) // RARE):
+            yield rows[0], len(rows), others[texts[rows[0]]] or ""
+
+
 def _check_undated(given: Mapping[tuple[str, ...], object]) -> None:
     """Rejects arguments that say nothing without dates."""
     for names in (it for it in given if given[it]):
@@ -87,164 +365,134 @@ def _check_undated(given: Mapping[tuple[str, ...], object]) -> None:
                       f"their column{more}")
 
 
-def _history(reading: Reading, counts: Mapping[str, Sequence[int]], cells: Mapping[str, Sequence[Said | None]],
-             every: str | None = None, first: int = 1) -> History:
-    """Returns the history of demand, with that of returns in it if there is one: counts and cells by role."""
-    made = {role: History(tuple(counts[role]), reading.places(cells[role]), *reading.finish(), every, first)
-            for role in counts}
-    return replace(made["quantity"], returns=made.get("returned"))
-
-
 def _undated(reading: Reading, roles: Sequence[str]) -> History:
     """Returns the history of a file in which each row is a period."""
     reading.check_count("quantity", "rows")
-    reading.keep({role: reading.amounts(role, "negative period", 0) for role in roles})
+    for role in roles:
+        reading.read_amounts(role, "period")
+    reading.keep()
     reading.suspect()
-    return _history(reading, reading.values, {role: [reading.said(reading.text(role, row), row, role)
-                                                     for row in reading.used] for role in roles})
+    return reading.history({role: reading.of(role) for role in roles}, {role: reading.cells(role) for role in roles})
 
 
-class Movements(Reading):
-    """The dated movements of an item: for each row of use a day with its form, and an amount in each column."""
+def _read_movements(reading: Reading, roles: Sequence[str], net: bool) -> None:
+    """Reads dated movements. A last row without a date that looks like a total has this fault alone."""
+    reading.read_dates("date")
+    for role in roles:
+        reading.read_amounts(role, "whole" if net else "movement")
+    rows, is_bad = reading.used, reading.rows.having("quantity", reading.wrong["quantity"])
+    if len(rows) and reading.rows.codes["date"][rows[-1]] in reading.wrong["date"]:
+        others = reading.numbers["quantity"][[row for row in rows[:-1] if not is_bad[row]]].tolist()
+        number = None if is_bad[rows[-1]] else int(reading.numbers["quantity"][rows[-1]])
+        why = reading.total_reason(rows[-1], number, others)
+        if why:
+            reading.reject(Remark("undated total", {"why": why}), rows[-1], "date")
+    reading.keep()
 
-    def __init__(self, sheet: Sheet, names: Mapping[str, str], date: str, every: str, net: bool) -> None:
-        """Reads the movements. Raises RefusedFaults."""
-        super().__init__(sheet, {**names, "date": date})
-        self.every, self.reader, self.roles = every, self.rows.date_reader(), [*names]
-        columns: dict[str, list[Any]] = {"date": self.read("date", self.reader.read)}
-        columns |= {role: self.amounts(role, "negative movement", None if net else 0) for role in names}
-        if columns["date"] and columns["date"][-1] is None:
-            self._name_total(columns["quantity"])
-        self.keep(columns)
 
-    def _name_total(self, amounts: Sequence[int | None]) -> None:
-        """Says of a last row without a date that it looks like a total, if it does, in place of its other faults."""
-        row = self.used[-1]
-        reason = self.total_reason(row, amounts[-1], [it for it in amounts[:-1] if it is not None])
-        if reason:
-            self._faults = [it for it in self._faults if it[0] != self.lines[row]]
-            self.reject(f"the row looks like a total of the rows above ({reason}); leave it out", row, "date")
-
-    def cut(self, start: Day | None, end: Day | None) -> None:
-        """Takes movements before the start or after the end out, with notes."""
-        for where, name, bound, sign in (("before", "start", start, 1), ("after", "end", end, -1)):
-            inside = [bound is None or sign * (day - bound).days >= 0 for day, _ in self.values["date"]]
-            lines = [self.lines[row] for row, is_in in zip(self.used, inside) if not is_in]
+def _cut(reading: Reading, start: Day | None, end: Day | None) -> None:
+    """Takes movements before the start or after the end out, with notes."""
+    for code, bound, sign in (("before the record", start, 1), ("after the record", end, -1)):
+        if bound:
+            outside = sign * (reading.numbers["date"][reading.used] - bound.toordinal()) < 0
+            lines = reading.rows.lines[reading.used[outside]].tolist()
             if lines:
-                self.note(f"rows {where} {argument(name, str(bound))} left out: {len(lines):,} ({named_lines(lines)})")
-            self.take(inside)
-        if not self.used:
-            raise RefusedFaults([Fault(f"no row is from {start or 'the beginning'} to {end or 'the end'}; {CHANGE}",
-                                       self.sheet.name)])
-
-    def spanned(self, start: Day | None, end: Day | None, whole: bool) -> range:
-        """Returns the numbers of the periods of the record, with a note: of all items, if the rows are those of one.
-        Raises RefusedFaults for none, or for too many."""
-        every, days = self.every, {day for day, _ in self.values["date"]}
-        known = set(days)
-        for cell in self.rows.columns["date"].distinct if self.rules.item else ():
-            with contextlib.suppress(Unreadable):
-                known.add(self.reader.read(cell)[0])
-        latest = max(known)
-        first, last = period_of(start or min(known), every), period_of(end or latest, every)
-        partial = [start is None or first_day(first, every) != start,
-                   end is None or first_day(last + 1, every) - datetime.timedelta(days=1) != end]
-        periods = range(first + (whole and partial[0]), last + 1 - (whole and partial[1]))
-        if not periods:
-            raise self.refused(f"there is no {every} between the first and the last one; leave {argument('whole')} out",
-                               self.used[0], "date")
-        row = next((row for row, (day, _) in zip(self.used, self.values["date"]) if day == latest), None)
-        is_stated = start is not None or end is not None
-        wrong = too_long(len(periods), every, CHANGE if is_stated else "correct the first or the last date")
-        if wrong:
-            raise (RefusedFaults([Fault(wrong, self.sheet.name)]) if is_stated or row is None else
-                   self.refused(wrong, row, "date"))
-        filled = len({*periods} - {period_of(day, every) for day in days})
-        self.note(f"{every}s from {period_name(periods[0], every)} to {period_name(periods[-1], every)}: "
-                  f"{len(periods)}, filled with 0: {filled}; {_ends_text(partial, whole)}")
-        return periods
-
-    def summed(self, periods: range) -> History:
-        """Returns the history of the movements: their sums by period, none of which may be negative."""
-        every, first = self.every, periods[0]
-        number_of = {day: period_of(day, every) - first for day in {day for day, _ in self.values["date"]}}
-        numbers = np.array([number_of[day] for day, _ in self.values["date"]])
-        inside = (numbers >= 0) & (numbers < len(periods))
-        counts: dict[str, list[int]] = {}
-        unmet: list[Said] = []
-        for role in reversed(self.roles):
-            moves = np.array(self.values[role], np.int64)
-            counts[role], moved, place = summed(numbers[inside], moves[inside], len(periods))
-            if moved:
-                self.note(f"column {self.columns[role].name!r}: amounts below 0 that were taken off earlier {every}s: "
-                          f"{moved}")
-            if place is not None:
-                row = int(np.flatnonzero(inside)[place])
-                name = period_name(periods[numbers[row]], every)
-                unmet.append(self.said(f"{moves[row]} is more than was asked for up to {every} {name}; correct the "
-                                       "row, or leave it out", self.used[row], role))
-        if unmet:
-            raise RefusedFiles(self.placed(unmet), self.finish()[0])
-        firsts = dict(zip(reversed(numbers.tolist()), reversed(self.used)))
-        rows = np.bincount(numbers[inside], minlength=len(periods)).tolist()
-
-        def cell(role: str, number: int, count: int) -> Said | None:
-            """Returns the first cell of a period, and how a message names its sum."""
-            what = f"{every} {period_name(first + number, every)}, which comes to {count} in {rows[number]} row"
-            return self.said(f"{what}{'s' * (rows[number] > 1)},", firsts[number], role) if rows[number] else None
-        return _history(self, counts, {role: [cell(role, *it) for it in enumerate(counts[role])] for role in counts},
-                        every, first)
+                reading.note(code, day=str(bound), count=len(lines), lines=named_lines(lines))
+            reading.used = reading.used[~outside]
+    if not len(reading.used):
+        raise reading.refused("no row in the record", start=str(start or "the beginning"), end=str(end or "the end"))
 
 
-def _ends_text(partial: Sequence[bool], whole: bool) -> str:
-    """Returns what is to be said of periods at the ends of the record that may be partial."""
-    named = " and ".join(it for it, cut in zip(("the first", "the last"), partial) if cut)
-    verb, pronoun = ("are", "them") if all(partial) else ("is", "it")
-    if not named:
-        return "all are whole"
-    return f"{named} one {verb} left out" if whole else (
-        f"{named} one may be partial ({argument('whole')} leaves {pronoun} out)")
+def _spanned(reading: Reading, every: str, start: Day | None, end: Day | None, whole: bool) -> range:
+    """Returns the numbers of the periods of the record, with a note: of all items, if the rows are those of one. Raises
+    RefusedFaults for none, or for too many."""
+    days, rows = reading.numbers["date"], reading.used
+    known = days[~reading.rows.faulty({"date": reading.wrong["date"]})] if reading.rules.item else days[rows]
+    first = period_of(start or Day.fromordinal(int(known.min())), every)
+    last = period_of(end or Day.fromordinal(int(known.max())), every)
+    partial = (start is None or first_day(first, every) != start,
+               end is None or first_day(last + 1, every) - datetime.timedelta(days=1) != end)
+    periods = range(first + (whole and partial[0]), last + 1 - (whole and partial[1]))
+    if not periods:
+        raise reading.refused("no period", rows[0], "date", every=every)
+    if len(periods) > MOST_WEIGHT:
+        latest = [] if start or end else rows[days[rows] == known.max()].tolist()
+        raise reading.refused("too many periods" if start or end else "too many days", latest[0] if latest else None,
+                              "date" * bool(latest), count=len(periods), every=every, most=MOST_WEIGHT)
+    filled = len({*periods} - {*periods_of_days(days[rows], every).tolist()})
+    ends = ENDS[partial] if not any(partial) else f"{ENDS[partial]} {'left out' if whole else 'partial'}"
+    reading.note(ends, every=every, filled=filled, first=period_name(periods[0], every),
+                 last=period_name(periods[-1], every), count=len(periods))
+    return periods
+
+
+def _summed(reading: Reading, roles: Sequence[str], every: str, periods: range) -> History:
+    """Returns the history of the movements: their sums by period, none of which may be negative."""
+    numbers = periods_of_days(reading.numbers["date"][reading.used], every) - periods[0]
+    inside = (numbers >= 0) & (numbers < len(periods))
+    rows, numbers = reading.used[inside], numbers[inside]
+    counts: dict[str, list[int]] = {}
+    unmet: list[Said] = []
+    for role in reversed(roles):
+        counts[role], moved, place = summed(numbers, reading.numbers[role][rows], len(periods))
+        if moved:
+            reading.note("undone earlier", role=role, every=every, count=moved)
+        if place is not None:
+            row, period = rows[place], period_name(periods[numbers[place]], every)
+            facts: dict[str, Value] = {"amount": int(reading.numbers[role][row]), "every": every, "period": period}
+            unmet.append(reading.said(Remark("more undone", facts), row, role))
+    if unmet:
+        raise RefusedFiles(reading.placed(unmet), reading.finish()[0])
+    firsts = dict(zip(reversed(numbers.tolist()), reversed(rows.tolist())))
+    sizes = np.bincount(numbers, minlength=len(periods)).tolist()
+
+    def cell(role: str, number: int, count: int) -> Said | None:
+        """Returns the first cell of a period, and how a message names its sum."""
+        what = f"{every} {period_name(periods[number], every)}, which comes to {count} in {sizes[number]} row"
+        return reading.said(f"{what}{'s' * (sizes[number] > 1)},", firsts[number], role) if sizes[number] else None
+    return reading.history(counts, {role: [cell(role, *it) for it in enumerate(counts[role])] for role in counts},
+                           every, periods[0])
 
 
 def _lead_times(reading: Reading, every: str | None) -> LeadTimes:
     """Returns the lead times of a column, converted from the unit in its heading if the period is known."""
     reading.check_count("lead", "rows")
-    reading.keep({"lead": reading.amounts("lead", "below 1", 1, if_empty="no lead")})
+    reading.read_amounts("lead", "lead")
+    reading.keep()
     reading.suspect()
-    numbers, column = reading.values["lead"], reading.columns["lead"]
-    leads: list[tuple[int, ...]] = [(number,) for number in numbers]
-    if column.unit and every is None:
-        reading.note(f"column {column.name!r}: its numbers are taken as periods")
-    elif column.unit and column.unit != every:
-        reading.note(converted(column, "lead", str(every)))
-        leads = [periods_of(number * conversion("lead", column.unit, str(every))[0]) for number in numbers]
-    places = reading.places([reading.said(reading.text("lead", row), row, "lead")
-                             for row, its in zip(reading.used, leads) for _ in its])
+    unit = reading.sheet.columns["lead"].unit
+    leads: list[tuple[int, ...]] = [(number,) for number in reading.of("lead")]
+    if unit and every is None:
+        reading.note("leads in periods", role="lead")
+    elif unit and unit != every:
+        reading.note_unit("lead", str(every))
+        leads = [periods_of(number * conversion("lead", unit, str(every))[0]) for number in reading.of("lead")]
+    places = reading.places([cell for cell, its in zip(reading.cells("lead"), leads) for _ in its])
     return LeadTimes(tuple(lead for its in leads for lead in its), places, *reading.finish(), None)
 
 
 def _orders(reading: Reading, every: str) -> LeadTimes:
     """Returns the lead times between the dates of orders and of their receipts."""
-    orders, received = reading.used, [row for row in reading.used if reading.text("received", row)]
-    if orders and not received:
-        raise reading.refused("no order has a date of receipt; take orders of longer ago", orders[0], "received")
-    reading.used, reading.count = received, reading.count - len(orders) + len(received)
+    orders = reading.used
+    reading.used = orders[~reading.rows.having("received", reading.rows.empty("received"))[orders]]
+    received = len(reading.used)
+    if len(orders) and not received:
+        raise reading.refused("no receipt", orders[0], "received")
+    reading.count -= len(orders) - received
     reading.check_count("ordered", "orders")
-    reader = reading.rows.date_reader()
-    dates = {role: reading.read(role, reader.read) for role in ("ordered", "received")}
-    for place, (row, placed, there) in enumerate(zip(received, *dates.values())):
-        if placed and there and there[0] < placed[0]:
-            dates["received"][place] = None
-            reading.reject(f"{reading.text('received', row)!r} is before the order of "
-                           f"{reading.text('ordered', row)!r}; correct one of the dates, or leave the row out", row,
-                           "received")
-    reading.keep(dates)
-    leads = [max(1, period_of(there, every) - period_of(placed, every))
-             for (placed, _), (there, _) in zip(*reading.values.values())]
-    reading.note(f"lead times in {every}s: {len(leads)}, orders not yet received and left out: "
-                 f"{len(orders) - len(received)}")
+    for role in ("ordered", "received"):
+        reading.read_dates(role)
+    placed, there = reading.numbers.values()
+    for row in reading.used[(there < placed)[reading.used]].tolist():
+        if not reading.rows.faults(row, reading.wrong):
+            texts: dict[str, Value] = {role: reading.text(role, row) for role in ("ordered", "received")}
+            reading.reject(Remark("received before", texts), row, "received")
+    reading.keep()
+    leads = [max(1, last - first) for first, last in zip(*(
+        periods_of_days(days[reading.used], every).tolist() for days in (placed, there)))]
+    reading.note("orders", every=every, count=len(leads), open=len(orders) - received)
     reading.suspect()
     places = reading.places([reading.said(f"the lead time of {lead} {every}s since the order of "
                                           f"{reading.text('ordered', row)}", row, "received")
-                             for row, lead in zip(reading.used, leads)])
+                             for row, lead in zip(reading.used.tolist(), leads)])
     return LeadTimes(tuple(leads), places, *reading.finish(), every)

@@ -142,7 +142,7 @@ class Masters:
             raise Unreadable("is share", cell)
         number = reader.number(text.rstrip("% ") if is_percent else cell, "cost")
         if self.share == "share" and number >= 1 and not is_percent:
-            raise Unreadable("small percent", cell, role="holding")
+            raise Unreadable("small percent of holding", cell)
         return number / 100 if is_percent and self.share == "share" else number
 
     def read(self, cells: Mapping[str, Cell], observed: Sequence[int]) -> tuple[dict[str, Any], list[CellFault]]:

@@ -15,11 +15,11 @@ from ..errors import Refused, argument
 from ..formats import MOST_ITEMS, MOST_LEAD
 from ..remarks import Remark
 from .catalogued import Reject
-from .cells import (EVERY, TOTAL, UNPRINTABLE, Cell, CellFault, Unreadable, fault, named_lines, on_one_line,
-                    period_name, period_of, text_of)
-from .columns import COLUMNS, ROLES, conversion, unit_fault
+from .cells import (EVERY, TOTAL, UNPRINTABLE, Cell, CellFault, Numbers, Unreadable, fault, named_lines, on_one_line,
+                    period_name, periods_of_days, text_of)
+from .columns import COLUMNS, ROLES, unit_fault
 from .item import AMOUNTS, MONEY, Item, Masters
-from .observed import Day, Numbers, ends_of, record_of, summed
+from .observed import Day, ends_of, record_of, summed
 from .rows import Flags, Rows, far_above
 from .sources import Rules
 
@@ -153,8 +153,7 @@ class Reader:
             name = rows.cell("item", row)
             wrong = fault("item", name, "unprintable name" if name else "no item")
             if row in rows.wide:
-                cells, text = rows.wide[row]
-                wrong = fault("", text, "long", cells=cells, columns=len(rows.sheet.heading), sign=rows.sheet.sign)
+                wrong = "", rows.wide[row][1], rows.long(row)
             self._reject_row(kind, row, [wrong], is_named=False)
 
     def read(self) -> None:
@@ -184,22 +183,8 @@ class Reader:
             if kind == "demand":
                 self.record.check(day)
             return day
-        days, faults = self.rows[kind].values(role, day_of, Day.min)
-        codes, every = self.rows[kind].codes[role], self.words.every
-        return (np.array([day.toordinal() for day in days], np.int64)[codes],
-                np.array([period_of(day, every) for day in days], np.int64)[codes], faults)
-
-    def _amount(self, role: str) -> Callable[[Cell], int]:
-        factor = int(conversion(role, self.rows["demand"].sheet.columns[role].unit, self.words.every)[0])
-
-        def read(cell: Cell) -> int:
-            if role == "returned" and cell == "":
-                return 0
-            number = self.amounts[role].whole(cell) * factor
-            if number < 0 and (role == "returned" or not self.words.net):
-                raise Unreadable("negative", cell)
-            return number
-        return read
+        days, faults = self.rows[kind].days(role, day_of)
+        return days, periods_of_days(days, self.words.every), faults
 
     def _moves(self) -> tuple[Callable[[int], Moves], set[int]]:
         """Returns the function that gives the movements of an item, and the items of totals alone. Rows with faults,
@@ -207,9 +192,10 @@ class Reader:
         rows = self.rows["demand"]
         _, periods, dated = self._dates("demand", "date")
         faults, amounts = {"date": dated}, {"returned": np.broadcast_to(np.int64(0), len(rows))}
-        for role in (it for it in ("quantity", "returned") if it in rows.columns):
-            values, faults[role] = rows.values(role, self._amount(role), 0)
-            amounts[role] = np.array(values, np.int64)[rows.codes[role]]
+        kinds = {"quantity": "whole" if self.words.net else "sales", "returned": "returns"}
+        for role in kinds.keys() & rows.columns:
+            unit = rows.sheet.columns[role].unit
+            amounts[role], faults[role] = rows.amounts(role, self.amounts[role], kinds[role], unit)
         if "measure" in rows.columns and self.words.factors:
             units = rows.columns["measure"].distinct
             factors = np.array([self.words.factors.get(text_of(unit), 1) for unit in units], np.int64)
@@ -244,8 +230,8 @@ class Reader:
         for item in np.unique(rows.codes["item"][again]).tolist():
             mine, name = twins_of(item), self.names[item]
             lines, self.twice[item] = rows.lines[mine].tolist(), len(mine)
-            twin = fault("item", name, "twin", count=len(lines), lines=named_lines(lines),
-                         first=int(rows.lines[first[mine[0]]]))
+            twin = fault("item", name, "twins" if len(lines) > 1 else "twin", count=len(lines),
+                         lines=named_lines(lines), first=int(rows.lines[first[mine[0]]]))
             self._reject("row" if leaves else "suspicious", "demand", lines[0], name, [twin], len(lines) * leaves)
         self.counts["items"]["twice"] += self.twice.total()
         self.counts["files"]["demand"]["rejected"] += self.twice.total() * leaves
@@ -260,8 +246,7 @@ class Reader:
         placed, first, placed_faults = self._dates("orders", "ordered")
         there, last, there_faults = self._dates("orders", "received")
         faults, leads = {"ordered": placed_faults, "received": there_faults}, np.maximum(1, last - first)
-        is_open = rows.having("received", [code for code, cell in enumerate(rows.columns["received"].distinct)
-                                           if cell == ""])
+        is_open = rows.having("received", rows.empty("received"))
         bad = rows.good & ~is_open & (rows.faulty(faults) | (there < placed) | (leads > MOST_LEAD))
         for row in np.flatnonzero(bad).tolist():
             ordered, received = rows.cell("ordered", row), rows.cell("received", row)

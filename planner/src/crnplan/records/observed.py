@@ -7,17 +7,15 @@ from dataclasses import dataclass, field
 from typing import TYPE_CHECKING
 
 import numpy as np
-import numpy.typing as npt
 
 from ..errors import Fault, Refused, argument
 from ..formats import MOST_WEIGHT
-from .cells import DateReader, Unreadable, first_day, period_name, period_of
+from .cells import DateReader, Numbers, Unreadable, first_day, period_name, period_of
 
 if TYPE_CHECKING:
     import pandas as pd
 
 Day = datetime.date
-Numbers = npt.NDArray[np.int64]
 # A row so many days away from the rest, if at most one row in so many is, has a wrong date.
 FAR_DAYS, RARE = 366, 1_000
 # An item that is first seen after so many periods begins at its first movement.

@@ -5,6 +5,7 @@ blank ones.
 """
 from __future__ import annotations
 
+import datetime
 import sys
 from array import array
 from collections.abc import Callable, Collection, Iterator, Mapping
@@ -14,8 +15,7 @@ import numpy as np
 import numpy.typing as npt
 
 from ..remarks import Remark
-from .cells import AmountReader, Cell, CellFault, DateReader, Unreadable, bare_cell, dated_cell, text_of
-from .observed import Numbers
+from .cells import AmountReader, Cell, CellFault, DateReader, Numbers, Unreadable, bare_cell, dated_cell, text_of
 from .sources import Sheet
 
 Flags = npt.NDArray[np.bool_]
@@ -101,12 +101,13 @@ class Rows:
     def twins(self) -> Numbers:
         """Returns for each row the first row with the same cells, and forgets the hashes of 64 bits by which rows are
         compared: in a million rows, two different ones collide once in 37 million files."""
-        order = np.argsort(self._hashes, kind="stable")
-        starts = np.flatnonzero(np.r_[True, np.diff(self._hashes[order]) != 0])[:len(order)]
-        first = np.empty(len(order), np.int64)
-        first[order] = np.repeat(order[starts], np.diff(np.r_[starts, len(order)]))
+        _, first, which = np.unique(self._hashes, return_index=True, return_inverse=True)
         del self._hashes
-        return first
+        return first[which]
+
+    def long(self, row: int) -> Remark:
+        """Returns what is wrong with a row that has more cells than the heading."""
+        return Remark("long", {"cells": self.wide[row][0], "columns": len(self.sheet.heading), "sign": self.sheet.sign})
 
     def faulty(self, faults: Mapping[str, Mapping[int, Remark]]) -> Flags:
         """Returns which rows have a cell that can't be read, by role and the code of the value."""
@@ -159,6 +160,21 @@ class Rows:
                 values.append(default)
                 faults[code] = why.remark
         return values, faults
+
+    def days(self, role: str, read: Callable[[Cell], datetime.date]) -> tuple[Numbers, dict[int, Remark]]:
+        """Returns the day of each row's date, as an ordinal number, and what is wrong with values, by code."""
+        values, faults = self.values(role, read, datetime.date.min)
+        return np.array([day.toordinal() for day in values], np.int64)[self.codes[role]], faults
+
+    def amounts(self, role: str, reader: AmountReader, kind: str, packs: str = "") -> tuple[Numbers, dict[int, Remark]]:
+        """Returns the amount of each row, of a kind of KINDS, in items of which a pack has so many, and what is wrong
+        with values, by code."""
+        values, faults = self.values(role, lambda cell: int(reader.number(cell, kind)) * int(packs or 1), 0)
+        return np.array(values, np.int64)[self.codes[role]], faults
+
+    def empty(self, role: str) -> list[int]:
+        """Returns the codes of the empty cells of a column."""
+        return [code for code, cell in enumerate(self.columns[role].distinct) if cell == ""]
 
     def having(self, role: str, codes: Collection[int]) -> Flags:
         """Returns which rows have one of these values in a column."""

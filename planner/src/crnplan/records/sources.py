@@ -41,6 +41,8 @@ DELIMITERS = {",": ",", ";": ";", "tab": "\t", "\t": "\t"}
 BOOKS = (".xlsx", ".xlsm")
 MARKS = ((codecs.BOM_UTF8, "utf-8-sig"), (codecs.BOM_UTF16_LE, "utf-16"), (codecs.BOM_UTF16_BE, "utf-16"))
 EXPORT = "or export the file as CSV in UTF-8"
+# So bytes are kept in a text that are not of its encoding: as U+DC00 and so on, which no text has.
+ESCAPES, ESCAPED = "crnplan.escapes", re.compile("[\udc00-\udcff]")
 # Bytes beside letters that are letters in cp1250, and signs or rare letters in cp1252; and the reverse.
 CENTRAL = b"\x8c\x8d\x8f\x9c\x9d\x9f\xa3\xa5\xaf\xb3\xb9\xbe\xbf\xe6\xec"
 WESTERN = b"\xe0\xe2\xe5\xe8\xea\xf1\xf2\xf8\xfb"
@@ -85,6 +87,14 @@ class Rules:
             check_format(pattern)
 
 
+def escape(fault: Any) -> tuple[str, int]:
+    """Returns the first byte of a text that is not of its encoding as one of ESCAPES, and where to read on."""
+    return chr(0xDC00 + fault.object[fault.start]), fault.start + 1
+
+
+codecs.register_error(ESCAPES, escape)
+
+
 def likely_encoding(data: bytes) -> str:
     """Returns the encoding that bytes which are not UTF-8 are likely in: gb18030, cp1250, cp1252 or latin-1."""
     runs = re.findall(b"[\x81-\xfe]+", data)
@@ -100,31 +110,29 @@ def likely_encoding(data: bytes) -> str:
     return "cp1252" if re.search(b"[\x80-\x9f]", data) else "latin-1"
 
 
-def decoded(name: str, data: bytes, encoding: str, is_all: bool = True, line: int = 1) -> tuple[str, Fault | None]:
-    """Returns the text of bytes that begin in a line, and what is wrong with it: the first byte that is not of the
-    encoding (then the text is empty), else a NUL character, as UTF-16 without a byte order mark has."""
-    try:
-        text = codecs.getincrementaldecoder(encoding)().decode(data, is_all)
-        before, zero, _ = text.partition("\0")
-        if not zero:
-            return text, None
-        zeros = [data[place::2].count(0) for place in (0, 1)]
-        wide = argument("encoding", "utf-16-be" if zeros[0] > zeros[1] else "utf-16-le")
-        what = f"there is a NUL character, as in UTF-16; say {wide}"
-    except UnicodeError as fault:
-        start, is_utf_8 = getattr(fault, "start", 0), encoding[:5] == "utf-8"
-        bare = getattr(fault, "object", data)  # without a byte order mark of UTF-8
-        text, before = "", bare[:start].decode(encoding, "replace")
-        other = argument("encoding", likely_encoding(data)) if is_utf_8 else f"another {argument('encoding')}"
-        what = f"the byte 0x{bare[start:start + 1].hex()} is not {'UTF-8' if is_utf_8 else encoding}; say {other}"
-    return text, Fault(f"{what}, {EXPORT}", name, line + before.count("\n"), len(before) - before.rfind("\n"))
+def place_behind(before: str, line: int = 1) -> tuple[int, int]:
+    """Returns the line and the column behind a text that begins in a line."""
+    return line + before.count("\n"), len(before) - before.rfind("\n")
+
+
+def byte_fault(name: str, text: str, encoding: str, line: int = 1) -> Fault | None:
+    """Returns what is wrong with the first byte that is not of the encoding, in a text that has such bytes as ESCAPES;
+    None if there is none."""
+    bad = ESCAPED.search(text)
+    if bad is None:
+        return None
+    is_utf_8 = encoding[:5] == "utf-8"
+    other = (argument("encoding", likely_encoding(text.encode("utf-8", "surrogateescape"))) if is_utf_8 else
+             f"another {argument('encoding')}")
+    return Fault(f"the byte 0x{ord(bad[0]) - 0xDC00:02x} is not {'UTF-8' if is_utf_8 else encoding}; say {other}, "
+                 f"{EXPORT}", name, *place_behind(text[:bad.start()], line))
 
 
 def head_of(path: Path, name: str, rules: Rules) -> tuple[str, str, Fault | None]:
     """Returns the encoding of a file, the text of its first lines, and what is wrong with its bytes. The encoding is
     that of a byte order mark, else the stated one, else UTF-8. If nobody has stated it and the bytes are not UTF-8, it
     is the likely one, with a fault: so the rest of the file can be checked too. Raises Refused, and RefusedFaults for
-    other bytes that can't be decoded."""
+    other bytes that can't be decoded, and for NUL characters, as UTF-16 without a byte order mark has."""
     try:
         with path.open("rb") as file:
             data = file.read(HEAD_BYTES)
@@ -137,16 +145,23 @@ def head_of(path: Path, name: str, rules: Rules) -> tuple[str, str, Fault | None
                                    name, 1)])
     if not is_all and not encoding.startswith("utf-16"):
         data = data[:data.rfind(b"\n") + 1] or data
-    text, wrong = decoded(name, data, encoding, is_all)
-    if wrong and not text and encoding == "utf-8" and not rules.encoding:
-        likely = likely_encoding(data)
-        text = data.decode(likely, "replace")
-        if "\0" not in text:
-            return likely, text, wrong
-        wrong = decoded(name, data, likely)[1]
-    if wrong:
+    try:
+        text = codecs.getincrementaldecoder(encoding)(ESCAPES).decode(data, is_all)
+    except UnicodeError:  # UTF-16 without its byte order mark
+        text = chr(0xDC00 + data[0])
+    wrong = byte_fault(name, text, encoding)
+    if wrong and (rules.encoding or encoding != "utf-8"):
         raise RefusedFaults([wrong])
-    return encoding, text, None
+    if wrong:
+        encoding = likely_encoding(data)
+        text = data.decode(encoding, "replace")
+    before, zero, _ = text.partition("\0")
+    if zero:
+        is_large = data[::2].count(0) > data[1::2].count(0)
+        wide = argument("encoding", "utf-16-be" if is_large else "utf-16-le")
+        raise RefusedFaults([Fault(f"there is a NUL character, as in UTF-16; say {wide}, {EXPORT}", name,
+                                   *place_behind(before))])
+    return encoding, text, wrong
 
 
 def state_of(path: Path) -> tuple[int, int]:
@@ -311,35 +326,28 @@ class TextSheet(Sheet):
     def rows(self) -> Iterator[Row]:
         """Yields the rows with their lines, while `kept` has their text. Nobody may change the file meanwhile. Raises
         RefusedFaults for bytes or quotes that can't be read."""
-        self.kept, errors = list[str](), "replace" if self.fault else "strict"
+        self.kept, errors = list[str](), "replace" if self.fault else ESCAPES
         try:
             with unchanged(self.path, self.name, self.state), self.path.open(encoding=self.encoding, errors=errors,
                                                                              newline="") as file:
-                for row in rows_of_lines(self.name, self._short_lines(file), self.delimiter):
+                for row in rows_of_lines(self.name, self._good_lines(file), self.delimiter):
                     yield row
                     self.kept.clear()
-        except UnicodeError as fault:
-            raise RefusedFaults([self._undecodable()]) from fault
         except OSError as fault:
             raise Refused(f"{self.name}: {fault.strerror}; check the name of the file") from fault
 
-    def _short_lines(self, file: io.TextIOBase) -> Iterator[str]:
-        """Yields the lines of a file with their ends. Raises RefusedFaults for one that is too long."""
+    def _good_lines(self, file: io.TextIOBase) -> Iterator[str]:
+        """Yields the lines of a file with their ends. Raises RefusedFaults for one that is too long, or has a byte that
+        is not of the encoding."""
         for number, line in enumerate(iter(functools.partial(file.readline, MOST_LETTERS), ""), 1):
             if len(line) == MOST_LETTERS:
                 raise RefusedFaults([Fault(f"the line has more than {MOST_LETTERS - 1:,} letters; end each row with a "
                                            "line feed", self.name, number)])
+            wrong = None if line.isascii() else byte_fault(self.name, line, self.encoding, number)
+            if wrong:
+                raise RefusedFaults([wrong])
             self.kept.append(line)
             yield line
-
-    def _undecodable(self) -> Fault:
-        """Returns the fault of the first line that can't be decoded; of UTF-16 no line is named."""
-        if self.encoding.startswith("utf-16"):
-            return Fault(f"a byte is not {self.encoding}; say another {argument('encoding')}, {EXPORT}", self.name)
-        with self.path.open("rb") as file:
-            lines = enumerate(iter(lambda: file.readline(HEAD_BYTES), b""), 1)
-            faults = (decoded(self.name, line, self.encoding, True, number)[1] for number, line in lines)
-            return next(filter(None, faults))
 
     def texts(self, lines: Iterable[int]) -> dict[int, str]:
         """Returns the text of each of the rows that begin in these lines, as it stands in the file."""
@@ -358,7 +366,7 @@ class TextSheet(Sheet):
         cells = re.finditer(rf' *(?:"(?:[^"]|"")*")?[^{sign}]*(?:{sign}|\Z)', text)
         start = next((cell.start() for cell in itertools.islice(cells, place, None)), len(text))
         start += len(text[start:]) - len(text[start:].lstrip(" "))
-        return line + text.count("\n", 0, start), start - text.rfind("\n", 0, start)
+        return place_behind(text[:start], line)
 
 
 def sheet_of_book(path: Path, sheet: str | None, rules: Rules) -> Sheet:

@@ -44,7 +44,7 @@ def test_number_in_any_form(digits: int, places: int, decimal: str | None, data:
     else:
         assert AmountReader(decimal).number(text) == number
         if number.denominator == 1:
-            assert AmountReader(decimal).whole(text) == number
+            assert AmountReader(decimal).number(text, "whole") == number
 
 
 @given(text=st.text("0123456789.,-+ '\u00a0x", max_size=12), decimal=st.sampled_from([".", ","]))
@@ -54,7 +54,7 @@ def test_any_text(text: str, decimal: str) -> None:
     numbers = set()
     for sign in (decimal, "." if decimal == "," else ",", None):
         try:
-            number = AmountReader(sign).whole(text)
+            number = AmountReader(sign).number(text, "whole")
             assert sign or number in readings(text).values()
             numbers.add(number)
         except Unreadable as why:
