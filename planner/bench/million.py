@@ -18,8 +18,8 @@ import click
 
 from crnplan.curve.exchange import Items
 from crnplan.curve.exchange_curve import CANDIDATES, gather
+from crnplan.pages.catalogue_page import PAGE
 from crnplan.pages.catalogue_tables import DECISIONS, EXACT, planned_of
-from crnplan.pages.exports import PAGE
 from crnplan.plan.catalogue import ANSWERS, PlannedFolder, planned_folder
 from crnplan.records.catalogued import CATALOGUE, READ
 from crnplan.files import own_folder

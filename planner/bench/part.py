@@ -39,7 +39,7 @@ def learn(folder: Path, jobs: int) -> None:
 
 def plan(folder: Path, jobs: int) -> None:
     """Plans all items, and writes the tables."""
-    from crnplan.pages.exports import CATALOGUE_FILES
+    from crnplan.pages.catalogue_page import CATALOGUE_FILES
     from crnplan.plan.catalogue import plan_into
     with own_folder(folder / PLAN, CATALOGUE, CATALOGUE_FILES) as own:
         plan_into(own, Settings(), jobs=jobs)
@@ -53,7 +53,7 @@ def curve(folder: Path, jobs: int) -> None:
 
 def page(folder: Path, jobs: int) -> None:
     """Writes the page of all items."""
-    from crnplan.pages.exports import report
+    from crnplan.pages.catalogue_page import report
     report(folder / PLAN)
 
 

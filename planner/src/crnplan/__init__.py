@@ -37,7 +37,7 @@ if TYPE_CHECKING:
     from .backtesting import Backtests as Backtests, backtest as backtest
     from .records.catalogue_reading import Catalogue as Catalogue, read_catalogue as read_catalogue
     from .curve.exchange_curve import exchange_curve as exchange_curve
-    from .pages.exports import report as report
+    from .pages.catalogue_page import report as report
 
 # The module of each public name: those above that are imported as themselves, which is how checkers of types know them.
 _HOMES = {name.asname: node.module for node in ast.walk(ast.parse(Path(__file__).read_text("utf-8")))

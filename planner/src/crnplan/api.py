@@ -14,9 +14,9 @@ from .crnsim.program import find_program
 from .decide.sensitivity import Moves
 from .errors import Refused, argument
 from .files import Folder, own_folder
+from .pages.catalogue_page import CATALOGUE_FILES, report
 from .pages.catalogue_tables import catalogue_summary, decisions_of, faults_of, rejects_of
-from .pages.exports import CATALOGUE_FILES, plan_item as plan_one_item, report
-from .pages.item_page import ItemWords, item_page, item_summary, policies_of
+from .pages.item_page import ItemWords, item_page, item_summary, plan_item as plan_one_item, policies_of
 from .plan.catalogue import Lost, Totals, plan_into, planned_folder
 from .plan.item import Depth
 from .plan.question import Settings

@@ -18,7 +18,7 @@ if TYPE_CHECKING:
 
 Cell = str | int | float | Fraction | None
 Json = str | int | float | bool | None | Sequence["Json"] | Mapping[str, "Json"]
-Kind = Literal["text", "whole", "number", "exact"]
+Kind = Literal["text", "whole", "number", "exact", "fraction"]
 # The spelling of money: with as many decimals as its smallest unit has.
 MONEY = "money"
 TYPES = {"whole": "Int64", "number": float}
@@ -49,15 +49,16 @@ class Column:
             style = f"+z{style[1:]}" if style.startswith("+") else f"z{style}"
         if self.kind == "text":
             return lambda value: missing if value is None else str(value) if is_shown else unrun(str(value))
-        if self.kind == "exact":
-            return lambda value: missing if value is None else str(value)
+        if self.kind == "fraction" and not is_shown:
+            return lambda value: missing if value is None else str(plain(value))
         if self.kind == "number" and style:
             return lambda value: missing if value is None or value != value else format(float(value), style)
         return lambda value: missing if is_missing(value) else str(value)
 
 
-# Columns of rounded numbers, of whole ones, and of whole numbers and fractions.
+# Columns of rounded numbers, of whole ones, of whole numbers and fractions, and of fractions as crnsim writes them.
 number, whole, exact = Column, partial(Column, kind="whole"), partial(Column, kind="exact")
+fraction = partial(Column, kind="fraction")
 
 
 def text(name: str, meaning: str) -> Column:
@@ -68,6 +69,13 @@ def text(name: str, meaning: str) -> Column:
 def is_missing(value: Cell) -> bool:
     """Returns whether a cell has no figure: None or nan."""
     return value is None or isinstance(value, float) and math.isnan(value)
+
+
+def plain(cell: Cell) -> str | int | float | None:
+    """Returns a cell as plain data: a fraction as a text, None for no figure."""
+    if isinstance(cell, Fraction):
+        return f"{cell.numerator}/{cell.denominator}"
+    return None if is_missing(cell) else cell
 
 
 def unrun(cell: str) -> str:
@@ -131,11 +139,6 @@ class DataTable:
     @property
     def records(self) -> list[dict[str, Json]]:
         """Returns the rows as plain data, unrounded: fractions as texts, None for no figure."""
-        def plain(cell: Cell) -> Json:
-            """Returns a cell."""
-            if isinstance(cell, Fraction):
-                return f"{cell.numerator}/{cell.denominator}"
-            return None if is_missing(cell) else cell
         return [dict(zip(self.names, map(plain, row), strict=True)) for row in self.rows]
 
     @property

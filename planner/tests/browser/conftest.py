@@ -9,8 +9,8 @@ from pathlib import Path
 import pandas as pd
 import pytest
 
-from crnplan.pages.exports import plan_item, report
-from crnplan.pages.catalogue_page import file_of
+from crnplan.pages.catalogue_page import file_of, report
+from crnplan.pages.item_page import plan_item
 from crnplan import plan
 from planner.tests.browser.browser import Browser
 from planner.tests.catalogue.conftest import SETTINGS

@@ -16,8 +16,7 @@ from hypothesis import strategies as st
 import crnplan
 from crnplan import plan
 from crnplan.errors import CrnplanError, Refused
-from crnplan.pages.catalogue_page import file_name, file_of
-from crnplan.pages.exports import report
+from crnplan.pages.catalogue_page import file_name, file_of, report
 from crnplan.records.catalogue_reading import read_catalogue
 from planner.tests.catalogue.conftest import FILES
 from planner.tests.catalogue.made import NO_PLAN, TODAY, made

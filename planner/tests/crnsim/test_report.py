@@ -9,7 +9,7 @@ import pytest
 from hypothesis import given
 from hypothesis import strategies as st
 
-from crnplan.crnsim.report import Report, Row, counting, pooled, read_rows, report_text
+from crnplan.crnsim.report import Report, Row, counting, pooled, read_rows, table_of
 from crnplan.errors import ProgramError, Refused
 from crnplan.formats import COSTS
 from crnplan.scenario import Scenario
@@ -23,7 +23,7 @@ TEXT = f"{HEADER}\n{BASE}\n{OTHER}\n"
 def test_values(two_policies: str) -> None:
     rows = read_rows(TEXT)
     assert rows[1] == Row("B", 60, 80, 200, Fraction(50), -22, Fraction(-11, 2), Fraction(7, 2), Fraction(-1, 9))
-    assert report_text(rows) == TEXT and read_rows(TEXT.replace("\n", "\r\n")) == rows
+    assert table_of(rows).csv == TEXT and read_rows(TEXT.replace("\n", "\r\n")) == rows
     report = Report(tuple(rows), Scenario.parse(two_policies))
     frame = report.frame
     assert report.text == TEXT and frame.index.name == "policy" and list(frame) == HEADER.split(",")[1:]

@@ -7,7 +7,7 @@ from pathlib import Path
 
 import pytest
 
-from crnplan.pages.exports import plan_item
+from crnplan.pages.item_page import plan_item
 from planner.tests.conftest import Answer, Command
 
 HERE = Path(__file__).parent

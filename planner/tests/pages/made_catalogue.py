@@ -14,7 +14,7 @@ from crnplan.curve.exchange import Point
 from crnplan.curve.exchange_curve import keep_curve
 from crnplan.demand.learning import Prior
 from crnplan.files import own_folder
-from crnplan.pages.exports import CATALOGUE_FILES, write_catalogue
+from crnplan.pages.catalogue_page import CATALOGUE_FILES, write_catalogue
 from crnplan.plan.answer import (CHEAPER, RUN, SAME, SERVICE, THEORY, UNDECIDED, Answer, Figures, LawFacts, Run)
 from crnplan.plan.catalogue import ANSWERS, Planned, PlannedFolder, Totals
 from crnplan.plan.question import Settings

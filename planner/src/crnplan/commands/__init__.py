@@ -9,6 +9,7 @@ import importlib
 import io
 import os
 import sys
+import tomllib
 import traceback
 from collections.abc import Callable
 from contextlib import redirect_stderr, redirect_stdout
@@ -26,25 +27,8 @@ for _threads in ("OMP_NUM_THREADS", "OPENBLAS_NUM_THREADS"):
     os.environ.setdefault(_threads, "1")
 
 INTERRUPTED = 130
-# The subcommands in the order in which a planner meets them: the module of each, and its line in the list of `--help`.
-COMMANDS = {
-    "item": ("plans", "Plan one item: from a history and settings to a decision."),
-    "catalogue": ("catalogues", "Plan all items: from two tables to a decision for each."),
-    "backtest": ("backtests", "Test plans on the catalogue's own past."),
-    "curve": ("plans", "Show how much service the whole stock can give for its value."),
-    "report": ("plans", "Write the page of a planned catalogue, and of single items."),
-    "history": ("histories", "Make tables of a scenario from a history."),
-    "why": ("scenarios", "Say all that is wrong with a scenario, with line and advice."),
-    "suggest": ("histories", "Suggest policies from exact long-run theory."),
-    "doubt": ("histories", "Say how sure a choice is under the laws that a history allows."),
-    "run": ("scenarios", "Run a scenario on any number of policies."),
-    "decide": ("scenarios", "Rank a report's policies with intervals and verdicts."),
-    "check": ("scenarios", "Run a winner again on new keys."),
-    "sensitivity": ("scenarios", "Rank policies again if a cost or a law differs."),
-    "trajectory": ("scenarios", "Show stock and orders period by period."),
-    "sweep": ("scenarios", "Run a grid of policies and levels."),
-    "where": ("scenarios", "Say which program crnsim is used, and try it."),
-}
+# The subcommands: the module of each, and its help.
+COMMANDS: dict[str, dict[str, str]] = tomllib.loads(Path(__file__).with_name("help.toml").read_text("utf-8"))
 asked: list[str] = []  # the subcommand that was asked for last
 
 
@@ -74,7 +58,7 @@ class Group(click.Group):
     def format_commands(self, ctx: click.Context, formatter: click.HelpFormatter) -> None:
         """Lists the subcommands without importing them."""
         with formatter.section("Commands"):
-            formatter.write_dl([(name, line) for name, (_, line) in COMMANDS.items()])
+            formatter.write_dl([(name, page["line"]) for name, page in COMMANDS.items()])
 
 
 @click.group(cls=Group, context_settings={"help_option_names": ["-h", "--help"], "max_content_width": 100},
@@ -89,7 +73,7 @@ def group() -> None:
 
 def _command(name: str) -> click.Command:
     """Imports a subcommand."""
-    command: click.Command = getattr(importlib.import_module(f"{__name__}.{COMMANDS[name][0]}"), name)
+    command: click.Command = getattr(importlib.import_module(f"{__name__}.{COMMANDS[name]['module']}"), name)
     return command
 
 

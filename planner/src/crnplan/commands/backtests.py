@@ -17,10 +17,10 @@ from ..plan.settings import read_config
 from ..records.catalogue_reading import read_into
 from ..records.catalogued import CATALOGUE
 from .catalogues import words_of
-from .words import worker_options
+from .words import command, worker_options
 
 
-@click.command(epilog="Example: crnplan backtest plan")
+@command()
 @click.argument("tables", metavar="FOLDER | DEMAND.csv ITEMS.csv", nargs=-1, required=True,
                 type=click.Path(path_type=Path))
 @click.option("--orders", metavar="ORDERS.csv", help="Dates of orders and of their receipts, for lead times.")
@@ -35,20 +35,6 @@ from .words import worker_options
 @worker_options
 def backtest(tables: Sequence[Path], orders: str | None, out: Path | None, record: int, every: int, window: int | None,
              config: str | None, jobs: int | None, cluster: str | None, program: str | None) -> int:
-    """Test plans on the catalogue's own past: what they would have promised, and what came.
-
-    FOLDER is that of crnplan catalogue, whose settings count. Or the two tables are read as there, with the words of
-    crnplan.toml, and --out names a folder.
-
-    Each item is planned from its first periods. The plan is run on the periods that came: kept, and refitted. Beside it
-    are run today's policy, and exponential smoothing with a normal safety stock. With all periods in a random order the
-    kept plan shows what it misses without any effect of time. The verdict says whether promises hold, whether time
-    breaks them, or rare large demands. It predicts single items poorly.
-
-    FOLDER gets backtest.csv (a row for each item), backtest_sums.csv (all items and each class, with errors),
-    backtest.txt and backtest.html. Run again, only what has changed is tested; after an interruption it goes on. The
-    bytes do not depend on how many processes or workers there are.
-    """
     def walk_of(settings: Settings) -> Walk:
         return Walk(record, every, window or settings.window or Walk.window)
     if len(tables) == 1:

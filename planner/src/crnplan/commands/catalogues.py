@@ -12,8 +12,8 @@ import click
 import crnplan as crn
 from ..demand import METHODS
 from ..files import Folder, new_file, own_folder
+from ..pages.catalogue_page import CATALOGUE_FILES, FOUND
 from ..pages.catalogue_tables import counted_rows, reasons_of, rejects_of
-from ..pages.exports import CATALOGUE_FILES, FOUND
 from ..plan.catalogue import Lost, plan_into
 from ..plan.question import Settings
 from ..plan.settings import CONFIG, read_config
@@ -25,7 +25,7 @@ from ..records.item import BORROW
 from ..records.items import KEEP, LEAVE_OUT, Words
 from . import note
 from .histories import writing_options
-from .words import pairs_of, worker_options
+from .words import command, pairs_of, worker_options
 
 # So many reasons are named on the terminal.
 MOST_REASONS = 10
@@ -33,7 +33,7 @@ KINDS = {"row": "rows left out", "item": "items left out", "suspicious": "named,
 TAKEN = (KEEP, LEAVE_OUT)
 
 
-@click.command(epilog="Example: crnplan catalogue demand.csv items.csv --orders orders.csv --out plan")
+@command()
 @click.argument("demand", metavar="DEMAND.csv")
 @click.argument("items", metavar="ITEMS.csv")
 @click.option("--orders", metavar="ORDERS.csv", help="Dates of orders and of their receipts, for lead times.")
@@ -80,26 +80,6 @@ TAKEN = (KEEP, LEAVE_OUT)
 @click.option("--config", metavar="FILE.toml", help="Settings; by default crnplan.toml, if it is here.")
 @worker_options
 def catalogue(**asked: Any) -> int:
-    """Plan all items of a catalogue: from two tables to a decision for each item.
-
-    DEMAND.csv has a row for each movement: item, date, quantity, and perhaps returned. ITEMS.csv has a row for each
-    item: item, setup, holding, backlog or a wanted fill rate, lead time in periods, today's s and S, and perhaps
-    description, stock, price, class, and borrow (none, class or all). Costs are for one item and one period. Columns
-    are found by their names; what was found is printed as lines for crnplan.toml that state it.
-
-    FOLDER gets decisions.csv (an item a row), exact.csv (crnsim's figures as fractions), rejects.csv (all that was left
-    out, with place, reason and advice), summary.txt, and report.html with all of it. Run again, only items that have
-    changed are planned; after an interruption it goes on. The bytes do not depend on how many processes or workers
-    there are.
-
-    Items learn which laws of demand there are from one another (--borrow). Beside the policy of each item stands the
-    one that it would get by its own history alone (s_alone, S_alone), with cost and fill rate under the law that it
-    has. With --confidence, policies with a wanted fill rate are sought under 100 laws that the history allows, which
-    takes a few times as long.
-
-    The exit status is 1 if no item can be planned, or if more than half of a file's rows were rejected (--anyway allows
-    it), and 3 if the counts of rows or items do not add up, or if an item has a fault of crnplan.
-    """
     config, path = read_config(asked["config"]), Path(asked["config"] or CONFIG)
     if path.is_file():
         click.echo(f"# settings are from {path}", err=True)

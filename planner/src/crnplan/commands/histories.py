@@ -21,7 +21,7 @@ from ..records.observed import LeadTimes, Observed
 from ..records.sources import Rules
 from ..toml.documents import places_of
 from . import note
-from .words import form_options, pairs_of, picture, program_option, scenario_argument, show, together
+from .words import command, form_options, pairs_of, picture, program_option, scenario_argument, show, together
 
 Made = TypeVar("Made")
 VERSION = "# A scenario with the table [returns] has version = 2.\n"
@@ -147,7 +147,7 @@ def theory_of(scenario: crn.Scenario, path: str) -> Iterator[None]:
         raise RefusedFaults([crn.Fault(str(fault), path.removeprefix("-"), *place)]) from None
 
 
-@click.command(epilog="Example: crnplan history sales.csv --demand Menge --date Datum --every week --decimal , --net")
+@command()
 @click.argument("file", metavar="HISTORY.csv", type=click.Path())
 @demand_option
 @click.option("--returns", metavar="COLUMN", type=str.strip,
@@ -160,28 +160,6 @@ def theory_of(scenario: crn.Scenario, path: str) -> Iterator[None]:
               help="How many periods a season has that is looked for; without it as the dates say.")
 @file_options
 def history(**asked: Any) -> None:
-    """Turn a history of demand into the tables [demand], [lead] and [returns] of a scenario.
-
-    HISTORY.csv (- is standard input) has a heading and one row for each period. With --date each row is a movement.
-    The movements of a period are summed, and periods without one count 0. The tables go to standard output. Notes go
-    to standard error. All faults of the files are found in one pass.
-
-    By default (--fit auto) the predictive laws of all families that look like the history are mixed, without demands
-    above two to three times the largest one seen, and with what was observed if that speaks against them. --fit
-    predictive takes the law of the family with the least BIC. If no family looks like the history, both take what was
-    observed. Both blur 2 to 19 lead times. With --fit empirical the weight of a value is how often it was observed.
-
-    Notes warn of demand that is not independent from period to period, or not of one law: a table forgets the order.
-    They say what to do, and which effects the tests would have missed. False alarms come in less than 5% of histories.
-
-    --lead has one row for each lead time, in periods. --orders has one row for each order. An order that was placed on
-    any day of period t and received on any day of period t + L has lead time L, and 1 if both fell in one period. If
-    you place orders only at the beginning of a period, these lead times are half a period too short on average: then
-    take shorter periods.
-
-    Dates are 2026-03-31, 31.03.2026, 31.03.26, 31/03/2026 or 03/31/2026, with or without a time of day. A date with a
-    number over 12 decides whether the day or the month comes first. These options hold for all files.
-    """
     files = Files(asked)
     if asked["demand"] is None:
         names = ", ".join(column_names(asked["file"], Rules(**files.rules))) or "none"
@@ -196,7 +174,7 @@ def history(**asked: Any) -> None:
         click.echo(f"\n{VERSION if name == 'returns' else ''}{law.toml(name)}", nl=False)
 
 
-@click.command(epilog="Example: crnplan suggest my/scenario.toml > my/suggested.toml 2> my/suggested.txt")
+@command()
 @scenario_argument
 @click.option("--initial", is_flag=True, help="Write the proposed initial.")
 @click.option("--unit-zero", is_flag=True, help="Write unit = 0.")
@@ -209,39 +187,6 @@ def history(**asked: Any) -> None:
 @record_options
 @file_options
 def suggest(**asked: Any) -> None:
-    """Suggest policies for a scenario: the best (s,S) by theory, and good alternatives, beside today's. `-` is standard
-    input.
-
-    The first policy of SCENARIO.toml is today's. The same scenario goes to standard output with today's policy and up
-    to 15 others, each with its reason as a comment: the best; today's s with its best S, and today's S with its best s;
-    the cheapest that meet at least 95, 98, 99 and 99.5% of demand at once; fewer and more orders; neighbours of the
-    best. Of policies that behave alike one is listed. A table goes to standard error: of each policy the cost a period,
-    the share of demand that is met at once (fill), the share of periods that end with items owed (short), the mean
-    stock at the end of a period, and the orders a period.
-
-    The figures are those of the long run: all demand is met in the end, and the demands, returns and lead times of the
-    periods are independent and each of one law, as in crnsim. They are exact but for rounding, also if orders overtake
-    one another. If numbers are so large that they are rounded to steps of some items, the table says by how much that
-    may matter. Each policy is the best of all pairs with s >= 0 that its reason allows. If there are several lead times
-    and large numbers it is what a search over S - s finds, and the table says how good that is. The cost unit is left
-    out: in the long run it adds unit times the mean net demand to every policy. What crnsim computes from the stock
-    initial over some periods is a sample that begins elsewhere: so run the suggested scenario.
-
-    All figures are by the scenario's law of demand, and customers may ask for more. With --history, 100 laws are drawn
-    that the history allows. Beside each policy with a fill rate then stands the cheapest found that has it under at
-    least 80% of these laws (--confidence) and by the scenario's law too, and how much more it costs. FILE.csv has a row
-    for each period with the demand in the column demand, as crnplan item writes it, unless --demand names another
-    column. All words about files are those of crnplan history. Without --lead or --orders the scenario's lead times
-    hold.
-
-    Two lines on standard error are about the run. A start far from the long run biases costs by an amount that falls
-    only as 1 over periods: the mean inventory position of the best policy at the beginning of a period is proposed as
-    initial, since nothing is on order then. And unit charges the items that are left at the end too, which favours
-    policies that end with little stock. With --initial and --unit-zero the scenario is written with this initial, and
-    with unit = 0; else both stay as they are.
-
-    Nothing of this is proved; crnsim's figures are.
-    """
     from ..demand.posterior import allowed_laws, allowed_leads
     from ..theory.many_laws import CONFIDENCE
     from ..theory.suggestions import suggestions_of
@@ -266,7 +211,7 @@ def suggest(**asked: Any) -> None:
         print(suggested.toml(initial=asked["initial"], unit_zero=asked["unit_zero"]), end="")
 
 
-@click.command(epilog="Example: crnplan doubt plan/suggested.toml plan/demand.csv --plot plan/doubt.png")
+@command()
 @scenario_argument
 @click.argument("file", metavar="HISTORY.csv", type=click.Path())
 @demand_option
@@ -283,25 +228,6 @@ def suggest(**asked: Any) -> None:
 @click.option("--plot", callback=picture, metavar="FILE", help="Draw the regrets, as .png or .svg.")
 @form_options
 def doubt(**asked: Any) -> None:
-    """Say how sure a choice among the policies of a scenario is, if the demand is known from a short history alone.
-
-    HISTORY.csv is the history from which the scenario's law of demand was fitted. It has a row for each period, with
-    the demand in the column demand, as crnplan item writes it, unless --demand names another column. All words about
-    files are those of crnplan history. Without --lead or --orders the scenario's lead times hold.
-
-    Laws are drawn that the history allows, and the long run of each policy is computed under each of them. Columns:
-    cost, the mean cost of a period over the laws, which is the cost to promise, without unit; regret, how much more
-    than the best of these policies a policy costs, in the mean; regret_90, what its regret does not exceed under 90% of
-    the laws; within, the share of laws under which its regret is at most --within; is_best, the share under which it is
-    the best. own_ are the same against the best of all policies under each law. fill is the mean fill rate, fill_10
-    what it reaches under 90% of the laws. The policies are ranked by cost.
-
-    With --runs, crnsim runs the scenario under each law with the scenario's key, stock and periods. run_cost is the
-    mean cost of a period, law_spread its standard deviation over the laws, luck_spread that of one replication under
-    one law: what the coming periods will cost is as uncertain as both together.
-
-    Theory's figures are rounded and unproved; crnsim's are exact and proved for its stream, and then rounded here.
-    """
     files, scenario = Files(asked), crn.Scenario.read(asked["scenario"])
     words = {name: asked[name] for name in ("times", "within", "seed", "box", "runs", "program")}
     with files:

@@ -1,4 +1,4 @@
-"""Options that several commands share, and how their results are printed."""
+"""How commands are made, options that several of them share, and how their results are printed."""
 from __future__ import annotations
 
 import functools
@@ -13,6 +13,7 @@ import click
 
 import crnplan as crn
 from ..table import DataTable, Result
+from . import COMMANDS
 
 Decorator = Callable[[Callable[..., Any]], Callable[..., Any]]
 PICTURES = (".png", ".svg")
@@ -37,6 +38,14 @@ def pairs_of(form: str, example: str) -> Callable[[click.Context, click.Paramete
             pairs[pair[1].strip()] = pair[2].strip()
         return pairs
     return read
+
+
+def command(kind: type[click.Command] = click.Command) -> Callable[[Callable[..., Any]], click.Command]:
+    """Returns a decorator that makes the command of a function's name, with its help and its example."""
+    def made(function: Callable[..., Any]) -> click.Command:
+        page = COMMANDS[function.__name__]
+        return click.command(cls=kind, help=page["help"], epilog=f"Example: crnplan {page['example']}")(function)
+    return made
 
 
 def together(*options: Decorator) -> Decorator:
@@ -89,6 +98,6 @@ def show(result: Result, form: str | None) -> None:
         print(json.dumps(result.tree, indent=2) + "\n" if form == "json" else result.text, end="")
 
 
-def show_rows(table: DataTable, form: str | None, text: str, lines: str) -> None:
-    """Prints a table as a text, or as `csv` the lines that it has, or its rows as `json`, with fractions as texts."""
-    print(json.dumps(table.records, indent=2) + "\n" if form == "json" else lines if form == "csv" else text, end="")
+def show_rows(table: DataTable, form: str | None) -> None:
+    """Prints a table as a text, as `csv`, or its rows as `json`, with fractions as texts."""
+    print(json.dumps(table.records, indent=2) + "\n" if form == "json" else table.csv if form else table.text, end="")

@@ -23,14 +23,14 @@ from collections.abc import Iterable, Sequence
 from dataclasses import dataclass
 from fractions import Fraction
 from pathlib import Path
-from typing import TYPE_CHECKING, Any
+from typing import TYPE_CHECKING, Any, NamedTuple
 
 from .. import formats
 from ..toml.documents import shown
 from ..toml.scenarios import checked_tree, name_faults, plain_text
 from ..errors import Fault, ProgramError, Refused, argument
 from ..scenario import Costs, Policy, Scenario
-from ..table import DataTable, Json, Result, exact, text, whole
+from ..table import DataTable, Json, Result, fraction, text, whole
 from .program import find_program, run_all
 
 if TYPE_CHECKING:
@@ -44,17 +44,16 @@ FRACTION = re.compile("-?[0-9]{1,60}/[1-9][0-9]{0,59}")
 COLUMNS = (
     text("policy", "name of the policy"), whole("s", "items", "reorder point"),
     whole("S", "items", "order-up-to level"), whole("total", "money", "cost of all replications"),
-    exact("per_period", "money a period", "mean cost"), whole("diff_total", "money", "total less the base's"),
-    exact("diff_mean", "money a replication", "mean difference from the base's cost"),
-    exact("diff_var", "squared money", "variance of that mean"),
-    exact("cov", "squared money", "covariance of both costs"))
+    fraction("per_period", "money a period", "mean cost"), whole("diff_total", "money", "total less the base's"),
+    fraction("diff_mean", "money a replication", "mean difference from the base's cost"),
+    fraction("diff_var", "squared money", "variance of that mean"),
+    fraction("cov", "squared money", "covariance of both costs"))
 NO_COSTS = Costs(0, 0, 0, 0)
 # Columns whose cell may be `-`, which stands for no figure.
 MAY_LACK = ("diff_var", "cov")
 
 
-@dataclass(frozen=True)
-class Row:
+class Row(NamedTuple):
     """A row of a report: a policy (s and S in items), and its exact costs in the scenario's money.
 
     Differences are from the costs of the first policy, as docs/FORMATS.md defines them. `diff_var` and `cov` are None
@@ -72,35 +71,14 @@ class Row:
     cov: Fraction | None
 
 
-def report_text(rows: Iterable[Row]) -> str:
-    """Returns rows as the program would write them."""
-    def cell(value: str | int | Fraction | None) -> str:
-        if isinstance(value, Fraction):
-            return f"{value.numerator}/{value.denominator}"
-        return "-" if value is None else str(value)
-    lines = [HEADER, *([cell(getattr(row, name)) for name in HEADER] for row in rows)]
-    return "".join(",".join(line) + "\n" for line in lines)
+def table_of(rows: Iterable[Row]) -> DataTable:
+    """Returns rows as a table, indexed by `policy`. As CSV it is the report that the program would write."""
+    return DataTable(COLUMNS, list(rows), index="policy")
 
 
 def _refused(what: str, place: str, line: int) -> Refused:
     """Returns the error of a line of a report."""
     return Refused(str(Fault(what, place or "the report", line)))
-
-
-def _lines(text: str, place: str) -> list[list[str]]:
-    """Returns the rows of a report as lists of cells, without the heading."""
-    try:
-        heading, *rows = list(csv.reader(io.StringIO(text, newline=""))) or [[]]
-    except csv.Error as fault:
-        raise _refused(f"this is no report of crnsim: {fault}", place, 0) from fault
-    if heading != HEADER:
-        raise _refused(f"this is no report of crnsim, whose first line is {formats.HEADER}", place, 1)
-    if not rows:
-        raise _refused("the report has no policy", place, 0)
-    for line, row in enumerate(rows, 2):
-        if len(row) != len(HEADER):
-            raise _refused(f"{len(row)} columns, not {len(HEADER)}", place, line)
-    return rows
 
 
 def _value(name: str, cell: str, place: str, line: int) -> Any:
@@ -123,8 +101,19 @@ def read_rows(text: str, place: str = "") -> list[Row]:
 
     Raises Refused if a line is none of a report, or if the first policy is not the base.
     """
-    rows = [Row(**{name: _value(name, cell, place, line) for name, cell in zip(HEADER, cells)})
-            for line, cells in enumerate(_lines(text, place), 2)]
+    try:
+        heading, *lines = list(csv.reader(io.StringIO(text, newline=""))) or [[]]
+    except csv.Error as fault:
+        raise _refused(f"this is no report of crnsim: {fault}", place, 0) from fault
+    if heading != HEADER:
+        raise _refused(f"this is no report of crnsim, whose first line is {formats.HEADER}", place, 1)
+    if not lines:
+        raise _refused("the report has no policy", place, 0)
+    rows = list[Row]()
+    for line, cells in enumerate(lines, 2):
+        if len(cells) != len(HEADER):
+            raise _refused(f"{len(cells)} columns, not {len(HEADER)}", place, line)
+        rows.append(Row(*(_value(name, cell, place, line) for name, cell in zip(HEADER, cells))))
     if rows[0].diff_total != 0:
         raise _refused("the first policy is not the base, whose differences are 0", place, 2)
     return rows
@@ -136,7 +125,7 @@ def rows_of(scenario: Scenario, text: str, program: str | Path) -> list[Row]:
         rows = read_rows(text, str(program))
     except Refused:
         rows = []
-    if [(row.policy, row.s, row.S) for row in rows] != [(own.name, own.s, own.S) for own in scenario.policies]:
+    if [row[:3] for row in rows] != [(own.name, own.s, own.S) for own in scenario.policies]:
         raise ProgramError(f"{program}: what it writes is no report of the scenario; name crnsim with "
                            f"{argument('program')}")
     return rows
@@ -192,12 +181,12 @@ class Report(Result):
     @property
     def text(self) -> str:
         """Returns the report as the program writes it."""
-        return report_text(self.rows)
+        return self.table.csv
 
     @property
     def table(self) -> DataTable:
         """Returns the rows, indexed by `policy`: whole numbers, fractions, or None if there is no figure."""
-        return DataTable(COLUMNS, [[getattr(row, name) for name in HEADER] for row in self.rows], index="policy")
+        return table_of(self.rows)
 
     @property
     def tree(self) -> dict[str, Json]:

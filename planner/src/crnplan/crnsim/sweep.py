@@ -16,7 +16,7 @@ from ..scenario import Policy, Scenario
 from ..stored import Store, digest_of
 from ..toml.scenarios import checked_tree, plain_text
 from .program import program_for, run_program
-from .report import Report, Row, joined, parts_of, rows_of
+from .report import Report, joined, parts_of, rows_of
 
 REPORTS = "sweep.sqlite"
 
@@ -56,12 +56,6 @@ def run_parts(parts: Sequence[Scenario], program: str) -> list[Kept | Remark]:
     return [*map(Kept, reports)]
 
 
-def kept_rows(part: Scenario, kept: Kept | Remark, program: str) -> list[Row]:
-    """Returns the rows of a report that is kept."""
-    assert isinstance(kept, Kept)
-    return rows_of(part, kept.report, program)
-
-
 def sweep(scenario: Scenario, s: Iterable[Number], S: Iterable[Number], *, jobs: int | None = None,
           out: str | Path | None = None, cluster: str | None = None, program: str | Path | None = None,
           progress: bool = False) -> Report:
@@ -84,6 +78,7 @@ def sweep(scenario: Scenario, s: Iterable[Number], S: Iterable[Number], *, jobs:
             work = Work(reports, {name: digest_of(plain_text(part.tree), digest) for name, part in parts.items()})
             work.finish(run_parts, parts.__getitem__, path, workers=workers_of(jobs, cluster, path),
                         shown=progress, unit="scenarios", batch=1)
-            base, *rows = joined([kept_rows(part, reports.answer(name), path) for name, part in parts.items()], path)
+            texts = {name: answer.report for name, _, answer in reports.answers() if isinstance(answer, Kept)}
+            base, *rows = joined([rows_of(part, texts[name], path) for name, part in parts.items()], path)
     ranked = base, *sorted(rows, key=lambda row: row.diff_total)
     return Report(ranked, scenario.with_policies(Policy(row.policy, row.s, row.S) for row in ranked))

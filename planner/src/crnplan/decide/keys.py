@@ -15,7 +15,7 @@ from dataclasses import dataclass
 from pathlib import Path
 
 from .. import formats
-from ..crnsim.report import pooled, report_text
+from ..crnsim.report import pooled, table_of
 from ..errors import Refused, argument
 from ..files import own_folder
 from ..scenario import Scenario
@@ -150,7 +150,7 @@ def check_keys(scenario: Scenario, best: str, *, keys: Sequence[Sequence[str]] =
                 folder.write(f"key_{number}.csv", report.text)
         rows = pooled(reports, replications, scenario.periods) if len(reports) > 1 else reports[0]
         if folder and len(reports) > 1:
-            folder.write(POOLED, report_text(rows))
+            folder.write(POOLED, table_of(rows).csv)
     total = replications * len(reports)
     ranked = with_intervals(rows, total, level)
     return Check(best, tuple(all_keys), Decision(ranked, best, total, level, horizon_of(scenario), most=len(rows)))

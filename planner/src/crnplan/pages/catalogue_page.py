@@ -1,25 +1,35 @@
-"""Draws the plan of a catalogue as one HTML page: what it saves, the exchange curve, what is left out, all items."""
+"""Draws the plan of a catalogue as one HTML page (what it saves, the exchange curve, what is left out, all items), and
+writes all that a plan exports. None of it is read again, but by people."""
 from __future__ import annotations
 
 import hashlib
 import heapq
 import math
 from collections import Counter
-from collections.abc import Callable, Mapping, Sequence
+from collections.abc import Callable, Iterable, Mapping, Sequence
 from pathlib import Path
 from typing import NamedTuple
 from urllib.parse import quote
 
+from ..crnsim.program import find_program
 from ..curve.exchange import Point
 from ..curve.exchange_curve import kept_curve
+from ..files import Folder, own_folder
 from ..plan.answer import CHEAPER, DEARER, SAME, SERVICE, UNDECIDED, Answer
-from ..plan.catalogue import PlannedFolder, Totals
+from ..plan.catalogue import PlannedFolder, Totals, planned_folder
+from ..plan.item import Depth
 from ..records.catalogue_reading import missing_of
+from ..records.catalogued import CATALOGUE, Catalogued
 from ..records.item import Item
+from ..remarks import Remark
 from ..table import DataTable
-from .catalogue_tables import DECISION_COLUMNS, decision_row, faults_of, planned_of, reasons_of
+from .catalogue_tables import (DECISION_COLUMNS, DECISIONS, EXACT, REJECTS, catalogue_summary, decision_row,
+                               decisions_of, exact_of, faults_of, planned_of, reasons_of, rejects_of)
+from .item_page import ItemWords, item_page
 from .page import OF_CHOSEN, ROOM, UNITS, Line, Plot, Scale, curve_ends, number, percent, rendered
 
+SUMMARY, PAGE, FOUND = "summary.txt", "report.html", "found.toml"
+CATALOGUE_FILES = (DECISIONS, EXACT, REJECTS, SUMMARY, PAGE, FOUND)
 MOST_ROWS = 5_000  # items in the table
 MOST_SAVINGS = 15
 MOST_REASONS = 12  # of each kind
@@ -165,3 +175,44 @@ def file_name(name: str) -> str:
 def file_of(folder: Path, name: str) -> Path:
     """Returns the path of an item's page in a planned folder."""
     return folder / ITEMS / file_name(name)
+
+
+def write_rejects(folder: Folder, read: Catalogued) -> None:
+    """Writes what was left out as the files were read."""
+    folder.write(REJECTS, rejects_of(read.rejects()).lines)
+
+
+def write_catalogue(folder: Folder, planned: PlannedFolder, totals: Totals, learned: Sequence[Remark],
+                    missing: Sequence[str]) -> str:
+    """Writes the tables, the summary and the page of a planned catalogue, and returns the summary."""
+    folder.write(DECISIONS, decisions_of(planned).lines)
+    folder.write(EXACT, exact_of(planned_of(planned)).lines)
+    folder.write(REJECTS, rejects_of(planned.read.rejects(faults_of(planned))).lines)
+    summary = catalogue_summary(planned, totals, learned, missing)
+    folder.write(SUMMARY, summary)
+    folder.write(PAGE, catalogue_page(planned, totals))
+    return summary
+
+
+def report(folder: str | Path, items: Iterable[str] = (), *, program: str | Path | None = None) -> Path:
+    """Writes the page of a planned folder, report.html, and returns its path.
+
+    `folder` is that of `plan`, or of `crnplan catalogue`, in which the run has ended. The page has what the plan saves,
+    the exchange curve if `exchange_curve` has drawn it, the greatest savings, what was left out and why, and a table of
+    all items, which sorts and filters; above 5,000 items, of those with the greatest saving or loss. Money and orders
+    are those of a period. It is one file that asks for no other; the same plan gives the same bytes.
+
+    `items` get pages of their own first, below `items` in the folder, to which the table links. These need the program
+    crnsim, found as `program` says. Raises Refused for a folder without a finished plan of the rows that were read
+    last, for an item that is not planned, and for a folder that cannot be written; and ProgramError.
+    """
+    with planned_folder(Path(folder)) as planned, own_folder(Path(folder), CATALOGUE) as own:
+        planned.check()
+        for name in items:
+            item, answer = planned.item(name)
+            own.subfolder(ITEMS)
+            depth = Depth(planned.question(item), answer, str(find_program(program)))
+            words = ItemWords(depth, planned.every, planned.decimals)
+            own.write(f"{ITEMS}/{file_name(name)}", item_page(words))
+        own.write(PAGE, catalogue_page(planned, Totals.of(planned.answers())))
+    return Path(folder) / PAGE

@@ -1,16 +1,17 @@
-"""Says in sentences and tables what was decided for an item, and draws its page, from top to bottom: the same for its
-page, its files and a notebook, for `crnplan item` and for a catalogue. Amounts are items and money."""
+"""Says in sentences and tables what was decided for an item, draws its page, and writes all of it into a folder: the
+same for its page, its files and a notebook, for `crnplan item` and for a catalogue. Amounts are items and money."""
 from __future__ import annotations
 
 import itertools
 import textwrap
 from collections import Counter
-from collections.abc import Iterable, Sequence
+from collections.abc import Callable, Iterable, Mapping, Sequence
 from dataclasses import astuple, replace
 from functools import cached_property
 from pathlib import Path
 from typing import Any
 
+from ..crnsim.program import find_program
 from ..crnsim.trajectory import COLUMNS as PERIOD_COLUMNS
 from ..decide.doubt import WITHIN
 from ..decide.verdicts import POLICY
@@ -18,15 +19,16 @@ from ..demand import EMPIRICAL
 from ..demand.checks import check_history
 from ..demand.fitted import QUANTILES, FittedLaw, fit_words
 from ..errors import Fault, spelt, worded
+from ..files import own_folder
 from ..plan.answer import CHEAPER, CHOSEN, DEARER, SAME, SERVICE, THEORY, TODAY, UNDECIDED, Figures
-from ..plan.item import Coming, Depth, Facts, planned
+from ..plan.item import Coming, Depth, Facts, planned, read_item
 from ..plan.question import Question
 from ..plan.settings import as_setting
 from ..records.cells import EVERY, period_name
 from ..remarks import Remark
 from ..table import MONEY, Cell, DataTable, number as numbers, text, whole
 from ..words import advised, exactness, sentence
-from .catalogue_tables import DECISION_COLUMNS, decision_row, exact_of
+from .catalogue_tables import DECISION_COLUMNS, EXACT, decision_row, exact_of
 from .page import (OF_CHOSEN, OF_TODAY, UNITS, Line, Plot, Scale, capital, marks_of, number, percent, rendered,
                    tick)
 
@@ -96,13 +98,6 @@ def law_words(law: FittedLaw) -> str:
     named = law.family + f" {its.families.get(law.family, 1):.0%} and {others} more" * (others > 0)
     seen = f"; {1 - its.share:.0%} from what was seen" * (its.share < 1)
     return f"the law fitted to this history ({f'{method}: ' * (method != law.family)}{named}{seen})"
-
-
-def note_words(note: Fault | Remark) -> str:
-    """Returns what is said of a file: by its name without folders, with the keys of the settings for arguments."""
-    with spelt(as_setting):
-        return advised(note) if isinstance(note, Remark) else worded(
-            replace(note, file=Path(note.file).name).message)
 
 
 class ItemWords:
@@ -195,13 +190,6 @@ class ItemWords:
                 f"{self.every} than today's, {ends}. Theory is {self.exactness}.")
 
     @property
-    def service(self) -> str:
-        if self.item.fill is None:
-            return ""
-        return (f"A fill rate of {100 * float(self.item.fill):g}% is wanted. By theory the chosen policy meets "
-                f"{percent(self.answer.chosen.fill)} of demand at once, and today's {percent(self.answer.today.fill)}.")
-
-    @property
     def promise(self) -> str:
         """Returns how sure the choice is under the laws that the history allows, and which cost to promise."""
         row = self.doubted.get(self.depth.chosen)
@@ -214,7 +202,11 @@ class ItemWords:
 
     @property
     def said(self) -> list[str]:
-        return [*filter(None, (self.saving, self.service, self.promise))]
+        """Returns what was decided in sentences: what it saves, what it meets at once, and how sure that is."""
+        service = "" if self.item.fill is None else (
+            f"A fill rate of {100 * float(self.item.fill):g}% is wanted. By theory the chosen policy meets "
+            f"{percent(self.answer.chosen.fill)} of demand at once, and today's {percent(self.answer.today.fill)}.")
+        return [*filter(None, (self.saving, service, self.promise))]
 
     @property
     def facts(self) -> str:
@@ -233,9 +225,12 @@ class ItemWords:
 
     @property
     def notes(self) -> list[str]:
-        """Returns what is to be said of the history, and of how its law was fitted."""
-        return [capital(note) for note in (*map(note_words, self.heard), *map(sentence, self.item.remarks),
-                                           *fit_words(self.question.demand))]
+        """Returns what is to be said of the files, by their names without folders and with the keys of the settings for
+        arguments; of the history, and of how its law was fitted."""
+        with spelt(as_setting):
+            heard = [advised(note) if isinstance(note, Remark) else worded(
+                replace(note, file=Path(note.file).name).message) for note in self.heard]
+        return [*map(capital, (*heard, *map(sentence, self.item.remarks), *fit_words(self.question.demand)))]
 
     @property
     def over_coming_periods(self) -> str:
@@ -420,3 +415,46 @@ def stock_plot(words: ItemWords) -> Plot:
                     f"mean, items owed at the end of {sum(stock < 0 for stock in own)} {every}s")
     return Plot(f"Stock at the end of each {every} of one run", f"{len(own):,} {every}s; {'; '.join(said)}.", scale,
                 marks_of([*map(str, range(len(own)))]), f"{every} of the run, numbered from 0", lines)
+
+
+def scenario_text(words: ItemWords) -> str:
+    """Returns the scenario of the run with all policies, as the program reads it."""
+    item, scale = words.item, words.question.scale
+    boxes = f" Items are counted in boxes of {item.box}." if item.box > 1 else ""
+    return (f"# {item.name}: the run of its plan. Costs count {scale} for one unit of money.{boxes}\n"
+            f"{words.depth.scenario.toml()}")
+
+
+LEAD_TIME = whole("lead time", "periods", "a lead time")
+FILES: Mapping[str, Callable[[ItemWords], DataTable | str | None]] = {
+    "demand.csv": demand_of,
+    "lead_times.csv": lambda words: DataTable([LEAD_TIME], [[lead] for lead in words.item.leads]),
+    "laws.csv": lambda words: laws_of(words.question, words.depth.single), "policies.csv": policies_of,
+    EXACT: lambda words: exact_of([(words.item, words.answer)]), "doubt.csv": lambda words: words.doubt,
+    "sensitivity.csv": lambda words: words.depth.moves.table, "trajectory.csv": periods_of, "coming.csv": coming_of,
+    "scenario.toml": scenario_text, "notes.txt": lambda words: "".join(f"{note}\n" for note in words.notes),
+    "summary.txt": item_summary, "summary.html": item_page}
+
+
+def plan_item(history: str | Path, settings: str | Path, out: str | Path | None = None, *,
+              program: str | Path | None = None, told: Callable[[str], None] = lambda name: None) -> ItemWords:
+    """Plans an item, writes all of it into a folder if `out` names one, and returns the words on it.
+
+    `history` is a CSV file, `settings` a TOML file. All of it is computed each time; nothing that is in the folder is
+    read. `told` is called with the name of each part before it is computed. Raises RefusedFaults with all faults of the
+    settings or of the history, Refused for a folder that has other files, Disagreement and ProgramError.
+    """
+    find_program(program)
+    facts = read_item(history, settings)
+    if out is None:
+        return ItemWords.of(facts, program)
+    with own_folder(Path(out), "item") as folder:
+        told("plan")
+        words = ItemWords.of(facts, program)
+        folder.remove(*FILES)
+        for name, part_of in FILES.items():
+            told(name)
+            part = part_of(words)
+            if part is not None:
+                folder.write(name, part.lines if isinstance(part, DataTable) else part)
+        return words

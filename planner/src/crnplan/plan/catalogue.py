@@ -295,7 +295,7 @@ class Done:
 def plan_into(folder: Folder, settings: Settings, *, jobs: int | None = None, address: str | None = None,
               program: str | Path | None = None, again: bool = False, shown: bool = False) -> Done:
     """Plans the catalogue that was read into a folder, and writes its tables and pages: see `plan`."""
-    from ..pages.exports import write_catalogue, write_rejects
+    from ..pages.catalogue_page import write_catalogue, write_rejects
     path = program_for(program, address)
     with (faults_of(folder.path), contextlib.closing(Catalogued(folder.path / READ, settings.window)) as read,
           contextlib.closing(Store(folder.store(ANSWERS), Answer)) as answers):
