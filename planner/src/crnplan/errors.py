@@ -118,7 +118,6 @@ class Fault:
         return f"{place}: {self.what}" if place else self.what
 
     def __str__(self) -> str:
-        """Returns the message with arguments as a call of Python has them."""
         return worded(self.message)
 
 

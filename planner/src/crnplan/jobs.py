@@ -277,26 +277,21 @@ class Work(Generic[Answer]):
             raise
 
 
-def lines(total: int, kept: int, unit: str) -> Callable[[int], None]:
-    """Returns what writes a line whenever a further ninth of them is done, the first one at once."""
+@contextlib.contextmanager
+def progress(total: int, kept: int, shown: bool, unit: str) -> Iterator[Callable[[int], None]]:
+    """Gives a function that shows on standard error how many units are done: as a bar on a terminal; in a log as a line
+    at once, and whenever a further ninth of them is done. `kept` are there from before."""
     ninths = set[int]()
 
     def show(done: int) -> None:
         if (ninth := done * (MOST_LINES - 1) // total) not in ninths:
             print(f"{done} of {total} {unit} ({kept} kept)", file=sys.stderr, flush=True)
             ninths.add(ninth)
-    show(kept)
-    return show
-
-
-@contextlib.contextmanager
-def progress(total: int, kept: int, shown: bool, unit: str) -> Iterator[Callable[[int], None]]:
-    """Gives a function that shows on standard error how many units are done: as a bar on a terminal, as a few lines in
-    a log. `kept` are there from before."""
     if not shown:
         yield lambda done: None
     elif not sys.stderr.isatty():
-        yield lines(total, kept, unit)
+        show(kept)
+        yield show
     else:
         from tqdm import tqdm
         with tqdm(file=sys.__stderr__, total=total, initial=kept, unit=f" {unit}", desc=f"{kept} kept",

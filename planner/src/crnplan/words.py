@@ -21,7 +21,6 @@ REPORT = "please report it with this item's rows"
 
 
 def counted(count: int, noun: str) -> str:
-    """Returns a count with its noun, in the singular or the plural."""
     return f"{count:,} {noun}{'s' * (count != 1)}"
 
 
@@ -181,13 +180,11 @@ def _heeded(name: str, facts: Facts) -> str:
 
 
 def _largest(facts: Facts) -> str:
-    """Returns the largest demands with their periods."""
     ranks = (rank for rank in range(1, 4) if f"demand_{rank}" in facts)
     return ", ".join(f"{facts[f'demand_{rank}']} in {facts[f'period_{rank}']}" for rank in ranks)
 
 
 def _effect(name: str, size: float) -> str:
-    """Returns an effect of a size."""
     return {"autocorrelation": f"an autocorrelation of {size:g}",
             "trend": f"a trend from {1 - size:.0%} to {1 + size:.0%} of the mean" if size < 1 else
             "a trend from nothing to twice the mean",

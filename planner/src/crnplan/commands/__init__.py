@@ -36,11 +36,9 @@ class Group(click.Group):
     """A group whose subcommands are imported when they are asked for."""
 
     def list_commands(self, ctx: click.Context) -> list[str]:
-        """Returns the names of the subcommands, in order."""
         return list(COMMANDS)
 
     def get_command(self, ctx: click.Context, cmd_name: str) -> click.Command | None:
-        """Imports a subcommand."""
         if cmd_name in COMMANDS:
             asked[:] = [cmd_name]
             return _command(cmd_name)
@@ -72,7 +70,6 @@ def group() -> None:
 
 
 def _command(name: str) -> click.Command:
-    """Imports a subcommand."""
     command: click.Command = getattr(importlib.import_module(f"{__name__}.{COMMANDS[name]['module']}"), name)
     return command
 

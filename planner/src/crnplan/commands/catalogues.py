@@ -97,8 +97,12 @@ def catalogue(**asked: Any) -> int:
         missing = only_read(read, asked["rejects"]) if asked["only_read"] else planned(folder, settings, asked)
         for line in reason_lines(read):
             click.echo(line)
-        no = [] if asked["anyway"] else [*too_few(read.counts)]
-    for line in (*missing, *(f"{line}; correct the files, or say --anyway" for line in no)):
+        counts = read.counts
+        no = ["no item can be planned"] * (not counts["items"]["ready"])
+        no += [f"{rows['name']}: {rows['rejected']:,} of {rows['read']:,} rows were rejected, more than half"
+               for rows in counts["files"].values() if 2 * rows["rejected"] > rows["read"]]
+    no = [] if asked["anyway"] else [f"{line}; correct the files, or say --anyway" for line in no]
+    for line in (*missing, *no):
         note(line)
     return Lost.status if missing else int(bool(no))
 
@@ -157,12 +161,3 @@ def reason_lines(catalogue: Catalogue) -> Iterator[str]:
     if len(reasons) > MOST_REASONS:
         rest = sum(reason.count for reason in reasons[MOST_REASONS:])
         yield f"{rest:,} more for {len(reasons) - MOST_REASONS:,} other reasons: see rejects.csv"
-
-
-def too_few(counts: Mapping[str, Any]) -> Iterator[str]:
-    """Yields why so little of a catalogue was read that its plan is hardly one."""
-    if not counts["items"]["ready"]:
-        yield "no item can be planned"
-    for rows in counts["files"].values():
-        if 2 * rows["rejected"] > rows["read"]:
-            yield f"{rows['name']}: {rows['rejected']:,} of {rows['read']:,} rows were rejected, more than half"

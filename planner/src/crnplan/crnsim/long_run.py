@@ -127,7 +127,6 @@ def words_of_keys(keys: Sequence[Sequence[str]]) -> Words:
 
 
 def _mixed(left: Words, right: Words, places: int) -> tuple[Words, Words]:
-    """Returns two words after a round."""
     total = left + right
     return total, ((right << np.uint64(places)) | (right >> np.uint64(64 - places))) ^ total
 

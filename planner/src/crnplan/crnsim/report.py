@@ -77,12 +77,10 @@ def table_of(rows: Iterable[Row]) -> DataTable:
 
 
 def _refused(what: str, place: str, line: int) -> Refused:
-    """Returns the error of a line of a report."""
     return Refused(str(Fault(what, place or "the report", line)))
 
 
 def _value(name: str, cell: str, place: str, line: int) -> Any:
-    """Returns the value of a cell."""
     if name == "policy":
         for fault in name_faults(("policy",), cell):
             raise _refused(f"column policy: {fault.reason}", place, line)

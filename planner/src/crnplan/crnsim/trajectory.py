@@ -51,7 +51,6 @@ COLUMNS = (
 
 
 def table_of(policies: Sequence[Policy], found: Sequence[Sequence[Period]]) -> DataTable:
-    """Returns the periods of policies as a table."""
     return DataTable(COLUMNS, [(policy.name, number, *period) for policy, periods in zip(policies, found)
                                for number, period in enumerate(periods)])
 
@@ -118,12 +117,6 @@ def _packed(program: Path, scenario: Scenario, periods: int) -> list[tuple[list[
     return [([step % scale for step in steps], [step // scale - more for step in steps]) for steps in counts]
 
 
-def _apart(program: Path, scenario: Scenario, periods: int) -> list[tuple[list[int], list[int]]]:
-    """Returns what each policy orders and has in stock in each period, from counts apart."""
-    return [(orders, [more - less for more, less in zip(held, owed)])
-            for orders, held, owed in zip(*_counts(program, scenario, APART, periods))]
-
-
 def net_demands(scenario: Scenario, periods: int, program: Path) -> list[int]:
     """Returns the net demand of each of the first periods of replication 0."""
     blocks = -(-periods // PERIODS_OF_BLOCK)
@@ -140,8 +133,11 @@ def trajectories(scenario: Scenario, periods: int, *, program: str | Path | None
     """
     path, periods = find_program(program), shown_periods(scenario, periods, False)
     net = net_demands(scenario, periods, path)
+    counts = _packed(path, scenario, periods) or [
+        (orders, [more - less for more, less in zip(held, owed)])
+        for orders, held, owed in zip(*_counts(path, scenario, APART, periods))]
     found = []
-    for orders, stocks in _packed(path, scenario, periods) or _apart(path, scenario, periods):
+    for orders, stocks in counts:
         changes = (order - demand for order, demand in zip(orders, net))
         positions = itertools.islice(itertools.accumulate(changes, initial=scenario.initial), 1, None)
         found.append([Period(*it) for it in zip(orders, net, stocks, positions)])

@@ -255,7 +255,6 @@ def policies_of(words: ItemWords) -> DataTable:
 
 
 def periods_of(words: ItemWords) -> DataTable:
-    """Returns today's and the chosen policy period by period."""
     rows: list[list[Cell]] = [
         [name, place, *(words.item.box * count for count in period)]
         for name, periods in words.depth.trajectory.items() for place, period in enumerate(periods)]
@@ -351,7 +350,6 @@ def item_page(words: ItemWords) -> str:
 
 
 def scale_of(rows: Iterable[Range]) -> Scale:
-    """Returns the scale of a picture of intervals."""
     return Scale.of([end for _, *ends, _ in rows for end in ends if end is not None])
 
 

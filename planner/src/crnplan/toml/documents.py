@@ -184,7 +184,6 @@ class TreeFault(NamedTuple):
 
     @property
     def reason(self) -> str:
-        """Returns what is wrong, with advice."""
         return f"{self.what} ({self.advice})" + f"; {self.more} more in this list" * (self.more > 0)
 
     @property
@@ -195,11 +194,9 @@ class TreeFault(NamedTuple):
 
     @property
     def record(self) -> dict[str, int | str]:
-        """Returns the fault as plain data."""
         return {"rule": self.rule, "line": self.line, "column": self.column, "where": self.where, "reason": self.reason}
 
     def fault(self, file: str) -> Fault:
-        """Returns the fault of a file."""
         where = "" if self.rule == 1 and self.line else f"{self.where}: "
         return Fault(f"fault {self.rule}: {where}{self.reason}", file, self.line, self.column)
 
@@ -210,7 +207,6 @@ class SpeltFloat(float):
     spelt: str
 
     def __new__(cls, spelt: str) -> SpeltFloat:
-        """Makes the number of a spelling."""
         value = super().__new__(cls, spelt)
         if math.isinf(value) and "inf" not in spelt:
             raise OverflowError(spelt)

@@ -77,12 +77,10 @@ class Table:
 
 
 def kind_of(value: Any) -> str:
-    """Returns the kind of a value in words."""
     return "a number with a point" if isinstance(value, float) else KINDS.get(type(value), "a date or a time")
 
 
 def wrong_kind(path: Path, value: Any, wanted: str) -> list[TreeFault]:
-    """Returns the fault of a value of the wrong kind."""
     kind, advice = kind_of(value), WRITE[wanted]
     kind = "empty" if value in ("", [], {}) and wanted.startswith(kind) else kind
     if "whole number" in wanted and isinstance(value, float):
@@ -208,7 +206,6 @@ class Judge:
                       for key, tables in homes.items()}
 
     def faults(self, tree: Mapping[str, Any]) -> list[TreeFault]:
-        """Returns all faults of a document."""
         return self._of_table((), tree, self.rules)
 
     def _advice_on_unknown(self, key: str, rules: Table) -> str:
@@ -240,7 +237,6 @@ class Judge:
         return faults + rules.joint(path, table, table.keys() - spoilt)
 
     def _of_value(self, path: Path, value: Any, rule: Key | Table) -> list[TreeFault]:
-        """Returns the faults of what stands at a key."""
         if isinstance(rule, Key):
             return rule.check(path, value)
         if not rule.is_list:

@@ -29,7 +29,6 @@ COMMENT_AT_END = re.compile(r"\n\n(#[^\n]*\n)+\Z")
 
 
 def _word_words(word: str) -> tuple[str, str]:
-    """Returns what is wrong with a word of the key, and what to do."""
     advice = "write a-f in lower case" if formats.WORD.fullmatch(word.lower()) else odd_advice(word)
     advice = advice or (f"it has {len(word)} characters" if len(word) != 16 else "write digits of 0-9a-f alone")
     return f"{shown(word)} is not 16 digits of 0-9a-f", advice
@@ -49,7 +48,6 @@ def _key_faults(path: Path, value: Any) -> list[TreeFault]:
 
 
 def _name_words(name: str) -> tuple[str, str]:
-    """Returns what is wrong with the name of a policy by itself, and what to do."""
     least, most = formats.limits("policy", "name")
     advice = odd_advice(name) or (f"it has {len(name)} characters: write {least} to {most}"
                                   if not least <= len(name) <= most else "write letters, digits, _ and - alone")
@@ -63,7 +61,6 @@ _ring_faults = check_of("a whole number", is_whole, formats.RING_SIZES.__contain
 
 
 def _are_whole(values: Any) -> TypeGuard[list[int]]:
-    """Returns whether this is a list of whole numbers."""
     return isinstance(values, list) and all(type(value) is int for value in values)
 
 
@@ -115,7 +112,6 @@ CHECKS: dict[str, Check] = {"version": lambda path, value: [], "key": _key_fault
 
 
 def _rules(version: int) -> Table:
-    """Returns the rules of a version's scenarios."""
     tables: dict[str, dict[str, Key | Table]] = {}
     for key in formats.KEYS:
         if key.since <= version:
