@@ -14,7 +14,7 @@ import crnplan as crn
 from crnplan.errors import Refused, argument, as_python
 
 OPTION = re.compile(r"--[a-z]")
-OURS = ("records/*.py", "demand/**/*.py", "*_words.py")
+OURS = ("records/*.py", "demand/**/*.py", "*words.*")
 
 
 def options_in(folder: Path) -> list[str]:
