@@ -127,11 +127,6 @@ class Folder:
         self._names.update(new)
         self._keep()
 
-    def subfolder(self, name: str) -> None:
-        """Makes a folder in this one, and claims it."""
-        self.claim(f"{name}/", in_place=True)
-        (self.path / name).mkdir(exist_ok=True)
-
     def store(self, name: str) -> Path:
         """Returns the path of a file of SQLite that is written in place, and claims it."""
         self.claim(*(f"{name}{end}" for end in ("", "-journal", "-wal", "-shm")), in_place=True)

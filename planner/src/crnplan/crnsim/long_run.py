@@ -17,7 +17,7 @@ long run it adds unit times the mean net demand to every policy.
 """
 from __future__ import annotations
 
-from collections.abc import Iterator, Mapping, Sequence
+from collections.abc import Mapping, Sequence
 from dataclasses import dataclass, replace
 from fractions import Fraction
 from pathlib import Path
@@ -197,13 +197,6 @@ def first_block(scenario: Scenario) -> int:
     return max(1, -(lowest // (PERIODS_OF_BLOCK * formats.MOST_DEMAND)))
 
 
-def _states_of(own: Settled, first: int) -> Iterator[list[State]]:
-    """Yields the states of all policies for each key, whose next period is the first one."""
-    for stocks, due in zip(own.stocks, np.moveaxis(own.due, 0, 2)):
-        yield [State(int(stock), due={first + int(age): int(amounts[age]) for age in np.flatnonzero(amounts)})
-               for stock, amounts in zip(stocks, due)]
-
-
 def _totals(program: Path, scenario: Scenario, block: int, states: Mapping[Key, Sequence[State]]
             ) -> tuple[tuple[int, ...], ...]:
     """Continues a run under each key from the states of its policies, and returns the cost of each from then on."""
@@ -234,7 +227,11 @@ def long_run_of(scenario: Scenario, keys: int = KEYS, program: str | Path | None
                       "count in larger units, as boxes")
     asked = replace(scenario, periods=formats.MOST_PERIODS, replications=1, initial=0, ring=formats.RING_SIZES[-1],
                     costs=replace(scenario.costs, unit=0), source=None)
-    states, orders = dict(zip(words, _states_of(own, first))), own.orders.sum(axis=0)
+    states = {
+        word: [State(int(stock), due={first + int(age): int(amounts[age]) for age in np.flatnonzero(amounts)})
+               for stock, amounts in zip(stocks, due)]
+        for word, stocks, due in zip(words, own.stocks, np.moveaxis(own.due, 0, 2))}
+    orders = own.orders.sum(axis=0)
     counted: Sequence[int | None] = [None] * len(orders)
     if orders.min() < FEW_ORDERS:
         counted = [sum(column) for column in zip(*_totals(found, replace(asked, costs=COUNT_ORDERS), block, states))]

@@ -9,7 +9,7 @@ import os
 import shutil
 import subprocess
 import tempfile
-from collections.abc import Iterable, Iterator, Mapping, Sequence
+from collections.abc import Iterable, Mapping, Sequence
 from concurrent.futures import ThreadPoolExecutor
 from dataclasses import dataclass, field
 from pathlib import Path
@@ -112,30 +112,22 @@ class State:
     costs: tuple[int, ...] = ()
 
 
-def _rows(scenario: Scenario, block: int, states: Sequence[State]) -> Iterator[tuple[object, ...]]:
-    """Yields the rows of a checkpoint, without the fields that stay empty."""
-    laws = [getattr(scenario, name) for name in formats.DRAWS]
-    sizes = [len(law.values) if law else 0 for law in laws]
-    yield "checkpoint", formats.CHECKPOINT_VERSIONS[-1], block, scenario.periods, scenario.replications
-    yield "key", *scenario.key
-    yield "costs", *(getattr(scenario.costs, name) for name in formats.COSTS)
-    yield "sizes", scenario.initial, *sizes[:2], len(scenario.policies)
-    yield "returns", sizes[2]
-    for kind, law in zip(formats.DRAW_ROWS, laws):
-        yield from ((kind, value, weight) for value, weight in (zip(law.values, law.weights) if law else ()))
-
-    for policy, state in zip(scenario.policies, states, strict=True):
-        yield "policy", policy.name, policy.s, policy.S
-        yield "state", state.stock, state.cost, len(state.due), len(state.costs)
-        yield from (("due", period, state.due[period]) for period in sorted(state.due))
-        yield from (("cost", number, cost) for number, cost in enumerate(state.costs))
-    yield ("end",)
-
-
 def checkpoint_text(scenario: Scenario, block: int, states: Sequence[State]) -> str:
     """Returns the checkpoint of a scenario before a block, with a state for each policy. Ranges are not checked."""
-    lines = (",".join([*map(str, row), *"-" * (FIELDS - len(row))]) for row in _rows(scenario, block, states))
-    return "\n".join(lines) + "\n"
+    laws = [getattr(scenario, name) for name in formats.DRAWS]
+    sizes = [len(law.values) if law else 0 for law in laws]
+    rows: list[tuple[object, ...]] = [
+        ("checkpoint", formats.CHECKPOINT_VERSIONS[-1], block, scenario.periods, scenario.replications),
+        ("key", *scenario.key), ("costs", *(getattr(scenario.costs, name) for name in formats.COSTS)),
+        ("sizes", scenario.initial, *sizes[:2], len(scenario.policies)), ("returns", sizes[2])]
+    for kind, law in zip(formats.DRAW_ROWS, laws):
+        rows += [(kind, value, weight) for value, weight in (zip(law.values, law.weights) if law else ())]
+    for policy, state in zip(scenario.policies, states, strict=True):
+        rows += [("policy", policy.name, policy.s, policy.S),
+                 ("state", state.stock, state.cost, len(state.due), len(state.costs)),
+                 *(("due", period, state.due[period]) for period in sorted(state.due)),
+                 *(("cost", number, cost) for number, cost in enumerate(state.costs))]
+    return "".join(",".join([*map(str, row), *"-" * (FIELDS - len(row))]) + "\n" for row in (*rows, ("end",)))
 
 
 def replication_costs(text: str) -> list[int]:

@@ -210,7 +210,8 @@ def report(folder: str | Path, items: Iterable[str] = (), *, program: str | Path
         planned.check()
         for name in items:
             item, answer = planned.item(name)
-            own.subfolder(ITEMS)
+            own.claim(f"{ITEMS}/", in_place=True)
+            (own.path / ITEMS).mkdir(exist_ok=True)
             depth = Depth(planned.question(item), answer, str(find_program(program)))
             words = ItemWords(depth, planned.every, planned.decimals)
             own.write(f"{ITEMS}/{file_name(name)}", item_page(words))

@@ -28,51 +28,13 @@ SHORT_TIME = re.compile("[0-9]{2}:[0-9]{2}")
 ESCAPE = re.compile(r"\\(?:x([0-9A-Fa-f]{2})|(e)|.)", re.DOTALL)
 # Blanks, line ends and comments, and the character behind them.
 NEXT = re.compile(r"(?:\s|#[^\n]*)*(.?)")
-
-# What to do about characters that look like others or like nothing.
-INSTEAD = {**dict.fromkeys("\u00a0\u1680\u2000\u2001\u2002\u2003\u2004\u2005\u2006\u2007\u2008\u2009\u200a\u202f\u205f"
-                           "\u3000", "write an ordinary space"),
-           **dict.fromkeys("\u00ad\u200b\u200c\u200d\u200e\u200f\u2060\ufeff", "remove it"),
-           **dict.fromkeys("\u2010\u2011\u2012\u2013\u2014\u2015\u2212\ufe63", "write -"),
-           **dict.fromkeys("\u2018\u2019\u201a\u201b\u201c\u201d\u201e\u201f\u2032\u2033\u00ab\u00bb\u2039\u203a",
-                           'write "')}
-NAMES = {"\u2212": "Unicode minus", "\ufeff": "byte order mark", "\u00a0": "no-break space",
-         "\u200b": "zero-width space"}
+# What to do about what stands in a document and should not.
+ADVICE: dict[str, Any] = tomllib.loads(FilePath(__file__).with_name("advice.toml").read_text("utf-8"))
+INSTEAD = {sign: advice for advice, signs in ADVICE["instead"].items() for sign in signs}
 NOT_ASCII = re.compile(r"[^\x00-\x7f]")
 FULL_WIDTH = range(0xff01, 0xff5f)
-
 APOSTROPHES = re.compile(r"(?<![\w'\"])[0-9]{1,3}(?:'[0-9]{3})+(?![\w'])")
 NUMBER = r"(?:^|[=\[,])\s*[+-]?"
-# What a line has, outside of texts and comments, and what to do.
-HABITS = [
-    (r";", "no ; here: write , between entries, nothing at the end of a line, and # before a comment"),
-    (r"//", "write # before a comment"),
-    (NUMBER + r"[0-9]{1,3}(?:,[0-9]{3})+\s*$", "no comma within a number: {plain} or {grouped}"),
-    (r"=\s*[0-9]+,[0-9]+\s*$", "no comma within a number; where it is a decimal comma, count in a smaller unit"),
-    (NUMBER + r"[0-9]{1,3}(?: [0-9]{3})+(?![0-9])", "no space within a number: {plain} or {grouped}"),
-    (NUMBER + r"[0-9]{1,3}(?:\.[0-9]{3}){2,}(?![0-9])", "no point within a number: {plain} or {grouped}"),
-    (NUMBER + r"0[0-9_]*[0-9](?![0-9.xob:-])", "no leading zeros: write {plain}"),
-    (r"=\s*[+-]?[0-9_.]+ *[A-Za-z%$]", "write the number alone, without a unit or a currency"),
-    (r"^\s*[A-Za-z]+\s*:", "write key = value"),
-    (r"=\s*[A-Za-z]", 'write a text in double quotes, as "A"'),
-    (r"=\s*$", "write a value after the ="),
-]
-# How Python's reader begins a message, and what to do.
-ADVICE = [
-    ("Cannot declare ('policy',)", "write [[policy]] in place of [policy]"),
-    ("Cannot declare", "this table stands twice: join both"),
-    ("Cannot overwrite", "this key stands twice in one table: remove one"),
-    ("Duplicate inline table key", "this key stands twice in one table: remove one"),
-    ("Unclosed array", "write , between entries and ] at the end of the list"),
-    ("Unclosed inline table", "write , between keys and } at the end of the table"),
-    ("Unterminated string", "a quote is missing: write one at the end of the text"),
-    ("Expected '='", "write key = value"), ("Invalid statement", "write key = value, a [table], or # before a comment"),
-    ("Invalid initial character for a key", "write a key of letters, digits, _ and - before the ="),
-    ("Illegal character", "a quote may be missing; remove line ends and control characters from the text"),
-    ("Unescaped '\\\\'", "write \\\\ for a backslash"), ("Expected ']", "write ] after the name of the table"),
-    ("Expected newline", "write one key = value on a line, and # before a comment"),
-    ("Invalid value", "write a whole number, a text in double quotes, or a list in [ ]"),
-    ("", "compare this line with an example in docs/FORMATS.md")]
 
 
 def shown(value: Any) -> str:
@@ -122,7 +84,7 @@ def odd_advice(text: str) -> str:
     if odd is None:
         return ""
     character, digit = odd[0], unicodedata.digit(odd[0], None)
-    name = NAMES.get(character) or unicodedata.name(character, "unnamed character").lower()
+    name = ADVICE["names"].get(character) or unicodedata.name(character, "unnamed character").lower()
     if ord(character) in FULL_WIDTH:
         advice = f"write {chr(ord(character) - 0xfee0)}"
     else:
@@ -142,7 +104,7 @@ def usual_cause(text: str, offset: int, message: str) -> str:
     odd = NOT_ASCII.search(code)
     if odd:
         return f"column {odd.start() + 1}: {odd_advice(code)}"
-    advice = next(advice for beginning, advice in ADVICE if message.startswith(beginning))
+    advice: str = next(advice for beginning, advice in ADVICE["messages"] if message.startswith(beginning))
     if message.startswith("Cannot declare"):
         return advice
     if message == "Invalid value" and re.match(r"\s*\[\[?[A-Za-z]+\]", code):
@@ -150,11 +112,11 @@ def usual_cause(text: str, offset: int, message: str) -> str:
     grouped = APOSTROPHES.search(line)
     if grouped:
         return f"no ' within a number: {grouped[0].replace(chr(39), '')} or {grouped[0].replace(chr(39), '_')}"
-    for pattern, habit in HABITS:
-        match = re.search(pattern, code)
+    for pattern, habit in ADVICE["habits"]:
+        match = re.search(pattern.replace("<number>", NUMBER), code)
         if match:
             plain = re.sub("[^0-9]", "", match[0]).lstrip("0") or "0"
-            return habit.format(plain=plain, grouped=f"{int(plain[:30]):_}")
+            return str(habit).format(plain=plain, grouped=f"{int(plain[:30]):_}")
     return advice
 
 
@@ -222,15 +184,6 @@ def _no_document(what: str, advice: str, text: str = "", offset: int | None = No
     return TreeFault(1, (), what, advice, 0, line, column, f"line {line}, column {column}{end}")
 
 
-def _undecoded(data: bytes, fault: UnicodeDecodeError) -> TreeFault:
-    """Returns fault 1 of bytes that are no UTF-8."""
-    if data[:2] in BYTE_ORDER_MARKS:
-        return TreeFault(1, (), "this is UTF-16, not UTF-8", "a spreadsheet or an editor has saved it so; save it as "
-                         "UTF-8", line=1, where="line 1")
-    return _no_document(f"the byte {data[fault.start]:#04x} is no UTF-8", "save the file as UTF-8",
-                        data[:fault.start].decode("utf-8"), fault.start)
-
-
 def _unread(text: str, older: str, fault: tomllib.TOMLDecodeError) -> TreeFault:
     """Returns fault 1 of a text that is no TOML document, as Python's reader reports it of the older spelling."""
     message, _, at = str(fault).rpartition(" (at ")
@@ -285,7 +238,12 @@ def read_document(data: bytes) -> tuple[Tree, list[TreeFault]]:
         return tree, [_huge_fault(text, value) for _, value in parts_of(tree)
                       if type(value) is int and not -2**63 <= value < 2**63]
     except UnicodeDecodeError as fault:
-        return {}, [_undecoded(data, fault)]
+        if data[:2] in BYTE_ORDER_MARKS:
+            advice = "a spreadsheet or an editor has saved it so; save it as UTF-8"
+            return {}, [TreeFault(1, (), "this is UTF-16, not UTF-8", advice, line=1, where="line 1")]
+        before = data[:fault.start].decode("utf-8")
+        return {}, [_no_document(f"the byte {data[fault.start]:#04x} is no UTF-8", "save the file as UTF-8", before,
+                                 fault.start)]
     except tomllib.TOMLDecodeError as fault:
         return {}, [_unread(text, older, fault)]
     except OverflowError as fault:

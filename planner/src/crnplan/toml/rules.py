@@ -17,7 +17,7 @@ from typing import Any
 from .. import formats
 from ..errors import Fault, RefusedFaults
 from ..table import names_of
-from .documents import DOCUMENT, Path, Tree, TreeFault, odd_advice, read_bytes, read_judged, shown
+from .documents import ADVICE, DOCUMENT, Path, Tree, TreeFault, odd_advice, read_bytes, read_judged, shown
 
 # A check of a value at a path: it returns its faults.
 Check = Callable[[Path, Any], list[TreeFault]]
@@ -29,19 +29,8 @@ UNKNOWN, MISSING, KIND, RANGE = (formats.RULES[name] for name in ("UnknownKey", 
 MOST_NAMED = 3  # of the texts that may stand at a key
 KINDS = {bool: "true or false", int: "a whole number", float: "a number with a point", str: "a text", list: "a list",
          dict: "a table"}
-# What to do about a value of the wrong kind, by what should stand there.
-WRITE = {"a whole number": "write digits alone, as 60", "a text": 'write it in double quotes, as "A"',
-         "a list of whole numbers": "write [ ] around it, as [1]", "a list of four texts": "write four texts in [ ]",
-         "a text of 16 digits of 0-9a-f": "write it in double quotes",
-         "a table": "write the keys of this table below a line with its name in [ ]",
-         "a list of tables": "begin each policy with a line [[policy]]", "true or false": "write it without quotes",
-         "a list of texts": 'write it as ["A", "B"]', "a date": "write it as 2026-03-31",
-         "a number": "write it with a point and without quotes, as 12.50"}
 # What to do about a number above its range, by its key.
-LESS = {"replications": "make more runs, each with another key", "periods": "take longer periods, or more replications",
-        "weights": "divide all weights by the same number",
-        **dict.fromkeys(formats.COSTS, "take a larger coin for all costs"),
-        **dict.fromkeys(("initial", "stock", "values", "s", "S"), "count in boxes of several items")}
+LESS = {key: advice for advice, keys in ADVICE["above"].items() for key in keys}
 
 
 @dataclass(frozen=True)
@@ -81,7 +70,7 @@ def kind_of(value: Any) -> str:
 
 
 def wrong_kind(path: Path, value: Any, wanted: str) -> list[TreeFault]:
-    kind, advice = kind_of(value), WRITE[wanted]
+    kind, advice = kind_of(value), ADVICE["kinds"][wanted]
     kind = "empty" if value in ("", [], {}) and wanted.startswith(kind) else kind
     if "whole number" in wanted and isinstance(value, float):
         spelt = getattr(value, "spelt", "")

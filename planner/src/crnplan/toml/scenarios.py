@@ -123,7 +123,8 @@ def _rules(version: int) -> Table:
                  for name, keys in tables.items()}
     document["policy"] = Table(tables["policy"], True, is_list=True, joint=_levels_faults,
                                joint_of_list=_policies_faults)
-    newer = {key: f"write version = {since}, which has {key}" for key, since in formats.SINCE.items() if since > version}
+    newer = {key: f"write version = {since}, which has {key}" for key, since in formats.SINCE.items()
+             if since > version}
     return Table(document, elsewhere=newer)
 
 
