@@ -9,7 +9,7 @@ from crnplan.crnsim import long_run as exact_long_run
 from crnplan.crnsim import report, trajectory
 from crnplan.curve import exchange_curve
 from crnplan.decide import doubt, sensitivity, verdicts
-from crnplan.pages import backtest_tables, catalogue_tables, item_page
+from crnplan.pages import backtest_tables, catalogue_tables, change_tables, item_page
 from crnplan.table import Column
 from crnplan.theory import suggestions
 
@@ -25,6 +25,8 @@ TABLES: Mapping[str, tuple[str, Sequence[Column]]] = {
     "decisions.csv": ("A planned catalogue: a row for each item, by name.", catalogue_tables.DECISION_COLUMNS),
     "exact.csv": ("The run of each item, exactly: fractions stand as `3/4`.", catalogue_tables.EXACT_COLUMNS),
     "rejects.csv": ("What was left out of a catalogue, or only named.", catalogue_tables.REJECT_COLUMNS),
+    "changes.csv": ("What has changed since an earlier plan: a row for each item of either plan.",
+                    change_tables.CHANGE_COLUMNS),
     "backtest.csv": ("The test of a catalogue on its own past: a row for each item.",
                      backtest_tables.BACKTEST_COLUMNS),
     "backtest_sums.csv": ("What these add up to: all items, and each class.", backtest_tables.SUM_COLUMNS),

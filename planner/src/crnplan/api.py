@@ -16,8 +16,9 @@ from .errors import Refused, argument
 from .files import Folder, own_folder
 from .pages.catalogue_page import CATALOGUE_FILES, report
 from .pages.catalogue_tables import catalogue_summary, decisions_of, faults_of, rejects_of
+from .pages.change_tables import change_lines, changes_of
 from .pages.item_page import ItemWords, item_page, item_summary, plan_item as plan_one_item, policies_of
-from .plan.catalogue import Lost, Totals, plan_into, planned_folder
+from .plan.catalogue import Lost, Totals, check_earlier, plan_into, planned_folder
 from .plan.item import Depth
 from .plan.question import Settings
 from .records.catalogue_reading import Catalogue, read_into
@@ -135,6 +136,13 @@ class Plan(Result):
             return rejects_of(folder.read.rejects(faults_of(folder))).frame
 
     @cached_property
+    def changes(self) -> pd.DataFrame:
+        """Returns a row for each item of this plan and of the earlier one: what has moved, why, what that gains, and
+        how the earlier policy did since. It has no rows without `after`. docs/TABLES.md has all columns."""
+        with planned_folder(self.path) as folder:
+            return changes_of(folder).frame
+
+    @cached_property
     def totals(self) -> Totals:
         """Returns the sums over all items, as `totals["saving"]`, and counts of items."""
         with planned_folder(self.path) as folder:
@@ -144,7 +152,7 @@ class Plan(Result):
     def text(self) -> str:
         """Returns what became of all rows and items, and the totals."""
         with planned_folder(self.path) as folder:
-            return catalogue_summary(folder, self.totals, self.learned)
+            return catalogue_summary(folder, self.totals, self.learned, change_lines(folder))
 
     @property
     def notes(self) -> str:
@@ -195,11 +203,11 @@ def plan(sales: str | Path | pd.DataFrame | Catalogue, masters: str | Path | pd.
          end: datetime.date | str | None = None, today: datetime.date | None = None, net: bool = False,
          twice: str = KEEP, far: str = LEAVE_OUT, least: int = 13, factors: Mapping[str, int] | None = None,
          delimiter: str | None = None, encoding: str | None = None, decimal: str | None = None,
-         date_formats: Sequence[str] = (), fit: str = "auto", borrow: str | None = None,
-         confidence: float | None = None, window: int | None = None, level: float = 0.95,
-         seed: str | int = "crnplan", periods: int = 1024, replications: int = 24, jobs: int | None = None,
-         cluster: str | None = None, program: str | Path | None = None, learn_again: bool = False,
-         progress: bool = False) -> Plan:
+         date_formats: Sequence[str] = (), after: str | Path | None = None, least_gain: float | None = None,
+         fit: str = "auto", borrow: str | None = None, confidence: float | None = None, window: int | None = None,
+         level: float = 0.95, seed: str | int = "crnplan", periods: int = 1024, replications: int = 24,
+         jobs: int | None = None, cluster: str | None = None, program: str | Path | None = None,
+         learn_again: bool = False, progress: bool = False) -> Plan:
     """Plans all items of a catalogue, and returns the plan. Nothing is written unless `out` names a folder.
 
         plan = crn.plan(sales, masters)
@@ -228,20 +236,28 @@ def plan(sales: str | Path | pd.DataFrame | Catalogue, masters: str | Path | pd.
     With `out`, the folder keeps tables, pages and all answers: planned again, only what has changed is planned, and
     items learn from one another as before, unless `learn_again`. `progress` is shown on standard error.
 
+    **Month by month.** `after` names the folder of an earlier plan, with the same records or longer ones. Items that
+    have not changed are not planned again, and `changes` says for each item what has moved and why, and how the earlier
+    policy did since. Nothing is written into that folder. With a `least_gain`, levels stay if a change gains less than
+    this share of their cost, unless they no longer keep the wanted fill rate.
+
     Raises Refused (a ValueError) for what can't be read or meant, ProgramError, and Lost if counts do not add up.
     """
-    settings = Settings(str(seed), fit, borrow, confidence, level, periods, replications, window=window)
+    settings = Settings(str(seed), fit, borrow, confidence, level, periods, replications, window=window,
+                        least_gain=least_gain)
     words = Words(every=every, columns=columns or {}, units=units or {}, start=start, end=end,
                   today=today or datetime.date.today(), net=net, twice=twice, far=far, least=least,
                   factors=factors or {}, delimiter=delimiter, encoding=encoding, decimal=decimal,
                   date_formats=tuple(date_formats))
+    earlier = None if after is None else Path(after)
     check_masters(sales, masters)
+    check_earlier(earlier, None if out is None else Path(out), settings)
     room = tempfile.TemporaryDirectory(prefix="crnplan-") if out is None else None
     path = Path(room.name if room else out or "")
     with own_folder(path, CATALOGUE, CATALOGUE_FILES) as folder:
         take_tables(folder, sales, masters, orders, words)
-        done = plan_into(folder, settings, jobs=jobs, address=cluster, program=program, again=learn_again,
-                         shown=progress)
+        done = plan_into(folder, settings, after=earlier, jobs=jobs, address=cluster, program=program,
+                         again=learn_again, shown=progress)
     if done.missing:
         raise Lost("; ".join(done.missing))
     return Plan(path, done.learned, program, room)

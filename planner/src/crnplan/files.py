@@ -162,6 +162,26 @@ class Folder:
 
 
 @contextlib.contextmanager
+def read_folder(path: Path, kind: str) -> Iterator[None]:
+    """Holds a folder of a kind while it is read, so that no run works in it. Nothing in it is written.
+
+    Raises Refused for what is no such folder, and for one in which a run works.
+    """
+    with contextlib.ExitStack() as stack:
+        with faults_of(path):
+            if not (path / MARKER).is_file():
+                raise Refused(f"{path}: this is no folder of crnplan {kind}")
+            marker = stack.enter_context((path / MARKER).open(encoding="utf-8"))
+            try:
+                fcntl.flock(marker, fcntl.LOCK_SH | fcntl.LOCK_NB)
+            except BlockingIOError as fault:
+                raise Refused(f"{path}: another run of crnplan works in this folder; wait for its end") from fault
+            if marker.readline().rstrip("\n") != SIGNATURE.format(kind=kind):
+                raise Refused(f"{path}: this is no folder of crnplan {kind}")
+        yield
+
+
+@contextlib.contextmanager
 def own_folder(path: Path, kind: str, names: Iterable[str] = ()) -> Iterator[Folder]:
     """Gives a folder of a kind, made if it is not there, with `names` claimed. The system lets go of it at any end.
 

@@ -157,6 +157,14 @@ class _Known(dict[str, Any]):
         return DERIVED[name](self)
 
 
+def _moved(facts: Facts) -> str:
+    """Returns how values have changed whose names stand before `before` and `after`."""
+    def spelt(value: object) -> str:
+        return f"{value:g}" if isinstance(value, float) else "none" if value in (None, "") else str(value)
+    names = [name.removesuffix(" after") for name in facts if name.endswith(" after")]
+    return ", ".join(f"{name} {spelt(facts[f'{name} before'])} to {spelt(facts[f'{name} after'])}" for name in names)
+
+
 # What is said of a code, and what to do about it.
 WORDS: dict[str, tuple[Say, Say]] = {
     **_templates("words.toml"), **_templates("record_words.toml"), "several": (_several(0), _several(1)),
@@ -174,6 +182,13 @@ WORDS: dict[str, tuple[Say, Say]] = {
     "learned": (lambda it: f"laws of demand were learned from {counted(it['items'], 'item')}"
                 + f" and {it['classes']:,} classes" * bool(it["classes"])
                 + " in an earlier run" * bool(it["earlier"]), ""),
+    # Of what may have moved the policy of an item since an earlier plan (plan/changes.py, plan/after.py).
+    "new rows": (lambda it: f"{counted(it['periods'], 'new period')} with {counted(it['items'], 'item')}"
+                 + (f" in {counted(it['rows'], 'row')}" if it["rows"] is not None else ""), ""),
+    "other master": (_moved, ""),
+    "other settings": (lambda it: f"settings: {_moved(it)}", ""),
+    "other policy today": (lambda it: f"today's policy is ({it['s']}, {it['S']})"
+                           + ", that of the earlier plan" * bool(it["earlier"]), ""),
     # Of a history (demand/checks.py).
     **{f"found {name}": (found, "") for name, found in FOUND.items()},
     **{name: (partial(_warned, name), partial(_heeded, name)) for name in TESTS},

@@ -18,7 +18,7 @@ PERIODS, DEMAND = 52, 10
 def outcome(unmet: Sequence[int], cost: float = 5.0) -> Outcome:
     """Returns an outcome of a policy that promised to meet 95%, and a cost of 4."""
     fill = 1 - sum(unmet) / (DEMAND * len(unmet))
-    return Outcome(1, 2, 4.0, 0.95, cost, fill, 3.0, 0.5, (cost,) * len(unmet), (*unmet,))
+    return Outcome(1, 2, 4.0, 0.95, cost, fill, 3.0, 0.5, 0, (cost,) * len(unmet), (*unmet,))
 
 
 def made(unmet: Sequence[int], by_chance: Sequence[int], place: int, **changed: Any) -> Backtest:

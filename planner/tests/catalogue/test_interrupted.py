@@ -20,7 +20,7 @@ from crnplan.curve.exchange_curve import CANDIDATES, CURVE, LEFT_OUT, POLICIES, 
 from crnplan.files import MARKER
 from crnplan.jobs import BATCH
 from crnplan.plan.catalogue import ANSWERS
-from planner.tests.catalogue.conftest import FAST, TABLES, WORDS, leave_few
+from planner.tests.catalogue.conftest import FAST, FILES, TABLES, WORDS, leave_few
 from planner.tests.catalogue.made import Made
 from planner.tests.conftest import Command, heed_interrupts
 from planner.tests.jobs.clusters import SECONDS, Cluster
@@ -193,6 +193,34 @@ def test_killed_at_random(folder: Path, drawn: Path, crnplan: Command, start: St
     else:
         now = exchange_curve(folder / "plan", fill=0.9, jobs=1).gathered.new
     assert now == FEW - len(before) and tables(folder / "plan", names) == tables(drawn, names)
+
+
+def test_killed_after_an_earlier_plan(folder: Path, crnplan: Command, start: Start, holding: Path) -> None:
+    """Kills all processes in the middle of a plan after an earlier one, with other costs for all items but one: what
+    was done is kept, the bytes are those of a plan that was never interrupted, and the earlier folder is as it was."""
+    earlier, path = folder / "earlier", folder / FILES[1]
+    (folder / "go_on").touch()
+    assert crnplan("catalogue", *WORDS, "--out", earlier, "--program", holding).status == 0
+    before = {file.name: (file.read_bytes(), file.stat().st_mtime_ns) for file in earlier.iterdir()}
+    (folder / "go_on").unlink()
+    (folder / "runs").unlink()
+    heading, first, *rows = path.read_text("utf-8").splitlines()
+    others = [";".join([*row.split(";")[:2], "33,50", *row.split(";")[3:]]) for row in rows]
+    path.write_text("\r\n".join([heading, first, *others, ""]), "utf-8")
+    command = ["catalogue", *WORDS, "--after", "earlier", "--least-gain", "5%", "--out"]
+    process = start("--jobs", str(JOBS), command=[*command, "plan"])
+    wait_until(lambda: runs(folder) > PASSES)
+    os.killpg(process.pid, signal.SIGKILL)
+    process.wait()
+    wait_until(lambda: not living(process))
+    there = kept(folder)
+    (folder / "go_on").touch()
+    assert f"{FEW - there} items planned, {there} kept from before" in crnplan(
+        *command, "plan", "--program", holding, "--jobs", "1").errors
+    assert crnplan(*command, "at_once", "--program", holding, "--jobs", "2").status == 0
+    names = *TABLES, "changes.csv", "report.html"
+    assert 0 < there < FEW and tables(folder / "plan", names) == tables(folder / "at_once", names)
+    assert {file.name: (file.read_bytes(), file.stat().st_mtime_ns) for file in earlier.iterdir()} == before
 
 
 def interrupt(process: "subprocess.Popen[bytes]") -> None:

@@ -95,12 +95,12 @@ def raised(times: float) -> Any:
 def test_a_run_that_disagrees_is_a_fault(program: Path, monkeypatch: pytest.MonkeyPatch) -> None:
     """Theory that counts orders by a quarter too dear is found out by the run, and the item has no plan."""
     settings = alone(periods=1_024, replications=24)
-    assert isinstance(plan_batch([item_of()], settings, NONE, str(program))[0], Answer)
+    assert isinstance(plan_batch([(item_of(), None)], settings, NONE, str(program))[0], Answer)
     monkeypatch.setattr(Question, "theory", raised(1.25))
     with pytest.raises(Disagreement, match="differ by more than chance allows: cost of today is .* by the run") as ours:
         answer_of(item_of(), settings, program)
     assert ours.value.status == 3
-    fault, = plan_batch([item_of()], settings, NONE, str(program))
+    fault, = plan_batch([(item_of(), None)], settings, NONE, str(program))
     assert isinstance(fault, Remark) and fault.code == "disagrees"
     assert fault.facts["theory"] > 1.02 * float(fault.facts["run"])  # type: ignore[operator]
 
@@ -158,9 +158,9 @@ def test_no_law_with_a_long_run(program: Path) -> None:
 def test_an_item_without_a_policy(program: Path, monkeypatch: pytest.MonkeyPatch) -> None:
     """An item for which there is no policy has a fault with facts."""
     monkeypatch.setattr(type(question_of(item_of(), alone()).theory()), "best", lambda *_: Candidate(math.inf, 0, 0))
-    assert plan_batch([item_of()], alone(), NONE, str(program)) == [Remark("no policy", {"fill": None})]
+    assert plan_batch([(item_of(), None)], alone(), NONE, str(program)) == [Remark("no policy", {"fill": None})]
     monkeypatch.setattr(one, "choice_of", lambda *_: 1 // 0)
-    fault, = plan_batch([item_of()], alone(), NONE, str(program))
+    fault, = plan_batch([(item_of(), None)], alone(), NONE, str(program))
     assert isinstance(fault, Remark) and fault.code == "failed"
 
 

@@ -55,7 +55,7 @@ def test_a_store_keeps_answers_and_faults(tmp_path: Path) -> None:
 def test_columns_of_another_version_are_made_anew(tmp_path: Path) -> None:
     """A store of other columns has no answers."""
     store = Store(tmp_path / "kept", LawFacts)
-    store.keep([("a", "1", LawFacts("auto", 1.0, None, 2.0))])
+    store.keep([("a", "1", LawFacts("auto", 1.0, None, 2.0, 1.0))])
     store.close()
     assert Store(tmp_path / "kept", Item).digests() == {}
 

@@ -14,7 +14,7 @@ from ..demand import METHODS
 from ..files import Folder, new_file, own_folder
 from ..pages.catalogue_page import CATALOGUE_FILES, FOUND
 from ..pages.catalogue_tables import counted_rows, reasons_of, rejects_of
-from ..plan.catalogue import Lost, plan_into
+from ..plan.catalogue import Lost, check_earlier, plan_into
 from ..plan.question import Settings
 from ..plan.settings import CONFIG, read_config
 from ..records.catalogue_reading import Catalogue, read_into
@@ -25,7 +25,7 @@ from ..records.item import BORROW
 from ..records.items import KEEP, LEAVE_OUT, Words
 from . import note
 from .histories import writing_options
-from .words import command, pairs_of, worker_options
+from .words import command, pairs_of, share_of, worker_options
 
 # So many reasons are named on the terminal.
 MOST_REASONS = 10
@@ -75,6 +75,10 @@ TAKEN = (KEEP, LEAVE_OUT)
               help="Keep a wanted fill rate under this share of the laws that the item's history allows.")
 @click.option("--window", type=click.IntRange(1), metavar="N",
               help="Fit laws to the last N periods alone, and learn from these; by default to all.")
+@click.option("--after", metavar="FOLDER", type=click.Path(path_type=Path),
+              help="Plan again after the plan in FOLDER, with the same records or longer ones: say what moved and why.")
+@click.option("--least-gain", metavar="SHARE", callback=share_of,
+              help="With --after, keep levels if a change gains less than this share of their cost, as 2%.")
 @click.option("--level", type=float, metavar="SHARE", help="The level of the intervals; by default 0.95.")
 @click.option("--seed", metavar="TEXT", help="The keys of all items follow from it; by default crnplan.")
 @click.option("--config", metavar="FILE.toml", help="Settings; by default crnplan.toml, if it is here.")
@@ -86,6 +90,7 @@ def catalogue(**asked: Any) -> int:
     words, settings = words_of(asked, config)
     if not asked["only_read"] and asked["out"] is None:
         raise crn.Refused("--out is missing; name the folder for the plan, or say --check to only read the files")
+    check_earlier(asked["after"], asked["out"], settings)
     with (tempfile.TemporaryDirectory(prefix="crnplan-") as room, own_folder(
             Path(room) if asked["only_read"] else asked["out"], CATALOGUE, CATALOGUE_FILES) as folder):
         read = Catalogue(read_into(folder, {kind: asked[kind] for kind in ("demand", "items", "orders")}, words))
@@ -119,8 +124,8 @@ def only_read(read: Catalogue, rejects: Path | None) -> list[str]:
 
 def planned(folder: Folder, settings: Settings, asked: Mapping[str, Any]) -> list[str]:
     """Plans a catalogue that was read into a folder, and says what comes of it. Returns what is lost or broken."""
-    done = plan_into(folder, settings, jobs=asked["jobs"], address=asked["cluster"], program=asked["program"],
-                     again=asked["again"], shown=True)
+    done = plan_into(folder, settings, after=asked["after"], jobs=asked["jobs"], address=asked["cluster"],
+                     program=asked["program"], again=asked["again"], shown=True)
     click.echo(f"{folder.path}: {done.planned:,} items planned, {done.kept:,} kept from before", err=True)
     click.echo(done.summary, nl=False)
     return [*done.missing, *[f"{done.totals.broken:,} items are not planned by a fault of crnplan: please report them "

@@ -4,7 +4,8 @@ from __future__ import annotations
 from collections.abc import Iterator
 
 from ..plan.backtest.catalogue import Tested
-from ..plan.backtest.one import Backtest, Outcome
+from ..plan.backtest.one import Backtest
+from ..plan.backtest.outcomes import Outcome
 from ..plan.backtest.sums import (ALL_ITEMS, BOTH, FEW, HOLDS, KEPT, LEAST_ITEMS, POLICIES, RARE, SLACK, TIME, UNSURE,
                                   Estimate, Sums)
 from ..records.item import Item

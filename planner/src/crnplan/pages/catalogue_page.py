@@ -25,6 +25,7 @@ from ..remarks import Remark
 from ..table import DataTable
 from .catalogue_tables import (DECISION_COLUMNS, DECISIONS, EXACT, REJECTS, catalogue_summary, decision_row,
                                decisions_of, exact_of, faults_of, planned_of, reasons_of, rejects_of)
+from .change_tables import CHANGES, change_lines, changes_of, moved_rows
 from .item_page import ItemWords, item_page
 from .page import OF_CHOSEN, ROOM, UNITS, Line, Plot, Scale, curve_ends, number, percent, rendered
 
@@ -97,7 +98,8 @@ def catalogue_page(folder: PlannedFolder, totals: Totals) -> str:
         "savings": savings(rows), "styles": VERDICT_STYLES, "most_reasons": MOST_REASONS,
         "reasons": reasons_of(folder.read.rejects(faults_of(folder))), "columns": columns,
         "texts": TEXTS, "parts": [width(name, rows) for name in columns], "codes": sorted(codes.items()),
-        "choices": sorted(Counter(row.answer.verdict for row in rows).items()),
+        "choices": sorted(Counter(row.answer.verdict for row in rows).items()), "changes": change_lines(folder),
+        "moved": moved_rows(folder),
         "warned": sum(row.cells["warnings"] != "" for row in rows)})
 
 
@@ -188,7 +190,10 @@ def write_catalogue(folder: Folder, planned: PlannedFolder, totals: Totals, lear
     folder.write(DECISIONS, decisions_of(planned).lines)
     folder.write(EXACT, exact_of(planned_of(planned)).lines)
     folder.write(REJECTS, rejects_of(planned.read.rejects(faults_of(planned))).lines)
-    summary = catalogue_summary(planned, totals, learned, missing)
+    folder.remove(CHANGES)
+    if planned.planned.earlier:
+        folder.write(CHANGES, changes_of(planned).lines)
+    summary = catalogue_summary(planned, totals, learned, change_lines(planned), missing)
     folder.write(SUMMARY, summary)
     folder.write(PAGE, catalogue_page(planned, totals))
     return summary

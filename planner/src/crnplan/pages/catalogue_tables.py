@@ -171,12 +171,13 @@ def counted_rows(files: Mapping[str, FileCounts]) -> Iterator[str]:
                + f"; {counts['blank']:,} blank rows" * (counts["blank"] > 0))
 
 
-def catalogue_summary(folder: PlannedFolder, totals: Totals, learned: Sequence[Remark],
+def catalogue_summary(folder: PlannedFolder, totals: Totals, learned: Sequence[Remark], changes: Iterable[str] = (),
                       missing: Iterable[str] = ()) -> str:
-    """Returns as a text what became of all rows and items, what was learned, the totals, and what is lost."""
+    """Returns as a text what became of all rows and items, what was learned, the totals, lines on what has changed
+    since an earlier plan, and what is lost."""
     half, saving = totals.half_width(folder.settings.level), totals["run_saving"]
     return rendered("summary.txt", {
         "settings": folder.settings, "every": folder.every, "items": folder.counts["items"], "totals": totals,
         "files": counted_rows(folder.counts["files"]), "rejects": REJECTS, "ends": (saving - half, saving + half),
-        "learned": learned, "missing": missing,
+        "learned": learned, "changes": changes, "missing": missing,
         "money": lambda amount: f"{amount:z,.{min(folder.decimals, 2)}f}"})

@@ -6,13 +6,15 @@ from fractions import Fraction
 
 from ..remarks import Remark
 
-# Policies: today's, the chosen one, and the one that the item would get by its own history alone.
-TODAY, CHOSEN, ALONE = "today", "chosen", "alone"
+# Policies: today's, the chosen one, the one that the item would get by its own history alone, that of an earlier plan,
+# and the one that would be chosen if that one did not stay.
+TODAY, CHOSEN, ALONE, BEFORE, UNDAMPED = "today", "chosen", "alone", "before", "undamped"
 # Verdicts. `more service`: today's policy misses the wanted fill, and keeping it costs more.
 CHEAPER, DEARER, UNDECIDED, SAME, SERVICE = "cheaper", "dearer", "undecided", "same", "more service"
 # Whose figures costs and savings are: those of theory where it is exact, else those of the run.
 THEORY, RUN = "theory", "run"
 OURS = "disagrees", "failed"  # codes of faults of ours
+DAMPED = "damped"  # the code of an item whose policy of an earlier plan stays
 
 
 @dataclass(frozen=True)
@@ -36,12 +38,13 @@ class Figures:
 @dataclass(frozen=True)
 class LawFacts:
     """The law of demand: its family, its share beside what was seen, the log10 of the Bayes factor for what it has
-    learned from others (None if nothing), and its mean in items a period."""
+    learned from others (None if nothing), and its mean and standard deviation in items a period."""
 
     family: str
     share: float
     log10_bayes: float | None
     mean: float
+    spread: float
 
 
 @dataclass(frozen=True)
@@ -80,8 +83,9 @@ class Answer:
 
     `saving`, and `cost_today` and `cost_chosen`, in money of a period of the long run, are those of `source`: of theory
     where it is exact, else of the run. `alone` is the policy of the item's own history under the law that it has; None
-    if there is none. Theory counts in steps of `step` boxes. `confidence_cost` is what the confidence in a wanted fill
-    costs a period, None without one.
+    if there is none. So is `before`, that of an earlier plan, and `undamped`, which would be chosen if that one did not
+    stay because a change gains too little. Theory counts in steps of `step` boxes. `confidence_cost` is what the
+    confidence in a wanted fill costs a period, None without one.
     """
 
     verdict: str
@@ -92,6 +96,8 @@ class Answer:
     today: Figures
     chosen: Figures
     alone: Figures | None
+    before: Figures | None
+    undamped: Figures | None
     step: int
     confidence_cost: float | None
     law: LawFacts

@@ -7,6 +7,7 @@ import hashlib
 import heapq
 import json
 import math
+import shutil
 from collections import Counter, defaultdict
 from collections.abc import Iterable, Iterator, Sequence
 from dataclasses import dataclass, field
@@ -19,16 +20,18 @@ import numpy as np
 
 from ..crnsim.program import program_for
 from ..demand.learning import LEAST_ITEMS, LEAST_ON_REQUEST, Prior, learn
-from ..errors import Failed, Refused
-from ..files import Folder, faults_of
+from ..errors import Failed, Refused, argument
+from ..files import Folder, faults_of, read_folder
 from ..jobs import Work, program_digest, workers_of
 from ..records.catalogue_reading import missing_of
-from ..records.catalogued import READ, Catalogued
+from ..records.catalogued import CATALOGUE, READ, Catalogued
 from ..records.item import Item
 from ..remarks import Remark
-from ..stored import Damaged, Store
+from ..stored import Damaged, Store, digest_of
 from ..words import advice, sentence
+from .after import CHANGES, PLAN, check_records, changes_since, keep_changes, policy_before, take_over
 from .answer import CHOSEN, OURS, RUN, TODAY, Answer
+from .changes import Change
 from .one import plan_batch
 from .question import ALL, CLASS, NONE, Question, Settings, question_of
 
@@ -119,14 +122,22 @@ class Totals:
 
 @dataclass(frozen=True)
 class Planned:
-    """How items were planned: the settings, what was learned, and the text that all digests of answers have."""
+    """How items were planned: the settings, what was learned, and the text that all digests of answers have, but for an
+    earlier plan; the digest of that plan is empty if there is none."""
 
     settings: Settings
     prior: Prior
-    common: str
+    base: str
+    earlier: str = ""
+
+    @property
+    def common(self) -> str:
+        """Returns the text that all digests of answers have."""
+        return json.dumps([self.base, self.earlier, self.settings.least_gain]) if self.earlier else self.base
 
     def keep(self, answers: Store[Answer]) -> None:
-        tree = {"settings": dataclasses.asdict(self.settings), "borrow": self.prior.borrow, "common": self.common}
+        tree = {"settings": dataclasses.asdict(self.settings), "borrow": self.prior.borrow, "base": self.base,
+                "earlier": self.earlier}
         answers.keep_facts({PLANNED: json.dumps(tree)})
 
     @classmethod
@@ -138,7 +149,7 @@ class Planned:
         try:
             tree = json.loads(text)
             prior = Prior(NONE) if tree["borrow"] == NONE else Prior.parse(answers.fact(PRIOR) or "", str(answers.path))
-            return cls(Settings(**tree["settings"]), prior, str(tree["common"]))
+            return cls(Settings(**tree["settings"]), prior, str(tree["base"]), str(tree["earlier"]))
         except (ValueError, LookupError, TypeError) as fault:
             raise Damaged(answers.path, f"what was planned is not as it was kept ({fault})") from fault
 
@@ -156,6 +167,24 @@ class PlannedFolder:
         kept = self.store.digests()
         if any(kept.get(name) != digest for name, digest in self.read.digests(self.planned.common)):
             raise Refused(f"{self.path}: its plan is not as the rows that were read last", AGAIN)
+
+    @property
+    def digest(self) -> str:
+        """Returns the digest of all questions of the plan."""
+        return digest_of(self.planned.common, *sorted(self.store.digests().items()))
+
+    def answer(self, name: str) -> Answer | Remark | None:
+        """Returns the answer that is kept to an item; None if there is none."""
+        return None if self.store.digest(name) is None else self.store.answer(name)
+
+    def changes(self) -> Iterator[Change]:
+        """Yields what has changed since the earlier plan, by item. Raises Refused if that is not known."""
+        if not self.planned.earlier:
+            return
+        with contextlib.closing(Store(self.path / CHANGES, Change)) as store:
+            if store.fact(PLAN) != self.digest:
+                raise Refused(f"{self.path}: what has changed since the earlier plan is not known", AGAIN)
+            yield from (change for _, _, change in store.answers() if isinstance(change, Change))
 
     def answers(self) -> Iterator[tuple[Item, Answer | Remark]]:
         """Yields the items in order of their names, each with its answer, or with the fault for which it has none."""
@@ -191,18 +220,49 @@ class PlannedFolder:
                        f"did you mean {close[0]!r}?" if close else "decisions.csv has all items")
 
 
+def check_earlier(after: Path | None, out: Path | None, settings: Settings) -> None:
+    """Raises Refused, before anything is written, if an earlier plan is missing, or is in the folder of this one."""
+    if after is None:
+        if settings.least_gain is not None:
+            raise Refused(f"{argument('least_gain')} needs an earlier plan", f"name its folder by {argument('after')}")
+    elif out is not None and after.resolve() == out.resolve():
+        raise Refused(f"{after}: the earlier plan and this one need folders of their own",
+                      "name another folder for this one")
+    elif not (after / ANSWERS).is_file():
+        raise Refused(f"{after}: no plan is in it", "name the folder of an earlier crnplan catalogue")
+
+
 @contextlib.contextmanager
-def planned_folder(path: Path) -> Iterator[PlannedFolder]:
-    """Opens a folder of `crnplan catalogue`. Raises Refused if no plan is in it, and Damaged."""
-    advice = f"run crnplan catalogue DEMAND.csv ITEMS.csv --out {path} first"
+def earlier_folder(path: Path | None, folder: Folder) -> Iterator[PlannedFolder | None]:
+    """Opens copies of the plan in another folder, in which nothing is written; None if no folder is named. Raises
+    Refused if no finished plan is in it, or if a run works there."""
+    if path is None:
+        yield None
+        return
+    copied = folder.room() / "earlier"
+    copied.mkdir(exist_ok=True)
+    with read_folder(path, CATALOGUE):
+        for name in (READ, ANSWERS, f"{ANSWERS}-wal"):
+            if (path / name).is_file():
+                shutil.copyfile(path / name, copied / name)
+    with planned_folder(copied, path) as planned:
+        planned.check()
+        yield planned
+
+
+@contextlib.contextmanager
+def planned_folder(path: Path, original: Path | None = None) -> Iterator[PlannedFolder]:
+    """Opens a folder of `crnplan catalogue`, or the copy of one. Raises Refused if no plan is in it, and Damaged."""
+    shown = original or path
+    advice = f"run crnplan catalogue DEMAND.csv ITEMS.csv --out {shown} first"
     if not (path / READ).is_file() or not (path / ANSWERS).is_file():
-        raise Refused(f"{path}: no plan is in it", advice)
+        raise Refused(f"{shown}: no plan is in it", advice)
     with contextlib.closing(Store(path / ANSWERS, Answer)) as answers:
         planned = Planned.of(answers)
         if planned is None:
-            raise Refused(f"{path}: no plan is in it", advice)
+            raise Refused(f"{shown}: no plan is in it", advice)
         with contextlib.closing(Catalogued(path / READ, planned.settings.window)) as read:
-            yield PlannedFolder(path, read, answers, planned)
+            yield PlannedFolder(shown, read, answers, planned)
 
 
 class Learned(NamedTuple):
@@ -275,6 +335,13 @@ def learned_now(answers: Store[Any], read: Catalogued, way: str, least: int) -> 
     return prior
 
 
+def take_prior(answers: Store[Any], earlier: PlannedFolder, again: bool) -> None:
+    """Keeps what the items of an earlier plan have learned, unless it is to be learned again."""
+    facts = {name: earlier.store.fact(name) for name in (PRIOR, PRIOR_WINDOW)}
+    if not again and None not in facts.values():
+        answers.keep_facts({name: fact for name, fact in facts.items() if fact is not None})
+
+
 class Lost(Failed):
     """Rows or items whose counts do not add up. This is a fault of crnplan."""
 
@@ -292,23 +359,34 @@ class Done:
     summary: str
 
 
-def plan_into(folder: Folder, settings: Settings, *, jobs: int | None = None, address: str | None = None,
-              program: str | Path | None = None, again: bool = False, shown: bool = False) -> Done:
+def plan_into(folder: Folder, settings: Settings, *, after: Path | None = None, jobs: int | None = None,
+              address: str | None = None, program: str | Path | None = None, again: bool = False,
+              shown: bool = False) -> Done:
     """Plans the catalogue that was read into a folder, and writes its tables and pages: see `plan`."""
     from ..pages.catalogue_page import write_catalogue, write_rejects
     path = program_for(program, address)
-    with (faults_of(folder.path), contextlib.closing(Catalogued(folder.path / READ, settings.window)) as read,
+    with (faults_of(folder.path), earlier_folder(after, folder) as earlier,
+          contextlib.closing(Catalogued(folder.path / READ, settings.window)) as read,
           contextlib.closing(Store(folder.store(ANSWERS), Answer)) as answers):
+        if earlier:
+            check_records(earlier, read)
+            take_prior(answers, earlier, again)
         prior, usual, remarks = learned_of(answers, read, settings, again)
         if settings.window is not None:
             remarks += (Remark("window", {"periods": settings.window}),)
         settings = dataclasses.replace(settings, borrow=usual, every=read.fact("every"))
-        planned = Planned(settings, prior, settings.common(program_digest(path, address), prior))
+        planned = Planned(settings, prior, settings.common(program_digest(path, address), prior),
+                          earlier.digest if earlier else "")
         planned.keep(answers)
+        if earlier:
+            take_over(answers, read, planned, earlier)
         work = Work(answers, dict(read.digests(planned.common)))
         write_rejects(folder, read)
-        work.finish(plan_batch, read.item, settings, prior, path, workers=workers_of(jobs, address, path), shown=shown)
+        work.finish(plan_batch, lambda name: (read.item(name), policy_before(earlier, name)), settings, prior, path,
+                    workers=workers_of(jobs, address, path), shown=shown)
         catalogue = PlannedFolder(folder.path, read, answers, planned)
+        if earlier:
+            keep_changes(folder, catalogue.digest, changes_since(earlier, catalogue))
         totals = Totals.of(catalogue.answers())
         missing = missing_of(catalogue.counts, totals.planned + totals.faults)
         summary = write_catalogue(folder, catalogue, totals, remarks, missing)

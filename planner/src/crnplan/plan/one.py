@@ -36,8 +36,8 @@ from ..theory.long_run import LongRun
 from ..theory.many_laws import Promises
 from ..theory.run_effects import start_bias
 from ..words import advice, sentence
-from .answer import (ALONE, CHEAPER, CHOSEN, DEARER, RUN, SAME, SERVICE, THEORY, TODAY, UNDECIDED, Answer, Figures,
-                     LawFacts, Run)
+from .answer import (ALONE, BEFORE, CHEAPER, CHOSEN, DAMPED, DEARER, RUN, SAME, SERVICE, THEORY, TODAY, UNDAMPED,
+                     UNDECIDED, Answer, Figures, LawFacts, Run)
 from .question import NONE, Levels, Question, Settings, question_of
 
 Result = TypeVar("Result")
@@ -71,11 +71,18 @@ class Disagreement(Unplanned, Failed):
 @dataclass(frozen=True)
 class Choice:
     """The policy of an item in boxes, and the one without a confidence in its fill rate, which is mostly the same.
-    `is_promised` says whether that confidence is kept, if there is one."""
+    `is_promised` says whether that confidence is kept, if there is one. `undamped` would be chosen if that of an
+    earlier plan did not stay."""
 
     levels: Levels
     plain: Levels
     is_promised: bool = True
+    undamped: Levels | None = None
+
+    @property
+    def best(self) -> Levels:
+        """Returns the policy that is best, whatever an earlier plan has."""
+        return self.undamped or self.levels
 
 
 def allowed_by(question: Question, laws: int = LAWS) -> tuple[tuple[Law, ...], tuple[Law, ...]]:
@@ -92,7 +99,7 @@ def allowed_by(question: Question, laws: int = LAWS) -> tuple[tuple[Law, ...], t
 
 def choice_of(theory: LongRun, question: Question) -> Choice:
     """Returns the best policy, or the cheapest that meets the wanted share: with a confidence, under so many of the
-    laws that the history allows. Raises NoPolicy if there is none."""
+    laws that the history allows. That of an earlier plan may stay: see `damped`. Raises NoPolicy if there is none."""
     confidence = question.settings.confidence
     fill = None if question.item.fill is None else float(question.item.fill)
     best = theory.best(fill or 0.0)
@@ -100,19 +107,37 @@ def choice_of(theory: LongRun, question: Question) -> Choice:
     if best.cost == math.inf:
         raise NoPolicy(Remark("no policy", {"fill": fill}))
     if fill is None or confidence is None:
-        return Choice(plain, plain)
+        return damped(Choice(plain, plain), theory, question)
     gap = theory.gap_of(*plain)
-    sure = Promises(question.scenario(), theory, gap, *allowed_by(question), [fill], confidence).cheapest(best, fill)
-    return Choice(plain, plain, False) if sure.cost == math.inf else Choice((sure.point, sure.level), plain)
+    promises = Promises(question.scenario(), theory, gap, *allowed_by(question), [fill], confidence)
+    sure = promises.cheapest(best, fill)
+    if sure.cost == math.inf:
+        return damped(Choice(plain, plain, False), theory, question)
+    return damped(Choice((sure.point, sure.level), plain), theory, question, promises)
+
+
+def damped(choice: Choice, theory: LongRun, question: Question, promises: Promises | None = None) -> Choice:
+    """Returns the choice; or the policy of an earlier plan, if a change gains less than the least share of its cost,
+    and it still keeps the wanted fill rate: by the law of the item, and under enough laws if that is promised."""
+    before, least, fill = question.before, question.settings.least_gain, question.item.fill
+    if before is None or least is None or before == choice.levels:
+        return choice
+    earlier, new = (figures_of(question, theory, levels) for levels in (before, choice.levels))
+    if fill is not None and (earlier.fill < fill or promises and not promises.keeps(*before, float(fill))):
+        return choice
+    if earlier.cost - new.cost >= least * earlier.cost:
+        return choice
+    return dataclasses.replace(choice, levels=before, undamped=choice.levels)
 
 
 def levels_of(question: Question, choice: Choice) -> dict[str, Levels]:
     """Returns s and S of each policy, in boxes. There is none of the item alone if its own law has no best policy."""
-    levels = {TODAY: question.levels, CHOSEN: choice.levels, ALONE: choice.levels}
+    levels = {TODAY: question.levels, CHOSEN: choice.levels, ALONE: choice.best}
+    levels |= {name: policy for name, policy in ((BEFORE, question.before), (UNDAMPED, choice.undamped)) if policy}
     if question.learned:
         try:
             single = question.alone()
-            levels[ALONE] = choice_of(single.theory(), single).levels
+            levels[ALONE] = choice_of(single.theory(), single).best
         except Refused:
             del levels[ALONE]
     return levels
@@ -233,7 +258,16 @@ def law_facts(law: FittedLaw, box: int) -> LawFacts:
     share = 0.0 if law.family == EMPIRICAL else law.diagnostics.share
     if borrowed and not borrowed.alone:
         share = borrowed.share
-    return LawFacts(law.family, share, borrowed.log10_bayes if borrowed else None, float(law.mean) * box)
+    return LawFacts(law.family, share, borrowed.log10_bayes if borrowed else None, float(law.mean) * box,
+                    math.sqrt(law.figures.variance or 0) * box)
+
+
+def damping_of(figures: Mapping[str, Figures]) -> Iterator[Remark]:
+    """Yields that the policy of an earlier plan stays, with what the change would gain, if that is so."""
+    before, best = figures.get(BEFORE), figures.get(UNDAMPED)
+    if before and best:
+        gain = before.cost - best.cost
+        yield Remark(DAMPED, {"s": best.point, "S": best.level, "gain": gain, "share": gain / before.cost})
 
 
 def remarks_of(question: Question, theory: LongRun, sample: Sample, choice: Choice) -> Iterator[Remark]:
@@ -283,10 +317,12 @@ def plan_one(question: Question, program: str) -> Answer:
     verdict = SAME if choice.levels == question.levels else verdict_of(question, today, saving, *ends)
     confidence_cost = None
     if question.settings.confidence is not None and item.fill is not None:
-        confidence_cost = chosen.cost - figures_of(question, theory, choice.plain).cost
+        best, plain = (figures_of(question, theory, levels) for levels in (choice.best, choice.plain))
+        confidence_cost = best.cost - plain.cost
     return Answer(verdict, THEORY if theory.exact else RUN, *costs, saving, today, chosen, figures.get(ALONE),
-                  theory.step, confidence_cost, law_facts(question.demand, item.box), run,
-                  tuple(remarks_of(question, theory, sample, choice)))
+                  figures.get(BEFORE), figures.get(UNDAMPED), theory.step, confidence_cost,
+                  law_facts(question.demand, item.box), run,
+                  (*remarks_of(question, theory, sample, choice), *damping_of(figures)))
 
 
 def or_fault(answer: Callable[[Item], Result], item: Item) -> Result | Remark:
@@ -302,6 +338,9 @@ def or_fault(answer: Callable[[Item], Result], item: Item) -> Result | Remark:
         return Remark("failed", {"kind": type(why).__name__, "what": str(why)})
 
 
-def plan_batch(items: Sequence[Item], settings: Settings, prior: Prior, program: str) -> list[Answer | Remark]:
-    """Returns for each item the answer, or why it can't be planned. Raises ProgramError."""
-    return [or_fault(lambda asked: plan_one(question_of(asked, settings, prior), program), item) for item in items]
+def plan_batch(items: Sequence[tuple[Item, Levels | None]], settings: Settings, prior: Prior,
+               program: str) -> list[Answer | Remark]:
+    """Returns for each item, with its policy in an earlier plan, the answer, or why it can't be planned. Raises
+    ProgramError."""
+    return [or_fault(lambda asked: plan_one(question_of(asked, settings, prior, before), program), item)
+            for item, before in items]

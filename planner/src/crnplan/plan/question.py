@@ -34,8 +34,9 @@ class Settings:
 
     `borrow` says from whom an item learns its law if its master does not; with None the number of items decides that.
     With a `confidence`, wanted fill rates are kept under that share of the laws that a history allows. A period is a
-    day, week or month (`every`), or has no dates; `season` is the number of periods of a season that is looked for. Laws
-    are fitted, learned and checked on the last `window` periods of each history alone, or on all.
+    day, week or month (`every`), or has no dates; `season` is the number of periods of a season that is looked for.
+    Laws are fitted, learned and checked on the last `window` periods of each history alone, or on all. The levels of an
+    earlier plan stay if a change gains less than the share `least_gain` of their cost.
     """
 
     seed: str = "crnplan"
@@ -49,6 +50,7 @@ class Settings:
     every: str | None = None
     season: int | None = None
     window: int | None = None
+    least_gain: float | None = None
 
     def __post_init__(self) -> None:
         for name, word, words in (("fit", self.fit, METHODS), ("lead_fit", self.lead_fit, LEAD_METHODS),
@@ -59,7 +61,8 @@ class Settings:
             raise Refused(f"{argument('fit', self.fit)} fits each item alone, and "
                           f"{argument('borrow', str(self.borrow))} learns from others", "leave one out")
         for name, share, example in (("level", self.level, "0.95 for 95 of 100 samples"),
-                                     ("confidence", self.confidence, "0.8 for 80% of the laws that a history allows")):
+                                     ("confidence", self.confidence, "0.8 for 80% of the laws that a history allows"),
+                                     ("least_gain", self.least_gain, "0.02 for 2% of the cost")):
             if share is not None and not 0 < share < 1:
                 raise Refused(f"{argument(name, f'{share:g}')} is not between 0 and 1", f"write {example}")
         for name, number, least, most in (("periods", self.periods, 1, MOST_PERIODS),
@@ -69,9 +72,16 @@ class Settings:
                 raise Refused(f"{argument(name, str(number))} is not from {least} to {most:,}")
 
     def common(self, program: str, prior: Prior) -> str:
-        """Returns what all answers depend on, with the digest of the program and what was learned, as a text."""
+        """Returns what all answers depend on, with the digest of the program and what was learned, as a text. The least
+        gain is left out: it only counts beside an earlier plan."""
         learned = hashlib.sha256(prior.text.encode()).hexdigest()
-        return json.dumps([__version__, VERSION, program, learned, dataclasses.asdict(self)])
+        settings = dataclasses.asdict(self)
+        del settings["least_gain"]
+        return json.dumps([__version__, VERSION, program, learned, settings])
+
+    def seed_of(self, purpose: str, name: str) -> int:
+        """Returns the seed of random numbers for a purpose, which follows from an item's name and the seed."""
+        return int.from_bytes(hashlib.sha256(f"{self.seed}\n{purpose}\n{name}".encode()).digest()[:4])
 
 
 @dataclass(frozen=True, eq=False)
@@ -80,7 +90,7 @@ class Question:
     the settings.
 
     `borrow` says from whom its law is learned, and `prior` what was learned. `rate_error` is by which share a rate is
-    rounded.
+    rounded. `before` is the policy of an earlier plan in boxes; None if there is none, or not in whole boxes.
     """
 
     item: Item
@@ -93,6 +103,7 @@ class Question:
     demand: FittedLaw
     lead: FittedLaw
     returns: FittedLaw | None
+    before: Levels | None = None
 
     @property
     def levels(self) -> Levels:
@@ -126,9 +137,8 @@ class Question:
         return amount / float(self.scale)
 
     def seed(self, purpose: str) -> int:
-        """Returns the seed of random numbers for a purpose, which follows from the item's name and the seed."""
-        text = f"{self.settings.seed}\n{purpose}\n{self.item.name}"
-        return int.from_bytes(hashlib.sha256(text.encode()).digest()[:4])
+        """Returns the seed of random numbers for a purpose."""
+        return self.settings.seed_of(purpose, self.item.name)
 
     def scenario(self, backlog: int | None = None, initial: int = 0) -> Scenario:
         """Returns the scenario of today's policy with a backlog rate, by default that of the rates or else 1, without
@@ -165,9 +175,16 @@ def finest(rates: Mapping[str, int], scale: Fraction) -> tuple[dict[str, int], F
     return {name: rate * times for name, rate in rates.items()}, scale * times
 
 
-def question_of(item: Item, settings: Settings, prior: Prior | None = None) -> Question:
-    """Returns the question of an item, whose law is perhaps learned. Raises Refused if its numbers are none of a
-    scenario."""
+def in_boxes(levels: Levels | None, box: int) -> Levels | None:
+    """Returns levels in boxes; None if there are none, or if they are not in whole boxes."""
+    if levels is None or any(level % box for level in levels):
+        return None
+    return levels[0] // box, levels[1] // box
+
+
+def question_of(item: Item, settings: Settings, prior: Prior | None = None, before: Levels | None = None) -> Question:
+    """Returns the question of an item, whose law is perhaps learned, and which has perhaps the s and S of an earlier
+    plan. Raises Refused if its numbers are none of a scenario."""
     prior, box = prior or Prior(NONE), item.box
     costs = {"setup": item.setup, "holding": box * item.holding}
     if item.backlog is not None:
@@ -183,4 +200,4 @@ def question_of(item: Item, settings: Settings, prior: Prior | None = None) -> Q
         law_of(prior, item.counts, group, box=box)
     returns = fit_demand(item.returns, method=settings.fit, box=box) if item.returns else None
     lead = fit_lead(item.leads, method=settings.lead_fit)
-    return Question(item, settings, prior, borrow, rates, scale, error, demand, lead, returns)
+    return Question(item, settings, prior, borrow, rates, scale, error, demand, lead, returns, in_boxes(before, box))

@@ -191,12 +191,21 @@ class Promises:
             return NO_POLICY
         return self.theory.policy(own, int(level)) if level > least.level else least
 
+    @property
+    def place(self) -> int:
+        """Returns how many laws, in the order of the least S that they allow, come before the one that decides."""
+        return max(0, math.ceil(self.confidence * (len(self.theories) + self.lacking) - 1e-9) - 1)
+
+    def keeps(self, point: int, level: int, share: float) -> bool:
+        """Returns whether a policy meets a share under enough laws."""
+        laws = range(len(self.theories))
+        return self.level_at(self.place, laws, (level - point) // self.step, share) <= level
+
     def cheapest(self, plain: Candidate, share: float) -> Candidate:
         """Returns the cheapest policy found that meets a share under enough laws. `plain` is the one by the own law."""
         if plain.cost == math.inf:
             return NO_POLICY
-        laws = range(len(self.theories))
-        place = max(0, math.ceil(self.confidence * (len(laws) + self.lacking) - 1e-9) - 1)
+        laws, place = range(len(self.theories)), self.place
         first, low = (plain.level - plain.point) // self.step, max(0, place - BESIDE)
         self.prepare(laws, [first])
         near = sorted(laws, key=lambda law: self.levels[law, first][share])[low:place + BESIDE + 1]

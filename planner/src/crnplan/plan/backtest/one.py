@@ -1,17 +1,14 @@
 """Tests the plan of an item on its own past: plans at the end of a record, and runs policies on the periods after it.
 
 The plan is that of `plan_one` but for its run: theory chooses the policy, and says what it costs and meets in the long
-run. Each policy is in use from the first period of the record on. What happens there is not counted, but leaves a stock
-and orders on their way, as they are when a policy has been in use for long. It begins with nothing on order and a stock
-between its s and S, by chance, where its position mostly is in the long run.
+run.
 """
 from __future__ import annotations
 
 import dataclasses
 import statistics
-from collections.abc import Iterable, Iterator, Sequence
+from collections.abc import Iterator, Sequence
 from dataclasses import dataclass
-from fractions import Fraction
 
 import numpy as np
 
@@ -22,8 +19,8 @@ from ...remarks import Remark
 from ...theory.long_run import LongRun
 from ..answer import Figures
 from ..one import choice_of, figures_of, or_fault
-from ..question import Levels, Question, Settings, question_of
-from .periods import Past, Period, Rates, periods_of
+from ..question import Question, Settings, question_of
+from .outcomes import Happened, Outcome
 from .smoothing import Lead, smoothed_levels
 
 SHORT_RECORD = "short record"  # periods, needed
@@ -49,24 +46,6 @@ class Walk:
         for origin in range(self.record, periods, self.every):
             start = 0 if origin == self.record else max(0, origin - self.window)
             yield start, origin, min(origin + self.every, periods)
-
-
-@dataclass(frozen=True)
-class Outcome:
-    """What a policy promised for the later periods, and what came: cost in money a period, the share of demand met at
-    once, the mean stock in items, and orders a period. s (`point`) and S (`level`) are those of the first of these
-    periods. Nothing is promised by the rule of thumb. `costs` and `unmet` are money and items, by period."""
-
-    point: int
-    level: int
-    promised_cost: float | None
-    promised_fill: float | None
-    cost: float
-    fill: float | None
-    stock: float
-    orders: float
-    costs: tuple[float, ...]
-    unmet: tuple[int, ...]
 
 
 @dataclass(frozen=True)
@@ -110,55 +89,26 @@ class Walked:
         """Plans an item as it was at the end of its record. Raises Refused if it could not be planned then."""
         self.item, self.settings, self.prior, self.walk = item, settings, prior, walk
         self.question = self._asked(0, walk.record)
-        periods = len(item.counts)
-        lead = self.question.lead
-        random = np.random.default_rng(self.question.seed("past"))
-        shares = np.array(lead.weights) / lead.size
-        leads = random.choice(lead.values, periods, p=shares).tolist()
-        self.start = float(random.random())
-        self.past = Past(item.counts, item.returns or (0,) * periods, leads)
-        self.lead = Lead(float(lead.mean), float(shares @ (np.array(lead.values) - float(lead.mean))**2))
-        self.rates = Rates(item.setup, 0, item.holding, item.backlog or Fraction(0))
+        self.happened = Happened(item, self.question.lead, self.question.seed("past"), walk.record)
         self.theory = self.question.theory()
         self.plan = chosen(self.question, self.theory)
 
     def _asked(self, start: int, stop: int) -> Question:
         return question_of(self.item.part(start, stop).last(self.settings.window), self.settings, self.prior)
 
-    def outcome(self, levels: Iterable[Levels], promises: Sequence[tuple[float, float]] = ()) -> Outcome:
-        """Returns what s and S of each period come to, with promises of cost and fill for each later one."""
-        record, levels = self.walk.record, [*levels]
-        s, S = levels[0]
-        periods = periods_of(self.past, levels, s + round(self.start * (S - s)))[record:]
-        asked, unmet = sum(self.past.demands[record:]), [period.unmet for period in periods]
-        costs = [float(period.cost(self.rates)) for period in periods]
-        cost, fill = (statistics.fmean(promise) for promise in zip(*promises)) if promises else (None, None)
-        return Outcome(*levels[record], cost, fill, statistics.fmean(costs), 1 - sum(unmet) / asked if asked else None,
-                       statistics.fmean(max(period.stock, 0) for period in periods),
-                       statistics.fmean(period.ordered > 0 for period in periods), tuple(costs), tuple(unmet))
-
-    def of_figures(self, figures: Sequence[Figures]) -> Outcome:
-        """Returns what the policies of the later periods come to, the first of them also in the record."""
-        before = [figures[0].levels] * self.walk.record
-        return self.outcome([*before, *(it.levels for it in figures)], [(it.cost, it.fill) for it in figures])
-
-    @property
-    def later(self) -> int:
-        """Returns how many later periods there are."""
-        return len(self.past.demands) - self.walk.record
-
     def kept(self) -> Outcome:
         """Returns what the plan comes to if it is kept."""
-        return self.of_figures([self.plan] * self.later)
+        return self.happened.of_figures([self.plan] * self.happened.later)
 
     def today(self) -> Outcome:
         """Returns what today's policy comes to, with what the plan said of it."""
-        return self.of_figures([figures_of(self.question, self.theory, self.question.levels)] * self.later)
+        today = figures_of(self.question, self.theory, self.question.levels)
+        return self.happened.of_figures([today] * self.happened.later)
 
     def refitted(self) -> Outcome:
         """Returns what refitted plans come to. If a window has no plan, the last one is kept."""
         plans, plan = list[Figures](), self.plan
-        for start, origin, end in self.walk.stretches(len(self.past.demands)):
+        for start, origin, end in self.walk.stretches(len(self.item.counts)):
             if origin > self.walk.record:
                 try:
                     question = self._asked(start, origin)
@@ -166,12 +116,13 @@ class Walked:
                 except Refused:
                     pass
             plans += [plan] * (end - origin)
-        return self.of_figures(plans)
+        return self.happened.of_figures(plans)
 
     def smoothed(self) -> Outcome:
         """Returns what the rule of thumb comes to."""
-        net = [asked - back for asked, back in zip(self.past.demands, self.past.returns)]
-        return self.outcome(smoothed_levels(self.item, net, self.lead))
+        past, law = self.happened.past, self.question.lead
+        net = [asked - back for asked, back in zip(past.demands, past.returns)]
+        return self.happened.outcome(smoothed_levels(self.item, net, Lead(law.figures.mean, law.figures.variance or 0)))
 
 
 def shuffled(item: Item, seed: int) -> Item:

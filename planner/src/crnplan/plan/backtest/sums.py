@@ -14,13 +14,15 @@ import math
 from collections import defaultdict
 from collections.abc import Iterable, Mapping, Sequence
 from dataclasses import dataclass
+from typing import Protocol
 
 import numpy as np
 
 from ...chances import Floats, Whole
 from ...decide.verdicts import t_quantile
 from ..answer import TODAY
-from .one import Backtest, Outcome
+from .one import Backtest
+from .outcomes import Outcome
 
 BLOCK = 4  # periods
 NO_BLOCK = -1
@@ -107,10 +109,24 @@ def error_of(influence: Floats, items: Whole, blocks: Whole) -> tuple[float, flo
     return math.sqrt(squares(influence, items) + max(0.0, common)), quantile
 
 
+class Counted(Protocol):
+    """What policies come to in the periods of an item: the number of the first one, the mean demand by which all of the
+    item is measured, and the demand of each."""
+
+    @property
+    def first(self) -> int: ...
+
+    @property
+    def mean(self) -> float: ...
+
+    @property
+    def demands(self) -> tuple[int, ...]: ...
+
+
 class Group:
     """The tests of items of a class, or of all, as ratios of sums over items and periods."""
 
-    def __init__(self, tests: Sequence[Backtest]) -> None:
+    def __init__(self, tests: Sequence[Counted]) -> None:
         self.tests, first = tests, min(test.first for test in tests)
         lengths = [len(test.demands) for test in tests]
         self.items = np.repeat(np.arange(len(tests)), lengths)
@@ -147,10 +163,10 @@ class Group:
         """Returns what the kept plan missed of its promise."""
         return self._ratio(self.unmet(KEPT).above - self.promised().above, self.asked)
 
-    def by_chance(self) -> Ratio:
-        """Returns what the kept plan missed with all periods in a random order."""
-        plans = [test.shuffled for test in self.tests]
-        asked = self._joined(test.shuffled_demands for test in self.tests) / self.means
+    def by_chance(self, tests: Sequence[Backtest]) -> Ratio:
+        """Returns what the kept plan missed with all periods in a random order, by the tests of these items."""
+        plans = [test.shuffled for test in tests]
+        asked = self._joined(test.shuffled_demands for test in tests) / self.means
         unmet = self._joined(plan.unmet for plan in plans if plan) / self.means
         above = unmet - self._promised(plans) * asked
         return Ratio(above, asked, self.items, np.full(len(self.items), NO_BLOCK))
@@ -196,7 +212,7 @@ class Sums:
     def of(cls, group: str, tests: Sequence[Backtest]) -> Sums:
         """Adds up tests."""
         parts = Group(tests)
-        missed, chance = parts.missed(), parts.by_chance()
+        missed, chance = parts.missed(), parts.by_chance(tests)
         broken = sum(test.kept.fill is not None and (test.kept.promised_fill or 0) - test.kept.fill > SLACK
                      for test in tests)
         return cls(group, len(tests), 1 - parts.promised().value,

@@ -1,0 +1,108 @@
+"""Plans a catalogue after an earlier plan: takes over what has not changed, and keeps what has."""
+from __future__ import annotations
+
+import contextlib
+import dataclasses
+import itertools
+import json
+from collections.abc import Iterable, Iterator
+from typing import TYPE_CHECKING
+
+from ..errors import Refused
+from ..files import Folder
+from ..records.catalogued import Catalogued
+from ..remarks import Remark, Value
+from ..stored import Store
+from .answer import Answer
+from .changes import Change, Pair, change_of
+from .question import Levels
+
+if TYPE_CHECKING:
+    from .catalogue import Planned, PlannedFolder
+
+CHANGES = "changes.sqlite"
+PLAN = "plan"  # a fact of the store: of which plan its changes are
+AT_ONCE = 1_000  # answers that are kept together
+
+
+def check_records(earlier: PlannedFolder, read: Catalogued) -> None:
+    """Raises Refused if a catalogue that was read is not a later state of an earlier one."""
+    every, (_, stop) = read.fact("every"), read.fact("periods")
+    if earlier.every != every:
+        raise Refused(f"{earlier.path}: its periods are {earlier.every}s, and these are {every}s",
+                      "read the files by the same periods")
+    missing = earlier.read.fact("periods")[1] - stop
+    if missing > 0:
+        raise Refused(f"{earlier.path}: its record ends {missing:,} {every}s after this one",
+                      "name the later files as DEMAND.csv, and the folder of the earlier plan behind --after")
+
+
+def policy_before(earlier: PlannedFolder | None, name: str) -> Levels | None:
+    """Returns s and S of an item in an earlier plan; None if it has none there."""
+    answer = earlier.answer(name) if earlier else None
+    return answer.chosen.levels if isinstance(answer, Answer) else None
+
+
+def taken(answer: Answer | Remark) -> Answer | Remark:
+    """Returns the answer of an earlier plan to a question that has not changed. The policy before is its own."""
+    return answer if isinstance(answer, Remark) else dataclasses.replace(answer, before=answer.chosen)
+
+
+def take_over(answers: Store[Answer], read: Catalogued, planned: Planned, earlier: PlannedFolder) -> None:
+    """Keeps the answers of an earlier plan to questions that have not changed, but for those whose policy stayed by
+    another least gain."""
+    kept, before = answers.digests(), dict(earlier.read.digests(earlier.planned.base))
+    is_other = planned.settings.least_gain != earlier.settings.least_gain
+
+    def same() -> Iterator[tuple[str, str, Answer | Remark]]:
+        for (name, base), (_, digest) in zip(read.digests(planned.base), read.digests(planned.common)):
+            if before.get(name) == base and kept.get(name) != digest:
+                answer = earlier.store.answer(name)
+                if isinstance(answer, Remark) or not (answer.undamped and is_other):
+                    yield name, digest, taken(answer)
+    rest = same()
+    while some := [*itertools.islice(rest, AT_ONCE)]:
+        answers.keep(some)
+
+
+def common_changes(earlier: Planned, planned: Planned) -> Iterator[Remark]:
+    """Yields what has changed for all items: settings, what was learned, and what computes."""
+    before, after = (dataclasses.asdict(plan.settings) for plan in (earlier, planned))
+    moved = [name for name in before if before[name] != after[name] and name != "least_gain"]
+    facts: dict[str, Value] = {f"{name} {when}": values[name] for name in moved
+                               for when, values in (("before", before), ("after", after))}
+    if facts:
+        yield Remark("other settings", facts)
+    if earlier.prior.text != planned.prior.text:
+        yield Remark("other learning")
+    if json.loads(earlier.base)[:3] != json.loads(planned.base)[:3]:
+        yield Remark("other program")
+
+
+def pairs_of(earlier: PlannedFolder, now: PlannedFolder) -> Iterator[Pair]:
+    """Yields the items of both plans in order of their names, with all their periods."""
+    left = {reject.item: reject.remark for reject in now.read.rejects() if reject.kind == "item"}
+    with contextlib.closing(Catalogued(now.read.path)) as new, contextlib.closing(Catalogued(earlier.read.path)) as old:
+        for name in sorted({*old.names(), *new.names()}):
+            before, after = earlier.answer(name), now.answer(name)
+            items = old.item(name), new.item(name)
+            fault = after if isinstance(after, Remark) else left.get(name)
+            yield Pair((items[0], before) if items[0] and isinstance(before, Answer) else None,
+                       (items[1], after) if items[1] and isinstance(after, Answer) else None, fault)
+
+
+def changes_since(earlier: PlannedFolder, now: PlannedFolder) -> Iterator[Change]:
+    """Yields what has changed since an earlier plan, by item. An item without a policy in either has not changed."""
+    common, (_, stop) = [*common_changes(earlier.planned, now.planned)], earlier.read.fact("periods")
+    for pair in pairs_of(earlier, now):
+        if pair.old or pair.new:
+            yield change_of(pair, earlier.settings, stop, common)
+
+
+def keep_changes(folder: Folder, plan: str, changes: Iterable[Change]) -> None:
+    """Keeps the changes of a plan in its folder, in place of others."""
+    folder.remove(CHANGES)
+    with contextlib.closing(Store(folder.store(CHANGES), Change)) as store:
+        while some := [*itertools.islice(changes, AT_ONCE)]:
+            store.keep((change.name, "", change) for change in some)
+        store.keep_facts({PLAN: plan})

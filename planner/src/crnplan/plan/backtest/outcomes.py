@@ -1,0 +1,78 @@
+"""Runs policies on what has happened to an item: what they come to in its later periods.
+
+Each policy is in use from the first period on. What happens before the later periods is not counted, but leaves a stock
+and orders on their way, as they are when a policy has been in use for long. It begins with nothing on order and a stock
+between its s and S, by chance, where its position mostly is in the long run. Lead times are drawn from a law.
+"""
+from __future__ import annotations
+
+import itertools
+import statistics
+from collections.abc import Iterable, Sequence
+from dataclasses import dataclass
+from fractions import Fraction
+
+import numpy as np
+
+from ...demand.fitted import FittedLaw
+from ...records.item import Item
+from ..answer import Figures
+from ..question import Levels
+from .periods import Past, Rates, periods_of
+
+
+@dataclass(frozen=True)
+class Outcome:
+    """What a policy promised for the later periods, and what came: cost in money a period, the share of demand met at
+    once, the mean stock in items, orders a period, and how often its levels changed. s (`point`) and S (`level`) are
+    those of the first of these periods. Nothing is promised by the rule of thumb. `costs` and `unmet` are money and
+    items, by period."""
+
+    point: int
+    level: int
+    promised_cost: float | None
+    promised_fill: float | None
+    cost: float
+    fill: float | None
+    stock: float
+    orders: float
+    changes: int
+    costs: tuple[float, ...]
+    unmet: tuple[int, ...]
+
+
+class Happened:
+    """What has happened to an item, of which the first `record` periods are not counted."""
+
+    def __init__(self, item: Item, lead: FittedLaw, seed: int, record: int) -> None:
+        """Draws the lead times of orders from their law."""
+        periods, self.record = len(item.counts), record
+        random = np.random.default_rng(seed)
+        leads = random.choice(lead.values, periods, p=np.array(lead.weights) / lead.size).tolist()
+        self.start = float(random.random())
+        self.past = Past(item.counts, item.returns or (0,) * periods, leads)
+        self.rates = Rates(item.setup, 0, item.holding, item.backlog or Fraction(0))
+
+    @property
+    def later(self) -> int:
+        """Returns how many later periods there are."""
+        return len(self.past.demands) - self.record
+
+    def outcome(self, levels: Iterable[Levels], promises: Sequence[tuple[float, float]] = ()) -> Outcome:
+        """Returns what s and S of each period come to, with promises of cost and fill for each later one."""
+        record, levels = self.record, [*levels]
+        s, S = levels[0]
+        periods = periods_of(self.past, levels, s + round(self.start * (S - s)))[record:]
+        asked, unmet = sum(self.past.demands[record:]), [period.unmet for period in periods]
+        costs = [float(period.cost(self.rates)) for period in periods]
+        cost, fill = (statistics.fmean(promise) for promise in zip(*promises)) if promises else (None, None)
+        return Outcome(*levels[record], cost, fill, statistics.fmean(costs), 1 - sum(unmet) / asked if asked else None,
+                       statistics.fmean(max(period.stock, 0) for period in periods),
+                       statistics.fmean(period.ordered > 0 for period in periods),
+                       sum(old != new for old, new in itertools.pairwise(levels[record:])), tuple(costs), tuple(unmet))
+
+    def of_figures(self, figures: Sequence[Figures]) -> Outcome:
+        """Returns what the policies of the later periods come to, the first of them also in the record."""
+        before = [figures[0].levels] * self.record
+        return self.outcome([*before, *(policy.levels for policy in figures)],
+                            [(policy.cost, policy.fill) for policy in figures])

@@ -1,0 +1,199 @@
+"""Says what has changed since an earlier plan of a catalogue: the policy of each item, why, and how the earlier one did
+on the periods since."""
+from __future__ import annotations
+
+import dataclasses
+import math
+from collections import Counter
+from collections.abc import Iterable, Iterator, Sequence
+from dataclasses import dataclass, field
+from fractions import Fraction
+from typing import NamedTuple
+
+from ..demand.fitting import fit_lead
+from ..records.item import Item
+from ..remarks import Remark, Value
+from .answer import Answer, Figures, LawFacts
+from .backtest.outcomes import Happened, Outcome
+from .backtest.sums import Estimate, Group
+from .question import Settings
+
+# What an item's policy is beside the earlier one: the same, moved, the same though another costs less, new, or gone.
+KINDS = SAME, MOVED, DAMPED, NEW, GONE = ("same", "moved", "damped", "new", "gone")
+COSTS = ("setup", "holding", "backlog", "fill", "group", "borrow")  # of a master
+Planned = tuple[Item, Answer]
+
+
+@dataclass(frozen=True)
+class Since:
+    """What the policy of the earlier plan came to in the periods after that plan: the number of the first, the mean
+    demand of all periods of the item, the demand of these, and what was promised and came, at the costs of then."""
+
+    first: int
+    mean: float
+    demands: tuple[int, ...]
+    kept: Outcome
+
+
+@dataclass(frozen=True)
+class Change:
+    """What has changed of an item. `earlier` is the policy of the earlier plan as that saw it, `before` the same by the
+    law that the item has now, `after` the policy that it has now, and `undamped` what it would have if the earlier one
+    did not stay. `reasons` say why."""
+
+    name: str
+    description: str
+    group: str
+    kind: str
+    earlier: Figures | None
+    before: Figures | None
+    after: Figures | None
+    undamped: Figures | None
+    law_before: LawFacts | None
+    law_after: LawFacts | None
+    reasons: tuple[Remark, ...]
+    since: Since | None
+
+    @property
+    def gain(self) -> float | None:
+        """Returns what the change gains, or would gain, in money of a period by the law that the item has now."""
+        best = self.undamped or self.after
+        return self.before.cost - best.cost if self.before and best else None
+
+
+class Pair(NamedTuple):
+    """An item with its answer in the earlier plan and in this one, of all its periods. If this one has none, `left`
+    says why."""
+
+    old: Planned | None
+    new: Planned | None
+    left: Remark | None
+
+
+def rows_of(old: Item, new: Item, stop: int) -> Iterator[Remark]:
+    """Yields what is new in the rows of an item: periods from `stop` on, others that have changed, or are gone."""
+    first, after = max(old.first, new.first), max(0, stop - new.first)
+    before = [(item.counts[first - item.first:stop - item.first], item.returns[first - item.first:stop - item.first])
+              for item in (old, new)]
+    changed = sum(now != then for now, then in zip(before[1][0], before[0][0]))
+    if new.counts[after:]:
+        rows = None if changed or old.first != new.first else new.rows - old.rows
+        yield Remark("new rows", {"periods": len(new.counts) - after, "rows": rows, "items": sum(new.counts[after:])})
+    if changed or before[0][1] != before[1][1]:
+        yield Remark("changed rows", {"periods": changed, "items": sum(before[1][0]) - sum(before[0][0])})
+    if new.first != old.first:
+        yield Remark("other first period", {"periods": new.first - old.first})
+
+
+def masters_of(old: Item, new: Item, earlier: tuple[int, int]) -> Iterator[Remark]:
+    """Yields what has changed in the master of an item: costs and the like, lead times, and today's policy."""
+    facts: dict[str, Value] = {}
+    for name in COSTS:
+        values = [getattr(item, name) for item in (old, new)]
+        if values[0] != values[1]:
+            facts |= {f"{name} {when}": float(value) if isinstance(value, Fraction) else value
+                      for when, value in zip(("before", "after"), values)}
+    if facts:
+        yield Remark("other master", facts)
+    if old.leads != new.leads:
+        means = [sum(item.leads) / len(item.leads) for item in (old, new)]
+        yield Remark("other lead times", {"before": means[0], "after": means[1], "seen": len(new.leads)})
+    if old.levels != new.levels:
+        yield Remark("other policy today", {"s": new.levels[0], "S": new.levels[1],
+                                            "earlier": int(new.levels == earlier)})
+
+
+def reasons_of(old: Planned, new: Planned, stop: int, common: Sequence[Remark]) -> Iterator[Remark]:
+    """Yields what may have moved the policy of an item, `common` being what all items have."""
+    (old_item, old_answer), (new_item, new_answer) = old, new
+    yield from rows_of(old_item, new_item, stop)
+    yield from masters_of(old_item, new_item, old_answer.chosen.levels)
+    before, after = old_answer.law, new_answer.law
+    if (before.mean, before.spread) != (after.mean, after.spread):
+        yield Remark("other law", {"mean before": before.mean, "mean after": after.mean,
+                                   "spread before": before.spread, "spread after": after.spread})
+    yield from common
+
+
+def since_of(old: Planned, now: Item, settings: Settings, stop: int) -> Since | None:
+    """Returns what the policy of the earlier plan came to in the periods from `stop` on, by the settings of that plan;
+    None if there are no such periods. It is in use from the first period of the record on."""
+    item, answer = old
+    record = max(0, stop - now.first)
+    demands = now.counts[record:]
+    if not demands:
+        return None
+    past = dataclasses.replace(item, counts=now.counts, returns=now.returns)
+    happened = Happened(past, fit_lead(item.leads, method=settings.lead_fit), settings.seed_of("since", item.name),
+                        record)
+    return Since(now.first + record, sum(now.counts) / len(now.counts), demands,
+                 happened.of_figures([answer.chosen] * happened.later))
+
+
+def change_of(pair: Pair, settings: Settings, stop: int, common: Sequence[Remark]) -> Change:
+    """Returns what has changed of an item. `settings` are those of the earlier plan, whose record ends before period
+    `stop`, and `common` is what has changed for all items."""
+    old, new, left = pair
+    earlier, law = (old[1].chosen, old[1].law) if old else (None, None)
+    if new is None:
+        assert old
+        item, _ = old
+        return Change(item.name, item.description, item.group, GONE, earlier, None, None, None, law, None,
+                      (left or Remark("not in the files"),), None)
+    item, answer = new
+    if old is None:
+        return Change(item.name, item.description, item.group, NEW, None, None, answer.chosen, None, None, answer.law,
+                      (Remark("new item", {"periods": len(item.counts)}),), None)
+    kind = DAMPED if answer.undamped else SAME if answer.chosen.levels == old[1].chosen.levels else MOVED
+    return Change(item.name, item.description, item.group, kind, earlier, answer.before, answer.chosen, answer.undamped,
+                  law, answer.law, tuple(reasons_of(old, new, stop, common)), since_of(old, item, settings, stop))
+
+
+@dataclass(frozen=True)
+class SinceSums:
+    """What the policies of the earlier plan came to in the periods since, all items together: how many items and
+    periods, the share of demand that was promised and met at once, and what the cost was above the promise. All items
+    weigh alike but for the cost."""
+
+    items: int
+    periods: int
+    promised: float
+    unmet: Estimate
+    missed: Estimate
+    dearer: Estimate
+
+    @classmethod
+    def of(cls, known: Sequence[Since]) -> SinceSums | None:
+        """Adds up what is known of items; None if nothing was asked for."""
+        known = [since for since in known if since.mean > 0]
+        if not any(any(since.demands) for since in known):
+            return None
+        group = Group(known)
+        return cls(len(known), max(len(since.demands) for since in known), 1 - group.promised().value,
+                   group.unmet("kept").estimate, group.missed().estimate, group.dearer().estimate)
+
+
+@dataclass
+class ChangeSums:
+    """What the changes of all items add up to: how many there are of each kind, and for which reasons; what is gained
+    by those that move, and what is given up by those that are damped, in money of a period by the laws of now."""
+
+    kinds: Counter[str] = field(default_factory=Counter)
+    reasons: Counter[str] = field(default_factory=Counter)
+    gained: float = 0.0
+    given_up: float = 0.0
+    since: SinceSums | None = None
+
+    @classmethod
+    def of(cls, changes: Iterable[Change]) -> ChangeSums:
+        """Adds up changes."""
+        sums, gains, known = cls(), {MOVED: list[float](), DAMPED: list[float]()}, list[Since]()
+        for change in changes:
+            sums.kinds[change.kind] += 1
+            sums.reasons.update({reason.code for reason in change.reasons})
+            if change.kind in gains:
+                gains[change.kind].append(change.gain or 0.0)
+            if change.since:
+                known.append(change.since)
+        return dataclasses.replace(sums, gained=math.fsum(gains[MOVED]), given_up=math.fsum(gains[DAMPED]),
+                                   since=SinceSums.of(known))

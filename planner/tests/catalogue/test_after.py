@@ -1,0 +1,304 @@
+"""Tests plans after an earlier plan: what is taken over, what has moved and why, what stays though another costs less."""
+from __future__ import annotations
+
+import dataclasses
+import datetime
+import fcntl
+import itertools
+import math
+from collections.abc import Mapping
+from fractions import Fraction
+from pathlib import Path
+from typing import Any
+
+import pandas as pd
+import pytest
+
+import crnplan as crn
+from crnplan.demand.learning import Prior
+from crnplan.plan.after import taken
+from crnplan.plan.one import allowed_by, plan_one
+from crnplan.plan.question import Levels, Settings, question_of
+from crnplan.records.item import Item
+from crnplan.scenario import Policy
+from crnplan.theory.many_laws import figures_of_laws
+from planner.tests.backtest.test_catalogue import START, write
+from planner.tests.conftest import Command
+from planner.tests.plan.items import SHORT, alone, several
+from planner.tests.theory.chain import by_chain
+
+ITEMS, BEFORE, WEEKS = 12, 52, 60
+LEVELS = ["s_chosen", "S_chosen"]
+FILES = "decisions.csv", "exact.csv", "changes.csv", "summary.txt", "report.html"
+OWN = Prior("none")
+
+
+def day(week: int) -> datetime.date:
+    """Returns the Monday of a week."""
+    return START + datetime.timedelta(7 * week)
+
+
+@dataclasses.dataclass
+class Month:
+    """The tables of a catalogue some weeks after an earlier plan, the folder of that, and the words of both."""
+
+    sales: pd.DataFrame
+    masters: pd.DataFrame
+    before: Path
+    words: dict[str, Any]
+
+    def until(self, week: int) -> dict[str, Any]:
+        """Returns the sales before a week, with the masters and the words of a plan of them."""
+        sales = self.sales[self.sales.date < pd.Timestamp(day(week))]
+        return {**self.words, "sales": sales, "masters": self.masters, "end": day(week) - datetime.timedelta(1)}
+
+    def plan(self, **words: Any) -> crn.Plan:
+        """Plans all weeks after the earlier plan."""
+        return crn.plan(**{**self.until(WEEKS), "after": self.before, **words})
+
+
+@pytest.fixture(scope="module")
+def items() -> Mapping[str, Item]:
+    return {item.name: item for item in several(ITEMS)}
+
+
+@pytest.fixture(scope="module")
+def month(items: Mapping[str, Item], tmp_path_factory: pytest.TempPathFactory, program: Path) -> Month:
+    """Returns eight weeks after a plan of 52, which nobody changes."""
+    room = tmp_path_factory.mktemp("months")
+    demand, masters = write(room, items)
+    words = {**SHORT, "fit": "empirical", "borrow": "none", "jobs": 1, "program": program}
+    month = Month(pd.read_csv(demand, parse_dates=["date"]), pd.read_csv(masters), room / "before", words)
+    crn.plan(out=month.before, **month.until(BEFORE))
+    return month
+
+
+def state(folder: Path) -> dict[str, tuple[bytes, int]]:
+    """Returns the bytes of all files of a folder, and when they and the folder were changed last."""
+    files = {path.name: (path.read_bytes(), path.stat().st_mtime_ns) for path in folder.rglob("*") if path.is_file()}
+    return files | {"": (b"", folder.stat().st_mtime_ns)}
+
+
+def of_frame(frame: pd.DataFrame) -> pd.DataFrame:
+    """Returns rows by their item."""
+    return frame.set_index("item")
+
+
+def test_nothing_has_changed(month: Month) -> None:
+    """The same tables again: each item keeps its policy, nothing has moved, and the earlier folder is not touched."""
+    before = state(month.before)
+    again = month.plan(**month.until(BEFORE))
+    assert state(month.before) == before
+    pd.testing.assert_frame_equal(again.decisions, crn.open_plan(month.before).decisions)
+    changes = again.changes
+    assert set(changes.change) == {"same"} and set(changes.why) == {""} and set(changes.gain) == {0.0}
+    assert changes.periods_since.isna().all() and len(changes) == ITEMS
+    assert f"{ITEMS} same, 0 moved, 0 damped, 0 new, 0 gone" in again.text
+
+
+def test_unchanged_items_are_not_planned(month: Month, tmp_path: Path, crnplan: Command,
+                                         monkeypatch: pytest.MonkeyPatch) -> None:
+    """By the command, only the item whose master has changed is planned; the others are taken over."""
+    monkeypatch.chdir(tmp_path)
+    (tmp_path / "crnplan.toml").write_text("[catalogue]\nfit = 'empirical'\nborrow = 'none'\nperiods = 64\n"
+                                           "replications = 4\n", "utf-8")
+    words = month.until(BEFORE)
+    masters = words["masters"].copy()
+    masters.loc[3, "setup"] *= 10
+    words["sales"].to_csv("demand.csv", index=False)
+    masters.to_csv("items.csv", index=False)
+    answer = crnplan("catalogue", "demand.csv", "items.csv", "--to", words["end"], "--after", month.before, "--out",
+                     "plan", "--jobs", 1, "--program", words["program"])
+    assert answer.status == 0 and f"1 items planned, {ITEMS - 1} kept from before" in answer.errors
+    changes = of_frame(crn.open_plan("plan").changes)
+    assert changes.codes[changes.codes != ""].to_dict() == {"I-003": "other master"}
+    assert changes.why["I-003"] == "setup 23 to 230" and changes.change["I-003"] == "moved"
+
+
+def test_levels_are_those_of_both_plans(month: Month) -> None:
+    """Without damping, policies are those of a plan that knows of no earlier one, and before stand those of that."""
+    after, alone_now = month.plan(), crn.plan(**month.until(WEEKS))
+    pd.testing.assert_frame_equal(after.decisions, alone_now.decisions)
+    old, new, changes = (of_frame(frame) for frame in (crn.open_plan(month.before).decisions, after.decisions,
+                                                       after.changes))
+    for name, row in changes.iterrows():
+        assert (row.s_before, row.S_before) == tuple(old.loc[name, LEVELS])
+        assert (row.s_after, row.S_after) == tuple(new.loc[name, LEVELS])
+        assert row.change == ("same" if (row.s_before, row.S_before) == (row.s_after, row.S_after) else "moved")
+        assert row.mean_before == old.demand[name] and row.mean_after == new.demand[name]
+    assert {"same", "moved"} == set(changes.change)
+
+
+def test_reasons(month: Month) -> None:
+    """New rows are counted, and each change of a master, an item that is new and one that is gone are named."""
+    words = month.until(WEEKS)
+    sales, masters = words["sales"].copy(), words["masters"].set_index("item")
+    masters.loc["I-001", ["holding", "lead"]] = 0.6, "2 2 4"
+    masters.loc["I-004", ["s", "S"]] = 1, 99
+    masters.loc["I-012"] = masters.loc["I-000"]
+    masters = masters.drop("I-005")
+    sales = pd.concat([sales, sales[sales.item == "I-000"].assign(item="I-012")])
+    sales.loc[sales.index[sales.item == "I-006"][0], "quantity"] += 7
+    changes = of_frame(month.plan(sales=sales, masters=masters.reset_index()).changes)
+    since = sales[sales.date >= pd.Timestamp(day(BEFORE))].groupby("item").quantity
+    for name in ("I-000", "I-002", "I-003"):
+        rows, amount = since.count().get(name, 0), since.sum().get(name, 0)
+        assert changes.why[name].startswith(f"8 new periods with {amount} item{'s' * (amount != 1)} in {rows} "
+                                            f"row{'s' * (rows != 1)}; mean ")
+    assert "holding 0.55 to 0.6; mean lead time 2 to 2.667" in changes.why["I-001"]
+    assert "today's policy is (1, 99)" in changes.why["I-004"]
+    assert "1 earlier periods have other rows, +7 items" in changes.why["I-006"]
+    assert changes.change["I-012"] == "new" and changes.change["I-005"] == "gone"
+    assert changes.why["I-005"] == "there is no master of this item" and pd.isna(changes.s_after["I-005"])
+
+
+def simulated(item: Item, levels: Levels, start: int, since: int) -> tuple[float, float]:
+    """Returns the mean cost and the share of demand met at once of the last periods, by a program of its own: for an
+    item with one lead time and no returns."""
+    (lead,), (s, S), stock, arriving = item.leads, levels, start, dict[int, int]()
+    cost, met, asked = Fraction(0), 0, 0
+    for period, demand in enumerate(item.counts):
+        stock += arriving.pop(period, 0)
+        position, ordered = stock + sum(arriving.values()), 0
+        if position < s:
+            ordered = arriving[period + lead] = S - position
+        served = min(demand, max(stock, 0))
+        stock -= demand
+        if period >= len(item.counts) - since:
+            cost += item.setup * (ordered > 0) + item.holding * max(stock, 0) + (item.backlog or 0) * max(-stock, 0)
+            met, asked = met + served, asked + demand
+    return float(cost / since), met / asked if asked else math.nan
+
+
+def test_what_came_of_the_earlier_plan(month: Month, items: Mapping[str, Item]) -> None:
+    """Cost and fill of the earlier policies on the weeks since are those of a second program, from some stock between
+    s and S at the beginning; what they promised is what the earlier plan says."""
+    old, changes, tested = of_frame(crn.open_plan(month.before).decisions), of_frame(month.plan().changes), 0
+    for name, row in changes.iterrows():
+        item, levels = items[str(name)], (int(row.s_before), int(row.S_before))
+        assert row.periods_since == WEEKS - BEFORE and row.demand_since == sum(item.counts[BEFORE:])
+        assert row.promised_cost == pytest.approx(old.cost_chosen[name]) and row.promised_fill == old.fill_chosen[name]
+        if len(item.leads) == 1 and not item.returns:
+            came = {simulated(item, levels, start, WEEKS - BEFORE) for start in range(levels[0], levels[1] + 1)}
+            assert any((row.cost_since, row.fill_since) == pytest.approx(one, nan_ok=True) for one in came)
+            tested += 1
+    assert tested >= 6
+
+
+def costed(item: Item, settings: Settings, levels: Levels) -> tuple[float, float]:
+    """Returns cost, in money, and fill of a policy by the law of an item, by a Markov chain: without a backlog cost,
+    setup and holding alone."""
+    question = question_of(item, settings, OWN)
+    backlog = question.rates.get("backlog", 0)
+    cost, fill, _, stock, orders, _ = by_chain(question.scenario(backlog).with_policies([Policy("p", *levels)]))
+    return cost / float(question.scale), fill
+
+
+@pytest.mark.parametrize("least", [0.001, 0.01, 0.1])
+def test_damping_rule(month: Month, items: Mapping[str, Item], least: float) -> None:
+    """A policy stays if and only if the best one costs less by under this share of its cost, and it keeps the wanted
+    fill rate: by costs and fill rates of a Markov chain. All else is as without."""
+    best, damped = month.plan(), month.plan(least_gain=least)
+    rows, changes, settings = of_frame(best.changes), of_frame(damped.changes), alone(fit="empirical", every="week")
+    given_up = 0.0
+    for name, row in rows.iterrows():
+        item = dataclasses.replace(items[str(name)])
+        before, after = ((int(row[f"s_{when}"]), int(row[f"S_{when}"])) for when in ("before", "after"))
+        (old_cost, old_fill), (new_cost, _) = (costed(item, settings, levels) for levels in (before, after))
+        stays = before != after and old_cost - new_cost < least * old_cost and old_fill >= (item.fill or 0)
+        now = changes.loc[name]
+        assert now.change == ("damped" if stays else row.change)
+        assert (now.s_after, now.S_after) == (before if stays else after)
+        if stays:
+            assert (now.s_best, now.S_best) == after and now.gain == pytest.approx(old_cost - new_cost, abs=1e-6)
+            given_up += old_cost - new_cost
+    count = (changes.change == "damped").sum()
+    assert f"gains less than {100 * least:g}%: {count}, which costs {given_up:.2f} a week" in damped.text
+    codes = of_frame(damped.decisions).codes
+    assert set(codes[codes.str.contains("damped")].index) == set(changes[changes.change == "damped"].index)
+
+
+def test_damping_happens_and_spares_wanted_fills(month: Month) -> None:
+    """In these tables some policies stay, and some with a wanted fill rate move since they no longer keep it."""
+    changes, wanted = of_frame(month.plan(least_gain=0.1).changes), month.masters.set_index("item").fill
+    assert {"damped", "moved"} <= set(changes.change)
+    moved = changes[(changes.change == "moved") & wanted.reindex(changes.index).notna()]
+    assert len(moved) and (moved.fill_before < wanted[moved.index]).all()
+
+
+def test_a_confidence_is_kept(month: Month, items: Mapping[str, Item]) -> None:
+    """With a confidence a policy stays only if it keeps the wanted fill rate under this share of the laws too, counted
+    law by law. Without a backlog cost these are counted in steps, and a policy between two steps may move."""
+    confidence, kinds = 0.7, set[str]()
+    changes = of_frame(month.plan(least_gain=0.9, confidence=confidence).changes)
+    for name, row in changes[changes.change != "same"].iterrows():
+        question = question_of(items[str(name)], alone(fit="empirical", every="week", confidence=confidence), OWN)
+        if question.item.fill is not None:
+            demands, leads = allowed_by(question)
+            laws = [*zip(demands, leads or itertools.repeat(question.lead))]
+            policy = Policy("p", int(row.s_before), int(row.S_before))
+            fills = figures_of_laws(question.scenario(), laws, [policy]).fill[:, 0]
+            keeps = row.fill_before >= question.item.fill and (fills >= float(question.item.fill)).mean() >= confidence
+            assert keeps if row.change == "damped" else not keeps or not question.has_backlog
+            kinds.add(str(row.change))
+    assert kinds == {"damped", "moved"}
+
+
+@pytest.mark.parametrize("least", [None, 0.2])
+def test_taken_over_is_what_would_be_planned(least: float | None, program: Path) -> None:
+    """An answer that is taken over is the one that the item would get if it was planned after its own plan."""
+    settings = alone(least_gain=least)
+    for item in several(8):
+        first = plan_one(question_of(item, settings, OWN), str(program))
+        higher = first.chosen.point + 1, first.chosen.level + 1
+        for before in (first.chosen.levels, higher):
+            earlier = plan_one(question_of(item, settings, OWN, before), str(program))
+            again = plan_one(question_of(item, settings, OWN, earlier.chosen.levels), str(program))
+            assert again == taken(earlier)
+
+
+def test_damped_policies_are_taken_over_by_the_same_gain_alone(month: Month, tmp_path: Path) -> None:
+    """A policy that stayed stays if nothing changes, and is planned anew with another least gain."""
+    first = month.plan(least_gain=0.1, out=tmp_path / "first")
+    same = month.plan(after=tmp_path / "first", least_gain=0.1)
+    pd.testing.assert_frame_equal(first.decisions[LEVELS], same.decisions[LEVELS])
+    assert (of_frame(same.changes).change == "damped").sum() == (of_frame(first.changes).change == "damped").sum() > 0
+    free = month.plan(after=tmp_path / "first")
+    pd.testing.assert_frame_equal(free.decisions[LEVELS], month.plan().decisions[LEVELS])
+
+
+def test_order_changes_nothing(month: Month, tmp_path: Path) -> None:
+    """The order of rows, of items and the number of processes change no byte of what has changed."""
+    words = month.until(WEEKS)
+    mixed = {name: words[name].sample(frac=1, random_state=5).reset_index(drop=True) for name in ("sales", "masters")}
+    month.plan(out=tmp_path / "one", least_gain=0.01)
+    month.plan(out=tmp_path / "two", least_gain=0.01, **mixed, jobs=2)
+    for name in FILES:
+        assert (tmp_path / "one" / name).read_bytes() == (tmp_path / "two" / name).read_bytes()
+
+
+def test_planned_alone_again(month: Month, tmp_path: Path) -> None:
+    """A folder that is planned again without an earlier plan has no changes any more."""
+    month.plan(out=tmp_path / "plan")
+    assert (tmp_path / "plan/changes.csv").is_file()
+    alone_now = crn.plan(out=tmp_path / "plan", **month.until(WEEKS))
+    assert not (tmp_path / "plan/changes.csv").exists() and alone_now.changes.empty
+    assert "earlier plan" not in alone_now.text
+
+
+def test_what_is_refused(month: Month, tmp_path: Path) -> None:
+    """The folder of the plan itself, one without a plan, one in use, a shorter record and a least gain alone."""
+    before = state(month.before)
+    with pytest.raises(crn.Refused, match="need folders of their own"):
+        month.plan(out=month.before)
+    with pytest.raises(crn.Refused, match="no plan is in it"):
+        month.plan(after=tmp_path)
+    with pytest.raises(crn.Refused, match="least_gain needs an earlier plan"):
+        crn.plan(**month.until(WEEKS), least_gain=0.02)
+    with pytest.raises(crn.Refused, match="its record ends 4 weeks after this one"):
+        month.plan(**month.until(BEFORE - 4))
+    with (month.before / "crnplan-folder.txt").open("r+") as marker:
+        fcntl.flock(marker, fcntl.LOCK_EX)
+        with pytest.raises(crn.Refused, match="another run of crnplan works in this folder"):
+            month.plan()
+    assert state(month.before) == before
