@@ -81,8 +81,8 @@ def write_backtest(folder: Folder, settings: Settings, walk: Walk, *, jobs: int 
 
 def backtest(sales: str | Path | pd.DataFrame | Catalogue, masters: str | Path | pd.DataFrame | None = None,
              orders: str | Path | pd.DataFrame | None = None, *, record: int = 52, every: int = 13, window: int = 52,
-             out: str | Path | None = None, period: str = "week", columns: Roles | None = None,
-             units: Roles | None = None, start: datetime.date | str | None = None,
+             least_gain: float | None = None, out: str | Path | None = None, period: str = "week",
+             columns: Roles | None = None, units: Roles | None = None, start: datetime.date | str | None = None,
              end: datetime.date | str | None = None, date_formats: Sequence[str] = (), fit: str = "auto",
              borrow: str | None = None, confidence: float | None = None, seed: str | int = "crnplan",
              jobs: int | None = None, cluster: str | None = None, progress: bool = False) -> Backtests:
@@ -94,8 +94,9 @@ def backtest(sales: str | Path | pd.DataFrame | Catalogue, masters: str | Path |
         tests.frame                            # a row for each item
 
     Each item is planned from its first `record` periods, as `plan` does it. The plan is run on the periods that came:
-    kept, and refitted after each `every` periods on the last `window`. Beside it are run today's policy and a rule of
-    thumb: exponential smoothing with a normal safety stock. The kept plan is also run with all periods of the item in a
+    kept, and refitted after each `every` periods on the last `window`: with a `least_gain` also as `plan` does it after
+    an earlier plan. Beside it are run today's policy and a rule of thumb: exponential smoothing with a normal safety
+    stock. The kept plan is also run with all periods of the item in a
     random order, which takes time out of them. Lead times of the past are drawn from the item's own law. Random numbers
     follow from the `seed` and the item's name. An item with fewer than `record` and `every` periods is left out.
 
@@ -106,7 +107,7 @@ def backtest(sales: str | Path | pd.DataFrame | Catalogue, masters: str | Path |
 
     Raises Refused (a ValueError) for what can't be read or meant.
     """
-    settings, walk = Settings(str(seed), fit, borrow, confidence), Walk(record, every, window)
+    settings, walk = Settings(str(seed), fit, borrow, confidence), Walk(record, every, window, least_gain)
     words = Words(every=period, columns=columns or {}, units=units or {}, start=start, end=end,
                   today=datetime.date.today(), date_formats=tuple(date_formats))
     check_masters(sales, masters)

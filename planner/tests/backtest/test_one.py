@@ -2,6 +2,8 @@
 from __future__ import annotations
 
 import dataclasses
+import itertools
+import math
 from fractions import Fraction
 from pathlib import Path
 
@@ -16,6 +18,7 @@ from crnplan.plan.one import plan_one
 from crnplan.plan.question import NONE, Settings, question_of
 from crnplan.records.item import Item
 from crnplan.remarks import Remark
+from planner.tests.catalogue.test_after import costed
 from planner.tests.plan.items import alone, item_of, several
 
 WALK = Walk(record=40, every=7, window=30)
@@ -74,6 +77,28 @@ def test_window_of_the_plan_counts_for_all(program: Path) -> None:
              for _, origin, end in WALK.stretches(len(item.counts))]
     costs = sum(plan.cost * weight for plan, weight in plans)
     assert test.refitted.promised_cost == pytest.approx(costs / sum(weight for _, weight in plans))
+
+
+@pytest.mark.parametrize("least", [0.02, 0.3])
+def test_damped_refits(least: float, program: Path) -> None:
+    """A refit changes levels if and only if that gains this share of their cost, or they miss a wanted fill rate: by
+    plans of each window, and costs and fill rates of a Markov chain."""
+    settings, walk, seen = alone(fit="empirical"), dataclasses.replace(WALK, least_gain=least), set[bool]()
+    for item in itertools.islice(several(8), 0, 8, 2):
+        used = list[tuple[int, int]]()
+        for start, origin, end in walk.stretches(len(item.counts)):
+            part = item.part(start, origin)
+            best = plan_one(question_of(part, settings, OWN), str(program)).chosen
+            cost, fill = costed(part, settings, used[-1]) if used else (math.inf, 0.0)
+            moves = cost - best.cost >= least * cost or fill < (item.fill or 0)
+            seen |= {moves} if used and used[-1] != best.levels else set()
+            used += [best.levels if moves or not used else used[-1]] * (end - origin)
+        test = backtest_one(item, settings, OWN, walk)
+        assert test.damped and test.damped.changes == sum(old != new for old, new in itertools.pairwise(used))
+        assert test.damped == Walked(item, settings, OWN, walk).happened.outcome(
+            [used[0]] * 40 + used, [(test.damped.promised_cost or 0, test.damped.promised_fill or 0)])
+        assert test.refitted == backtest_one(item, settings, OWN, WALK).refitted
+    assert seen == {False, True}
 
 
 def test_no_later_period_is_seen() -> None:

@@ -26,8 +26,8 @@ def made(unmet: Sequence[int], by_chance: Sequence[int], place: int, **changed: 
     demands, kept = (DEMAND,) * len(unmet), outcome(unmet)
     facts: dict[str, Any] = {
         "name": f"I-{place}", "group": "", "record": 52, "first": 52, "mean": float(DEMAND), "demands": demands,
-        "above": 1.5, "today": outcome([0] * len(unmet), 7.5), "kept": kept, "refitted": kept, "smoothed": kept,
-        "shuffled": outcome(by_chance), "shuffled_demands": demands, "shuffled_above": 0.9}
+        "above": 1.5, "today": outcome([0] * len(unmet), 7.5), "kept": kept, "refitted": kept, "damped": None,
+        "smoothed": kept, "shuffled": outcome(by_chance), "shuffled_demands": demands, "shuffled_above": 0.9}
     return Backtest(**facts | changed)
 
 
@@ -105,7 +105,7 @@ def test_miss_by_both_parts_together() -> None:
     """If neither part of a miss is sure by itself and the miss is, it is laid to the greater part."""
     close, sure = Estimate(0.009, 0.001, 2.0), Estimate(0.0165, 0.002, 2.0)
     facts: dict[str, Any] = {"group": "", "items": 50, "promised": 0.95, "unmet": {}, "dearer": sure, "beside": {},
-                             "broken": 0, "above": 0, "missed": sure}
+                             "broken": 0, "above": 0, "missed": sure, "changes": {}}
     assert Sums(**facts, chance=close, time=Estimate(0.0075, 0.001, 2.0)).verdict == RARE
     assert Sums(**facts, chance=Estimate(0.0075, 0.001, 2.0), time=close).verdict == TIME
     perhaps = facts | {"missed": Estimate(0.0165, 0.005, 2.0)}

@@ -17,7 +17,7 @@ from ..plan.settings import read_config
 from ..records.catalogue_reading import read_into
 from ..records.catalogued import CATALOGUE
 from .catalogues import words_of
-from .words import command, worker_options
+from .words import command, share_of, worker_options
 
 
 @command()
@@ -31,12 +31,15 @@ from .words import command, worker_options
               help="Refit after so many periods.")
 @click.option("--window", type=click.IntRange(1), metavar="N",
               help="Refit on the last so many periods; by default as the plan does, else on 52.")
+@click.option("--least-gain", metavar="SHARE", callback=share_of,
+              help="Refit with levels that stay too, if others gain less than this share of their cost, as 2%; by "
+              "default as the plan does.")
 @click.option("--config", metavar="FILE.toml", help="Settings; by default crnplan.toml, if it is here.")
 @worker_options
 def backtest(tables: Sequence[Path], orders: str | None, out: Path | None, record: int, every: int, window: int | None,
-             config: str | None, jobs: int | None, cluster: str | None, program: str | None) -> int:
+             least_gain: float | None, config: str | None, jobs: int | None, cluster: str | None, program: str | None) -> int:
     def walk_of(settings: Settings) -> Walk:
-        return Walk(record, every, window or settings.window or Walk.window)
+        return Walk(record, every, window or settings.window or Walk.window, least_gain or settings.least_gain)
     if len(tables) == 1:
         if out or orders or config:
             raise Refused("a planned folder has its own --out, --orders and --config: leave them out")

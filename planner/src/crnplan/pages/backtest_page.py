@@ -6,14 +6,14 @@ from typing import NamedTuple
 
 from ..plan.backtest.catalogue import Tested
 from ..plan.backtest.one import Backtest
-from ..plan.backtest.sums import ALL_ITEMS, BLOCK, KEPT, POLICIES, Group, Sums, summed
+from ..plan.backtest.sums import ALL_ITEMS, BLOCK, KEPT, Group, Sums, summed
 from ..records.item import Item
 from .backtest_tables import SINGLE, VERDICTS, backtest_summary, fills_of, first_line
 from .page import OF_CHOSEN, OF_TODAY, UNITS, Line, Plot, Scale, marks_of, percent, rendered, tick
 
 MOST_DOTS, MOST_WORST = 3_000, 12
 DOTS, PROMISED = "dots", "of-promised"
-SUM_HEADINGS = "class", "verdict", "items", "missed by over a point", "promised", *POLICIES
+SUM_HEADINGS = "class", "verdict", "items", "missed by over a point", "promised"
 LINES = {KEPT: OF_CHOSEN, "refitted": "of-better", "smoothed": OF_TODAY}
 
 
@@ -84,10 +84,10 @@ def worst_of(tested: Sequence[tuple[Item, Backtest]]) -> list[Worst]:
 
 
 def sum_cells(sums: Sums) -> list[str]:
-    """Returns the cells of all items, or of a class, below `SUM_HEADINGS`."""
+    """Returns the cells of all items, or of a class, below `SUM_HEADINGS` and the policies."""
     fills = fills_of(sums)
     return [sums.group or "all", VERDICTS[sums.verdict], f"{sums.items:,}", f"{sums.broken:,}", percent(sums.promised),
-            *(fills[policy] for policy in POLICIES)]
+            *fills.values()]
 
 
 def backtest_page(tested: Tested) -> str:
@@ -99,4 +99,4 @@ def backtest_page(tested: Tested) -> str:
         "every": tested.every, "decimals": tested.decimals, "lines": backtest_summary(tested).splitlines(),
         "promises": promise_plot(tests) if tests else None, "single": SINGLE,
         "times": time_plot(tests, sums.promised, tested.every) if sums else None, "worst": worst_of(found),
-        "heading": SUM_HEADINGS, "rows": [sum_cells(it) for it in tested.sums]})
+        "heading": [*SUM_HEADINGS, *(sums.unmet if sums else ())], "rows": [sum_cells(it) for it in tested.sums]})

@@ -1,13 +1,14 @@
 """The tables of a catalogue's test on its past: a row for each item, and the sums of all items and of each class."""
 from __future__ import annotations
 
-from collections.abc import Iterator
+from collections.abc import Iterator, Mapping, Sequence
+from dataclasses import replace
 
 from ..plan.backtest.catalogue import Tested
 from ..plan.backtest.one import Backtest
 from ..plan.backtest.outcomes import Outcome
-from ..plan.backtest.sums import (ALL_ITEMS, BOTH, FEW, HOLDS, KEPT, LEAST_ITEMS, POLICIES, RARE, SLACK, TIME, UNSURE,
-                                  Estimate, Sums)
+from ..plan.backtest.sums import (ALL_ITEMS, BOTH, DAMPED, FEW, HOLDS, KEPT, LEAST_ITEMS, POLICIES, RARE, REFITTED,
+                                  SLACK, SMOOTHED, TIME, UNSURE, Estimate, Sums)
 from ..records.item import Item
 from ..remarks import Remark
 from ..table import Cell, Column, DataTable, number, text, whole
@@ -15,8 +16,10 @@ from ..words import advised, counted, sentence
 from .catalogue_tables import money
 
 BACKTEST, SUMS, SUMMARY, PAGE = "backtest.csv", "backtest_sums.csv", "backtest.txt", "backtest.html"
-PROMISING = POLICIES[:3]
+PROMISING = (*POLICIES[:4], "shuffled")
+CHANGING = REFITTED, DAMPED, SMOOTHED
 WORDS = {"today": "today's policy", "kept": "the plan that is kept", "refitted": "plans that are refitted",
+         "damped": "refitted plans whose levels stay if others gain too little",
          "smoothed": "exponential smoothing with a normal safety stock",
          "shuffled": "the plan that is kept, with all periods in a random order"}
 VERDICTS = {
@@ -36,14 +39,16 @@ def share(name: str, meaning: str) -> Column:
 def _policy_columns(policy: str) -> Iterator[Column]:
     words = WORDS[policy]
     yield from (whole(f"{letter}_{policy}", "items", f"{letter} of {words}, at first") for letter in "sS")
-    if policy in (*PROMISING, "shuffled"):
+    if policy in PROMISING:
         yield money(f"promised_{policy}", f"what {words} was to cost, by theory")
     yield money(f"cost_{policy}", f"what {words} cost")
-    if policy in (*PROMISING, "shuffled"):
+    if policy in PROMISING:
         yield share(f"promised_fill_{policy}", f"of demand that {words} was to meet at once, by theory")
     yield share(f"fill_{policy}", f"of demand that {words} met at once")
     yield number(f"stock_{policy}", "items", f"the mean stock of {words}", ".5g")
     yield number(f"orders_{policy}", "orders a period", f"of {words}", ".5g")
+    if policy in CHANGING:
+        yield whole(f"changes_{policy}", "changes", f"of the levels of {words}")
 
 
 BACKTEST_COLUMNS = (
@@ -74,15 +79,18 @@ SUM_COLUMNS = (
     *(column for policy in POLICIES if policy != KEPT for column in _with_error(
         f"cost_{policy}", "share", f"what {WORDS[policy]} cost more than the kept plan")),
     whole("broken", "items", f"whose kept plan missed its promised fill by more than {100 * SLACK:g} point"),
-    whole("above", "items", "with a later demand above the largest before"))
+    whole("above", "items", "with a later demand above the largest before"),
+    *(number(f"changes_{policy}", "changes a period", f"of the levels of an item, by {WORDS[policy]}", ".4f")
+      for policy in CHANGING))
 
 
 def _policy_cells(outcome: Outcome | None, policy: str) -> list[Cell]:
     if outcome is None:
         return [None] * len([*_policy_columns(policy)])
-    promised = policy in (*PROMISING, "shuffled")
+    promised = policy in PROMISING
     return [outcome.point, outcome.level, *[outcome.promised_cost] * promised, outcome.cost,
-            *[outcome.promised_fill] * promised, outcome.fill, outcome.stock, outcome.orders]
+            *[outcome.promised_fill] * promised, outcome.fill, outcome.stock, outcome.orders,
+            *[outcome.changes] * (policy in CHANGING)]
 
 
 def _row(item: Item, test: Backtest | Remark) -> list[Cell]:
@@ -98,15 +106,17 @@ def backtest_of(tested: Tested) -> DataTable:
     return DataTable(BACKTEST_COLUMNS, [_row(*pair) for pair in tested.items], tested.decimals, "")
 
 
-def _error_cells(*estimates: Estimate) -> list[Cell]:
-    return [cell for estimate in estimates for cell in (estimate.value, estimate.error)]
+def _error_cells(*estimates: Estimate | None) -> list[Cell]:
+    return [cell for estimate in estimates
+            for cell in ((estimate.value, estimate.error) if estimate else (None, None))]
 
 
 def _sum_row(sums: Sums) -> list[Cell]:
-    return [sums.group, sums.items, VERDICTS[sums.verdict], sums.promised,
-            *(cell for unmet in sums.unmet.values() for cell in (1 - unmet.value, unmet.error)),
-            *_error_cells(sums.missed, sums.chance, sums.time, sums.dearer, *sums.beside.values()), sums.broken,
-            sums.above]
+    met = (unmet and replace(unmet, value=1 - unmet.value) for unmet in map(sums.unmet.get, POLICIES))
+    beside = (sums.beside.get(policy) for policy in POLICIES if policy != KEPT)
+    return [sums.group, sums.items, VERDICTS[sums.verdict], sums.promised, *_error_cells(*met),
+            *_error_cells(sums.missed, sums.chance, sums.time, sums.dearer, *beside), sums.broken, sums.above,
+            *map(sums.changes.get, CHANGING)]
 
 
 def sums_table(tested: Tested) -> DataTable:
@@ -120,6 +130,11 @@ def fills_of(sums: Sums) -> dict[str, str]:
             sums.unmet.items()}
 
 
+def _listed(figures: Mapping[str, str], policies: Sequence[str]) -> str:
+    """Returns the figures of policies, each with its name."""
+    return ", ".join(f"{figures[policy]} {policy}" for policy in policies)
+
+
 def _points(estimate: Estimate) -> str:
     return f"{100 * estimate.value:z.1f} ± {100 * estimate.error:.1f}"
 
@@ -128,13 +143,16 @@ def _sum_lines(sums: Sums) -> Iterator[str]:
     """Yields lines on all items, or on a class."""
     fills = fills_of(sums)
     yield f"{sums.group or 'all'}: {VERDICTS[sums.verdict]} ({counted(sums.items, 'item')})"
+    others = [policy for policy in CHANGING if policy in fills]
     yield (f"  met at once: {100 * sums.promised:.1f}% promised; {fills['kept']} by the kept plan, "
-           f"{fills['refitted']} refitted, {fills['smoothed']} smoothed, {fills['today']} today's")
+           f"{_listed(fills, others)}, {fills['today']} today's")
     yield (f"  missed: {_points(sums.missed)} points, of which {_points(sums.chance)} in a random order too, and "
            f"{_points(sums.time)} by time")
     beside = {policy: f"{100 * cost.value:+z.1f} ± {100 * cost.error:.1f}%" for policy, cost in sums.beside.items()}
-    yield (f"  cost: {_points(sums.dearer)}% above the promise; beside the kept plan {beside['refitted']} refitted, "
-           f"{beside['smoothed']} smoothed, {beside['today']} today's")
+    yield (f"  cost: {_points(sums.dearer)}% above the promise; beside the kept plan {_listed(beside, others)}, "
+           f"{beside['today']} today's")
+    rates = {policy: f"{rate:.3f}" for policy, rate in sums.changes.items()}
+    yield f"  levels of an item change {_listed(rates, others)} times a period"
     yield (f"  {sums.broken:,} of {counted(sums.items, 'item')} missed the promised fill by more than a point; "
            f"{sums.above:,} had a demand above the largest of the record")
 
@@ -144,7 +162,9 @@ def backtest_summary(tested: Tested) -> str:
     walk, every = tested.walk, tested.every
     left = [(item, test) for item, test in tested.items if isinstance(test, Remark)]
     lines = [f"Planned from {counted(walk.record, every)}, kept, and refitted after each {counted(walk.every, every)} "
-             f"on the last {counted(walk.window, every)}; run on the {every}s that came.",
+             f"on the last {counted(walk.window, every)}; run on the {every}s that came."
+             + f" Damped: levels stay if others gain less than {100 * (walk.least_gain or 0):g}% of their cost."
+             * (walk.least_gain is not None),
              f"items: {tested.named:,} named = {len(tested.items) - len(left):,} tested + {len(left):,} without a test "
              f"({BACKTEST} says why) + {tested.named - len(tested.items):,} that can't be planned (crnplan catalogue "
              "says why)", ""]

@@ -5,6 +5,7 @@ run.
 """
 from __future__ import annotations
 
+import contextlib
 import dataclasses
 import statistics
 from collections.abc import Iterator, Sequence
@@ -19,7 +20,7 @@ from ...remarks import Remark
 from ...theory.long_run import LongRun
 from ..answer import Figures
 from ..one import choice_of, figures_of, or_fault
-from ..question import Question, Settings, question_of
+from ..question import Levels, Question, Settings, question_of
 from .outcomes import Happened, Outcome
 from .smoothing import Lead, smoothed_levels
 
@@ -30,16 +31,18 @@ SHORT_RECORD = "short record"  # periods, needed
 class Walk:
     """How the past is walked through: a plan is made of the first `record` periods, and is kept or refitted after each
     `every` periods more, on the last `window` of them. If the plan has a window, no more than that counts in either.
-    Raises Refused for what can't be meant."""
+    With a `least_gain` refitted plans are tested too whose levels stay if others gain less than this share of their
+    cost. Raises Refused for what can't be meant."""
 
     record: int = 52
     every: int = 13
     window: int = 52
+    least_gain: float | None = None
 
     def __post_init__(self) -> None:
-        for field in dataclasses.fields(self):
-            if getattr(self, field.name) < 1:
-                raise Refused(f"{argument(field.name, str(getattr(self, field.name)))} is not at least 1")
+        for name, number in (("record", self.record), ("every", self.every), ("window", self.window)):
+            if number < 1:
+                raise Refused(f"{argument(name, str(number))} is not at least 1")
 
     def stretches(self, periods: int) -> Iterator[tuple[int, int, int]]:
         """Yields for each plan the first period that it is made of, the first that it is for, and the one after it."""
@@ -51,9 +54,10 @@ class Walk:
 @dataclass(frozen=True)
 class Backtest:
     """An item's test on its past. `first` is the number of the first later period, `demands` what was asked in these,
-    and `mean` the mean demand of all its periods. `kept` and `refitted` are the plan, `smoothed` is the rule of thumb,
-    and `shuffled` the plan that is kept with all periods in a random order; None if that has none. `above` is the
-    largest later demand over the largest before, with nothing before None."""
+    and `mean` the mean demand of all its periods. `kept` and `refitted` are the plan, and `damped` is the refitted one
+    with a least gain, None without. `smoothed` is the rule of thumb, and `shuffled` the plan that is kept with all
+    periods in a random order; None if that has none. `above` is the largest later demand over the largest before, with
+    nothing before None."""
 
     name: str
     group: str
@@ -65,6 +69,7 @@ class Backtest:
     today: Outcome
     kept: Outcome
     refitted: Outcome
+    damped: Outcome | None
     smoothed: Outcome
     shuffled: Outcome | None
     shuffled_demands: tuple[int, ...]
@@ -77,9 +82,10 @@ def ratio(demands: Sequence[int], record: int) -> float | None:
     return max(demands[record:]) / before if before else None
 
 
-def chosen(question: Question, theory: LongRun) -> Figures:
-    """Returns the policy that is chosen, as theory sees it."""
-    return figures_of(question, theory, choice_of(theory, question).levels)
+def chosen(question: Question, theory: LongRun) -> tuple[Figures, Figures]:
+    """Returns the best policy and the one that is chosen beside that of an earlier plan, as theory sees them."""
+    choice = choice_of(theory, question)
+    return figures_of(question, theory, choice.best), figures_of(question, theory, choice.levels)
 
 
 class Walked:
@@ -87,14 +93,16 @@ class Walked:
 
     def __init__(self, item: Item, settings: Settings, prior: Prior, walk: Walk) -> None:
         """Plans an item as it was at the end of its record. Raises Refused if it could not be planned then."""
-        self.item, self.settings, self.prior, self.walk = item, settings, prior, walk
+        self.item, self.prior, self.walk = item, prior, walk
+        self.settings = dataclasses.replace(settings, least_gain=walk.least_gain)
         self.question = self._asked(0, walk.record)
         self.happened = Happened(item, self.question.lead, self.question.seed("past"), walk.record)
         self.theory = self.question.theory()
-        self.plan = chosen(self.question, self.theory)
+        self.plan, _ = chosen(self.question, self.theory)
 
-    def _asked(self, start: int, stop: int) -> Question:
-        return question_of(self.item.part(start, stop).last(self.settings.window), self.settings, self.prior)
+    def _asked(self, start: int, stop: int, before: Levels | None = None) -> Question:
+        item = self.item.part(start, stop).last(self.settings.window)
+        return question_of(item, self.settings, self.prior, before)
 
     def kept(self) -> Outcome:
         """Returns what the plan comes to if it is kept."""
@@ -105,18 +113,19 @@ class Walked:
         today = figures_of(self.question, self.theory, self.question.levels)
         return self.happened.of_figures([today] * self.happened.later)
 
-    def refitted(self) -> Outcome:
-        """Returns what refitted plans come to. If a window has no plan, the last one is kept."""
-        plans, plan = list[Figures](), self.plan
+    def refitted(self) -> tuple[Outcome, Outcome | None]:
+        """Returns what refitted plans come to, and what they do if levels stay that others gain little beside; None
+        without a least gain. If a window has no plan, the last one is kept."""
+        plans, damped, plan, kept = list[Figures](), list[Figures](), self.plan, self.plan
         for start, origin, end in self.walk.stretches(len(self.item.counts)):
             if origin > self.walk.record:
-                try:
-                    question = self._asked(start, origin)
-                    plan = chosen(question, question.theory())
-                except Refused:
-                    pass
+                with contextlib.suppress(Refused):
+                    question = self._asked(start, origin, kept.levels)
+                    plan, kept = chosen(question, question.theory())
             plans += [plan] * (end - origin)
-        return self.happened.of_figures(plans)
+            damped += [kept] * (end - origin)
+        outcome = self.happened.of_figures
+        return outcome(plans), None if self.walk.least_gain is None else outcome(damped)
 
     def smoothed(self) -> Outcome:
         """Returns what the rule of thumb comes to."""
@@ -141,7 +150,7 @@ def backtest_one(item: Item, settings: Settings, prior: Prior, walk: Walk) -> Ba
     except Refused:
         beside = None
     return Backtest(item.name, item.group, record, item.first + record, statistics.fmean(item.counts),
-                    item.counts[record:], ratio(item.counts, record), walked.today(), walked.kept(), walked.refitted(),
+                    item.counts[record:], ratio(item.counts, record), walked.today(), walked.kept(), *walked.refitted(),
                     walked.smoothed(), beside, other.counts[record:], ratio(other.counts, record))
 
 

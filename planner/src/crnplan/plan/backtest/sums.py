@@ -34,7 +34,8 @@ FEW = "few"
 ALARM = 0.05
 SLACK = 0.01  # of the fill: a smaller miss is none
 KEPT = "kept"
-POLICIES = (TODAY, KEPT, "refitted", "smoothed")
+REFITTED, DAMPED, SMOOTHED = "refitted", "damped", "smoothed"
+POLICIES = (TODAY, KEPT, REFITTED, DAMPED, SMOOTHED)
 ALL_ITEMS = ""  # the class that stands for all items
 
 
@@ -180,6 +181,10 @@ class Group:
         promised = np.array([it.promised_cost or 0.0 for it in self.outcomes(KEPT)])[self.items]
         return self._ratio(self.costs(KEPT) - promised, promised)
 
+    def changes(self, policy: str) -> float:
+        """Returns how often the levels of an item change in a period, by a policy."""
+        return sum(outcome.changes for outcome in self.outcomes(policy)) / len(self.items)
+
     def beside(self, policy: str) -> Ratio:
         """Returns what a policy cost more than the kept plan, as a share of what that cost."""
         kept = self.costs(KEPT)
@@ -188,12 +193,13 @@ class Group:
 
 @dataclass(frozen=True)
 class Sums:
-    """What the tests of the items of a class, or of all, add up to.
+    """What the tests of the items of a class, or of all, add up to. Without a least gain no policy is damped.
 
     `promised` is the fill that the kept plan promised, `unmet` the share of demand by policy that was not met at once,
     `dearer` what the kept plan cost over its promise, `beside` by policy what it cost over the kept plan. `missed` is
     what the kept plan missed of the promised fill, of which `chance` remains in a random order and `time` does not. So
-    many items have `broken` it by more than a point, and a largest later demand `above` the largest before.
+    many items have `broken` it by more than a point, and a largest later demand `above` the largest before. `changes`
+    is how often the levels of an item change in a period, by policy.
     """
 
     group: str
@@ -207,6 +213,7 @@ class Sums:
     time: Estimate
     broken: int
     above: int
+    changes: Mapping[str, float]
 
     @classmethod
     def of(cls, group: str, tests: Sequence[Backtest]) -> Sums:
@@ -215,10 +222,12 @@ class Sums:
         missed, chance = parts.missed(), parts.by_chance(tests)
         broken = sum(test.kept.fill is not None and (test.kept.promised_fill or 0) - test.kept.fill > SLACK
                      for test in tests)
+        policies = [policy for policy in POLICIES if policy != DAMPED or all(test.damped for test in tests)]
         return cls(group, len(tests), 1 - parts.promised().value,
-                   {policy: parts.unmet(policy).estimate for policy in POLICIES}, parts.dearer().estimate,
-                   {policy: parts.beside(policy).estimate for policy in POLICIES if policy != KEPT}, missed.estimate,
-                   chance.estimate, missed.less(chance), broken, sum((test.above or math.inf) > 1 for test in tests))
+                   {policy: parts.unmet(policy).estimate for policy in policies}, parts.dearer().estimate,
+                   {policy: parts.beside(policy).estimate for policy in policies if policy != KEPT}, missed.estimate,
+                   chance.estimate, missed.less(chance), broken, sum((test.above or math.inf) > 1 for test in tests),
+                   {policy: parts.changes(policy) for policy in policies if policy not in (TODAY, KEPT)})
 
     @property
     def verdict(self) -> str:
