@@ -15,7 +15,6 @@ from .pages.backtest_tables import (BACKTEST, PAGE, SUMMARY, SUMS, VERDICTS, bac
                                     sums_table)
 from .plan.backtest.catalogue import Tested, backtest_into
 from .plan.backtest.one import Walk
-from .plan.backtest.sums import ALL_ITEMS, Sums
 from .plan.question import Settings
 from .records.catalogue_reading import Catalogue
 from .records.catalogued import CATALOGUE
@@ -43,19 +42,16 @@ class Backtests(Result):
         """Returns the sums of all items and of each class, with their standard errors and the verdict."""
         return sums_table(self.tested).frame
 
-    def _all(self) -> Sums | None:
-        return next((sums for sums in self.tested.sums if sums.group == ALL_ITEMS), None)
-
     @property
     def verdict(self) -> str:
         """Returns what breaks the promised fill of the catalogue, in words."""
-        sums = self._all()
-        return VERDICTS[sums.verdict] if sums else first_line(self.tested)
+        sums = self.tested.whole
+        return VERDICTS[sums.verdict] if sums else first_line(sums)
 
     @property
     def text(self) -> str:
         """Returns what was promised, what came, and the verdicts."""
-        return f"{first_line(self.tested)}\n{backtest_summary(self.tested)}"
+        return f"{first_line(self.tested.whole)}\n{backtest_summary(self.tested)}"
 
     @property
     def notes(self) -> str:

@@ -175,6 +175,28 @@ def test_planned_folder(items: Mapping[str, Item], tmp_path: Path, crnplan: Comm
     assert package.backtest(*tables, seed="other", **WALK).table.csv.encode() == (out / "backtest.csv").read_bytes()
 
 
+def test_line_on_the_page_of_the_plan(items: Mapping[str, Item], tmp_path: Path, crnplan: Command,
+                                      program: Path) -> None:
+    """The page of a plan says how to get the line of its past, has that of the test in its folder, and says if that is
+    of other rows."""
+    tables, out, name = write(tmp_path, items), tmp_path / "plan", "report.html"
+    plan = "catalogue", *tables, "--out", out, "--jobs", 2, "--program", program
+    (tmp_path / "crnplan.toml").write_text("[catalogue]\nperiods = 64\nreplications = 4\n", "utf-8")
+    crnplan(*plan, "--config", tmp_path / "crnplan.toml")
+    assert "is said by crnplan backtest FOLDER" in Page(out / name).words
+    crnplan("backtest", out, *WORDS, "--jobs", 1)
+    crnplan("report", out)
+    line = (out / "backtest.txt").read_text("utf-8").splitlines()[0]
+    assert line.startswith("On your own past a promised ") and line in Page(out / name).words
+    again = (out / name).read_bytes()
+    crnplan(*plan, "--config", tmp_path / "crnplan.toml")
+    assert (out / name).read_bytes() == again
+    tables[1].write_text(tables[1].read_text("utf-8").replace("I-004,a,24.0", "I-004,a,25.0"), "utf-8")
+    crnplan(*plan, "--config", tmp_path / "crnplan.toml")
+    words = Page(out / name).words
+    assert "The test on your own past is not of this plan." in words and line not in words
+
+
 @pytest.mark.parametrize("given, said", [
     (["plan"], "no plan is in it"), (["demand.csv", "items.csv"], "two tables and --out"),
     (["plan", "--out", "other"], "leave them out")])

@@ -6,7 +6,7 @@ from typing import NamedTuple
 
 from ..plan.backtest.catalogue import Tested
 from ..plan.backtest.one import Backtest
-from ..plan.backtest.sums import ALL_ITEMS, BLOCK, KEPT, Group, Sums, summed
+from ..plan.backtest.sums import BLOCK, KEPT, Group, Sums, summed
 from ..records.item import Item
 from .backtest_tables import SINGLE, VERDICTS, backtest_summary, fills_of, first_line
 from .page import OF_CHOSEN, OF_TODAY, UNITS, Line, Plot, Scale, marks_of, percent, rendered, tick
@@ -93,9 +93,9 @@ def sum_cells(sums: Sums) -> list[str]:
 def backtest_page(tested: Tested) -> str:
     """Returns the page of a catalogue's test on its past."""
     found = [(item, test) for item, test in tested.items if isinstance(test, Backtest) and summed(test)]
-    tests, sums = [test for _, test in found], next((it for it in tested.sums if it.group == ALL_ITEMS), None)
+    tests, sums = [test for _, test in found], tested.whole
     return rendered("backtest.html", {
-        "headline": first_line(tested), "sums": sums, "verdict": VERDICTS[sums.verdict] if sums else "",
+        "headline": first_line(sums), "sums": sums, "verdict": VERDICTS[sums.verdict] if sums else "",
         "every": tested.every, "decimals": tested.decimals, "lines": backtest_summary(tested).splitlines(),
         "promises": promise_plot(tests) if tests else None, "single": SINGLE,
         "times": time_plot(tests, sums.promised, tested.every) if sums else None, "worst": worst_of(found),

@@ -4,10 +4,10 @@ from __future__ import annotations
 from collections.abc import Iterator, Mapping, Sequence
 from dataclasses import replace
 
-from ..plan.backtest.catalogue import Tested
+from ..plan.backtest.catalogue import Past, Tested
 from ..plan.backtest.one import Backtest
 from ..plan.backtest.outcomes import Outcome
-from ..plan.backtest.sums import (ALL_ITEMS, BOTH, DAMPED, FEW, HOLDS, KEPT, LEAST_ITEMS, POLICIES, RARE, REFITTED,
+from ..plan.backtest.sums import (BOTH, DAMPED, FEW, HOLDS, KEPT, LEAST_ITEMS, POLICIES, RARE, REFITTED,
                                   SLACK, SMOOTHED, TIME, UNSURE, Estimate, Sums)
 from ..records.item import Item
 from ..remarks import Remark
@@ -174,11 +174,21 @@ def backtest_summary(tested: Tested) -> str:
                       "are over items and over blocks of periods. Fill: all items weigh alike. No part is proved.", ""])
 
 
-def first_line(tested: Tested) -> str:
-    """Returns the line of the first screen: what the past says of the promise."""
-    sums = next((it for it in tested.sums if it.group == ALL_ITEMS), None)
+def first_line(sums: Sums | None) -> str:
+    """Returns the line of the first screen: what the past says of the promise of all items."""
     if sums is None:
         return "No item has a test on its own past."
     came = 100 - 100 * sums.unmet[KEPT].value
     return (f"On your own past a promised {100 * sums.promised:.1f}% was kept in {sums.items - sums.broken:,} of "
             f"{counted(sums.items, 'item')}; together {came:.1f}%.")
+
+
+def past_line(past: Past | None) -> str:
+    """Returns the line of a plan's first screen: what the test in its folder says, or how there comes to be one."""
+    if past is None:
+        return ("Whether such promises held on your own past is said by crnplan backtest FOLDER, and then crnplan report "
+                "FOLDER.")
+    if past.is_old:
+        return ("The test on your own past is not of this plan. Run crnplan backtest FOLDER again, then crnplan report "
+                "FOLDER.")
+    return first_line(past.sums)

@@ -16,6 +16,7 @@ from ..curve.exchange import Point
 from ..curve.exchange_curve import kept_curve
 from ..files import Folder, own_folder
 from ..plan.answer import CHEAPER, DEARER, SAME, SERVICE, UNDECIDED, Answer
+from ..plan.backtest.catalogue import past_of
 from ..plan.catalogue import PlannedFolder, Totals, planned_folder
 from ..plan.item import Depth
 from ..records.catalogue_reading import missing_of
@@ -23,6 +24,7 @@ from ..records.catalogued import CATALOGUE, Catalogued
 from ..records.item import Item
 from ..remarks import Remark
 from ..table import DataTable
+from .backtest_tables import past_line
 from .catalogue_tables import (DECISION_COLUMNS, DECISIONS, EXACT, REJECTS, catalogue_summary, decision_row,
                                decisions_of, exact_of, faults_of, planned_of, reasons_of, rejects_of)
 from .change_tables import CHANGES, change_lines, changes_of, moved_rows
@@ -99,7 +101,7 @@ def catalogue_page(folder: PlannedFolder, totals: Totals) -> str:
         "reasons": reasons_of(folder.read.rejects(faults_of(folder))), "columns": columns,
         "texts": TEXTS, "parts": [width(name, rows) for name in columns], "codes": sorted(codes.items()),
         "choices": sorted(Counter(row.answer.verdict for row in rows).items()), "changes": change_lines(folder),
-        "moved": moved_rows(folder),
+        "moved": moved_rows(folder), "past": past_line(past_of(folder)),
         "warned": sum(row.cells["warnings"] != "" for row in rows)})
 
 

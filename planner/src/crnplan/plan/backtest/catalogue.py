@@ -4,7 +4,8 @@ from __future__ import annotations
 
 import contextlib
 import dataclasses
-from collections.abc import Iterator, Sequence
+import json
+from collections.abc import Iterable, Iterator, Sequence
 from dataclasses import dataclass
 from pathlib import Path
 
@@ -15,12 +16,13 @@ from ...records.catalogued import READ, Catalogued
 from ...records.item import Item
 from ...remarks import Remark
 from ...stored import Store
-from ..catalogue import learned_of
+from ..catalogue import PlannedFolder, learned_of
 from ..question import Settings
 from .one import Backtest, Walk, backtest_item
-from .sums import Sums, sums_of
+from .sums import ALL_ITEMS, Sums, sums_of
 
 TESTS = "backtest.sqlite"
+TESTED = "tested"  # a fact of the store: the text that all digests have, and the settings
 
 
 class Records(Catalogued):
@@ -33,6 +35,11 @@ class Records(Catalogued):
 
     def items(self) -> Iterator[Item]:
         yield from (item.part(0, self.record).last(self.counting) for item in super().items())
+
+
+def whole_of(sums: Iterable[Sums]) -> Sums | None:
+    """Returns the sums of all items among those of classes; None if there are none."""
+    return next((one for one in sums if one.group == ALL_ITEMS), None)
 
 
 @dataclass(frozen=True)
@@ -51,6 +58,38 @@ class Tested:
     now: int
     kept: int
 
+    @property
+    def whole(self) -> Sums | None:
+        """Returns the sums of all items; None if none is tested."""
+        return whole_of(self.sums)
+
+
+@dataclass(frozen=True)
+class Past:
+    """What the test in the folder of a plan says of all its items, None if it tests none. `is_old` says whether it is
+    of other rows or settings than the plan."""
+
+    sums: Sums | None
+    is_old: bool
+
+
+def past_of(planned: PlannedFolder) -> Past | None:
+    """Returns what the test in the folder of a plan says; None if there is none."""
+    if not (planned.path / TESTS).is_file():
+        return None
+    with contextlib.closing(Store(planned.path / TESTS, Backtest)) as tests:
+        fact = tests.fact(TESTED)
+        if fact is None:
+            return None
+        common, settings = json.loads(fact)
+        digests = tests.digests()
+        if settings != dataclasses.asdict(planned.settings) or any(
+                digests.get(name) != digest for name, digest in planned.read.digests(common)):
+            return Past(None, True)
+        names = {*planned.read.names()}
+        kept = (test for name, _, test in tests.answers() if name in names and isinstance(test, Backtest))
+        return Past(whole_of(sums_of(kept)), False)
+
 
 def backtest_batch(batch: Sequence[Item], settings: Settings, prior: Prior, walk: Walk) -> list[Backtest | Remark]:
     return [backtest_item(item, settings, prior, walk) for item in batch]
@@ -60,11 +99,14 @@ def backtest_into(folder: Folder, settings: Settings, walk: Walk, *, jobs: int |
                   address: str | None = None, shown: bool = False) -> Tested:
     """Tests the catalogue that was read into a folder, and keeps all tests there. Items learn from one another as they
     would have at the end of their records."""
-    with (faults_of(folder.path), contextlib.closing(Records(folder.path / READ, walk.record, settings.window)) as read,
+    with (faults_of(folder.path),
+          contextlib.closing(Records(folder.path / READ, walk.record, settings.window)) as read,
           contextlib.closing(Store(folder.store(TESTS), Backtest)) as tests):
         prior, usual, learned = learned_of(tests, read, settings, again=True)
         settings = dataclasses.replace(settings, borrow=usual, every=read.fact("every"))
-        work = Work(tests, dict(read.digests(settings.common(repr(walk), prior))))
+        common = settings.common(repr(walk), prior)
+        tests.keep_facts({TESTED: json.dumps([common, dataclasses.asdict(settings)])})
+        work = Work(tests, dict(read.digests(common)))
         work.finish(backtest_batch, read.item, settings, prior, walk, workers=workers_of(jobs, address), shown=shown)
         kept = tests.answers()
         items = [(item, next(test for name, _, test in kept if name == item.name))
