@@ -16,13 +16,13 @@ from hypothesis import strategies as st
 from scipy import optimize, stats
 
 import crnplan as crn
-from crnplan.demand.checks import (STUDIED, Check, Checks, Loss, Season, check_history, loss_of, losses, outliers_of,
-                                   remarks_of, rosner_bound, seasons_of)
+from crnplan.demand.checks import (STUDIED, Check, Checks, Loss, Season, check_history, largest_periods, loss_of, losses,
+                                   outliers_of, remarks_of, rosner_bound, seasons_of)
 from crnplan.demand.permutation import (Orders, autocorrelation_seen, bound_of, drawn_orders, least_seen, p_value,
                                         season_seen, statistics_of, tilted, trend_seen)
 from crnplan.demand.sample import Sample
 from crnplan.errors import Refused, spelt
-from crnplan.records.cells import period_of
+from crnplan.records.cells import period_name, period_of
 from crnplan.remarks import Remark
 from crnplan.words import advised, sentence
 from planner.tests.conftest import Command
@@ -77,7 +77,7 @@ def test_quiet_history() -> None:
     checks = check_history(STEADY, season=52)
     assert (checks.warnings, checks.notes, checks.warned) == ((), (), ())
     assert (checks.periods, checks.demands, checks.level) == (208, 208, 0.0125)
-    line, = checks.lines
+    largest, line = checks.lines
     sizes = [named(checks, it).least_seen for it in ("autocorrelation", "trend", "season")]
     assert line == ("demand: no warning is no proof: in 8 of 10 such histories the tests see an autocorrelation of "
                     f"{sizes[0]}, a trend from {1 - sizes[1]:.0%} to {1 + sizes[1]:.0%} of the mean and a season of "
@@ -284,6 +284,21 @@ def test_outliers() -> None:
     assert outliers_of([1] * 60 + [2], 1) == [] and outliers_of([12] * 60 + [24], 12) == []
     assert outliers_of([1] * 8 + [900], 1) == []  # too few
     assert outliers_of([4, 5, 6, 5] * 10 + [90, 80, 85, 95], 1) == [95, 90, 85]  # at most three
+
+
+def test_largest_demands() -> None:
+    """The largest demands stand with their weeks and their share of the variance; nothing is said of few demands."""
+    numbers = [*[1] * 7, 6, *[1] * 8, 3, 9]
+    remark, = largest_periods(numbers, "week", 2930)
+    squares = [(it - 33 / 18)**2 for it in numbers]
+    assert remark.facts["share"] == pytest.approx((squares[7] + squares[16] + squares[17]) / sum(squares))
+    assert [remark.facts[f"demand_{rank}"] for rank in (1, 2, 3)] == [9, 6, 3]
+    weeks = [period_name(2930 + place, "week") for place in (17, 7, 16)]
+    assert [remark.facts[f"period_{rank}"] for rank in (1, 2, 3)] == weeks
+    line = "demand: the largest demands (9 in period 18, 6 in period 8, 3 in period 17) make "
+    assert [it.startswith(line) for it in check_history(numbers).lines].count(True) == 1
+    assert largest_periods([*[0] * 40, *range(1, 10)]) == ()
+
 
 
 @pytest.mark.parametrize("numbers", [*([4, 5, 6, 5] * 4 + [most] for most in range(7, 20)), [1] * 11 + [2], [3] * 12],

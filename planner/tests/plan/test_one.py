@@ -18,7 +18,7 @@ from crnplan.demand.learning import Prior
 from crnplan.records.item import Item
 from crnplan.remarks import Remark
 from crnplan.theory.long_run import Candidate, LongRun
-from planner.tests.plan.items import alone, item_of
+from planner.tests.plan.items import WEEKS, alone, item_of
 from planner.tests.theory.long_run_costs import cost_of, shortfall_of
 
 NONE = Prior("none")
@@ -143,6 +143,31 @@ def test_a_law_below_the_history_is_named(program: Path) -> None:
     assert [facts["seen_mean"], facts["seen_variance"]] == pytest.approx([mean, np.var(item.counts, ddof=1)])
     assert [facts["mean"], facts["variance"]] == pytest.approx([mean, mean], rel=0.05)
     assert "law below history" not in codes["empirical"]
+
+
+@pytest.mark.parametrize("place", [1, 3])
+def test_the_decision_without_the_largest_periods(place: int, program: Path) -> None:
+    """Without its largest periods an item has the plan of a history that never had them; what that costs if they come
+    again is the exact cost under the law of all periods."""
+    item = item_of(place, returns=tuple(it // 4 for it in item_of(place).counts) if place == 3 else ())
+    places = [*range(WEEKS)]
+    for _ in range(3):
+        places.remove(max(places, key=lambda it: (item.counts[it], -it)))
+    left = item_of(place, counts=tuple(item.counts[it] for it in places),
+                   returns=tuple(item.returns[it] for it in places) if item.returns else ())
+    question = question_of(item, alone())
+    without = Depth(question, plan_one(question, str(program)), str(program)).without
+    assert without and without.rare == answer_of(left, alone(), program).chosen
+    scenario = question.scenario()
+    wanted = cost_of(scenario, shortfall_of(scenario, without.rare.level - without.rare.point), without.rare.level)
+    assert without.again.levels == without.rare.levels
+    assert without.again.cost == pytest.approx(wanted / float(question.scale), rel=1e-7)
+
+
+def test_no_decision_without_the_largest_of_few_periods(program: Path) -> None:
+    """If fewer than ten periods have demand, the largest are not taken out."""
+    question = question_of(item_of(counts=(*[0] * 50, *[3] * 9), levels=(2, 9)), alone())
+    assert Depth(question, plan_one(question, str(program)), str(program)).without is None
 
 
 def test_no_law_with_a_long_run(program: Path) -> None:

@@ -33,6 +33,7 @@ FALSE_ALARMS = 0.05  # of all tests of a history together, at most
 LEAST_PERIODS = 8  # for the tests
 LEVELS = ("trend", "shift")
 DECISIVE = 0.5  # the share of the variance above which one period decides the result
+MOST_LARGEST = 3  # periods that are shown with the law, with the share of the variance that they make
 # So many periods without demand at the end of the record are named if as many come by luck with at most this chance.
 NO_DEMAND = 0.05
 # Demands far above all others: the chance to find one where there is none, how many are looked for, and among how many.
@@ -210,7 +211,8 @@ def _least_seen(facts: Facts, bounds: Mapping[str, float], level: float) -> dict
 
 @dataclass(frozen=True)
 class Checks:
-    """What is known of a history beside its table: tests of its order, warnings, notes, and what stays unknown.
+    """What is known of a history beside its table: tests of its order, warnings, notes, the largest demands, and what
+    stays unknown.
 
     Each test warns if its p value is at most `level`, 5% over the number of tests, so an independent history of one law
     has a false alarm with a chance of at most 5% (Dunn, Multiple comparisons among means, 1961).
@@ -222,6 +224,7 @@ class Checks:
     warnings: tuple[Remark, ...] = field(default=(), repr=False)
     notes: tuple[Remark, ...] = field(default=(), repr=False)
     unknown: tuple[Remark, ...] = field(default=(), repr=False)
+    largest: tuple[Remark, ...] = field(default=(), repr=False)
 
     @property
     def level(self) -> float:
@@ -244,9 +247,10 @@ class Checks:
 
     @property
     def lines(self) -> list[str]:
-        """Returns what is to be said of the demand, in lines: warnings, notes, and what stays unknown."""
+        """Returns what is to be said of the demand, in lines: warnings, notes, the largest demands, and what stays
+        unknown."""
         warnings = (f"warning: {advised(remark)}" for remark in self.warnings)
-        return [f"demand: {line}" for line in (*warnings, *map(advised, (*self.notes, *self.unknown)))]
+        return [f"demand: {line}" for line in (*warnings, *map(advised, (*self.notes, *self.largest, *self.unknown)))]
 
 
 def check_history(observed: Observed | Iterable[Number], *, season: int | None = None) -> Checks:
@@ -256,7 +260,7 @@ def check_history(observed: Observed | Iterable[Number], *, season: int | None =
     (Kruskal and Wallis) from two years on. With dates the calendar says the seasons: weekdays of days, and quarters of
     a year. `season` is the number of periods of another season, from 2; without dates there is none unless it is given.
     Notes name few periods with demand, a long time without any, packs, demands far above all others, and one that
-    decides the result.
+    decides the result. `largest` names the three largest demands, with the share of the variance that they make.
 
     The same history has the same checks. Raises RefusedFaults for numbers that are not whole, and Refused for a season
     of less than 2 periods.
@@ -283,7 +287,8 @@ def _checked(numbers: Sequence[int], every: str | None, first: int, season: int 
     silent = [Remark("silent tests", seen)] if seen else []
     few = [Remark("few periods", {"periods": len(numbers)})] if len(numbers) < LEAST_PERIODS else []
     return replace(checks, warnings=tuple(_warnings(facts, checks)), notes=tuple(_notes(facts)),
-                   unknown=(*silent, *untested) if checks.tests else tuple(few))
+                   unknown=(*silent, *untested) if checks.tests else tuple(few),
+                   largest=largest_periods(numbers, every, first))
 
 
 def _warnings(facts: Facts, checks: Checks) -> Iterator[Remark]:
@@ -358,15 +363,34 @@ def _notes(facts: Facts) -> Iterator[Remark]:
         return
     if far := len(outliers_of(demands, pack)):
         yield Remark("far demands", {"next": demands[far], **_largest(facts, far)})
-    squares = centred(np.array(numbers, dtype=float))**2
-    share = float(squares[np.argmax(numbers)] / squares.sum()) if squares.any() else 0.0
+    share = share_of_variance(numbers, largest_places(numbers, 1))
     if share > DECISIVE:
         yield Remark("decisive demand", {"share": share, **_largest(facts, 1)})
 
 
+def largest_places(numbers: Sequence[int], count: int = MOST_LARGEST) -> list[int]:
+    """Returns the places of so many largest demands, the largest first."""
+    return sorted(range(len(numbers)), key=lambda place: -numbers[place])[:count]
+
+
+def share_of_variance(numbers: Sequence[int], places: Sequence[int]) -> float:
+    """Returns the share of the variance that the demands at some places make; 0 if there is no variance."""
+    squares = centred(np.array(numbers, dtype=float))**2
+    return float(squares[places].sum() / squares.sum()) if squares.any() else 0.0
+
+
+def largest_periods(numbers: Sequence[int], every: str | None = None, first: int = 1) -> tuple[Remark, ...]:
+    """Returns a remark on the three largest demands, with their periods and the share of the variance that they make;
+    nothing if fewer than 10 periods have demand. `every` and `first` are those of `History`."""
+    if sum(number > 0 for number in numbers) < LEAST_DEMANDS:
+        return ()
+    share = share_of_variance(numbers, largest_places(numbers))
+    return Remark("largest periods", {"share": share, **_largest(Facts(numbers, (), every, first), MOST_LARGEST)}),
+
+
 def _largest(facts: Facts, count: int) -> dict[str, Value]:
     """Returns the largest demands with their periods, as facts."""
-    places = sorted(range(len(facts.numbers)), key=lambda place: -facts.numbers[place])[:count]
+    places = largest_places(facts.numbers, count)
     demands: dict[str, Value] = {f"demand_{rank}": facts.numbers[place] for rank, place in enumerate(places, 1)}
     return demands | {f"period_{rank}": facts.name(place) for rank, place in enumerate(places, 1)}
 

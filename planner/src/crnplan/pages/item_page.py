@@ -16,7 +16,7 @@ from ..crnsim.trajectory import COLUMNS as PERIOD_COLUMNS
 from ..decide.doubt import WITHIN
 from ..decide.verdicts import POLICY
 from ..demand import EMPIRICAL
-from ..demand.checks import check_history
+from ..demand.checks import check_history, largest_periods
 from ..demand.fitted import QUANTILES, FittedLaw, fit_words
 from ..errors import Fault, spelt, worded
 from ..files import own_folder
@@ -201,6 +201,22 @@ class ItemWords:
                 "in the long run, the mean over these laws.")
 
     @property
+    def largest(self) -> str:
+        """Returns which demands are the largest, and what the decision would be without them; nothing if few periods
+        have demand."""
+        named, without = largest_periods(self.item.counts, self.settings.every, self.item.first), self.depth.without
+        said, chosen = "".join(capital(sentence(remark)) for remark in named), self.answer.chosen
+        if not without:
+            return said
+        rare, again, every = without.rare, without.again, self.every
+        if rare.levels == chosen.levels:
+            return f"{said} Without these {every}s the decision would be the same, at {self.money(rare.cost)} a {every}."
+        met = f" and meets {percent(again.fill)} of demand at once" * (self.item.fill is not None)
+        return (f"{said} Without these {every}s the decision would be: below {rare.point:,}, order up to {rare.level:,}, "
+                f"at {self.money(rare.cost)} a {every}. If such {every}s come again, that costs "
+                f"{self.money(again.cost)}{met}; the chosen policy costs {self.money(chosen.cost)}.")
+
+    @property
     def said(self) -> list[str]:
         """Returns what was decided in sentences: what it saves, what it meets at once, and how sure that is."""
         service = "" if self.item.fill is None else (
@@ -328,6 +344,8 @@ def item_summary(words: ItemWords) -> str:
     room = min(LINES - LEAST_TABLE - len([*above, *said, *below]), MOST_WARNED)
     width = TWO_LINES if 2 * len(warned) <= room else WIDTH
     said += wrapped(*(textwrap.shorten(line, width, placeholder=" ..") for line in warned))[:max(room, 0)]
+    largest, room = wrapped(words.largest), LINES - LEAST_TABLE - len([*above, *said, *below])
+    said += largest if len(largest) <= room else []
     rows = screen_table(words, LINES - len([*above, *said, *below]) - 2).splitlines()
     return "".join(f"{line}\n" for line in [*above, *rows, "", *said, *below])
 

@@ -18,6 +18,7 @@ from ..decide.doubt import WITHIN, Doubt
 from ..decide.verdicts import (Compared as ComparedRow, Ends, Estimate, ends_of, t_quantile, verdict_of,
                                with_intervals)
 from ..decide.sensitivity import Case, Move, Moves, moves_of
+from ..demand.checks import largest_periods, largest_places
 from ..demand.fitted import FittedLaw
 from ..demand.posterior import AllowedLaws
 from ..errors import Refused
@@ -57,6 +58,13 @@ class Compared(NamedTuple):
     ends: Ends
     verdict: str
     reasons: tuple[str, ...]
+
+
+class Without(NamedTuple):
+    """The decision without the largest periods: what it comes to if no such period comes again, and if they do."""
+
+    rare: Figures
+    again: Figures
 
 
 class Coming(NamedTuple):
@@ -185,6 +193,22 @@ class Depth:
         except NoTheory:
             return None
         return Doubt(scenario, policies, WITHIN, AllowedLaws({}, demands), None, figures)
+
+    @cached_property
+    def without(self) -> Without | None:
+        """Returns the decision without the periods that `largest_periods` names. None if it names none, or if there is
+        no plan without them."""
+        question, item = self.question, self.question.item
+        if not largest_periods(item.counts):
+            return None
+        try:
+            asked = question_of(item.without(largest_places(item.counts)), question.settings, question.prior)
+            theory = asked.theory()
+            rare = figures_of(asked, theory, choice_of(theory, asked).levels)
+        except Refused:
+            return None
+        boxes = round(rare.point / item.box), round(rare.level / item.box)
+        return Without(rare, figures_of(question, self.theory, boxes))
 
     @cached_property
     def moves(self) -> Moves:

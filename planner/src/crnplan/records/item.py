@@ -3,7 +3,7 @@ wanted share, lead times, today's levels and prices."""
 from __future__ import annotations
 
 import re
-from collections.abc import Callable, Mapping, Sequence
+from collections.abc import Callable, Collection, Mapping, Sequence
 from dataclasses import dataclass, fields, replace
 from fractions import Fraction
 from functools import partial
@@ -70,6 +70,12 @@ class Item:
         returns = self.returns[start:stop]
         return replace(self, counts=self.counts[start:stop], returns=returns if any(returns) else (),
                        first=self.first + start)
+
+    def without(self, places: Collection[int]) -> Item:
+        """Returns the item without some of its periods, which are counted from 0."""
+        kept = [place for place in range(len(self.counts)) if place not in places]
+        returns = tuple(self.returns[place] for place in kept) if self.returns else ()
+        return replace(self, counts=tuple(self.counts[place] for place in kept), returns=returns if any(returns) else ())
 
     def last(self, window: int | None) -> Item:
         """Returns the item as it is known by its last so many periods, or by all if that is None."""
