@@ -17,14 +17,16 @@ import pytest
 import crnplan as crn
 from crnplan.demand.learning import Prior
 from crnplan.plan.after import taken
+from crnplan.plan.changes import rows_of
 from crnplan.plan.one import allowed_by, plan_one
 from crnplan.plan.question import Levels, Settings, question_of
 from crnplan.records.item import Item
+from crnplan.remarks import Remark
 from crnplan.scenario import Policy
 from crnplan.theory.many_laws import figures_of_laws
 from planner.tests.backtest.test_catalogue import START, write
 from planner.tests.conftest import Command
-from planner.tests.plan.items import SHORT, alone, several
+from planner.tests.plan.items import SHORT, alone, item_of, several
 from planner.tests.theory.chain import by_chain
 
 ITEMS, BEFORE, WEEKS = 12, 52, 60
@@ -284,6 +286,29 @@ def test_planned_alone_again(month: Month, tmp_path: Path) -> None:
     alone_now = crn.plan(out=tmp_path / "plan", **month.until(WEEKS))
     assert not (tmp_path / "plan/changes.csv").exists() and alone_now.changes.empty
     assert "earlier plan" not in alone_now.text
+
+
+@pytest.mark.parametrize("old, new, reasons", [
+    (item_of(counts=(1, 2, 3), first=5, rows=3), item_of(counts=(1, 2, 3, 4), first=5, rows=4),
+     [Remark("new rows", {"periods": 1, "rows": 1, "items": 4})]),
+    (item_of(counts=(1, 2, 3), first=5, rows=3), item_of(counts=(2, 9, 4, 0), first=6, rows=3),
+     [Remark("new rows", {"periods": 2, "rows": None, "items": 4}), Remark("changed rows", {"periods": 1, "items": 6}),
+      Remark("other first period", {"periods": 1})]),
+    (item_of(counts=(1, 2, 3), first=5), item_of(counts=(1, 2, 3, 0), returns=(0, 0, 0, 1), first=5),
+     [Remark("new rows", {"periods": 1, "rows": 0, "items": 0})]),
+    (item_of(counts=(1, 2, 3), first=5), item_of(counts=(1, 2, 3), returns=(0, 1, 0), first=5),
+     [Remark("changed rows", {"periods": 1, "items": 0})]),
+    (item_of(counts=(1, 2, 3), first=5), item_of(counts=(7, 7), first=11),
+     [Remark("new rows", {"periods": 2, "rows": None, "items": 14}), Remark("other first period", {"periods": 6})])])
+def test_rows_by_hand(old: Item, new: Item, reasons: list[Remark]) -> None:
+    """The earlier record ends before period 8."""
+    assert [*rows_of(old, new, 8)] == reasons
+
+
+def test_least_gain_that_may_be_either(crnplan: Command) -> None:
+    """A share is written with a percent sign, or as a decimal below 1."""
+    answer = crnplan("catalogue", "demand.csv", "items.csv", "--after", "one", "--out", "two", "--least-gain", "2")
+    assert answer.status == 2 and "--least-gain '2' is no share" in answer.errors and "write 2%" in answer.errors
 
 
 def test_what_is_refused(month: Month, tmp_path: Path) -> None:

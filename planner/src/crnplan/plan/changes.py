@@ -70,17 +70,25 @@ class Pair(NamedTuple):
     left: Remark | None
 
 
+def periods_of(item: Item, start: int, stop: int) -> list[tuple[int, int]]:
+    """Returns what was asked for and what came back of an item in each period from one on before another, by their
+    numbers."""
+    periods = [*zip(item.counts, item.returns or (0,) * len(item.counts))]
+    return periods[max(0, start - item.first):max(0, stop - item.first)]
+
+
 def rows_of(old: Item, new: Item, stop: int) -> Iterator[Remark]:
     """Yields what is new in the rows of an item: periods from `stop` on, others that have changed, or are gone."""
-    first, after = max(old.first, new.first), max(0, stop - new.first)
-    before = [(item.counts[first - item.first:stop - item.first], item.returns[first - item.first:stop - item.first])
-              for item in (old, new)]
-    changed = sum(now != then for now, then in zip(before[1][0], before[0][0]))
-    if new.counts[after:]:
+    first = max(old.first, new.first)
+    then, now = (periods_of(item, first, stop) for item in (old, new))
+    changed = sum(before != after for before, after in zip(then, now))
+    added = periods_of(new, max(stop, new.first), new.first + len(new.counts))
+    if added:
         rows = None if changed or old.first != new.first else new.rows - old.rows
-        yield Remark("new rows", {"periods": len(new.counts) - after, "rows": rows, "items": sum(new.counts[after:])})
-    if changed or before[0][1] != before[1][1]:
-        yield Remark("changed rows", {"periods": changed, "items": sum(before[1][0]) - sum(before[0][0])})
+        yield Remark("new rows", {"periods": len(added), "rows": rows, "items": sum(asked for asked, _ in added)})
+    if changed:
+        items = sum(after - before for (before, _), (after, _) in zip(then, now))
+        yield Remark("changed rows", {"periods": changed, "items": items})
     if new.first != old.first:
         yield Remark("other first period", {"periods": new.first - old.first})
 
