@@ -5,6 +5,7 @@ Intervals are compared with those of costs from which a report is made by the de
 from __future__ import annotations
 
 import csv
+import dataclasses
 import json
 import math
 import statistics
@@ -251,4 +252,4 @@ def test_a_single_replication_has_no_intervals() -> None:
 def test_figures_that_contradict_each_other_are_rejected(fields: dict[str, object]) -> None:
     base, other = rows_of_costs({"p0": [3, 4], "p1": [5, 5]}, 1)
     with pytest.raises(Refused, match="^it.csv:3: this is no report of 2 replications"):
-        check_replications([base, other._replace(**fields)], 2, "it.csv")
+        check_replications([base, dataclasses.replace(other, **fields)], 2, "it.csv")

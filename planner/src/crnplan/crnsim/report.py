@@ -23,7 +23,7 @@ from collections.abc import Iterable, Sequence
 from dataclasses import dataclass
 from fractions import Fraction
 from pathlib import Path
-from typing import TYPE_CHECKING, Any, NamedTuple
+from typing import TYPE_CHECKING, Any
 
 from .. import formats
 from ..toml.documents import shown
@@ -53,7 +53,8 @@ NO_COSTS = Costs(0, 0, 0, 0)
 MAY_LACK = ("diff_var", "cov")
 
 
-class Row(NamedTuple):
+@dataclass(frozen=True)
+class Row:
     """A row of a report: a policy (s and S in items), and its exact costs in the scenario's money.
 
     Differences are from the costs of the first policy, as docs/FORMATS.md defines them. `diff_var` and `cov` are None
@@ -73,7 +74,7 @@ class Row(NamedTuple):
 
 def table_of(rows: Iterable[Row]) -> DataTable:
     """Returns rows as a table, indexed by `policy`. As CSV it is the report that the program would write."""
-    return DataTable(COLUMNS, list(rows), index="policy")
+    return DataTable(COLUMNS, [[getattr(row, name) for name in HEADER] for row in rows], index="policy")
 
 
 def _refused(what: str, place: str, line: int) -> Refused:
@@ -123,7 +124,7 @@ def rows_of(scenario: Scenario, text: str, program: str | Path) -> list[Row]:
         rows = read_rows(text, str(program))
     except Refused:
         rows = []
-    if [row[:3] for row in rows] != [(own.name, own.s, own.S) for own in scenario.policies]:
+    if [(row.policy, row.s, row.S) for row in rows] != [(own.name, own.s, own.S) for own in scenario.policies]:
         raise ProgramError(f"{program}: what it writes is no report of the scenario; name crnsim with "
                            f"{argument('program')}")
     return rows
