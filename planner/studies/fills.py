@@ -42,7 +42,7 @@ BY_LAW = METHODS[2]
 STORED = Path(__file__).with_name("fills.csv")
 HISTORIES = 40
 SETTINGS = ((2, 8), (6, 2))  # lead time and cover
-SMALL: dict[str, Any] = {"laws": ("P0.3", "INT"), "periods": (26,), "histories": 2}  # of `study`
+SMALL: dict[str, Any] = {"laws": ("INT",), "periods": (26,), "histories": 2}  # of `study`
 HOLDING, BACKLOG = 1_000, 9_000
 WHOLE = 10**12  # what the weights of a true law add up to, about
 

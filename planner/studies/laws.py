@@ -41,7 +41,7 @@ METHODS = ("empirical", "predictive", "auto")
 FIGURES = ["regret", "promise", "gain"]
 STORED = Path(__file__).with_name("laws.csv")
 HISTORIES = 60
-SMALL: dict[str, Any] = {"laws": ("NB3_9", "INT"), "periods": (26, 52), "histories": 12}  # of `study`
+SMALL: dict[str, Any] = {"laws": ("NB3_9", "INT"), "periods": (26, 52), "histories": 5}  # of `study`
 
 
 class Choice(NamedTuple):

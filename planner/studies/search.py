@@ -32,7 +32,7 @@ TRUE_LAWS = ("P2", "NB3_9", "NB10_60", "INT", "PACK6", "PROJ")
 LEADS = ((2,), (6,), (1, 2, 3), (2, 4, 6))
 PERIODS, HISTORIES = 52, 6
 STORED = Path(__file__).with_name("search.csv")
-SMALL: dict[str, Any] = {"laws": ("P2", "INT"), "leads": ((2,), (1, 2, 3)), "histories": 1}  # of `study`
+SMALL: dict[str, Any] = {"laws": ("NB3_9",), "leads": ((2,), (1, 2, 3)), "histories": 1}  # of `study`
 OVER = 0.5  # percent
 
 

@@ -3,15 +3,17 @@ from __future__ import annotations
 
 import csv
 import io
+import os
 import signal
 import sys
-from collections.abc import Callable
+from collections.abc import Callable, Iterator
 from pathlib import Path
 from typing import NamedTuple
 
 import pytest
 
 from crnplan import commands
+from planner.tests.jobs.clusters import Cluster
 
 
 class Answer(NamedTuple):
@@ -31,6 +33,14 @@ def heed_interrupts() -> None:
     signal.signal(signal.SIGINT, signal.SIG_DFL)
 
 
+def script(path: Path, lines: str) -> Path:
+    """Makes a program of lines of the shell, and returns its path."""
+    path.parent.mkdir(exist_ok=True, parents=True)
+    path.write_text(f"#!/bin/sh\n{lines}\n", "utf-8")
+    path.chmod(0o755)
+    return path
+
+
 def rows_of(path: Path, key: str = "item", kind: str = "", delimiter: str = ",") -> dict[str, dict[str, str]]:
     """Returns the rows of a table by a column, of one kind if the table has several."""
     with path.open(encoding="utf-8", newline="") as file:
@@ -41,7 +51,6 @@ def rows_of(path: Path, key: str = "item", kind: str = "", delimiter: str = ",")
 def crnplan(monkeypatch: pytest.MonkeyPatch, capfd: pytest.CaptureFixture[str]) -> Command:
     """Returns a function that runs a command of crnplan by its words, with `data` as standard input."""
     def run(*words: str | Path, data: bytes = b"") -> Answer:
-        """Runs a command."""
         monkeypatch.setattr(sys, "argv", ["crnplan", *map(str, words)])
         monkeypatch.setattr(sys, "stdin", io.TextIOWrapper(io.BytesIO(data)))
         with pytest.raises(SystemExit) as ended:
@@ -51,6 +60,18 @@ def crnplan(monkeypatch: pytest.MonkeyPatch, capfd: pytest.CaptureFixture[str]) 
 
 
 @pytest.fixture(scope="session")
+def session_cluster(tmp_path_factory: pytest.TempPathFactory, program: Path) -> Iterator[Cluster]:
+    """Returns the cluster of all tests of a worker, which find the tested program by its name. A test calls `restore`
+    first. At the end nothing of it is left."""
+    cluster = Cluster(tmp_path_factory.mktemp("cluster"))
+    (cluster.home / "bin").mkdir()
+    (cluster.home / "bin/crnsim").symlink_to(program)
+    cluster.environment["PATH"] = f"{cluster.home / 'bin'}:{os.environ['PATH']}"
+    yield cluster
+    cluster.end_all()
+    assert cluster.have_all_ended()
+
+
+@pytest.fixture(scope="session")
 def two_policies(top: Path) -> str:
-    """Returns the text of the base example."""
     return (top / "examples/two_policies.toml").read_text("utf-8")

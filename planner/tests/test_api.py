@@ -1,4 +1,4 @@
-"""Tests the public interface: its names, that they are imported when they are used, and the types."""
+"""Tests the public interface: its names, imports and types, and plans as a notebook makes them, without a file."""
 from __future__ import annotations
 
 import importlib
@@ -11,25 +11,26 @@ from collections.abc import Iterator
 from fractions import Fraction
 from pathlib import Path
 from types import ModuleType
+from unittest.mock import Mock
 
 import click
 import numpy
-import pandas
+import pandas as pd
 import pytest
 from matplotlib.figure import Figure
 
 import crnplan as crn
 from crnplan.commands import COMMANDS, as_option, group
+from crnplan.plan import catalogue
+from crnplan.table import Result
 from planner.tests.conftest import Command
 
-PLANNER = Path(__file__).parents[1]
 HEAVY = ("numpy", "scipy", "pandas", "matplotlib", "jinja2", "tqdm", "tomlkit", "distributed")
 
 
 @pytest.mark.parametrize("name", crn.__all__)
 def test_public_name(name: str) -> None:
-    """Imports each public name, twice, and checks that it has a docstring. Other names are those of modules, or none.
-    """
+    """Each public name is there, twice, with a docstring. Others are those of modules, or none."""
     found = getattr(crn, name)
     assert getattr(crn, name) is found and name in dir(crn) and not isinstance(found, ModuleType)
     assert name == "__version__" or found.__doc__
@@ -38,13 +39,11 @@ def test_public_name(name: str) -> None:
         getattr(crn, f"{name}s")
 
 
-@pytest.mark.parametrize("code", [
-    "import crnplan", "import crnplan.commands", "import crnplan.formats", "from crnplan import Scenario, find_program",
-    "import crnplan.commands.scenarios", "import crnplan.commands.plans"])
-def test_imports_no_heavy_library(code: str) -> None:
-    """Checks that the light parts import none of the libraries that take long."""
-    words = [sys.executable, "-c", f"{code}; import sys; print(*sys.modules)"]
-    loaded = subprocess.run(words, capture_output=True, text=True, check=True, timeout=60).stdout.split()
+def test_imports_no_heavy_library() -> None:
+    """The light parts import none of the libraries that take long."""
+    code = ("import crnplan, crnplan.commands, crnplan.formats, crnplan.commands.scenarios, crnplan.commands.plans\n"
+            "from crnplan import Scenario, find_program; import sys; print(*sys.modules)")
+    loaded = subprocess.run([sys.executable, "-c", code], capture_output=True, text=True, check=True).stdout.split()
     assert "crnplan" in loaded and not {it.split(".")[0] for it in loaded} & {*HEAVY}
 
 
@@ -61,14 +60,13 @@ def test_version_is_fast() -> None:
 
 @pytest.mark.parametrize("name", COMMANDS)
 def test_command(name: str) -> None:
-    """Checks that each command has a help with an example."""
     command = group.get_command(click.Context(group), name)
     assert command and command.help and (command.epilog or "").startswith(f"Example: crnplan {name}")
 
 
 def names_of_types() -> dict[str, object]:
     """Returns the names in annotations that modules import for checks of types alone."""
-    names: dict[str, object] = {"Floats": numpy.ndarray, "Figure": Figure, "pd": pandas, "np": numpy}
+    names: dict[str, object] = {"Floats": numpy.ndarray, "Figure": Figure, "pd": pd, "np": numpy}
     for part in ("crnsim.report", "crnsim.long_run", "decide.verdicts", "decide.keys", "decide.doubt",
                  "theory.suggestions", "theory.many_laws", "demand.posterior", "demand.borrowing",
                  "curve.exchange_curve"):
@@ -102,33 +100,11 @@ def test_no_public_name_takes_anything() -> None:
     assert [f"{name}: {part}" for name, its in hints.items() for part, hint in its.items() if has_any(hint)] == []
 
 
-def test_types() -> None:
-    """Runs mypy on the package, with the settings of its project."""
-    ran = subprocess.run([sys.executable, "-m", "mypy"], cwd=PLANNER, capture_output=True, text=True, timeout=300)
-    assert ran.returncode == 0, ran.stdout
-
-
-@pytest.mark.parametrize("words, message", [
-    (["wy"], "there is no command 'wy'; did you mean why? crnplan --help shows the words."),
-    (["why"], "Missing argument 'SCENARIO.toml'. crnplan why --help shows the words."),
-    (["catalogue", "a", "b", "--column", "a.b"], "--column 'a.b' is not FILE.ROLE=NAME, as demand.quantity=Menge"),
-    (["catalogue", "a", "b", "--unit", "a.b= "], "--unit 'a.b= ' is not FILE.ROLE=UNIT, as items.lead=day"),
-    (["catalogue", "a", "b", "--factor", "KAR=0"], "--factor 'KAR=0' is not MEASURE=NUMBER, as KAR=12"),
-    (["history", "a", "--item", "=x"], "--item '=x' is not COLUMN=VALUE, as part=A-17")])
-def test_wrong_words(words: list[str], message: str, crnplan: Command) -> None:
-    """Checks the line on words that are refused."""
-    assert crnplan(*words) == (2, "", f"crnplan: {message}\n")
-
-
 def test_completion(crnplan: Command, monkeypatch: pytest.MonkeyPatch) -> None:
-    """Gives a shell the commands that begin like a word, as click's completion asks for them."""
+    """A shell gets the commands that begin like a word, and an option its name of what read the files."""
     for name, value in (("_CRNPLAN_COMPLETE", "bash_complete"), ("COMP_WORDS", "crnplan wh"), ("COMP_CWORD", "1")):
         monkeypatch.setenv(name, value)
     assert crnplan() == (0, "plain,why\nplain,where\n", "")
-
-
-def test_options_of_the_command_that_read() -> None:
-    """A page that is written again names the options of the command that read the files."""
     assert group.get_command(click.Context(group), "report") and as_option("end", "") == "--to"
 
 
@@ -153,3 +129,135 @@ def test_from_a_history_to_a_decision(tmp_path: Path, program: Path) -> None:
     assert isinstance(int(report.frame.loc["best", "total"]), int)
     assert set(decision.index) == set(theory["policy"])
     assert decision.loc["best", "verdict"] in {"better", "undecided", "worse"}
+
+
+SETTINGS = {"fit": "empirical", "borrow": "none", "periods": 64, "replications": 8, "jobs": 1}
+FILES = ("demand", "items", "orders")
+
+
+@pytest.fixture(scope="module")
+def paths(top: Path) -> list[Path]:
+    return [top / f"examples/catalogue/{name}.csv" for name in FILES]
+
+
+@pytest.fixture(scope="module")
+def plan(paths: list[Path], program: Path) -> crn.Plan:
+    """Returns the plan of these tables, as data frames."""
+    frames = (pd.read_csv(path, keep_default_na=False, na_values=[""]) for path in paths)
+    return crn.plan(*frames, program=program, **SETTINGS)
+
+
+@pytest.fixture
+def few() -> list[pd.DataFrame]:
+    days = pd.date_range("2026-01-05", periods=20, freq="7D")
+    masters = pd.DataFrame([{"item": "A", "setup": 20, "holding": 1, "backlog": 9, "lead": 1, "s": 5, "S": 20}])
+    return [pd.DataFrame({"item": "A", "date": days, "quantity": 3}), masters]
+
+
+def test_frames_and_files_give_the_same(plan: crn.Plan, paths: list[Path], program: Path, tmp_path: Path) -> None:
+    """Decisions, what is left out but for names of files, and totals are those of the files; the folder has them."""
+    other = crn.plan(*paths, out=tmp_path / "plan", program=program, **SETTINGS)
+    pd.testing.assert_frame_equal(plan.decisions, other.decisions)
+    pd.testing.assert_frame_equal(plan.rejects.drop(columns="file"), other.rejects.drop(columns="file"))
+    assert plan.totals["saving"] == other.totals["saving"] == pytest.approx(plan.decisions.saving.sum())
+    written = pd.read_csv(tmp_path / "plan/decisions.csv")
+    assert list(written.columns) == list(plan.decisions.columns) and list(written.item) == list(plan.decisions.item)
+    assert (written.saving - plan.decisions.saving).abs().max() <= 0.005 + 1e-9
+    assert other.report() == tmp_path / "plan/report.html" and crn.open_plan(tmp_path / "plan").totals == other.totals
+
+
+def test_nothing_is_written_elsewhere(few: list[pd.DataFrame], monkeypatch: pytest.MonkeyPatch, tmp_path: Path,
+                                      program: Path) -> None:
+    """Without `out` the folder of work stays empty, and that of the plan goes with the plan."""
+    monkeypatch.chdir(tmp_path)
+    plan = crn.plan(*few, program=program, **SETTINGS)
+    place = plan.path
+    assert place.is_dir() and plan.item("A").text
+    del plan
+    assert not place.exists() and not [*tmp_path.iterdir()]
+
+
+def test_decisions_are_typed(plan: crn.Plan) -> None:
+    """Levels are whole numbers, money is a float, unrounded, what has no figure is missing, and None in plain data."""
+    types, rows = plan.decisions.dtypes.astype(str), plan.tree["rows"]
+    assert types["s_chosen"] == "Int64" and types["saving"] == "float64" and types["item"] == "object"
+    assert plan.decisions.fill_wanted.isna().any() and plan.decisions.run_low.dtype == float
+    assert isinstance(rows, list) and [it["saving"] for it in rows] == list(plan.decisions.saving)
+    assert [it["fill_wanted"] is None for it in rows] == list(plan.decisions.fill_wanted.isna())
+    with pytest.raises(crn.Refused, match="K-122.*s = 6 is above S = 2; interchange them"):
+        plan.item("K-122")
+
+
+@pytest.mark.parametrize("name", ["plan", "item", "doubt", "compare", "moves", "curve"])
+def test_each_result_shows_itself_in_the_same_way(name: str, plan: crn.Plan) -> None:
+    """Each has a frame, a text, and a table for a notebook with a heading for each column."""
+    item = plan.item("K-102")
+    result = {"plan": lambda: plan, "item": lambda: item, "doubt": item.doubt, "compare": item.compare,
+              "moves": item.moves, "curve": lambda: plan.curve(fill=0.97)}[name]()
+    assert isinstance(result, Result) and len(result.frame) > 1 and result.text.count("\n") > 5
+    assert result._repr_html_().count("<th ") == len(result.table.names)
+
+
+def test_items_and_curve_of_a_plan(plan: crn.Plan, monkeypatch: pytest.MonkeyPatch) -> None:
+    """An item has the decisions' figures, a picture a part for both policies, a budget a policy for each item."""
+    row, frame = plan.decisions.set_index("item").loc["K-102"], plan.item("K-102").frame
+    for policy in ("today", "chosen"):
+        assert frame.loc[policy, "cost"] == row[f"cost_{policy}"] and frame.loc[policy, "s"] == row[f"s_{policy}"]
+    assert frame.loc["chosen", "run_difference"] == -row.run_saving
+    assert "<html" in plan.item("K-102").page
+    drawn = Mock()
+    monkeypatch.setattr("crnplan.pages.pictures.draw_policy", drawn)
+    assert len(plan.item("K-102").plot().axes) == drawn.call_count == 2
+    assert {call.args[3] for call in drawn.call_args_list} == {7}
+    curve = plan.curve(fill=0.97)
+    assert curve.frame.set_index("point").loc["budget", "fill"] >= 0.97
+    assert set(curve.policies.item) <= set(plan.decisions.item) and len(curve.policies) > 30
+
+
+@pytest.mark.parametrize("words, message", [
+    ({"level": 2}, "level=2 is not between 0 and 1"), ({"fit": "best"}, "fit"),
+    ({"masters": None}, "masters is missing"),
+    ({"borrow": "some"}, "borrow")])
+def test_a_refusal_names_the_argument(words: dict[str, object], message: str, paths: list[Path]) -> None:
+    """What can't be meant is a ValueError that names the argument, and no option of a command."""
+    given = {"sales": paths[0], "masters": paths[1], **words}
+    with pytest.raises(ValueError, match=message) as refused:
+        crn.plan(**given)  # type: ignore[arg-type]
+    assert "--" not in str(refused.value)
+
+
+def test_rows_that_were_read_and_not_planned(few: list[pd.DataFrame], tmp_path: Path, program: Path,
+                                             monkeypatch: pytest.MonkeyPatch) -> None:
+    """Refuses an item whose rows have changed since. Raises Lost if counts do not add up."""
+    (sales, masters), words = few, {**SETTINGS, "every": "week", "out": tmp_path / "plan", "program": program}
+    planned = crn.plan(sales, masters, **words)
+    assert planned.item("A").table.rows
+    with pytest.raises(crn.Refused, match="30"):
+        crn.plan(sales.assign(quantity=4), masters, **{**words, "fit": "auto", "borrow": "all"})
+    with pytest.raises(crn.Refused, match="'A': it is not planned as its rows are now"):
+        planned.item("A")
+    monkeypatch.setattr(catalogue, "missing_of", lambda *_: ["items: 1 of 40 is lost"])
+    with pytest.raises(catalogue.Lost, match="1 of 40 is lost"):
+        crn.plan(*few, out=tmp_path / "plan", program=program, **SETTINGS)
+    assert (tmp_path / "plan/summary.txt").read_text().endswith(".\n\nLOST: items: 1 of 40 is lost\n")
+
+
+def test_a_seed_may_be_a_number(plan: crn.Plan, paths: list[Path], program: Path) -> None:
+    """A whole number is a seed as a text is, and another one gives other runs of the same figures of theory."""
+    one, other = crn.plan(*paths, seed=7, program=program, **SETTINGS).decisions, plan.decisions
+    assert (one.saving == other.saving).all() and (one.run_saving != other.run_saving).any()
+
+
+def test_a_series_is_never_silently_dense() -> None:
+    """Periods that a Series by period lacks count 0. One by dates with gaps is refused, and so is NaN."""
+    weeks = pd.Series([3, 0, 2, 4], pd.PeriodIndex(["2026-01-05", "2026-01-12", "2026-02-02", "2026-02-09"],
+                                                   freq="W-SUN"))
+    assert crn.fit_demand(weeks, method="empirical") == crn.fit_demand([3, 0, 0, 0, 2, 4], method="empirical")
+    with pytest.raises(ValueError, match="its dates have gaps"):
+        crn.fit_demand(weeks.to_timestamp(), method="empirical")
+    summed = weeks.to_timestamp().resample("W-MON").sum()
+    assert crn.fit_demand(summed, method="empirical") == crn.fit_demand([3, 0, 0, 0, 2, 4], method="empirical")
+    with pytest.raises(ValueError, match="stand twice or are not in order"):
+        crn.fit_demand(weeks[::-1], method="empirical")
+    with pytest.raises(ValueError, match="entry 2: nan is not a whole number"):
+        crn.fit_demand(pd.Series([1, float("nan")]), method="empirical")

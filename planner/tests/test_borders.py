@@ -1,5 +1,4 @@
-"""Tests values at and just past a border, limits that are made small, and messages whose figures or advice can be
-checked: each at the level of commands."""
+"""Tests values at a border, limits that are made small, and messages with figures or advice, of commands."""
 from __future__ import annotations
 
 import csv
@@ -56,7 +55,6 @@ def of_days() -> list[str]:
 
 
 def rejects() -> list[dict[str, str]]:
-    """Returns the rows of rejects.csv."""
     return [*csv.DictReader(Path("plan/rejects.csv").read_text("utf-8").splitlines())]
 
 
@@ -118,7 +116,6 @@ def test_amounts_far_above_all_others(write: Write, crnplan: Command, program: P
 
 @pytest.mark.parametrize("blank", [0, 2])
 def test_blank_rows_are_counted(write: Write, crnplan: Command, program: Path, blank: int) -> None:
-    """The summary names blank rows if there are some."""
     day = datetime.date(2025, 1, 6)
     rows = [[day + datetime.timedelta(7 * week), "A", week % 4] for week in range(30)]
     write("demand.csv", [["date", "item", "quantity"], *rows[:9], *[["", "", ""]] * blank, *rows[9:]])
@@ -128,8 +125,7 @@ def test_blank_rows_are_counted(write: Write, crnplan: Command, program: Path, b
 
 
 def test_rows_of_another_width(write: Write, crnplan: Command, program: Path) -> None:
-    """A row with too few cells lacks its last ones, empty cells too many are nothing, and a text too many is
-    rejected."""
+    """A row with too few cells lacks its last ones. Empty cells too many are nothing, texts are rejected."""
     day = datetime.date(2025, 1, 6)
     rows = [[str(day + datetime.timedelta(7 * week)), "A", 1 + week % 3, "x"] for week in range(20)]
     odd = [rows[0][:3], rows[1][:2], [*rows[2], ""], [*rows[3], "y"]]
@@ -165,11 +161,3 @@ def test_advice_on_two_readings_helps(write: Write, crnplan: Command, text: str)
         else:
             found = re.search(r"values = \[(.*)\]", again.output)
             assert found and found[1].split(", ") == sorted({"0", "2", "3", f"{number:g}"}, key=int)
-
-
-@pytest.mark.parametrize("words", [["--", "--nothing"], ["--", "-x"], [""], ["nothing"], ["--nothing"], ["_item"]])
-def test_no_command(crnplan: Command, words: list[str]) -> None:
-    """A word that is no command is refused, or the help is shown."""
-    told = crnplan(*words)
-    assert told.status in (0, 2) and "Traceback" not in told.errors
-    assert ("Usage" in told.output) == (told.status == 0) and bool(told.errors) == (told.status == 2)

@@ -39,17 +39,13 @@ KEYS = keys_of_page()
 
 
 def test_keys() -> None:
-    """Compares table, name, ranges and first version of each key, and the spelling of words and names."""
+    """Compares each key of a scenario, the spelling of words and names, versions, and greatest numbers."""
     assert list(formats.KEYS) == KEYS != []
     words = re.fullmatch(r"(four) texts, each ([0-9]+) digits of `0-9a-f`: .*", TEXTS["key"])
     assert words and (["", "one", "two", "three", "four"][formats.WORDS_OF_KEY], formats.DIGITS_OF_WORD) == (
         words[1], int(words[2]))
     inside = "".join(re.escape(it) if len(it) == 1 else it for it in spans_of(TEXTS["name"])[0].split())
     assert formats.NAME.pattern == "[%s]{%d,%d}" % (inside, *ranges_of(TEXTS["name"])[0])
-
-
-def test_ranges_of_counts() -> None:
-    """Compares the versions, the number of policies, the sum of weights and the greatest size of an input."""
     assert {*formats.VERSIONS} == numbers_of(TEXTS["version"])
     assert [formats.POLICIES] == ranges_of(next(home for home, *_ in KEY_ROWS if "`policy`" in home))
     assert {formats.WEIGHT_SUMS} == {key.ranges[1] for key in KEYS if key.name == "weights"}
@@ -64,17 +60,13 @@ def test_rules(subject: str, rules: dict[str, int]) -> None:
     assert [(spans_of(name)[0], int(number)) for number, name, *_ in table] == list(rules.items()) != []
 
 
-def test_columns_of_a_report() -> None:
-    """Compares the columns, which of them are fractions, and the heading line."""
+def test_columns_and_rows() -> None:
+    """Compares columns, fractions and heading of a report, and kinds, fields, versions and limits of a checkpoint."""
     columns = {name: "fraction" if "fraction" in text else "whole"
                for names, text in rows_of(PAGE, "Field", "What it says") for name in spans_of(names)}
     assert [*formats.COLUMNS.items()] == [*{**columns, "policy": "name"}.items()]
     assert f"{formats.HEADER}\n" in blocks_of(PAGE)
     assert {*formats.WHOLE, *formats.FRACTIONS, "policy"} == columns.keys() and "policy" not in formats.WHOLE
-
-
-def test_rows_of_a_checkpoint() -> None:
-    """Compares kinds and fields of the rows, the versions, and the greatest cost and size."""
     spelt = [fields.replace(" and four words", ", word, word, word, word").replace("`", "").split(", ")
              for _, fields, _ in CHECKPOINT_ROWS if fields]
     assert [[kind, *fields] for kind, fields in formats.ROWS.items()] == spelt
@@ -86,15 +78,12 @@ def test_rows_of_a_checkpoint() -> None:
 
 
 def test_commands_and_statuses() -> None:
+    """Commands and statuses are those of the page. A document needs the version of its newest key."""
     words = (spans_of(row[0]) for row in rows_of(PAGE, "Words after the program's name", "Input", "Output"))
     assert list(formats.COMMANDS) == [it for row in words for it in row if not it.startswith("-")]
     faults = ((line.strip("`").removeprefix("crnsim: "), status) for status, line, _ in STATUS_ROWS)
     assert formats.STATUSES == {line.removesuffix(" k"): int(status) for line, status in faults if line}
     assert [formats.status_of(it) for it in ("", "scenario 6", "command line")] == [0, 3, 2]
-
-
-def test_keys_need_a_version() -> None:
-    """A document needs the version of its newest key; other keys need none."""
     names = {key.table or key.name: key.since for key in KEYS}
     assert {name: formats.version_with(["colour", name]) for name in names} == names
     assert (formats.version_with(names), formats.version_with([])) == (max(formats.VERSIONS), min(formats.VERSIONS))

@@ -1,11 +1,13 @@
 """A module of the package imports only those above it in the table of docs/ARCHITECTURE.md. Each function, class and
-constant is named somewhere in the package, not only where it is made."""
+constant is named somewhere in the package, not only where it is made. No function reads a sentence that another one
+wrote: facts are handed on as data, words are made last."""
 from __future__ import annotations
 
 import ast
 import re
+import tomllib
 from collections import Counter
-from collections.abc import Iterator
+from collections.abc import Collection, Iterator
 from pathlib import Path
 
 import pytest
@@ -14,10 +16,7 @@ TOP = Path(__file__).resolve().parents[2]
 SOURCE = TOP / "planner/src/crnplan"
 ROW = re.compile(r"^\| ((?:`\w+`(?:, )?)+) \|", re.MULTILINE)
 FILES = sorted(it for it in SOURCE.rglob("*.py") if it.parent != SOURCE or not it.name.startswith("__"))
-# What others call by its name, with the reason.
-CALLED = {"list_commands": "click", "get_command": "click", "format_commands": "click", "resolve_command": "click",
-          "_repr_html_": "notebooks", **dict.fromkeys(
-              ("MOST_COST", "CHECKPOINT_RULES", "MOST_CHECKPOINT_BYTES"), "the tests of the program")}
+KNOWN = tomllib.loads(Path(__file__).with_name("layers.toml").read_text("utf-8"))
 
 
 def layers() -> list[str]:
@@ -28,7 +27,6 @@ def layers() -> list[str]:
 
 
 def module_of(file: Path) -> str:
-    """Returns the module of the package that a file belongs to."""
     return file.relative_to(SOURCE).parts[0].removesuffix(".py")
 
 
@@ -43,13 +41,11 @@ def imported(file: Path) -> Iterator[str]:
 
 
 def test_table_has_all_modules() -> None:
-    """The table has each module once."""
     assert sorted(layers()) == sorted({module_of(it) for it in FILES})
 
 
 @pytest.mark.parametrize("file", FILES, ids=lambda it: str(it.relative_to(SOURCE)))
 def test_imports_only_those_above(file: Path) -> None:
-    """A file imports its own module and those above it, and the version."""
     order = layers()
     above = {*order[:order.index(module_of(file)) + 1], "__version__"}
     assert set(imported(file)) - above == set()
@@ -73,14 +69,63 @@ def unreached(texts: dict[str, str]) -> set[str]:
 
 
 def test_plants() -> None:
-    """Finds a function that nothing calls, a constant and a class; not what a template or another module names."""
+    """Finds what nothing calls, and places that read words; none where data are read."""
     texts = {"a.py": "MOST = 3\ndef one(): pass\nclass Two:\n    def three(self): pass\n", "b.py": "from a import one",
              "c.html": "{{ its.three }}"}
     assert unreached(texts) == {"MOST", "Two"}
+    assert {len(found_in(code)) for code in KNOWN["code"]["wrong"]} == {1}
+    assert [code for code in KNOWN["code"]["sound"] if found_in(code)] == []
 
 
 def test_all_is_reached() -> None:
-    """Nothing of the package is unreached, but for what others call."""
+    """All is reached, and nothing looks into a text of our own, but for what is allowed, which is all there."""
     texts = {str(it.relative_to(SOURCE)): it.read_text("utf-8") for it in sorted(SOURCE.rglob("*"))
              if it.is_file() and it.suffix != ".pyc" and it.suffix != ".csv"}
-    assert unreached(texts) - CALLED.keys() == set()
+    assert unreached(texts) - KNOWN["called"].keys() == set()
+    found = {f"{path.relative_to(SOURCE)}: {code}": line for path in sorted(SOURCE.rglob("*.py"))
+             for line, code in found_in(path.read_text("utf-8"))}
+    assert {place: found[place] for place in found.keys() - KNOWN["allowed"].keys()} == {}
+    assert KNOWN["allowed"].keys() - found.keys() == set()
+
+
+# Methods and functions that look into a text.
+LOOKING = {"startswith", "endswith", "split", "rsplit", "partition", "rpartition", "removeprefix",
+           "removesuffix", "match", "fullmatch", "search", "findall", "finditer", "sub"}
+# Words of names that stand for our own sentences, and of what an error says.
+OURS = re.compile(r"(?:^|_)(?:message|note|reason|verdict|warning|advice|sentence|remark|refusal|alarm|why|fault|said"
+                  r"|told)(?:s|es)?(?:_|$)")
+
+
+def names_in(node: ast.AST) -> Iterator[str]:
+    for its in ast.walk(node):
+        if isinstance(its, ast.Name):
+            yield its.id
+        elif isinstance(its, ast.Attribute):
+            yield its.attr
+        elif isinstance(its, ast.Subscript) and isinstance(its.slice, ast.Constant):
+            yield str(its.slice.value)
+
+
+def is_ours(node: ast.AST, ours: Collection[str] = ()) -> bool:
+    """Returns whether a node names a text of our own. `ours` are more names of such."""
+    return any(OURS.search(name) or name in ours for name in names_in(node))
+
+
+def looks(node: ast.AST, ours: Collection[str] = ()) -> bool:
+    """Returns whether a node looks into a text of our own."""
+    if isinstance(node, ast.Call) and isinstance(node.func, ast.Attribute) and node.func.attr in LOOKING:
+        return any(is_ours(it, ours) for it in (node.func.value, *node.args))
+    if isinstance(node, ast.Compare) and isinstance(node.ops[0], (ast.In, ast.NotIn)):
+        text = node.left.value if isinstance(node.left, ast.Constant) else ""
+        return isinstance(text, str) and " " in text and is_ours(node.comparators[0], ours)
+    return False
+
+
+def found_in(text: str) -> set[tuple[int, str]]:
+    """Returns the line and the code of each place that looks into a text of our own, or into one of several."""
+    found = set()
+    for node in ast.walk(ast.parse(text)):
+        loops = [node] if isinstance(node, ast.For) else getattr(node, "generators", [])
+        ours = {name for loop in loops if is_ours(loop.iter) for name in names_in(loop.target)}
+        found |= {(it.lineno, ast.unparse(it)) for it in (ast.walk(node) if ours else [node]) if looks(it, ours)}
+    return found

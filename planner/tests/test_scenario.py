@@ -13,16 +13,15 @@ from typing import Any
 import numpy as np
 import pandas as pd
 import pytest
-from hypothesis import given
-from hypothesis import strategies as st
+from hypothesis import given, settings, strategies as st
 
 from crnplan import formats
-from crnplan.toml import scenarios
-from crnplan.toml.scenarios import faults_of
-from crnplan.errors import ProgramError, Refused, ScenarioError
 from crnplan.demand.fitting import fit_demand
+from crnplan.errors import ProgramError, Refused, ScenarioError
 from crnplan.law import Law
 from crnplan.scenario import Costs, Policy, Scenario, policies_of, read_policies
+from crnplan.toml import scenarios
+from crnplan.toml.scenarios import faults_of
 from planner.tests.conftest import Command
 from planner.tests.decide.answers import report_of
 
@@ -43,12 +42,13 @@ def scenario(two_policies: str) -> Scenario:
 
 
 @pytest.mark.parametrize("path", EXAMPLES, ids=lambda path: path.stem)
-def test_read_and_written(path: Path) -> None:
+def test_read_written_and_run(path: Path, program: Path) -> None:
     text = path.read_text("utf-8")
     read = Scenario.read(path)
     assert read.tree == tomllib.loads(text) and read.toml() == text
     assert tomllib.loads(dataclasses.replace(read, source=None).toml()) == read.tree
     assert Scenario.parse(path.read_bytes()) == read == Scenario.of_tree(read.tree)
+    assert read.run(program=program).text == path.with_suffix(".csv").read_text("utf-8")
 
 
 def test_standard_input(two_policies: str, crnplan: Command) -> None:
@@ -176,7 +176,8 @@ def test_wrong_changes(scenario: Scenario, changes: dict[str, Any], kind: type[E
         scenario.changed(**changes)
 
 
-def test_comments_are_kept() -> None:
+def test_comments_are_kept(monkeypatch: pytest.MonkeyPatch) -> None:
+    """Comments are kept; those at the top alone if a text with the others would not have the tree."""
     asked = Scenario.parse(COMMENTED)
     changed = asked.changed(initial=61, costs={"holding": 2}, demand=[3, 3, 7], policies={"A": (21, 40), "B": (60, 81)})
     wanted = (COMMENTED.replace("6_0 ", "61 ").replace("holding = 1", "holding = 2").replace("[1, 2, 3, 4]", "[3, 7]")
@@ -184,11 +185,14 @@ def test_comments_are_kept() -> None:
     assert changed.toml() == wanted and changed.source == asked.source
     back = changed.changed(initial=60, costs=asked.costs, demand=asked.demand, policies=asked.policies)
     assert back.toml() == COMMENTED
+    monkeypatch.setattr(scenarios, "_merged_text", lambda source, tree: source)
+    changed = Scenario.parse(COMMENTED).changed(initial=61)
+    text = changed.toml()
+    assert tomllib.loads(text) == changed.tree and text.startswith("# A spare part.\n") and text.count("#") == 1
 
 
 def test_comments_with_other_policies_and_tables() -> None:
-    """Changes policies and returns: comments of what is gone go too, the others stay, and the text has the scenario's
-    tree."""
+    """Comments of what is gone go too, the others stay, and the text has the scenario's tree."""
     changed = Scenario.parse(COMMENTED).changed(policies=[(1, 2)], returns={0: 1, 1: 1})
     assert changed.version == 2 and tomllib.loads(changed.toml()) == changed.tree
     assert changed.toml().startswith("# A spare part.\nversion = 2 # no returns\n") and "2019" not in changed.toml()
@@ -204,14 +208,7 @@ def test_comments_with_other_policies_and_tables() -> None:
         assert tomllib.loads(changed.toml()) == changed.tree and "# in cents\n" in changed.toml()
 
 
-def test_comments_that_cannot_be_kept(monkeypatch: pytest.MonkeyPatch) -> None:
-    """Keeps the comments at the top alone if a text with the others would not have the tree."""
-    monkeypatch.setattr(scenarios, "_merged_text", lambda source, tree: source)
-    changed = Scenario.parse(COMMENTED).changed(initial=61)
-    text = changed.toml()
-    assert tomllib.loads(text) == changed.tree and text.startswith("# A spare part.\n") and text.count("#") == 1
-
-
+@settings(max_examples=40)
 @given(st.data())
 def test_changed_text_has_the_tree(data: st.DataObject) -> None:
     law = st.dictionaries(st.integers(1, 32), st.integers(1, 99), min_size=1, max_size=4)
@@ -262,14 +259,8 @@ def test_policies_of_words(tmp_path: Path) -> None:
         read_policies(str(path))
 
 
-@pytest.mark.parametrize("path", EXAMPLES, ids=lambda path: path.stem)
-def test_report_is_that_of_the_program(path: Path, program: Path) -> None:
-    assert Scenario.read(path).run(program=program).text == path.with_suffix(".csv").read_text("utf-8")
-
-
 def test_many_policies(program: Path, scenario: Scenario) -> None:
-    """Runs 40 pairs: the base is the scenario's first policy, and each row is as the program writes it beside the
-    base."""
+    """Each of 40 pairs has the row that it has alone. What cannot be a policy is refused before any run."""
     pairs = [(low, low + 7) for low in range(40)]
     report = scenario.run([*pairs, (20, 40), *pairs[:3]], program=program)
     assert [it.policy for it in report.rows] == ["A", *(f"s{low}_S{high}" for low, high in pairs)]
@@ -278,10 +269,6 @@ def test_many_policies(program: Path, scenario: Scenario) -> None:
         assert report_of(program, alone.toml()) == dataclasses.replace(report, rows=(report.rows[0], row)).text
     assert report.scenario.policies[0] == scenario.policies[0] and len(report.scenario.policies) == 41
     assert report.decide().frame.shape[0] == 41
-
-
-def test_policies_that_cannot_be_run(scenario: Scenario) -> None:
-    """Refuses names that are given twice or that cannot be, and levels out of order, before anything is run."""
     for policies, message in (({"A": (1, 2)}, "fault 11: policy 2 (\"A\"), key name: 'A' is the name of policy 1 too"),
                               ({"a b": (1, 2)}, "fault 11: policy 2 (\"a b\"), key name: 'a b' is not 1 to 16"),
                               ([*((it, it) for it in range(30)), (2, 1)], "fault 10: policy 32 (\"s2_S1\")")):

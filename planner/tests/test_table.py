@@ -10,11 +10,10 @@ import re
 from fractions import Fraction
 
 import pytest
-from hypothesis import given
-from hypothesis import strategies as st
+from hypothesis import given, strategies as st
 
 from crnplan.table import MONEY, Cell, DataTable, aligned, exact, names_of, number, text, whole
-from planner.tests.tables_page import PAGE, TABLES, page
+from planner.tables_page import PAGE, TABLES, page
 
 TEXTS = st.text("ab .9", max_size=5)
 COLUMNS = (text("name", "its name"), whole("count", "items", "how many"), number("cost", "money", "cost", MONEY, ".1f"),
@@ -26,15 +25,11 @@ RUN = ("=1+1", "+1+1", "-1+1", "@SUM(A1)", "\t=1", "\r=1", "-cmd|' /C calc'!A0",
 PLAIN = ("-5", "+49", "-0.5", "-", "A=1", "1-2", "", "a@b", "'x")
 
 
-def test_a_file_has_all_cells() -> None:
-    """Money has the decimals of its smallest unit, a share its own, and no figure is a mark. -0.00 is 0.00."""
+def test_files_and_texts() -> None:
+    """A file has the decimals of money, a text the shown spelling, to the left or right, and a mark for no figure."""
     assert DataTable(COLUMNS, ROWS, decimals=3).csv == (
         'name,count,cost,share,mean\nA,3,1234.568,0.2500,7/2\n"b, c",-,-,-,-\n-,-4,-0.001,1.0000,5\n')
     assert DataTable(COLUMNS, ROWS, missing="").csv.splitlines()[2:] == ['"b, c",,,,', "-,-4,0.00,1.0000,5"]
-
-
-def test_a_reader_gets_the_shown_spelling() -> None:
-    """Texts are set to the left, numbers to the right."""
     assert DataTable(COLUMNS, ROWS).text == ("name  count    cost   share  mean\n"
                                              "A         3  1234.6   25.0%   7/2\n"
                                              "b, c      -       -       -     -\n"
@@ -42,7 +37,7 @@ def test_a_reader_gets_the_shown_spelling() -> None:
 
 
 def test_data_is_not_rounded() -> None:
-    """JSON and frames have the numbers as they are; None, nan and an absent figure are one."""
+    """JSON and frames have the numbers as they are, None for no figure. HTML has the text's cells, and no markup."""
     table = DataTable(COLUMNS, ROWS, index="name")
     assert table.records[0] == {"name": "A", "count": 3, "cost": 1234.5678, "share": 0.25, "mean": "7/2"}
     assert json.loads(json.dumps(table.records))[1] == dict.fromkeys(table.names) | {"name": "b, c"}
@@ -50,10 +45,6 @@ def test_data_is_not_rounded() -> None:
     assert list(frame.dtypes.astype(str)) == ["Int64", "float64", "float64", "object"] and frame.index.name == "name"
     assert frame.loc["A", "mean"] == Fraction(7, 2) and frame.loc["A", "cost"] == 1234.5678
     assert frame.loc["b, c"].isna().all()
-
-
-def test_html_has_the_cells_of_the_text() -> None:
-    """Markup in a cell stays text, and a heading says what its column means."""
     page = DataTable(COLUMNS, [["<b>&", 1, 2.0, 0.5, 1]]).html
     cells = [html.unescape(it) for it in re.findall(r"<td[^>]*>(.*?)</td>", page)]
     assert cells == ["<b>&", "1", "2.0", "50.0%", "1"] and "<b>" not in page
@@ -95,12 +86,8 @@ def test_names_as_one_text(names: list[str], most: int, words: str) -> None:
 
 
 def test_the_page_of_tables_is_that_of_the_declared_columns() -> None:
-    """docs/TABLES.md has each column with its unit and meaning. `python -m planner.tests.tables_page` writes it."""
+    """docs/TABLES.md has each column with its unit and meaning. `python -m planner.tables_page` writes it."""
     assert PAGE.read_text("utf-8") == page()
-
-
-def test_each_column_says_what_it_has() -> None:
-    """A number has a unit, each column a meaning, and no name stands twice in a table."""
     for name, (_, columns) in TABLES.items():
         assert all(it.meaning and (it.unit or it.kind == "text") for it in columns), name
         assert len({it.name for it in columns}) == len(columns), name

@@ -1,31 +1,38 @@
-"""Tests what planner.bench measures with: its catalogue, both searches beside each other, usage, and its page."""
+"""Tests what planner.bench measures with: its catalogue, both searches, usage, its page and the published algorithm."""
 from __future__ import annotations
 
+import math
 import sys
 from pathlib import Path
 from typing import Any
 
+import numpy as np
 import pytest
+from hypothesis import given, settings, strategies as st
 
-from crnplan.records.catalogue_reading import read_catalogue
 from crnplan.files import MARKER
+from crnplan.records.catalogue_reading import read_catalogue
+from crnplan.scenario import Costs
+from crnplan.theory.lattice import theories_of
 from planner.bench import page, whole
 from planner.bench.compared import all_figures, compare
 from planner.bench.made import Made, make
 from planner.bench.stored import keep, stored
 from planner.bench.usage import usage_of
+from planner.bench.zheng_federgruen import Floats, Renewals, Search, best_policy
+from planner.studies.page import PLACE, page_with
+from planner.tests.theory.scenarios import scenario_of
 
 ITEMS = 120
 
 
 @pytest.fixture(scope="module")
 def made(tmp_path_factory: pytest.TempPathFactory) -> Made:
-    """Returns a made catalogue."""
     return make(tmp_path_factory.mktemp("made"), ITEMS)
 
 
-def test_faults_are_found(made: Made) -> None:
-    """Reading finds what was planted, and nothing else."""
+def test_faults_are_found(made: Made, tmp_path: Path) -> None:
+    """Reading finds what was planted, and nothing else. The same files are made again."""
     its = read_catalogue(*made.paths.values())  # type: ignore[arg-type]
     files, items = its.counts["files"], its.counts["items"]
     assert (files["demand"]["read"], files["demand"]["rejected"]) == (made.rows, made.bad_rows.total())
@@ -33,9 +40,6 @@ def test_faults_are_found(made: Made) -> None:
     rejects = its.rejects
     assert {*rejects.loc[rejects["kind"] == "item", "item"]} == made.bad_items
     assert made.bad_items and made.bad_rows and made.twice
-
-
-def test_same_bytes(made: Made, tmp_path: Path) -> None:
     make(tmp_path, ITEMS)
     assert [it.read_bytes() for it in sorted(tmp_path.iterdir())] == \
         [it.read_bytes() for it in sorted(made.folder.iterdir())]
@@ -53,32 +57,113 @@ def test_both_searches(tmp_path: Path) -> None:
         its["items"] for name, its in figures.items() if name.startswith("counted"))
 
 
-def test_usage() -> None:
-    """Memory of the process itself and of one that it starts is seen, and so is processor time."""
+def test_usage(tmp_path: Path) -> None:
+    """Memory and processor time of a process and those that it starts are seen, and the size of a part."""
     held = "held = bytearray(b'1') * {} * 1_000_000; import time; time.sleep(1)"
     code = f"import subprocess, sys; child = subprocess.Popen([sys.executable, '-c', \"{held.format(90)}\"]); " \
         f"{held.format(50)}; sum(range(10**7)); child.wait()"
     its = usage_of([sys.executable, "-c", code])
     assert 50 < its.own < 90 < 140 < its.all < 220
     assert its.wall > 1 and 0 < its.processor < 10
-
-
-def test_size_of_a_part(tmp_path: Path) -> None:
     row, = whole.measured_parts(tmp_path, ITEMS, 1, ["read"])
     assert row["bytes"] == sum((tmp_path / "plan" / it).stat().st_size for it in ("catalogue.sqlite", MARKER))
     assert row["items"] == ITEMS and 0 < row["processor"] and 0 < row["own"]
 
 
-def test_figures_are_kept(tmp_path: Path) -> None:
+def test_figures_of_parts(tmp_path: Path) -> None:
+    """The last figures of each part are kept, and added up."""
     path = tmp_path / "figures.json"
     for part, figure in (("one", 1), ("two", 2), ("one", 3)):
         keep(part, {"load": 1.5}, [{"figure": figure}], path)
     assert {part: its["rows"] for part, its in stored(path).items()} == {"one": [{"figure": 3}], "two": [{"figure": 2}]}
-
-
-def test_sums_of_parts() -> None:
     part: dict[str, Any] = {"items": 2, "rows": 9, "part": "read", "wall": 1.0, "processor": 2.0, "own": 30.0,
                             "all": 40.0, "bytes": 5}
     rows = [part, {**part, "part": "plan", "own": 20.0, "all": 50.0}, {**part, "items": 3}]
     whole_row = {**part, "part": "**all**", "wall": 2.0, "processor": 4.0, "bytes": 10, "own": 30.0, "all": 50.0}
     assert page.with_sums(rows) == [*rows[:2], whole_row, rows[2]]
+
+
+def test_page_has_the_stored_figures() -> None:
+    text, tables = page.PAGE.read_text(encoding="utf-8"), page.all_tables()
+    assert page_with(text, tables) == text, "run python -m planner.bench.page"
+    assert sorted(it["name"] for it in PLACE.finditer(text)) == sorted(tables)
+
+
+def test_needs_of_a_million() -> None:
+    """What a million items would need follows from the largest catalogue that was planned, and from rates."""
+    sent = {name: 1_000 for name in page.SENT}
+    rates = {page.FIRST_PASS: 5, page.TRANSACTIONS: 125, page.ARRAYS: 2_000, "plan, on disk": 3_000,
+             f"{page.LOOP}, with none": 10_000}
+    part: dict[str, Any] = {"items": 10, "part": "plan", "processor": 99.0}
+    figures = {
+        "million": {"rows": [{"what": what, "figure": figure} for what, figure in {**sent, **rates}.items()]},
+        "reading": {"rows": [{"items": 1_000, "rows": 100_000, "processor": 1.5}]},
+        "whole": {"rows": [part, {**part, "items": 20, "processor": 2.0},
+                           {"items": 20, "part": "curve", "processor": 4.0}]}}
+    found = {what: (round(amount, 2), unit) for what, amount, unit in page.needs_of(figures)}
+    assert found == {
+        "reading, one process": (25.0, "minutes (33% of them the first pass)"),
+        "plan, processor time": (27.78, "hours (17 minutes on 100 workers)"),
+        "curve, processor time": (55.56, "hours (33 minutes on 100 workers)"),
+        f"{page.LOOP}, with none": (1.67, "minutes"), "SQLite alone": (16.67, "minutes"),
+        "to workers and back, plan and curve": (3.0, "GB"), "kept in the folder": (3.0, "GB"),
+        "the curve's candidates as arrays": (2.0, "GB of memory")}
+
+
+# Table I of the paper: Poisson means with s, S and the cost. Setup costs 64, holding 1 and backlog 9. Orders arrive at
+# once.
+PUBLISHED = [(10, 6, 40, "35.022"), (15, 10, 49, "42.698"), (20, 14, 62, "49.173"), (25, 19, 56, "54.262")]
+
+
+def chances(weights: list[int]) -> Floats:
+    return np.array(weights) / sum(weights)
+
+
+def weights_of(most: int, count: int) -> st.SearchStrategy[list[int]]:
+    """Returns weights of the demands up to a most one, of which one above 0 has one."""
+    return st.lists(st.integers(0, most), min_size=2, max_size=count).filter(lambda it: any(it[1:]))
+
+
+@pytest.mark.parametrize("mean, reorder, level, cost", PUBLISHED)
+def test_published_optimum(mean: int, reorder: int, level: int, cost: str) -> None:
+    poisson = np.array([math.exp(it * math.log(mean) - mean - math.lgamma(it + 1)) for it in range(120)])
+    best = best_policy(poisson, 0, 64, 1, 9)
+    assert (best.reorder, best.level, f"{best.cost:.3f}") == (reorder, level, cost)
+
+
+@settings(max_examples=15)
+@given(weights=weights_of(9, 5), lead=st.integers(0, 2), setup=st.integers(0, 40), holding=st.integers(1, 9),
+       backlog=st.integers(1, 30))
+def test_cheapest_of_all_pairs(weights: list[int], lead: int, setup: int, holding: int, backlog: int) -> None:
+    search = Search(chances(weights), lead, setup, holding, backlog)
+    best = search.best()
+    least = min(search.cost(reorder, level) for level in range(-3, 40) for reorder in range(level - 25, level))
+    assert best.cost <= least * (1 + 1e-12)
+    assert best.cost == pytest.approx(search.cost(best.reorder, best.level), rel=1e-12)
+
+
+@settings(max_examples=60)
+@given(weights=weights_of(9, 12), lead=st.integers(1, 4), setup=st.integers(0, 300), holding=st.integers(1, 9),
+       backlog=st.integers(1, 200))
+def test_costs_are_those_of_crnplan(weights: list[int], lead: int, setup: int, holding: int, backlog: int) -> None:
+    """The best cost is crnplan's, unless it needs an s below 0."""
+    best = best_policy(chances(weights), lead, setup, holding, backlog)
+    theory, _ = theories_of(scenario_of((range(len(weights)), weights), ([lead], [1]),
+                                        costs=Costs(setup, 0, holding, backlog)))
+    if best.reorder >= -1:
+        assert theory.best().cost == pytest.approx(best.cost, rel=1e-10)
+    else:
+        assert theory.best().cost >= best.cost * (1 - 1e-10)
+
+
+def test_stock_costs_beyond_all_demands() -> None:
+    """Levels below 0 and above all demand have the costs of sums over the law, if it has a demand."""
+    law = chances([3, 0, 2, 1])
+    costs = Search(law, 2, 0, 2, 7).stock_costs
+    two = np.convolve(np.convolve(law, law), law)
+    wanted = [float(two @ [2 * max(level - it, 0) + 7 * max(it - level, 0) for it in range(len(two))])
+              for level in range(-3, 15)]
+    assert costs.between(-3, 14) == pytest.approx(wanted, rel=1e-12)
+    assert [costs.at(level) for level in range(-3, 15)] == pytest.approx(wanted, rel=1e-12)
+    with pytest.raises(ValueError, match="no item is ever asked for"):
+        Renewals(np.array([1.0, 0.0]))

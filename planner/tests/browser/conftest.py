@@ -9,9 +9,9 @@ from pathlib import Path
 import pandas as pd
 import pytest
 
+from crnplan import plan
 from crnplan.pages.catalogue_page import file_of, report
 from crnplan.pages.item_page import plan_item
-from crnplan import plan
 from planner.tests.browser.browser import Browser
 from planner.tests.catalogue.conftest import SETTINGS
 from planner.tests.item.conftest import furnished
@@ -49,6 +49,7 @@ def pages(tmp_path_factory: pytest.TempPathFactory, request: pytest.FixtureReque
         "catalogue": lambda folder: report(made_folder(folder, 40, HOSTILE)),
         "catalogue without a curve": lambda folder: report(made_folder(folder, 12, has_curve=False)),
         "catalogue of hundreds": lambda folder: report(made_folder(folder, 230, HOSTILE)),
+        "catalogue of a thousand": lambda folder: report(made_folder(folder, 1_000, HOSTILE)),
         "catalogue of thousands": lambda folder: report(made_folder(folder, 3_000, HOSTILE)),
         "planned catalogue": lambda folder: report(planned(folder, program()), PLANNED, program=program()),
         "item": lambda folder: planned_item(furnished(folder, top, program()))}
@@ -65,7 +66,6 @@ def pages(tmp_path_factory: pytest.TempPathFactory, request: pytest.FixtureReque
 
 
 def planned_item(folder: Path) -> Path:
-    """Plans the item of a folder and returns its page."""
     plan_item(folder / "history.csv", folder / "settings.toml", folder / "plan", program=folder / "program")
     return folder / "plan/summary.html"
 

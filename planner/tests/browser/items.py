@@ -28,7 +28,6 @@ def order_of(text: str) -> list[str | int]:
 
 
 def is_number(text: str) -> bool:
-    """Returns whether a cell has a number."""
     return re.fullmatch(r"-?\d+(\.\d+)?", text) is not None
 
 
@@ -52,7 +51,6 @@ class Items:
             "return [...document.querySelectorAll('#items thead th')].map((it) => it.dataset.name);")
 
     def button(self, column: str) -> WebElement:
-        """Returns the button in the heading of a column."""
         return self.driver.find_element(By.CSS_SELECTOR, f"#items thead th[data-name='{column}'] button")
 
     def orders(self) -> dict[str, str]:
@@ -69,11 +67,9 @@ class Items:
         return self.driver.find_element(By.ID, "count").text
 
     def search(self, text: str) -> None:
-        """Types a text into the empty field."""
         field = self.driver.find_element(By.ID, "words")
         field.clear()
         field.send_keys(text)
 
     def choose(self, field: str, value: str) -> None:
-        """Chooses a value of the list `verdict` or `warning`."""
         Select(self.driver.find_element(By.ID, field)).select_by_value(value)

@@ -1,33 +1,28 @@
-"""Tests each page in each form by all rules, and that nothing runs in a page but its own script."""
+"""Tests each page in each form by all rules, its policy of scripts and the table of a catalogue as a reader uses it."""
 from __future__ import annotations
 
-import pytest
+import statistics
+from pathlib import Path
 
-from planner.tests.browser.browser import FORMS, WIDE, Browser, Form
+import pytest
+from selenium.webdriver.common.action_chains import ActionChains
+from selenium.webdriver.common.by import By
+from selenium.webdriver.common.keys import Keys
+
+from planner.tests.browser.browser import FORMS, TALL, WIDE, Browser, Form
 from planner.tests.browser.conftest import PLANNED, Pages
+from planner.tests.browser.items import PLAIN, Items, in_order, is_number
 from planner.tests.browser.rules import faults_of
+from planner.tests.pages.page_reader import Row, rows_of
 
 NAMES = ("catalogue", "catalogue without a curve", "planned catalogue", "item", *PLANNED)
 IDS = [*NAMES[:4], "item of markup", "item in Arabic", "item of a long name"]
-# What a script of another would do: run in an element, in a handler, and from elsewhere.
-INJECTED = """
-window.ran = [];
-window.refused = [];
-document.addEventListener("securitypolicyviolation", (event) => window.refused.push(event.effectiveDirective));
-const script = document.createElement("script");
-script.textContent = "window.ran.push('script')";
-document.body.append(script);
-const place = document.createElement("p");
-place.innerHTML = `<img src="http://example.invalid/a.png" onerror="window.ran.push('handler')">`;
-document.body.append(place);
-return new Promise((done) => setTimeout(() => done([window.ran, window.refused]), 100));
-"""
+INJECTED = Path(__file__).with_name("injected.js").read_text("utf-8")
 
 
 @pytest.mark.parametrize("form", FORMS, ids=str)
 @pytest.mark.parametrize("name", NAMES, ids=IDS)
 def test_page_has_no_fault(browser: Browser, pages: Pages, name: str, form: Form) -> None:
-    """No rule finds a fault."""
     browser.open(pages(name), form)
     assert faults_of(browser) == []
 
@@ -35,7 +30,7 @@ def test_page_has_no_fault(browser: Browser, pages: Pages, name: str, form: Form
 @pytest.mark.parametrize("form", [WIDE, Form(390)], ids=str)
 def test_page_of_thousands_has_no_fault(browser: Browser, pages: Pages, form: Form) -> None:
     """Thousands of items print nothing on the console, ask for nothing and stay within the page."""
-    browser.open(pages("catalogue of thousands"), form)
+    browser.open(pages("catalogue of a thousand"), form)
     assert faults_of(browser, "console", "requests", "overflow") == []
 
 
@@ -46,3 +41,144 @@ def test_script_of_another_is_refused(browser: Browser, pages: Pages, name: str)
     ran, refused = browser.run(INJECTED)
     assert ran == []
     assert set(refused) == {"script-src-elem", "script-src-attr", "img-src"}
+
+
+SEARCHED = ("item", "description", "class", "warnings")
+COLUMNS = ("item", "description", "class", "verdict", "s_today", "S_today", "s_chosen", "S_chosen", "cost_today",
+           "cost_chosen", "saving", "by", "run_saving", "run_low", "run_high", "fill_today", "fill_chosen",
+           "value_today", "value_chosen", "warnings")
+# Seconds in which thousands of items are sorted on a quiet machine.
+LONGEST_SORT = 0.3
+MOST_LAYOUTS = 100
+
+
+@pytest.fixture
+def items(browser: Browser, pages: Pages) -> Items:
+    """Returns the table of a page that has just been loaded."""
+    browser.open(pages("catalogue of hundreds"), Form(1280, height=TALL))
+    return Items(browser)
+
+
+@pytest.fixture
+def decisions(pages: Pages) -> list[Row]:
+    """Returns the rows of the file that the page shows."""
+    return rows_of(pages("catalogue of hundreds").with_name("decisions.csv"))
+
+
+def by_item(rows: list[Row]) -> dict[str, Row]:
+    """Returns the columns of the page in each row, by the name of its item."""
+    return {row["item"]: {name: row[name] for name in COLUMNS} for row in rows}
+
+
+def test_cells_are_those_of_the_file(items: Items, decisions: list[Row]) -> None:
+    """The page shows each cell as the file spells it, also markup and Arabic, the greatest saving first."""
+    assert tuple(items.columns) == COLUMNS
+    assert by_item(items.shown()) == by_item(decisions)
+    savings = [row["saving"] for row in decisions]
+    assert [row["saving"] for row in items.shown()] == in_order(savings, descends=True)
+    assert items.orders() == {"saving": "descending"}
+
+
+@pytest.mark.parametrize("column", COLUMNS)
+def test_click_on_a_heading_sorts(items: Items, decisions: list[Row], column: str) -> None:
+    """A click sorts by the column, and the next one the other way. Each row keeps its cells."""
+    cells = [row[column] for row in decisions]
+    numbers = all(map(is_number, filter(None, cells)))
+    button = items.button(column)
+    for _ in range(2):
+        button.click()
+        shown, said = items.shown(), items.orders()
+        found = [row[column] for row in shown]
+        judged = [it for it in found if numbers or it == "" or PLAIN.fullmatch(it)]
+        assert judged == in_order(cells, descends=said[column] == "descending")
+        assert by_item(shown) == by_item(decisions) and list(said) == [column]
+    assert said == {column: "descending"}
+
+
+@pytest.mark.parametrize("key", [Keys.ENTER, Keys.SPACE], ids=["enter", "space"])
+def test_heading_is_pressed_by_keyboard(items: Items, key: str) -> None:
+    """Both keys of a button sort, and the focus stays on the heading."""
+    button = items.button("cost_today")
+    for order in ("ascending", "descending"):
+        button.send_keys(key)
+        assert items.orders() == {"cost_today": order}
+        assert items.driver.switch_to.active_element == button
+
+
+@pytest.mark.parametrize("text", ["bearing", "P0001", "UNLIKE the", "<img", "\"quoted\"", "قطعة", "=1+1", "  lead",
+                                  "x y z"])
+def test_search_shows_the_rows_that_have_a_text(items: Items, decisions: list[Row], text: str) -> None:
+    wanted = [row for row in decisions if any(text.lower() in row[name].lower() for name in SEARCHED)]
+    items.search(text)
+    assert by_item(items.shown()) == by_item(wanted)
+    assert items.count() == f"{len(wanted)} of {len(decisions)}"
+
+
+def test_lists_show_the_rows_of_a_choice(items: Items, decisions: list[Row]) -> None:
+    """A verdict with, without or with one code of a warning shows just its rows, also sorted, and can be undone."""
+    for verdict in sorted({row["verdict"] for row in decisions}):
+        items.choose("verdict", verdict)
+        for warning in ("is few demands", "with", "without", ""):
+            items.choose("warning", warning)
+            wanted = [row for row in decisions if row["verdict"] == verdict
+                      and {"": True, "with": row["warnings"] != "", "without": row["warnings"] == ""}.get(
+                          warning, "few demands" in row["codes"].split("; "))]
+            assert by_item(items.shown()) == by_item(wanted)
+            assert items.count() == f"{len(wanted)} of {len(decisions)}"
+    items.button("s_today").click()
+    assert by_item(items.shown()) == by_item(wanted)
+    items.choose("verdict", "")
+    assert len(items.shown()) == len(decisions)
+
+
+def test_print_has_the_rows_that_are_shown(items: Items, decisions: list[Row]) -> None:
+    """Print has the rows of the choice alone, below headings that each sheet repeats, and nothing to press."""
+    items.choose("verdict", "cheaper")
+    sheets = items.browser.printed(landscape=True)
+    table = "\f".join(sheets).rpartition("All items")[2]
+    for row in decisions:
+        if row["item"].startswith("P"):
+            assert (row["item"] in table) == (row["verdict"] == "cheaper"), row["item"]
+    assert all("verdict" in sheet for sheet in table.split("\f") if "P0" in sheet)
+    assert "item, description, class or warning" not in table and "second click" not in table
+
+
+@pytest.mark.parametrize("name", PLANNED, ids=["markup", "arabic", "long"])
+def test_link_leads_to_the_page_of_the_item(browser: Browser, pages: Pages, name: str) -> None:
+    browser.open(pages("planned catalogue"), Form(1280, height=TALL))
+    (link,) = (it for it in browser.driver.find_elements(By.CSS_SELECTOR, "#items a") if it.text == name)
+    link.click()
+    assert browser.driver.current_url == pages(name).as_uri()
+    assert name in browser.driver.find_element(By.TAG_NAME, "main").text
+
+
+def test_thousands(browser: Browser, pages: Pages) -> None:
+    """Few of thousands are seen without scrolling. The first press of Tab lays out all rows in few steps."""
+    browser.open(pages("catalogue of a thousand"))
+    items = Items(browser)
+    items.search("P0020")
+    assert sorted(row["item"] for row in items.shown()) == [f"P0020{it}" for it in range(10)]
+    heights = browser.run("const rows = [...document.querySelectorAll('#items tr')].filter((it) => !it.hidden);"
+                          "return [document.getElementById('items').offsetHeight,"
+                          "rows.reduce((sum, it) => sum + it.offsetHeight, 0)];")
+    assert heights[0] == pytest.approx(heights[1], abs=2)
+    def layouts() -> float:
+        """Returns how often the page has been laid out so far."""
+        metrics = browser.command("Performance.getMetrics")["metrics"]
+        return next(float(it["value"]) for it in metrics if it["name"] == "LayoutCount")
+    browser.command("Performance.enable")
+    browser.open(pages("catalogue of a thousand"))
+    before = layouts()
+    ActionChains(browser.driver).send_keys(Keys.TAB).perform()
+    assert browser.run("return document.activeElement !== document.body;")
+    assert layouts() - before < MOST_LAYOUTS
+
+
+@pytest.mark.serial
+def test_thousands_are_sorted_at_once(browser: Browser, pages: Pages) -> None:
+    """A click on a heading and the layout after it take a short time, in the median over the headings."""
+    browser.open(pages("catalogue of thousands"))
+    times = browser.run("return [...document.querySelectorAll('#items thead button')].map((button) => {"
+                        "const began = performance.now(); button.click(); document.body.offsetHeight;"
+                        "return performance.now() - began; });")
+    assert statistics.median(times) / 1000 < LONGEST_SORT, times

@@ -19,7 +19,6 @@ Plant = dict[str, Any]
 
 
 def planted(folder: Path, plant: Plant) -> Path:
-    """Writes the sound page with a fault."""
     sound = SOUND.replace(POLICY, "") if plant.get("without_policy") else SOUND
     old = plant.get("old", "<!-- plant -->")
     assert sound.count(old) == 1
@@ -30,21 +29,18 @@ def planted(folder: Path, plant: Plant) -> Path:
 
 @pytest.mark.parametrize("form", FORMS, ids=str)
 def test_sound_page_has_no_fault(browser: Browser, form: Form) -> None:
-    """No rule finds a fault where there is none."""
     browser.open(HERE / "sound.html", form)
     assert faults_of(browser) == []
 
 
 @pytest.mark.parametrize("plant", PLANTS, ids=[it["what"] for it in PLANTS])
 def test_planted_fault_is_found(browser: Browser, tmp_path: Path, plant: Plant) -> None:
-    """The rule that a plant names finds it and says so."""
     browser.open(planted(tmp_path, plant), Form(plant.get("width", 1280), plant.get("scheme", "light")))
     faults = faults_of(browser, plant["rule"])
     assert any(plant["says"] in it for it in faults), faults
 
 
 def test_each_rule_has_a_plant() -> None:
-    """No rule is without a fault that it must find."""
     assert {it["rule"] for it in PLANTS} == set(RULES)
 
 
@@ -57,7 +53,6 @@ def test_missing_browser_is_said_in_one_line(tmp_path: Path, monkeypatch: pytest
 
 
 def test_browser_ends_with_its_driver(tmp_path: Path) -> None:
-    """A driver that is killed leaves no browser behind."""
     browser = Browser(tmp_path)
     driver = psutil.Process(browser.driver.service.process.pid)
     started = driver.children(recursive=True)

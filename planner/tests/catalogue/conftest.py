@@ -8,8 +8,8 @@ from typing import Any
 
 import pytest
 
-from crnplan.records.catalogue_reading import Catalogue, read_catalogue
 from crnplan import plan
+from crnplan.records.catalogue_reading import Catalogue, read_catalogue
 from planner.tests.catalogue.made import NO_PLAN, TODAY, Made, made
 
 FILES = ("Bewegungen.csv", "Artikel.csv", "Bestellungen.csv")
@@ -22,7 +22,6 @@ FAST = "[catalogue]\n" + "".join(f"{name} = {json.dumps(value)}\n" for name, val
 
 @pytest.fixture(scope="session")
 def planted() -> Made:
-    """Returns the made catalogue."""
     return made()
 
 

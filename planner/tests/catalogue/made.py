@@ -53,7 +53,6 @@ class Made:
 
 
 def name_of(number: int) -> str:
-    """Returns the name of an item."""
     return f"A-{number:03}"
 
 
@@ -63,8 +62,7 @@ def spelt(day: datetime.date, number: int) -> str:
 
 
 def movements(source: random.Random, number: int) -> list[tuple[datetime.date, int, int]]:
-    """Returns the movements of an item: day, quantity and returns. Item 7 is new, item 8 much too new, and item 9 is
-    first seen after some weeks."""
+    """Returns day, quantity and returns of an item's movements: item 7 is new, 8 much too new, 9 first seen late."""
     first = {7: 60, 8: 96, 9: 20}.get(number, 0)
     chance, most = (0.9, 12) if number % 3 == 0 else (0.35, 6) if number % 3 == 1 else (0.12, 9)
     found = [(START + datetime.timedelta(days=7 * first + number % 5), 2, 0)]
@@ -76,7 +74,6 @@ def movements(source: random.Random, number: int) -> list[tuple[datetime.date, i
 
 
 def master(source: random.Random, number: int) -> dict[str, str]:
-    """Returns the master of an item."""
     holding, s = source.choice(["0,05", "0,25", "1,250", "0,0133"]), source.randint(2, 9)
     backlog = f"{20 * float(holding.replace(',', '.')):.4f}".replace(".", ",") if number % 2 else ""
     return dict(zip(MASTERS.split(";"), [

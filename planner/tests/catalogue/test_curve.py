@@ -57,12 +57,10 @@ def plan(twenty: Path, tmp_path: Path) -> Path:
 
 
 def drawn(plan: Path, budget: Budget = Budget()) -> Drawn:
-    """Returns the curve of a folder, by one process."""
     return exchange_curve(plan, stock_value=budget.value, fill=budget.fill, orders=budget.orders, jobs=1)
 
 
 def tables_of(plan: Path) -> dict[str, bytes]:
-    """Returns the bytes of the curve's tables."""
     return {name: (plan / name).read_bytes() for name in TABLES}
 
 
@@ -125,8 +123,7 @@ def test_curve_rises(plan: Path) -> None:
     Budget(fill=0.9), Budget(fill=0.99), Budget(value=40_000), Budget(fill=0.95, orders=1.5), Budget(orders=2.2),
     Budget(value=12_000, orders=3)], ids=str)
 def test_budget_is_kept(plan: Path, budget: Budget) -> None:
-    """Writes a policy for each item that has theory's figures, keeps the budget in the sum, and says how far it is from
-    the best."""
+    """Policies have theory's figures and keep the budget in the sum. Their distance from the best is said."""
     its = drawn(plan, budget)
     point, gap = its.points["budget"]
     assert budget.value is None or point.value <= budget.value * (1 + 1e-9)
@@ -182,7 +179,6 @@ def test_items_that_are_left_out(twenty: Path, planned: Path, tmp_path: Path) ->
 
 
 def test_an_item_without_candidates(plan: Path, monkeypatch: pytest.MonkeyPatch) -> None:
-    """Leaves out an item whose candidates cannot be computed, with the reason."""
     def failing(question: Question) -> Candidates:
         if question.item.name == "A-050":
             raise MemoryError("no room for a table")
@@ -227,13 +223,11 @@ def test_command(plan: Path, crnplan: Command, program: Path) -> None:
     (["--stock-value", "1", "--orders", "9"], "stock of so little value takes more orders, or is not to be had"),
     (["--plot", "curve.pdf"], "does not end with .png or .svg")])
 def test_refused_words(plan: Path, crnplan: Command, words: list[str], said: str) -> None:
-    """Says what no policies keep, and what to do."""
     told = crnplan("curve", plan, "--jobs", "1", "--confirm", "0", *words)
     assert told.status == 2 and said in told.errors and told.errors.count("\n") == 1
 
 
 def test_folders_without_a_plan(plan: Path, tmp_path: Path, crnplan: Command) -> None:
-    """Says that a folder has no plan, or one that was written by something else."""
     told = crnplan("curve", tmp_path / "none")
     assert told.status == 2 and "no plan is in it; run crnplan catalogue DEMAND.csv ITEMS.csv --out" in told.errors
     assert not (tmp_path / "none").exists()

@@ -14,8 +14,8 @@ from hypothesis import given, settings, strategies as st
 from crnplan.curve.candidates import (DEARER, PRICES, VARIANTS, Candidates, candidates_of, lower_hull, slopes,
                                       variants_of)
 from crnplan.curve.exchange import Budget, Dearer, Items, Ladder, Point, chosen_by, gap_of
-from crnplan.plan.catalogue import planned_folder
 from crnplan.errors import Refused
+from crnplan.plan.catalogue import planned_folder
 
 NUMBERS = st.integers(0, 30)
 
@@ -23,8 +23,7 @@ NUMBERS = st.integers(0, 30)
 @settings(deadline=None, max_examples=150)
 @given(st.lists(st.tuples(st.integers(0, 3), NUMBERS, NUMBERS), min_size=1, max_size=40))
 def test_hull(points: list[tuple[int, int, int]]) -> None:
-    """Has for each owner rising costs, falling unmet demand and strictly rising prices, and the best point of all for
-    each price."""
+    """For each owner costs rise, unmet demand falls, prices rise, and the best point of all is there for each price."""
     owner, cost, unmet = np.array(points).T
     kept = lower_hull(owner, cost.astype(float), unmet.astype(float))
     assert len({*kept.tolist()}) == len(kept) and {*owner[kept]} == {*owner}
@@ -63,8 +62,7 @@ def test_candidates_are_the_best_of_all(planned: Path, name: str) -> None:
 
 
 def made_item(source: np.random.Generator, count: int) -> tuple[Candidates, Any]:
-    """Returns candidates as `candidates_of` gives them, found one by one among random policies, and these: stock, unmet
-    demand and orders."""
+    """Returns candidates found among random policies, and these: stock, unmet demand and orders."""
     setup, holding, demand = source.uniform(1, 20), source.uniform(0.05, 0.2), source.uniform(1, 5)
     points = np.column_stack([source.uniform(0, 40, count), demand * source.uniform(0, 1, count)**2,
                               source.uniform(0.1, 1, count)])
@@ -122,8 +120,7 @@ def test_bound_against_every_choice(seed: int) -> None:
 @pytest.mark.parametrize("scarce", ["nothing", "orders", "stock"])
 @pytest.mark.parametrize("seed", range(3))
 def test_each_bound_against_every_choice(seed: int, scarce: str) -> None:
-    """Says of any point, whatever orders or stock cost, no more than the best of all choices costs that have its
-    service and no more orders or stock; and at most so much less that the bound is worth something."""
+    """No choice as good as a point costs less than is said, nor much more than that."""
     items, (values, unmet, orders, cost) = every_choice(50 + seed)
     used = {"nothing": None, "orders": orders, "stock": values}[scarce]
     bounds = []

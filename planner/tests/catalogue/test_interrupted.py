@@ -22,7 +22,7 @@ from crnplan.jobs import BATCH
 from crnplan.plan.catalogue import ANSWERS
 from planner.tests.catalogue.conftest import FAST, FILES, TABLES, WORDS, leave_few
 from planner.tests.catalogue.made import Made
-from planner.tests.conftest import Command, heed_interrupts
+from planner.tests.conftest import Command, heed_interrupts, script
 from planner.tests.jobs.clusters import SECONDS, Cluster
 
 # Two batches and a half. After so many runs of the program all others wait, so that a plan stops in its middle: one
@@ -33,8 +33,7 @@ CURVE_TABLES = (CURVE, POLICIES, LEFT_OUT)
 PLAN = ["catalogue", *WORDS, "--out", "plan"], ANSWERS, TABLES
 DRAW = ["curve", "plan", "--fill", "0.9", "--confirm", "0"], CANDIDATES, CURVE_TABLES
 KILLS, MOST_DELAY = 3, 0.5  # the delay in seconds, from when so many answers are kept
-HOLDING = """#!/bin/sh
-echo run >> "{folder}/runs"
+HOLDING = """echo run >> "{folder}/runs"
 [ "$(wc -l < "{folder}/runs")" -le {passes} ] || until [ -e "{folder}/go_on" ]; do sleep 0.05; done
 exec "{program}"
 """
@@ -69,10 +68,7 @@ def drawn(whole: Path, tmp_path_factory: pytest.TempPathFactory) -> Path:
 @pytest.fixture
 def holding(folder: Path, program: Path) -> Path:
     """Returns a program that waits after some runs."""
-    path = folder / "holding"
-    path.write_text(HOLDING.format(folder=folder, program=program, passes=PASSES), "utf-8")
-    path.chmod(0o755)
-    return path
+    return script(folder / "holding", HOLDING.format(folder=folder, program=program, passes=PASSES))
 
 
 @pytest.fixture
@@ -106,12 +102,10 @@ def answers(folder: Path, name: str = ANSWERS) -> set[tuple[object, ...]]:
 
 
 def kept(folder: Path, name: str = ANSWERS) -> int:
-    """Returns how many answers are kept."""
     return len(answers(folder, name))
 
 
 def wait_until(happened: Callable[[], object]) -> None:
-    """Waits until something has happened."""
     latest = time.monotonic() + 60
     while not happened():
         assert time.monotonic() < latest, "not in time"
@@ -119,18 +113,15 @@ def wait_until(happened: Callable[[], object]) -> None:
 
 
 def runs(folder: Path) -> int:
-    """Returns how many runs of the program have begun."""
     return len((folder / "runs").read_text().splitlines()) if (folder / "runs").exists() else 0
 
 
 def tables(folder: Path, names: Sequence[str] = TABLES) -> dict[str, bytes]:
-    """Returns the tables of a plan."""
     return {it: (folder / it).read_bytes() for it in names}
 
 
 def goes_on(folder: Path, whole: Path, crnplan: Command, holding: Path) -> tuple[int, int]:
-    """Goes on, checks that the tables are those of a plan that was never interrupted, and returns how many items were
-    planned and kept."""
+    """Goes on to the tables of a plan that was never interrupted, and returns how many items were planned and kept."""
     (folder / "go_on").touch()
     told = crnplan("catalogue", *WORDS, "--out", "plan", "--program", holding, "--jobs", "1")
     assert told.status == 0, told.errors
@@ -140,12 +131,10 @@ def goes_on(folder: Path, whole: Path, crnplan: Command, holding: Path) -> tuple
 
 
 def children(process: "subprocess.Popen[bytes]") -> list[int]:
-    """Returns the processes that a process has started, and which live."""
     return [*map(int, Path(f"/proc/{process.pid}/task/{process.pid}/children").read_text().split())]
 
 
 def living(process: "subprocess.Popen[bytes]") -> bool:
-    """Returns whether a process of its group is left."""
     with contextlib.suppress(ProcessLookupError):
         os.killpg(process.pid, 0)
         return True
@@ -172,8 +161,7 @@ def test_killed(folder: Path, whole: Path, crnplan: Command, holding: Path, star
 @pytest.mark.parametrize("seed, command, file, names", [(3, *PLAN), (6, *DRAW)], ids=["plan", "curve"])
 def test_killed_at_random(folder: Path, drawn: Path, crnplan: Command, start: Start, holding: Path, seed: int,
                           command: list[str], file: str, names: Sequence[str]) -> None:
-    """Kills all processes at once at three random moments, each time after going on: nothing that was kept is lost, and
-    the bytes are those of a run that was never interrupted."""
+    """Killed at three random moments, a command loses nothing that was kept, and goes on to the same bytes."""
     source, before = random.Random(seed), set[tuple[str, str, str]]()
     (folder / "go_on").touch()
     if file == CANDIDATES:
@@ -274,23 +262,15 @@ def test_no_room_to_read(folder: Path, crnplan: Command, holding: Path, start: S
 
 
 @pytest.mark.timeout(2 * SECONDS)
-@pytest.mark.parametrize("command, file, names", [PLAN, DRAW], ids=["plan", "curve"])
-def test_a_cluster_that_loses_a_worker(folder: Path, drawn: Path, holding: Path, command: list[str], file: str,
-                                       names: Sequence[str]) -> None:
-    """Works on a Dask cluster, one worker of which is killed in the middle: the same bytes."""
-    if file == CANDIDATES:
-        shutil.copytree(drawn, folder / "plan", ignore=shutil.ignore_patterns(f"{CANDIDATES}*", *CURVE_TABLES))
-    cluster = Cluster(folder)
-    try:
-        cluster.open()
-        words = [*command, "--program", str(holding), "--cluster", cluster.address]
-        cluster.start("driver", "-m", "crnplan", *words)
-        cluster.wait_until("the first batch", lambda: kept(folder, file) >= 1, "driver")
-        cluster.end("leaves")
-        assert kept(folder, file) < FEW and children(cluster.processes["driver"]) == []
+def test_a_cluster_that_loses_a_worker(folder: Path, drawn: Path, holding: Path, session_cluster: Cluster) -> None:
+    """Works on a Dask cluster, one worker of which is killed in the middle: the same bytes, of a plan and its curve."""
+    for command, file, names in (PLAN, DRAW):
+        session_cluster.restore(folder)
+        session_cluster.start("driver", "-m", "crnplan", *command, "--program", str(holding), "--cluster",
+                              session_cluster.address)
+        session_cluster.wait_until("the first batch", lambda: kept(folder, file) >= 1, "driver")
+        session_cluster.end("leaves")
+        assert kept(folder, file) < FEW and children(session_cluster.processes["driver"]) == []
         (folder / "go_on").touch()
-        assert cluster.wait_for_end("driver") == 0, cluster.last_words("driver")
+        assert session_cluster.wait_for_end("driver") == 0, session_cluster.last_words("driver")
         assert tables(folder / "plan", names) == tables(drawn, names)
-    finally:
-        cluster.end_all()
-    assert cluster.have_all_ended()

@@ -1,5 +1,4 @@
-"""Tests the page of an item of a catalogue: its figures are those of the tables, what has no page is refused, and
-each has a file of its own."""
+"""Tests the page of an item of a catalogue: its figures, what has no page, and that each has a file of its own."""
 from __future__ import annotations
 
 import contextlib
@@ -10,8 +9,7 @@ from collections.abc import Callable
 from pathlib import Path
 
 import pytest
-from hypothesis import example, given
-from hypothesis import strategies as st
+from hypothesis import example, given, strategies as st
 
 import crnplan
 from crnplan import plan
@@ -20,7 +18,7 @@ from crnplan.pages.catalogue_page import file_name, file_of, report
 from crnplan.records.catalogue_reading import read_catalogue
 from planner.tests.catalogue.conftest import FILES
 from planner.tests.catalogue.made import NO_PLAN, TODAY, made
-from planner.tests.conftest import rows_of
+from planner.tests.conftest import rows_of, script
 from planner.tests.pages.page_reader import Page
 
 PAIRS = "Today's and the chosen policy, as in decisions.csv"
@@ -43,7 +41,6 @@ def plain(text: str) -> str:
 
 
 def negated(text: str) -> str:
-    """Returns a number with its sign changed."""
     return text.lstrip("-") if text.startswith("-") or not text.strip("0.") else f"-{text}"
 
 
@@ -53,7 +50,6 @@ def spoken(text: str) -> str:
 
 
 def item_page(folder: Path, name: str, program: Path) -> Path:
-    """Writes the page of an item, and returns its path."""
     report(folder, [name], program=program)
     return file_of(folder, name)
 
@@ -74,15 +70,14 @@ def names(folder: Path) -> list[str]:
 
 @pytest.fixture(scope="module")
 def pages(folder: Path, names: list[str], program: Path) -> dict[str, Page]:
-    """Returns the pages of these items."""
     return {name: Page(item_page(folder, name, program)) for name in names}
 
 
 def test_figures_are_those_of_the_tables(folder: Path, pages: dict[str, Page]) -> None:
-    """The page has s, S, costs, saving, interval and all exact figures to the digit."""
+    """All figures of the tables are there to the digit. A cost by crnsim is in the middle of its interval."""
     decisions, exact = rows_of(folder / "decisions.csv"), rows_of(folder / "exact.csv")
     for name, page in pages.items():
-        row = decisions[name]
+        row, shown, words = decisions[name], {it[0]: it for it in page.tables[ALL]}, plain(page.words)
         wanted = [[words, row[f"{it}_today"] or "-", row[f"{it}_chosen"] or "-"] for words, it in COLUMNS.items()]
         wanted += [[words, "", row[it] or "-"] for words, it in SAVINGS.items()]
         assert page.tables[PAIRS][1:] == wanted
@@ -90,45 +85,21 @@ def test_figures_are_those_of_the_tables(folder: Path, pages: dict[str, Page]) -
         version = 2 if name == "A-006" else 1  # This item alone has returns.
         assert f"Key {exact[name]['key']}; scenario of version {version}. " in page.words
         assert f"Written by crnplan {crnplan.__version__}." in page.words
-
-
-def test_tables_of_policies_have_them_too(folder: Path, pages: dict[str, Page]) -> None:
-    """In the table of all policies today's and the chosen one have the costs and levels of decisions.csv, and so has
-    the picture of the differences."""
-    for name, page in pages.items():
-        row, shown = rows_of(folder / "decisions.csv")[name], {it[0]: it for it in page.tables[ALL]}
+        assert f"Below {row['s_chosen']} order up to {row['S_chosen']}: " in words
         for policy in ("today", "chosen") if row["verdict"] != "same" else ("today",):
             cells = [plain(it) for it in shown[policy]]
             assert cells[:3] == [policy, row[f"s_{policy}"], row[f"S_{policy}"]]
             assert cells[3 if row["by"] == "theory" else 8] == row[f"cost_{policy}"]
+        if row["verdict"] != "same":
+            assert f"policy costs {spoken(row['saving'])} a week than today's " in words
         if row["verdict"] != "same" and row["run_low"]:
             mean, low, high = (negated(row[it]) for it in ("saving", "run_high", "run_low"))
             assert any(plain(it).startswith(f"chosen: {mean} from {low} to {high} ") for it in page.pictures)
-
-
-def test_intervals_of_costs_are_round_their_costs(pages: dict[str, Page]) -> None:
-    """The cost by crnsim of each policy is in the middle of its interval, and near theory's."""
-    for page in pages.values():
+            assert f"from {spoken(row['run_low'])} to {spoken(row['run_high'])} at 95%" in words
         for *_, cost, ends in page.tables[ALL][1:]:
             if "-" not in plain(ends).split(" to ")[0]:
                 low, high = (float(plain(it)) for it in ends.split(" to "))
                 assert abs((low + high) / 2 - float(plain(cost))) <= 1e-4
-
-
-def test_headline_has_the_decision(folder: Path, pages: dict[str, Page]) -> None:
-    """The headline has s and S of the chosen policy, and the sentence below it the saving with its interval."""
-    for name, page in pages.items():
-        row, words = rows_of(folder / "decisions.csv")[name], plain(page.words)
-        assert f"Below {row['s_chosen']} order up to {row['S_chosen']}: " in words
-        assert row["verdict"] == "same" or f"policy costs {spoken(row['saving'])} a week than today's " in words
-        if row["run_low"] and row["verdict"] != "same":
-            assert f"from {spoken(row['run_low'])} to {spoken(row['run_high'])} at 95%" in words
-
-
-def test_same_bytes_again(folder: Path, names: list[str], pages: dict[str, Page], program: Path) -> None:
-    """The same folder gives the same bytes."""
-    before = file_of(folder, names[0]).read_bytes()
-    assert item_page(folder, names[0], program).read_bytes() == before
 
 
 def forget(folder: Path) -> None:
@@ -159,10 +130,7 @@ def test_refused(case: str, planned: Path, tmp_path: Path, program: Path) -> Non
 
 
 def test_other_program(folder: Path, names: list[str], tmp_path: Path, program: Path) -> None:
-    """A program that gives other totals is refused."""
-    other = tmp_path / "other"
-    other.write_text(f"#!/bin/sh\n{program} \"$@\" | sed 's/^\\(today,[^,]*,[^,]*,\\)/\\11/'\n")
-    other.chmod(0o755)
+    other = script(tmp_path / "other", f"{program} \"$@\" | sed 's/^\\(today,[^,]*,[^,]*,\\)/\\11/'")
     with pytest.raises(CrnplanError, match="gives other totals than the plan has|total"):
         item_page(folder, names[0], other)
 
@@ -179,8 +147,7 @@ def learned(tmp_path_factory: pytest.TempPathFactory, program: Path) -> Path:
 
 
 def test_learned_law_stands_beside_the_items_own(learned: Path, program: Path) -> None:
-    """With a law that is learned from others, the page names it, and has that of the item alone in table and picture.
-    """
+    """The page names the learned law, and has that of the item alone in table and picture."""
     rows = rows_of(learned / "decisions.csv")
     name = next(it for it, row in rows.items() if row["law"] == "borrowed" and row["s_alone"] and row["fill_wanted"])
     page = Page(item_page(learned, name, program))
@@ -208,7 +175,6 @@ def test_names_that_differ_have_files_that_differ(names: list[str]) -> None:
 
 @given(NAMES | LIKE)
 def test_file_stands_in_its_folder(name: str) -> None:
-    """No name leads out of the folder of the pages."""
     folder = Path("/plan")
     assert file_of(folder, name).resolve().parent == folder / "items"
 

@@ -11,19 +11,19 @@ import numpy as np
 import pytest
 
 import crnplan as crn
+from crnplan.demand.borrowing import law_of
+from crnplan.demand.learning import Prior
+from crnplan.files import own_folder
 from crnplan.plan.answer import Answer
-from crnplan.plan.one import allowed_by, plan_one
 from crnplan.plan.catalogue import PRIOR, learned_of
+from crnplan.plan.one import allowed_by, plan_one
 from crnplan.plan.question import ALL, CLASS, NONE, Question, Settings, question_of
 from crnplan.records.catalogued import CATALOGUE as FOLDER, Catalogued, Writer
 from crnplan.records.item import Item
 from crnplan.stored import Store
-from crnplan.words import sentence
-from crnplan.demand.borrowing import law_of
-from crnplan.demand.learning import Prior
-from crnplan.files import own_folder
-from crnplan.theory.many_laws import Promises
 from crnplan.theory.long_run import NO_POLICY
+from crnplan.theory.many_laws import Promises
+from crnplan.words import sentence
 from planner.tests.theory.long_run_costs import fills_of, shortfall_of
 
 WEEKS, ITEMS = 40, 120
@@ -67,14 +67,12 @@ def read(tmp_path: Path, request: pytest.FixtureRequest) -> Iterator[Catalogued]
 
 @pytest.fixture
 def answers(tmp_path: Path) -> Iterator[Store[Answer]]:
-    """Returns a store of answers."""
     store = Store(tmp_path / "answers", Answer)
     yield store
     store.close()
 
 
 def answered(item: Item, prior: Prior, program: Path, borrow: str = ALL, confidence: float | None = None) -> Answer:
-    """Returns the answer to an item."""
     return plan_one(question_of(item, Settings(borrow=borrow, confidence=confidence, **SHORT), prior), str(program))
 
 
@@ -101,7 +99,6 @@ def test_alone_is_the_plan_that_borrows_nothing(prior: Prior, program: Path, nam
 
 
 def test_borrowing_changes_a_policy(prior: Prior, program: Path) -> None:
-    """Gives most of some items another policy than they would get alone."""
     given = (alone_and_chosen(answered(item, prior, program)) for item in [*CATALOGUE.values()][:4])
     assert sum(single != chosen for single, chosen in given) >= 2
 
@@ -145,7 +142,6 @@ def test_what_was_learned_is_kept(read: Catalogued, answers: Store[Answer]) -> N
 
 @pytest.mark.parametrize("read", [(20, {"I-001": "all"})], indirect=True)
 def test_few_items_teach_nothing(read: Catalogued, answers: Store[Answer]) -> None:
-    """Refuses to learn from 20 items."""
     with pytest.raises(crn.Refused, match="there are 20 items to learn from"):
         learned_of(answers, read, Settings(), False)
 
@@ -163,10 +159,7 @@ def kept_under(item: Item, settings: Settings, prior: Prior, answer: Answer) -> 
 
 
 def test_allowed_laws_are_round_the_law_of_the_item(prior: Prior) -> None:
-    """Draws laws whose mean is that of the item's law, alone or learned from all or from its class.
-
-    They are others for each item and each seed.
-    """
+    """Their mean is that of the item's law. They are others for each item and seed."""
     means: dict[tuple[str, str, str], float] = {}
     for name, way, seed in (("I-006", NONE, "a"), ("I-006", ALL, "a"), ("I-006", CLASS, "a"), ("I-006", ALL, "b"),
                             ("I-008", ALL, "a")):
@@ -190,7 +183,6 @@ def test_confidence(prior: Prior, program: Path, way: str, leads: tuple[int, ...
 
 
 def test_confidence_is_one_in_a_wanted_fill_rate(prior: Prior, program: Path) -> None:
-    """Changes nothing of an item without a wanted fill rate."""
     item = CATALOGUE["I-004"]
     assert answered(item, prior, program, ALL, 0.8) == answered(item, prior, program)
 
@@ -207,7 +199,6 @@ def test_a_promise_that_no_policy_keeps(program: Path, monkeypatch: pytest.Monke
 
 
 def test_an_item_without_a_policy_alone(prior: Prior, program: Path, monkeypatch: pytest.MonkeyPatch) -> None:
-    """Has no policy of the item alone if its own law has none."""
     def refused(_: Question) -> Question:
         raise crn.Refused("no policy is best")
     monkeypatch.setattr(Question, "alone", refused)

@@ -32,7 +32,6 @@ LAST = START + datetime.timedelta(days=7 * WEEKS - 3)
 
 @pytest.fixture(scope="module")
 def rejects(catalogue: Catalogue) -> pd.DataFrame:
-    """Returns what was left out or named."""
     return catalogue.rejects
 
 
@@ -43,7 +42,6 @@ def second(files: Path) -> Audit:
 
 
 def items_of(catalogue: Catalogue) -> dict[str, Item]:
-    """Returns all items that can be planned."""
     with catalogue.opened() as read:
         return {item.name: item for item in read.items()}
 
@@ -62,35 +60,25 @@ def test_planted_rows_are_rejected_or_named(planted: Made, rejects: pd.DataFrame
     assert not (rejects.advice == "").any() and not (rejects.reason == "").any()
 
 
-@pytest.mark.parametrize("kind, reason", [
-    ("far", "times"), ("no master", "no master"), ("orders alone", "no master"), ("two masters", "masters that differ"),
-    ("no demand", "no row of demand"), ("missing master", "no master"), ("short", "is short"), ("master", "")])
-def test_planted_items_are_left_out(planted: Made, rejects: pd.DataFrame, kind: str, reason: str) -> None:
-    """Finds each planted item by its name and reason."""
-    found = rejects[rejects.kind == "item"].set_index("item")
-    for name in planted.bad_items[kind]:
-        assert reason in found.reason[name]
+REASONS = {"far": "times", "no master": "no master", "orders alone": "no master", "two masters": "masters that differ",
+           "no demand": "no row of demand", "missing master": "no master", "short": "is short", "master": ""}
 
 
-def test_no_other_item_is_left_out(planted: Made, catalogue: Catalogue, rejects: pd.DataFrame) -> None:
-    """Leaves out the planted items alone."""
-    assert set(rejects[rejects.kind == "item"].item) == set.union(*planted.bad_items.values())
-    named = {name_of(it) for it in range(ITEMS)} | {"A-777", "A-888", "A-900", "Summe"}
-    bad = set.union(*planted.bad_items.values())
-    assert set(items_of(catalogue)) == named - bad - {"Summe"}
-
-
-def test_columns_of_faulty_masters(rejects: pd.DataFrame) -> None:
-    """Names all faulty cells of a master."""
-    found = rejects[(rejects.kind == "item") & (rejects.file == FILES[1])].set_index("item")
-    assert list(found.column[[name_of(it) for it in range(20, 29)]]) == [
+def test_planted_items_are_left_out(planted: Made, catalogue: Catalogue, rejects: pd.DataFrame) -> None:
+    """Leaves out the planted items alone, with their reasons, and names all faulty cells of a master."""
+    found, bad = rejects[rejects.kind == "item"].set_index("item"), set.union(*planted.bad_items.values())
+    for kind, reason in REASONS.items():
+        assert all(reason in found.reason[name] for name in planted.bad_items[kind]), kind
+    named = {name_of(it) for it in range(ITEMS)} | {"A-777", "A-888", "A-900"}
+    assert set(found.index) == bad and set(items_of(catalogue)) == named - bad
+    assert list(found[found.file == FILES[1]].column[[name_of(it) for it in range(20, 29)]]) == [
         "Bestellkosten", "Bestellpunkt", "Lagerkosten", "Lieferzeit", "Fehlmengenkosten", "Lieferzeit",
         "Bestellkosten", "Servicegrad", "Bestellkosten, Preis"]
     assert found.text["A-026"] == "45,00 Stk" and "120%" in found.text["A-027"]
 
 
-def test_sums_of_a_second_program(catalogue: Catalogue, second: Audit) -> None:
-    """Has the same quantities and returns by item and week as the second program, and nothing beside."""
+def test_sums_of_a_second_program(catalogue: Catalogue, second: Audit, rejects: pd.DataFrame) -> None:
+    """Has the quantities, returns and counts of rows of the second program, and nothing beside."""
     first = period_of(START, "week")
     for name, item in items_of(catalogue).items():
         weeks = [datetime.date.fromordinal(7 * (item.first + it) + 1).isocalendar()[:2]
@@ -99,10 +87,6 @@ def test_sums_of_a_second_program(catalogue: Catalogue, second: Audit) -> None:
         assert {week: it for week, it in zip(weeks, item.returns) if it} == +second.back[name], name
         assert len(weeks) == (WEEKS if item.first == first else first + WEEKS - item.first)
         assert item.rows == second.taken[name]
-
-
-def test_rows_reconcile_with_a_second_program(catalogue: Catalogue, rejects: pd.DataFrame, second: Audit) -> None:
-    """Rows used, rejected and left out with their item are all rows, by crnplan's counts and the second program's."""
     counts, ready = catalogue.counts["files"]["demand"], items_of(catalogue)
     used = sum(count for name, count in second.taken.items() if name in ready)
     assert (counts["read"], counts["used"]) == (second.read, used)
@@ -112,17 +96,13 @@ def test_rows_reconcile_with_a_second_program(catalogue: Catalogue, rejects: pd.
     assert counts["blank"] == 1 and catalogue.missing == []
 
 
-def test_record_is_that_of_the_file(catalogue: Catalogue) -> None:
-    """An item begins with the record, unless it is first seen after half a year, which is said."""
+def test_records_and_lead_times(catalogue: Catalogue, files: Path) -> None:
+    """An item begins with the record, unless it comes late. Without a master's lead time, orders give it."""
     items = items_of(catalogue)
     assert len(items["A-001"].counts) == WEEKS and "late" not in {it.code for it in items["A-001"].remarks}
     assert len(items["A-009"].counts) == WEEKS and not any(items["A-009"].counts[:20])
     assert len(items["A-007"].counts) == WEEKS - 60
     assert [*map(sentence, items["A-007"].remarks)] == ["begins with its first movement, in 2026-W04"]
-
-
-def test_lead_times_of_orders(files: Path, catalogue: Catalogue) -> None:
-    """Takes lead times from orders if the master has none: those of a second computation."""
     leads = [it.split(";") for it in (files / FILES[2]).read_text("utf-8").splitlines()[1:] if it.startswith("A-012;")]
     weeks = [[datetime.datetime.strptime(it, "%Y-%m-%d").date().toordinal() - 1 for it in row[1:]] for row in leads]
     assert items_of(catalogue)["A-012"].leads == tuple(max(1, b // 7 - a // 7) for a, b in weeks)
@@ -145,8 +125,7 @@ def test_what_was_found_is_stated(catalogue: Catalogue, files: Path) -> None:
 
 def test_limits_change_nothing(files: Path, catalogue: Catalogue, tmp_path: Path,
                                monkeypatch: pytest.MonkeyPatch) -> None:
-    """Reads the same if but a few cells are remembered, and leaves no file behind but its own. Without that there is no
-    catalogue."""
+    """Reads the same if few cells are remembered, and leaves its own files alone."""
     monkeypatch.setattr(rows, "MOST_KEPT", 3)
     paths = dict(zip(("demand", "items", "orders"), (files / it for it in FILES)))
     again = Catalogue(read_alone(tmp_path, paths, Words(today=TODAY)))
@@ -205,49 +184,48 @@ def test_far_above(amounts: list[int], far: int) -> None:
     assert far_above(np.array(amounts)) == far
 
 
-def read_text(folder: Path, demand: str, masters: str = "", least: int = 1, **words: Any) -> Catalogue:
-    """Reads a catalogue from texts."""
-    masters = masters or "item,setup,holding,backlog,lead,s,S\nA,10,0.5,5,2,3,9\n"
+ROWS = "".join(f"A,2026-{month:02}-15,3\n" for month in range(1, 11))
+DEMAND = "item,date,quantity\n" + ROWS
+MASTER = {"setup": "10", "holding": "0.5", "backlog": "5", "lead": "2", "s": "3", "S": "9"}
+
+
+def master(**changes: str) -> str:
+    cells = MASTER | changes
+    return f"item,{','.join(cells)}\nA,{','.join(cells.values())}\n"
+
+
+def read_text(folder: Path, demand: str = DEMAND, masters: str = master(), least: int = 1, **words: Any) -> Catalogue:
     for name, text in (("demand.csv", demand), ("items.csv", masters)):
         (folder / name).write_text(text, "utf-8")
     return read_catalogue(folder / "demand.csv", folder / "items.csv", today=TODAY, least=least, **words)
 
 
-ROWS = "".join(f"A,2026-{month:02}-15,3\n" for month in range(1, 11))
-
-
 @pytest.mark.parametrize("demand, masters, said", [
-    ("item,date\n" + ROWS, "", "demand.csv:1: no column looks like the quantity; say columns={\"demand\": {\"quantity\": \"NAME\"}}"),
-    ("item,date,quantity,Menge\n" + ROWS, "", "the columns 'quantity' and 'Menge' may both be the quantity; say"),
-    ("item,date,quantity\n", "", "no row of demand has a date"), ("", "", "there is no row below the heading"),
-    ("item,date,quantity\nA,soon,3\n", "", "no row of demand has a date"),
-    ("item,date,quantity\n" + ROWS, "item,setup,holding\nA,1,1\n", "no column looks like the s;")])
+    ("item,date\n" + ROWS, master(), 'demand.csv:1: no column looks like the quantity; say columns={"demand": {"quan'),
+    ("item,date,quantity,Menge\n" + ROWS, master(), "the columns 'quantity' and 'Menge' may both be the quantity; say"),
+    ("item,date,quantity\n", master(), "no row of demand has a date"), ("", master(), "there is no row below"),
+    ("item,date,quantity\nA,soon,3\n", master(), "no row of demand has a date"),
+    (DEMAND, "item,setup,holding\nA,1,1\n", "no column looks like the s;")])
 def test_refused_files(tmp_path: Path, demand: str, masters: str, said: str) -> None:
-    """Refuses files whose columns or dates are not there, with what to do."""
     with pytest.raises(Refused) as fault:
         read_text(tmp_path, demand, masters)
     assert said in str(fault.value)
 
 
 def test_faults_of_all_files_at_once(tmp_path: Path) -> None:
-    """Says what is wrong with the columns of both files in one pass."""
+    """Says what is wrong with both files in one pass, and where a byte is not UTF-8, also far down."""
     with pytest.raises(RefusedFaults) as fault:
         read_text(tmp_path, "item,when,how much\nA,2026-01-01,1\n", "item,setup\nA,3\n")
     assert [it.file.endswith("demand.csv") for it in fault.value.faults] == [True, True, False, False, False]
-
-
-def test_bytes_that_are_no_text_far_down(tmp_path: Path) -> None:
-    """Names the line of a byte that is not UTF-8, also beyond what is looked at first."""
     path = tmp_path / "demand.csv"
     lines = ["item,date,quantity", *(f"A,2026-03-{1 + it % 28:02},{it % 7}" for it in range(80_000))]
     path.write_bytes("\n".join(lines).encode() + b"\nB\xfcrste,2026-03-02,1\n")
-    (tmp_path / "items.csv").write_text("item,setup,holding,backlog,lead,s,S\nA,10,0.5,5,2,3,9\n")
+    (tmp_path / "items.csv").write_text(master())
     with pytest.raises(RefusedFaults, match=r"demand.csv:80002:2: the byte 0xfc is not UTF-8; say encoding=latin-1"):
         read_catalogue(path, tmp_path / "items.csv", today=TODAY)
 
 
 def test_unused_words_are_refused(tmp_path: Path) -> None:
-    """Refuses words that can't be meant."""
     for words, said in (({"every": "year"}, "every=year is not one of"), ({"far": "drop"}, "far=drop is not keep"),
                         ({"columns": {"demand": {"amount": "x"}}}, "columns: there is no column demand.amount"),
                         ({"start": "2026-05-01", "end": "2026-01-01"}, "start=2026-05-01 is after end=2026-01-01"),
@@ -255,20 +233,17 @@ def test_unused_words_are_refused(tmp_path: Path) -> None:
                         ({"every": "day", "start": "1980-01-01", "end": "2199-12-31", "units": {"items": dict.fromkeys(
                             ("lead", "holding", "backlog"), "day")}}, "days are more than 65,536; change start or")):
         with pytest.raises(Refused, match=said):
-            read_text(tmp_path, "item,date,quantity\n" + ROWS, **words)
+            read_text(tmp_path, **words)
 
 
 def test_record_from_and_to(tmp_path: Path) -> None:
     """Cuts the record where it is stated, and counts what is left out."""
-    its = read_text(tmp_path, "item,date,quantity\n" + ROWS, start="2026-02-01", end="2026-09-30", every="month",
+    its = read_text(tmp_path, start="2026-02-01", end="2026-09-30", every="month",
                     units={"items": dict.fromkeys(("lead", "holding", "backlog"), "month")})
     item = items_of(its)["A"]
     assert item.counts == (3,) * 8 and item.rows == 8
     assert list(its.rejects.reason) == ["2026-01-15 is before start", "2026-10-15 is after end"]
     assert json.loads(json.dumps(its.counts)) == its.counts and its.missing == []
-
-
-MASTER = {"setup": "10", "holding": "0.5", "backlog": "5", "lead": "2", "s": "3", "S": "9"}
 
 
 @pytest.mark.parametrize("changes, unit, said", [
@@ -282,38 +257,37 @@ MASTER = {"setup": "10", "holding": "0.5", "backlog": "5", "lead": "2", "s": "3"
     ({"borrow": "some"}, "", "'some' is not none, class or all")])
 def test_cells_of_masters_that_are_not_taken(tmp_path: Path, changes: dict[str, str], unit: str, said: str) -> None:
     """Leaves an item out for one cell of its master, and names the column and why."""
-    its = {**MASTER, **changes}
-    masters = f"item,{','.join(its)}\nA,{','.join(its.values())}\n"
-    rejects = read_text(tmp_path, "item,date,quantity\n" + ROWS, masters,
-                        units={"items": {"holding": unit}} if unit else {}).rejects
+    units = {"items": {"holding": unit}} if unit else {}
+    rejects = read_text(tmp_path, masters=master(**changes), units=units).rejects
     assert list(rejects.column) == [next(iter(changes))] and said in rejects.reason[0]
 
 
 def test_several_cells_of_a_master(tmp_path: Path) -> None:
-    """Names each cell of a master for which an item is left out, cut after 30 letters, with its column and why."""
-    rejects = read_text(tmp_path, "item,date,quantity\n" + ROWS, "item,setup,holding,backlog,lead,s,S\n"
-                        f"A,ask the purchasing department,{40 * 'x'},5,2,3,9\n").rejects
+    """Names each cell for which an item is left out, cut after 30 letters, and a share that may be in percent."""
+    rejects = read_text(tmp_path, masters=master(setup="ask the purchasing department", holding=40 * "x")).rejects
     assert list(rejects.column) == ["setup, holding"]
     assert list(rejects.text) == [f"ask the purchasing department, {30 * 'x'}..."]
     assert rejects.reason[0].count("is not a number") == 2
+    share = {"items": {"fill": "share"}}
+    rejects = read_text(tmp_path, masters=master(**{"fill rate %": "0.95"})).rejects
+    assert "0.95% or 0.95 as a share" in rejects.reason[0] and json.dumps(share) in rejects.advice[0]
+    for text, units, fill in (("0.95", share, "19/20"), ("0.95%", {}, "19/2000"), ("95", {}, "19/20")):
+        its = read_text(tmp_path, masters=master(**{"fill rate %": text}), units=units)
+        assert str(items_of(its)["A"].fill) == fill
 
 
 @pytest.mark.parametrize("changes, least", [
     ({"S": "1000000"}, 1), ({"setup": "0"}, 1), ({"setup": "0.12345678"}, 1), ({"fill": "99.99%"}, 1),
     ({"lead": "32"}, 1), ({"s": "9"}, 1), ({"s": "0", "S": "0"}, 1), ({"borrow": "All"}, 1), ({}, 40)])
 def test_masters_at_the_borders(tmp_path: Path, changes: dict[str, str], least: int) -> None:
-    """Takes the largest and the least value of each cell, and a record of just the periods that are needed: from 15
-    January to 15 October are 40 weeks."""
-    its = {**MASTER, **changes}
-    read = read_text(tmp_path, "item,date,quantity\n" + ROWS, f"item,{','.join(its)}\nA,{','.join(its.values())}\n",
-                     least=least)
+    """Takes the largest and least value of each cell, and a record of just 40 weeks, 15 January to 15 October."""
+    read = read_text(tmp_path, masters=master(**changes), least=least)
     assert read.counts["items"]["ready"] == 1 and not len(read.rejects)
 
 
 @pytest.mark.parametrize("every, half", [("day", 183), ("week", 26), ("month", 6)])
 def test_items_that_begin_late(every: str, half: int) -> None:
-    """An item begins with the record if it is first seen in the half year after the first period, else as it is
-    seen."""
+    """An item begins with the record if it is first seen in its first half year, else as it is seen."""
     record = Record(every, START, LAST, "", "")
     first = period_of(START, every)
     assert [record.first_of(first + late) - first for late in (0, half, half + 1)] == [0, 0, half + 1]
@@ -331,20 +305,8 @@ def test_days_far_from_all_others(away: int, rows: int, is_far: bool) -> None:
 @pytest.mark.parametrize("setup, holding, decimals", [("10", "1", 0), ("10", "0.5", 1), ("10.25", "0.5", 2)])
 def test_decimals_of_money(tmp_path: Path, setup: str, holding: str, decimals: int) -> None:
     """Money has as many decimals as the finest amount of the masters."""
-    masters = f"item,setup,holding,backlog,lead,s,S\nA,{setup},{holding},5,2,3,9\n"
-    with read_text(tmp_path, "item,date,quantity\n" + ROWS, masters).opened() as read:
+    with read_text(tmp_path, masters=master(setup=setup, holding=holding)).opened() as read:
         assert read.fact("decimals") == decimals
-
-
-def test_a_share_in_a_column_of_percent(tmp_path: Path) -> None:
-    """Leaves an item out whose share may be in percent, unless what is advised is done."""
-    masters = "item,setup,holding,fill rate %,lead,s,S\nA,10,0.5,{},2,3,9\n"
-    share = {"items": {"fill": "share"}}
-    rejects = read_text(tmp_path, "item,date,quantity\n" + ROWS, masters.format("0.95")).rejects
-    assert "0.95% or 0.95 as a share" in rejects.reason[0] and json.dumps(share) in rejects.advice[0]
-    for text, units, fill in (("0.95", share, "19/20"), ("0.95%", {}, "19/2000"), ("95", {}, "19/20")):
-        its = read_text(tmp_path, "item,date,quantity\n" + ROWS, masters.format(text), units=units)
-        assert str(items_of(its)["A"].fill) == fill
 
 
 @pytest.mark.parametrize("asked, back, said", [(0, 0, "nothing was asked for"), (3, 3, "comes back (30) as is asked")])
@@ -356,7 +318,6 @@ def test_demand_that_has_no_law(tmp_path: Path, asked: int, back: int, said: str
 
 def test_how_dates_are_read_is_stated(tmp_path: Path) -> None:
     """Counts dates that are read by stated patterns, once, and those that can't be read without one."""
-    rows = "item,date,quantity\n" + ROWS
-    found = read_text(tmp_path, rows, date_formats=("%Y-%m-%d",)).found
+    found = read_text(tmp_path, date_formats=("%Y-%m-%d",)).found
     assert "# dates by date_formats: 10\n" in found and found.count("# dates by") == 1
-    assert "day or the month first: 2; say" in read_text(tmp_path, rows + "A,03/04/2026,2\nA,03/04/2026,5\n").found
+    assert "day or the month first: 2; say" in read_text(tmp_path, DEMAND + "A,03/04/2026,2\nA,03/04/2026,5\n").found

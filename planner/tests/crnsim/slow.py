@@ -22,11 +22,9 @@ class History:
 
     @property
     def orders(self) -> list[int]:
-        """Returns in which periods something was ordered."""
         return [period for period, (amount, _) in enumerate(self.placed) if amount]
 
     def stock(self) -> int:
-        """Returns the stock at the end of the last period."""
         arrived = sum(amount for amount, due in self.placed if due < len(self.net))
         return self.first + arrived - sum(self.net)
 
@@ -46,7 +44,6 @@ def spread(law: Law | None) -> list[int]:
 
 
 def key_words(key: Iterable[str]) -> tuple[int, ...]:
-    """Returns the numbers of a key."""
     return tuple(int(word, 16) for word in key)
 
 
@@ -55,7 +52,8 @@ def draws_of(scenario: Scenario, key: Iterable[str], periods: int, streams: Sequ
     words, columns = key_words(key), []
     for stream, law in zip(streams, (scenario.demand, scenario.lead, scenario.returns)):
         numbers = [word for block in range(-(-periods // 4)) for word in oracle.threefry(words, [block, stream, 0, 0])]
-        columns.append([oracle.pick(spread(law), word) for word in numbers[:periods]])
+        values = spread(law)
+        columns.append([oracle.pick(values, word) for word in numbers[:periods]])
     return list(zip(*columns))
 
 

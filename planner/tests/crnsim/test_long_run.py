@@ -1,4 +1,4 @@
-"""Compares runs of the long run with words of an independent program, a slow simulation and a Markov chain."""
+"""Compares runs of the long run, and checkpoints, with an independent program, a slow simulation and a Markov chain."""
 from __future__ import annotations
 
 import math
@@ -12,12 +12,14 @@ import numpy as np
 import pytest
 
 from crnplan.crnsim import long_run
+from crnplan.crnsim.program import State, checkpoint_text, replication_costs, resume_all
 from crnplan.crnsim.long_run import (OWN_PERIODS, OWN_STREAMS, START_STREAM, drawn, keys_of, long_run_of, places_of,
                                      settled, stream_words, words_of_keys)
-from crnplan.crnsim.report import report_of
+from crnplan.crnsim.report import read_rows, report_of
 from crnplan.errors import ProgramError, Refused
 from crnplan.law import Law
 from crnplan.scenario import Costs, Policy, Scenario
+from planner.tests.conftest import script
 from planner.tests.crnsim.slow import History, draws_of, key_words, simulate, spread
 from planner.tests.theory.chain import by_chain
 from tests.program import oracle
@@ -35,7 +37,6 @@ SCENARIOS = {"several lead times": PLAIN,
 
 @pytest.fixture(params=SCENARIOS)
 def scenario(request: pytest.FixtureRequest) -> Scenario:
-    """Returns each scenario."""
     return SCENARIOS[request.param]
 
 
@@ -45,16 +46,13 @@ def numbers(count: int) -> list[int]:
     return [0, 1, 2**32 - 1, 2**32, 2**63, 2**64 - 1, *(its.getrandbits(64) for _ in range(count))]
 
 
-def test_words_are_those_of_an_independent_cipher() -> None:
+def test_words_are_those_of_an_independent_cipher(program: Path) -> None:
     keys = [KEY, ("0" * 16,) * 4, ("f" * 16,) * 4]
     for stream in (0, 1, 2, *OWN_STREAMS, START_STREAM):
         wanted = [[word for block in range(70) for word in oracle.threefry(key_words(key), [block, stream, 0, 0])]
                   for key in keys]
         assert stream_words(words_of_keys(keys), 70, stream).tolist() == wanted
     assert len({0, 1, 2, *OWN_STREAMS, START_STREAM}) == 3 + 3 + 1
-
-
-def test_words_are_those_of_the_program(program: Path) -> None:
     ran = subprocess.run([program, "words", *KEY, "69"], capture_output=True, text=True, check=True)
     for stream, line in enumerate(ran.stdout.splitlines()):
         found = stream_words(words_of_keys([KEY]), 70, stream)[0, -4:]
@@ -70,8 +68,8 @@ def test_places(count: int) -> None:
 @pytest.mark.parametrize("law", [Law((0, 3, 9), (1, 0, 5)), Law((2, 4, 6), (0, 3, 0)), Law((5,), (65_536,)),
                                  Law(tuple(range(0, 2000, 3)), tuple(it % 7 for it in range(667)))], ids=str)
 def test_draws(law: Law) -> None:
-    words = numbers(2000)
-    assert drawn(np.array(words, np.uint64), law).tolist() == [oracle.pick(spread(law), word) for word in words]
+    words, values = numbers(2000), spread(law)
+    assert drawn(np.array(words, np.uint64), law).tolist() == [oracle.pick(values, word) for word in words]
 
 
 def histories(scenario: Scenario, key: tuple[str, ...]) -> Iterator[tuple[Policy, History]]:
@@ -95,6 +93,7 @@ def test_own_periods_are_those_of_a_slow_simulation(scenario: Scenario) -> None:
 
 
 def test_costs_and_orders_are_those_of_a_slow_simulation(scenario: Scenario, program: Path) -> None:
+    """Only stocks that a checkpoint may not have at block 1 lead to a later one: most runs count 1,020 periods."""
     asked = replace(scenario, costs=replace(scenario.costs, unit=0))
     keys, found, orders = keys_of(scenario.key, 2), long_run_of(scenario, 2, program), []
     for key, costs in zip(keys, found.costs):
@@ -106,10 +105,6 @@ def test_costs_and_orders_are_those_of_a_slow_simulation(scenario: Scenario, pro
     counted = [sum(orders[place::len(asked.policies)]) for place in range(len(asked.policies))]
     assert found.orders in (tuple(counted), (None,) * len(counted))
     assert min(counted) > 20 or found.orders[0] is not None
-
-
-def test_most_runs_count_1020_periods(scenario: Scenario, program: Path) -> None:
-    """Only stocks that a checkpoint may not have at block 1 lead to a later one."""
     far = scenario is SCENARIOS["stock far below 0"]
     assert long_run_of(scenario, 2, program).periods == (1024 - 4 * 8 if far else 1020)
 
@@ -137,23 +132,6 @@ def test_more_policies_than_a_run_takes(program: Path) -> None:
     found = long_run_of(whole, 2, program)
     alone = [long_run_of(PLAIN.with_policies([it]), 2, program).costs for it in whole.policies]
     assert found.costs == tuple(tuple(its[key][0] for its in alone) for key in range(2))
-
-
-@pytest.mark.parametrize("run", [report_of, lambda scenario, program: long_run_of(scenario, 2, program)],
-                         ids=["report", "long run"])
-def test_a_program_whose_base_differs(run: Callable[[Scenario, Path], object], program: Path, tmp_path: Path) -> None:
-    """A program is refused that has for the base's total how many lines it writes: 17 and 3."""
-    other = tmp_path / "other"
-    other.write_text(f"""#!/bin/sh
-lines=$("{program}" "$@")
-echo "$lines" | sed "2s/^\\([^,]*,[^,]*,[^,]*\\),[^,]*/\\1,$(echo "$lines" | wc -l)/"
-""")
-    other.chmod(0o755)
-    with pytest.raises(ProgramError, match="other: the base has not the same .* name crnsim with"):
-        run(PLAIN.with_policies([Policy.of_levels(6, 14 + place) for place in range(17)]), other)
-
-
-def test_reports_of_two_keys(program: Path) -> None:
     few = SCENARIOS["few orders"]
     one, other = (long_run_of(it, 2, program) for it in (few, replace(few, key=KEY[::-1])))
     both = one.plus(other)
@@ -163,12 +141,20 @@ def test_reports_of_two_keys(program: Path) -> None:
     assert many.plus(many).orders == (None,) * 3
 
 
-def test_keys_follow_from_all_words() -> None:
+@pytest.mark.parametrize("run", [report_of, lambda scenario, program: long_run_of(scenario, 2, program)],
+                         ids=["report", "long run"])
+def test_a_program_whose_base_differs(run: Callable[[Scenario, Path], object], program: Path, tmp_path: Path) -> None:
+    """A program is refused that has for the base's total how many lines it writes: 17 and 3."""
+    other = script(tmp_path / "other", f"""lines=$("{program}" "$@")
+echo "$lines" | sed "2s/^\\([^,]*,[^,]*,[^,]*\\),[^,]*/\\1,$(echo "$lines" | wc -l)/" """)
+    with pytest.raises(ProgramError, match="other: the base has not the same .* name crnsim with"):
+        run(PLAIN.with_policies([Policy.of_levels(6, 14 + place) for place in range(17)]), other)
+
+
+def test_keys_and_their_starts(monkeypatch: pytest.MonkeyPatch) -> None:
+    """Keys follow from all words of a key, and each has a start of its own."""
     keys = {key for word in range(4) for key in keys_of([*KEY[:word], "0" * 16, *KEY[word + 1:]], 48)}
     assert len(keys | set(keys_of(KEY, 48))) == 5 * 48
-
-
-def test_each_key_has_a_start_of_its_own(monkeypatch: pytest.MonkeyPatch) -> None:
     monkeypatch.setattr(long_run, "OWN_PERIODS", 0)
     wide = PLAIN.with_policies([Policy("wide", 0, 1_000_000)])
     starts = settled(wide, words_of_keys(keys_of(KEY, 48))).stocks[:, 0]
@@ -187,3 +173,50 @@ def test_each_key_has_a_start_of_its_own(monkeypatch: pytest.MonkeyPatch) -> Non
 def test_refusals(scenario: Scenario, keys: int, message: str, program: Path) -> None:
     with pytest.raises(Refused, match=message):
         long_run_of(scenario, keys, program)
+
+
+ZERO = "0000000000000000"
+CUT = Scenario(1, (ZERO, ZERO, ZERO, "0123456789abcdef"), 22, 3, 20, 8, Costs(7, 2, 1, 4), Law((0, 2, 5), (1, 2, 3)),
+               Law((1, 4), (3, 1)), (Policy("A", 8, 20), Policy("B", 12, 15)))
+BOTH_CUT = pytest.mark.parametrize("cut", [CUT, replace(CUT, version=2, returns=Law((0, 1, 3), (5, 2, 1)))],
+                                   ids=["without returns", "with returns"])
+
+
+@BOTH_CUT
+@pytest.mark.parametrize("block", [0, 1, 5, 6, 11, 18])
+def test_texts_are_those_of_an_independent_program(cut: Scenario, block: int) -> None:
+    text, run = oracle.checkpoint(cut.toml(), block), oracle.run_of(cut.toml())
+    states = [State(stock, cost, dict(due), tuple(costs)) for stock, cost, due, costs in (
+        run.state(place, block) for place in range(2))]
+    assert checkpoint_text(cut, block, states) == text
+    assert replication_costs(text) == [cost for state in states for cost in state.costs]
+
+
+def made(scenario: Scenario, seed: int) -> tuple[Scenario, list[State]]:
+    """Returns a scenario of one replication, and a state of its own for each policy before block 1."""
+    its = random.Random(seed)
+    states = [State(its.randint(-30, 40), due={4 + age: its.randint(1, 30) for age in its.sample(range(32), 3)})
+              for _ in scenario.policies]
+    return replace(scenario, replications=1, periods=60, ring=1024), states
+
+
+@BOTH_CUT
+@pytest.mark.parametrize("seed", range(4))
+def test_resumed_runs_cost_what_a_slow_simulation_does(cut: Scenario, seed: int, program: Path) -> None:
+    asked, states = made(cut, seed)
+    report, = resume_all(program, [(asked.toml(), checkpoint_text(asked, 1, states))])
+    draws = draws_of(asked, asked.key, 60)
+    for row, policy, state in zip(read_rows(report), asked.policies, states):
+        placed = [(amount, period) for period, amount in state.due.items()]
+        history = History(state.stock, [*placed, *[(0, 0)] * (4 - len(placed))], [0] * 4)
+        assert row.total == sum(simulate(asked, policy, history, draws[4:]).costs)
+
+
+@BOTH_CUT
+def test_the_program_judges_made_texts(cut: Scenario, program: Path, tmp_path: Path) -> None:
+    """`migrate` says 5 for a text of the newest version, and 1 for one that is none."""
+    asked, (state, other) = made(cut, 0)
+    for its, number in ((state, 5), (replace(state, stock=-40_001), 1), (replace(state, due={36: 1}), 1)):
+        (tmp_path / "it.csv").write_text(checkpoint_text(asked, 1, [its, other]))
+        ran = subprocess.run([program, "migrate", tmp_path / "it.csv"], capture_output=True, text=True)
+        assert ran.stderr == f"crnsim: checkpoint {number}\n"

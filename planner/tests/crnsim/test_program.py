@@ -1,29 +1,26 @@
-"""Tests how the program is found, and what is said if it fails."""
+"""Tests how the program is found, what is said if it fails, and reports: read, refused, counted and pooled."""
 from __future__ import annotations
 
 import re
+from fractions import Fraction
 from pathlib import Path
 
 import pytest
+from hypothesis import given, strategies as st
 
 from crnplan.crnsim import program as module
 from crnplan.crnsim.program import find_program, program_and_reason, run_all, run_program
-from crnplan.errors import ProgramError
-from planner.tests.conftest import Command
-
-
-def script(path: Path, lines: str) -> Path:
-    """Makes a program of lines of the shell."""
-    path.parent.mkdir(exist_ok=True, parents=True)
-    path.write_text(f"#!/bin/sh\n{lines}\n")
-    path.chmod(0o755)
-    return path
+from crnplan.crnsim.report import Report, Row, counting, pooled, read_rows, table_of
+from crnplan.errors import ProgramError, Refused
+from crnplan.formats import COSTS
+from crnplan.scenario import Scenario
+from planner.tests.conftest import Command, script
+from planner.tests.decide.answers import rows_of_costs
 
 
 @pytest.fixture
 def places(tmp_path: Path, monkeypatch: pytest.MonkeyPatch) -> dict[str, Path]:
-    """Makes a program in each of the places where one is looked for, and returns their paths, the first to be taken
-    first."""
+    """Makes a program in each place where one is looked for, and returns their paths, the first to be taken first."""
     build = tmp_path / "top/crates/crnsim/out/crnsim"
     monkeypatch.setattr(module, "__file__", str(tmp_path / "top/planner/src/crnplan/crnsim/program.py"))
     monkeypatch.setenv("PATH", str(tmp_path / "path"))
@@ -33,8 +30,15 @@ def places(tmp_path: Path, monkeypatch: pytest.MonkeyPatch) -> dict[str, Path]:
     return {reason: script(path, "cat") for reason, path in found.items()}
 
 
-def test_order(places: dict[str, Path], monkeypatch: pytest.MonkeyPatch) -> None:
+def test_order_and_names(places: dict[str, Path], monkeypatch: pytest.MonkeyPatch, tmp_path: Path) -> None:
     assert program_and_reason(places["named"]) == (places["named"], "named")
+    monkeypatch.chdir(tmp_path)
+    assert find_program("crnsim") == places["PATH"] and find_program("./named") == places["named"]
+    with pytest.raises(ProgramError, match="program: there is no program ./missing; build crnsim, or name it with"):
+        find_program("./missing")
+    places["named"].chmod(0o644)
+    with pytest.raises(ProgramError, match="program: ./named can't be run"):
+        find_program("./named")
     for reason, path in list(places.items())[1:]:
         assert program_and_reason() == (path, reason)
         path.unlink()
@@ -44,16 +48,6 @@ def test_order(places: dict[str, Path], monkeypatch: pytest.MonkeyPatch) -> None
             monkeypatch.delenv("CRNSIM")
     with pytest.raises(ProgramError, match="crnsim was not found; build it, put it on PATH, or name it"):
         find_program()
-
-
-def test_named(places: dict[str, Path], tmp_path: Path, monkeypatch: pytest.MonkeyPatch) -> None:
-    monkeypatch.chdir(tmp_path)
-    assert find_program("crnsim") == places["PATH"] and find_program("./named") == places["named"]
-    with pytest.raises(ProgramError, match="program: there is no program ./missing; build crnsim, or name it with"):
-        find_program("./missing")
-    places["named"].chmod(0o644)
-    with pytest.raises(ProgramError, match="program: ./named can't be run"):
-        find_program("./named")
 
 
 OF_MACHINE = "; look for memory and processes of this machine, and run again"
@@ -81,16 +75,77 @@ def test_outputs_in_order(tmp_path: Path) -> None:
     assert run_all(path, runs) == [f"{word} {text}" for text, word in runs]
 
 
-def test_where(program: Path, crnplan: Command, tmp_path: Path) -> None:
+def test_where(program: Path, crnplan: Command, tmp_path: Path, top: Path) -> None:
     answer = crnplan("where", "--program", program)
     assert answer.status == 0 and f"{program} (named)\nits report on a small scenario is right\n" in answer.output
     answer = crnplan("where", "--program", script(tmp_path / "other", "cat"))
     assert answer.status == 1 and answer.output.endswith("its report on a small scenario differs from the known one\n")
     failing = script(tmp_path / "failing", "exit 5")
     assert crnplan("where", "--program", failing)[::2] == (3, f"crnplan: {failing}: no output, status 5{OF_MACHINE}\n")
-
-
-def test_known_report_is_the_example(top: Path) -> None:
     for end in ("toml", "csv"):
         kept = Path(module.__file__).with_name(f"example.{end}")
         assert kept.read_bytes() == (top / f"examples/two_policies.{end}").read_bytes()
+
+
+HEADER = "policy,s,S,total,per_period,diff_total,diff_mean,diff_var,cov"
+BASE, OTHER = "A,20,40,222,111/2,0,0/1,0/1,5/3", "B,60,80,200,50/1,-22,-11/2,7/2,-1/9"
+TEXT = f"{HEADER}\n{BASE}\n{OTHER}\n"
+
+
+def test_values(two_policies: str) -> None:
+    rows = read_rows(TEXT)
+    assert rows[1] == Row("B", 60, 80, 200, Fraction(50), -22, Fraction(-11, 2), Fraction(7, 2), Fraction(-1, 9))
+    assert table_of(rows).csv == TEXT and read_rows(TEXT.replace("\n", "\r\n")) == rows
+    report = Report(tuple(rows), Scenario.parse(two_policies))
+    frame = report.frame
+    assert report.text == TEXT and frame.index.name == "policy" and list(frame) == HEADER.split(",")[1:]
+    assert list(frame.loc["B"]) == [60, 80, 200, Fraction(50), -22, Fraction(-11, 2), Fraction(7, 2), Fraction(-1, 9)]
+    assert list(report.floats().loc["B"]) == [60, 80, 200, 50, -22, -5.5, 3.5, -1 / 9]
+    plain = ["A", 20, 40, 222, "111/2", 0, "0/1", "0/1", "5/3"], ["B", 60, 80, 200, "50/1", -22, "-11/2", "7/2", "-1/9"]
+    assert report.tree == {"policies": [dict(zip(HEADER.split(","), cells)) for cells in plain]}
+    text = f"{HEADER}\nA,20,40,222,111/2,0,0/1,-,-\n"  # Of one replication there is no variance.
+    report = Report(tuple(read_rows(text)), Scenario.parse(two_policies))
+    assert report.text == text and list(report.frame.loc["A"])[-2:] == [None, None]
+    assert report.floats().loc["A"].isna().sum() == 2
+
+
+REFUSED = {
+    "empty": ("", ":1: this is no report of crnsim, whose first line is policy,s,S,total"),
+    "another-heading": (TEXT.replace("total", "sum"), ":1: this is no report of crnsim, whose first line is policy"),
+    "no-rows": (f"{HEADER}\n", ": the report has no policy"),
+    "few-columns": (TEXT.replace(",5/3", ""), ":2: 8 columns, not 9"),
+    "a-name": (TEXT.replace("B,", "b b,"), ":3: column policy: 'b b' is not 1 to 16 of A-Z a-z 0-9 _ -"),
+    "a-number": (TEXT.replace(",200,", ",2e2,"), ":3: column total: '2e2' is not a whole number; give crnsim's own"),
+    "no-number": (TEXT.replace(",200,", ",-,"), ":3: column total: '-' is not a whole number"),
+    "a-fraction": (TEXT.replace("50/1", "50"), ":3: column per_period: '50' is not a fraction such as 359/4"),
+    "a-zero": (TEXT.replace("50/1", "50/0"), ":3: column per_period: '50/0' is not a fraction"),
+    "digits": (TEXT.replace("50/1", f"{'5' * 61}/1"), ":3: column per_period: '555"),
+    "another-base": (f"{HEADER}\n{OTHER}\n", ":2: the first policy is not the base, whose differences are 0"),
+    "a-quote": (f'{HEADER}\n"A\n', ":2: 1 columns, not 9"),
+    "a-long-cell": ("x" * 200_000, ": this is no report of crnsim: field larger than field limit"),
+}
+
+
+@pytest.mark.parametrize("name", REFUSED)
+def test_refused(name: str) -> None:
+    text, message = REFUSED[name]
+    with pytest.raises(Refused, match=f"^{re.escape(f'r.csv{message}')}"):
+        read_rows(text, "r.csv")
+
+
+def test_counts_of_the_worked_periods(program: Path, two_policies: str) -> None:
+    """Counts orders, items ordered, held and owed. B orders 21 items in period 1 and holds 59, 57, 76 and 72 items."""
+    scenario = Scenario.parse(two_policies)
+    held = [59 + 57 + 55 + 51, 59 + 57 + 76 + 72]
+    runs = [scenario, *(counting(scenario, cost) for cost in COSTS)]
+    totals = [[row.total for row in run.run(program=program).rows] for run in runs]
+    assert totals == [[222, 296], [0, 1], [0, 21], held, [0, 0]]
+
+
+@given(st.data(), st.integers(1, 4), st.integers(2, 4), st.integers(1, 3), st.integers(1, 1024))
+def test_pool_is_the_report_of_all(data: st.DataObject, count: int, keys: int, policies: int, periods: int) -> None:
+    costs = st.lists(st.integers(0, 2 * 10**11 * 1024), min_size=count * keys, max_size=count * keys)
+    drawn = {f"p{place}": data.draw(costs) for place in range(policies)}
+    parts = [rows_of_costs({name: own[first:first + count] for name, own in drawn.items()}, periods)
+             for first in range(0, count * keys, count)]
+    assert pooled(parts, count, periods) == rows_of_costs(drawn, periods)

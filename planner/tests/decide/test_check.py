@@ -1,4 +1,4 @@
-"""Tests of crnplan check: what it runs and prints, pooled keys, and what it refuses."""
+"""Tests of crnplan check: its keys, what it runs and prints, pooled keys, and what it refuses."""
 from __future__ import annotations
 
 import csv
@@ -14,12 +14,13 @@ import pytest
 
 import crnplan as crn
 from crnplan import formats
-from planner.tests.conftest import Command
+from crnplan.decide.keys import keys_of
+from planner.tests.conftest import Command, script
 from planner.tests.decide.answers import changed, pairs_sum, priced, report_of
 
 KEYS = ["00000000000000a1", "00000000000000a2"]
 COLUMNS = ("total", "per_period", "diff_total", "diff_mean", "diff_var", "cov")
-Canned = Callable[[list[str]], list[str]]
+Canned = Callable[[str], list[str]]
 
 
 def report(*rows: str) -> str:
@@ -28,33 +29,16 @@ def report(*rows: str) -> str:
     return "".join(f"{row}{',-' * (count - row.count(','))}\n" for row in [formats.HEADER, *rows])
 
 
-# Reports of two keys, worked by hand. Costs of A and B in two replications: 10 and 11, 12 and 15 with the first key; 20
-# and 25, 20 and 27 with the second one. Then the same with B as the base.
-CANNED = [report("A,20,40,22,11/4,0,0/1,0/1,2/1", "B,60,80,26,13/4,4,2/1,1/1,4/1"),
-          report("A,20,40,40,5/1,0,0/1,0/1,0/1", "B,60,80,52,13/2,12,6/1,1/1,0/1")]
-TURNED = [report("B,60,80,26,13/4,0,0/1,0/1,8/1", "A,20,40,22,11/4,-4,-2/1,1/1,4/1"),
-          report("B,60,80,52,13/2,0,0/1,0/1,2/1", "A,20,40,40,5/1,-12,-6/1,1/1,0/1")]
-# The differences are 1, 3, 5 and 7: mean 4, sum of squares about it 20, so 20/3/4 for the variance of the mean. A costs
-# 10, 12, 20, 20 and B 11, 15, 25, 27: means 31/2 and 39/2, sums about them 83 (squares) and 121 (products), over 3.
-POOLED = report("A,20,40,62,31/8,0,0/1,0/1,83/3", "B,60,80,78,39/8,16,4/1,5/3,121/3")
-# The difference is 16 of 62, 25.81%. Its standard error is the root of 5/3, 1.29099. Tables have 3.18245 for 0.975 and
-# 2.35336 for 0.95 with 3 degrees of freedom: 4 -+ 4.10852 and 4 -+ 3.03818. The squares of B's costs about 39/2 sum to
-# 179, so the standard error of its mean is the root of 179/3/4, 3.86221. A replication has four periods, so B costs
-# 39/8 -+ 12.29129/4 and 39/8 -+ 9.08917/4 a period.
-VERDICTS = [("0.95", "B 60 80 4.875 1.802 7.948 4.000 25.81 1.291 -0.109 8.109 undecided",
-             "A holds: no policy is better; B can't be told apart from A."),
-            ("0.9", "B 60 80 4.875 2.603 7.147 4.000 25.81 1.291 0.962 7.038 worse",
-             "A holds: no policy is better; B is worse.")]
-OWN = "5eed000000000001 0000000000000000 0000000000000000 0000000000000000"
+CASES = tomllib.loads(Path(__file__).with_name("decisions.toml").read_text("utf-8"))["check"]
+OWN = ("5eed000000000001", *["0000000000000000"] * 3)
 
 
 @pytest.fixture
 def canned(room: Path) -> Canned:
-    """Returns a function that makes words which run a program with these reports of two keys."""
-    def words_of(reports: list[str]) -> list[str]:
-        path, (first, second) = room / "canned_program", reports
-        path.write_text(f"#!/bin/sh\nif grep -q {KEYS[0]}; then cat <<END\n{first}END\nelse cat <<END\n{second}END\nfi\n")
-        path.chmod(0o755)
+    """Returns a function that makes words which run a program with the reports of two keys that have a name."""
+    def words_of(name: str) -> list[str]:
+        path, (first, second) = room / "canned_program", (report(*rows) for rows in CASES[name])
+        script(path, f"if grep -q {KEYS[0]}; then cat <<END\n{first}END\nelse cat <<END\n{second}END\nfi")
         return ["--key", KEYS[0], "--key", KEYS[1], "--replications", "2", "--program", str(path)]
     return words_of
 
@@ -101,17 +85,17 @@ def test_two_keys_are_all_their_replications(part: Path, room: Path, program: Pa
             assert [float(line[it]) for it in ("low", "high")] == pytest.approx(ends, abs=0.0006, rel=1e-5)
 
 
-@pytest.mark.parametrize(("level", "row", "sentence"), VERDICTS)
+@pytest.mark.parametrize(("level", "row", "sentence"), CASES["verdicts"])
 def test_two_reports_by_hand(room: Path, crnplan: Command, canned: Canned, level: str, row: str, sentence: str) -> None:
-    words = [*canned(CANNED), "--level", level, "--out", "canned"]
+    words = [*canned("reports"), "--level", level, "--out", "canned"]
     told = crnplan("check", "examples/two_policies.toml", "A", *words)
     assert told.status == 0 and row.split() in [line.split() for line in told.output.splitlines()]
     assert told.output.endswith(f"\nOn these new histories {sentence}\n")
-    assert (room / "canned/pooled.csv").read_text("utf-8") == POOLED
+    assert (room / "canned/pooled.csv").read_text("utf-8") == report(*CASES["pooled"])
 
 
 def test_a_winner_that_does_not_hold(crnplan: Command, canned: Canned) -> None:
-    words = ["check", "examples/two_policies.toml", "B", *canned(TURNED)]
+    words = ["check", "examples/two_policies.toml", "B", *canned("turned")]
     told, data, table = (crnplan(*words, "--level", "0.9", *form) for form in ([], ["--json"], ["--csv"]))
     sentence = "\n\nOn these new histories B does not hold: A is better.\n"
     assert told.status == 1 and not told.errors and told.output.endswith(sentence)
@@ -141,18 +125,28 @@ def test_runs_the_scenario_but_for_key_and_order(part: Path, room: Path, program
     assert crnplan("check", part, "both", *(word for key in keys for word in ["--key", *key])) == told
 
 
-def test_keys_are_drawn_anew(room: Path, crnplan: Command) -> None:
-    words = ["check", "examples/spare_part.toml", "both", "--replications", "2"]
-    lines = [crnplan(*words).output.split("\n")[0] for _ in range(2)]
-    assert all(re.fullmatch("key( [0-9a-f]{16}){4}", line) for line in lines) and lines[0] != lines[1]
-
-
-def test_the_function_is_the_command(part: Path, crnplan: Command) -> None:
+def test_the_function_is_the_command(part: Path, crnplan: Command, room: Path) -> None:
     found = crn.check_keys(crn.Scenario.read(part), "both", keys=[[KEYS[0]]], replications=16)
     words = ["check", "-", "both", "--key", KEYS[0], "--replications", "16"]
     told = crnplan(*words, data=part.read_bytes())
     assert (told.output, told.status) == (found.text, 0 if found.holds else 1)
     data = json.loads(crnplan(*words, "--json", data=part.read_bytes()).output)
-    assert data["keys"] == [[KEYS[0], *OWN.split()[1:]]] and data["replications"] == 16
+    assert data["keys"] == [[KEYS[0], *OWN[1:]]] and data["replications"] == 16
     assert [it["policy"] for it in data["policies"]] == list(found.frame.index)
     assert [it["verdict"] for it in data["policies"]] == list(found.frame["verdict"])
+    words = ["check", "examples/spare_part.toml", "both", "--replications", "2"]
+    lines = [crnplan(*words).output.split("\n")[0] for _ in range(2)]
+    assert all(re.fullmatch("key( [0-9a-f]{16}){4}", line) for line in lines) and lines[0] != lines[1]
+
+
+def test_given() -> None:
+    four = ["000000000000000a", "000000000000000b", "000000000000000c", "000000000000000d"]
+    assert keys_of([KEYS[:1], four], None, OWN) == [(KEYS[0], *OWN[1:]), tuple(four)]
+
+
+@pytest.mark.parametrize("count", [None, 1, 3, 64])
+def test_drawn(count: int | None) -> None:
+    drawn, more = keys_of([], count, OWN), keys_of([KEYS[:1]], count, OWN)
+    assert len(drawn) == len(more) == (count or 1) and more[0] == (KEYS[0], *OWN[1:])
+    assert len({*drawn, *more, OWN}) == 2 * (count or 1) + 1
+    assert all(len(key) == 4 and all(re.fullmatch("[0-9a-f]{16}", word) for word in key) for key in drawn)

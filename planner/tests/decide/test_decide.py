@@ -1,4 +1,4 @@
-"""Tests of paired-t intervals, of crnplan decide with its warnings, and of what the commands of decisions refuse.
+"""Tests of paired-t intervals, of crnplan decide with its warnings, of what commands refuse, and of the worked case.
 
 Intervals are compared with those of costs from which a report is made by the definitions of docs/FORMATS.md.
 """
@@ -8,22 +8,25 @@ import csv
 import dataclasses
 import json
 import math
+import os
+import shutil
 import statistics
+import subprocess
+import sys
 import tomllib
 from collections.abc import Callable, Mapping, Sequence
 from fractions import Fraction
 from pathlib import Path
 
 import pytest
-from hypothesis import assume, given
-from hypothesis import strategies as st
+from hypothesis import assume, given, strategies as st
 from scipy import stats
 
 from crnplan.decide.verdicts import check_replications, estimates_of, own_variance, t_quantile, with_intervals
 from crnplan.errors import Refused
 from crnplan.scenario import Scenario
 from crnplan.theory.run_effects import end_effects
-from planner.tests.conftest import Command
+from planner.tests.conftest import Command, script
 from planner.tests.decide.answers import changed, priced, report_of, rows_of_costs
 
 HERE = Path(__file__).parent
@@ -44,8 +47,11 @@ PARTS: dict[str, Callable[[list[str]], list[str]]] = {
 
 
 # Changes of that example itself.
-SCENARIOS = {"below": ("initial = 12", "initial = -1"), "comma": ("initial = 12", "initial = 1,200"),
-             "free": ("holding = 2", "holding = 0")}
+SCENARIOS = {"below": ["initial = 12", "initial = -1"], "comma": ["initial = 12", "initial = 1,200"],
+             "free": ["holding = 2", "holding = 0"], "no_table": ["[lead]", "lead"], "named": ['"today"', '"s1_S9"'],
+             "nothing": ["[0, 1, 2, 3, 4, 5, 8]", "[0]", "[8, 14, 22, 24, 18, 10, 4]", "[1]"],
+             "apart": ["version = 1", "version = 2", "[0, 1, 2, 3, 4, 5, 8]", "[0, 1]", "[8, 14, 22, 24, 18, 10, 4]",
+                       "[30000, 30001]", "[lead]", "[returns]\nvalues = [0, 1]\nweights = [1, 1]\n\n[lead]"]}
 # The costs of each policy in each replication.
 Costs = Mapping[str, Sequence[int]]
 
@@ -64,23 +70,22 @@ def cases_room(room: Path, write_priced: Callable[[str, str], None]) -> Path:
     for name, part in PARTS.items():
         (room / f"{name}.csv").write_text("".join(part(rows)), "latin-1")
     text = (room / "examples/spare_part.toml").read_text("utf-8")
-    for name, pair in SCENARIOS.items():
-        (room / f"{name}.toml").write_text(changed(text, *pair), "utf-8")
+    for name, pairs in SCENARIOS.items():
+        (room / f"{name}.toml").write_text(changed(text, *pairs), "utf-8")
     only = text.partition("[[policy]]")[0] + '[[policy]]\nname = "only"\ns = 1\nS = 2\n'
     (room / "only.toml").write_text(only, "utf-8")
     (room / "demand.csv").write_text("period,demand\n1,0\n2,3\n", "utf-8")
     (room / "leads.csv").write_text("weeks\n1\n2\n", "utf-8")
-    (room / "two_lines").write_text("#!/bin/sh\necho first >&2\necho second >&2\nexit 2\n", "utf-8")
-    (room / "two_lines").chmod(0o755)
+    script(room / "two_lines", "echo first >&2\necho second >&2\nexit 2")
     (room / "decisions.toml").symlink_to(HERE / "decisions.toml")
     write_priced("priced", priced(room / "examples/spare_part.toml", 5))
     return room
 
 
 @pytest.mark.parametrize(("words", "status", "part"), COMMANDS, ids=[f"{it[0]}: {it[2][:40]}" for it in COMMANDS])
-def test_prints_or_refuses(cases_room: Path, crnplan: Command, words: str, status: int, part: str) -> None:
+def test_prints_or_refuses(cases_room: Path, crnplan: Command, words: str | list[str], status: int, part: str) -> None:
     """Checks the status and a part of what is printed. A refusal has one line, or one for each fault."""
-    told = crnplan(*words.replace("SPARE", "examples/spare_part").split())
+    told = crnplan(*words.replace("SPARE", "examples/spare_part").split() if isinstance(words, str) else words)
     assert told.status == status and part in told.output + told.errors
     assert status == 0 or told.output == "" and (told.errors.count("\n") == 1 or part.startswith("fault "))
 
@@ -140,12 +145,10 @@ def test_warns_of_end_effects_as_counted(room: Path, program: Path, write_priced
         assert "WARNING" not in shown[3 - place]
 
 
-def test_does_not_warn_without_unit(crnplan: Command) -> None:
+def test_warnings_without_unit_or_number(crnplan: Command, room: Path,
+                                         write_priced: Callable[[str, str], None]) -> None:
     shown = crnplan("decide", "examples/spare_part.csv", "--scenario", "examples/spare_part.toml")
     assert shown.status == 0 and "unit" not in shown.output + shown.errors
-
-
-def test_warns_without_a_number(room: Path, write_priced: Callable[[str, str], None], crnplan: Command) -> None:
     write_priced("more_back", changed(priced(room / "examples/mail_order.toml", 20), "[0, 1, 2, 3, 4, 6]",
                                       "[10, 11, 12, 13, 14, 16]"))
     shown = crnplan("decide", "more_back.csv", "--scenario", "more_back.toml")
@@ -184,8 +187,10 @@ def near(ends: list[float]) -> object:
 
 @given(costs(st.integers(2, 12)), st.integers(1, 9), st.sampled_from([0.5, 0.9, 0.95, 0.99]))
 def test_intervals_are_those_of_the_costs_themselves(drawn: Costs, periods: int, level: float) -> None:
-    count, base = len(drawn["p0"]), drawn["p0"]
-    compared = with_intervals(rows_of_costs(drawn, periods), count, level)
+    count, base, rows = len(drawn["p0"]), drawn["p0"], rows_of_costs(drawn, periods)
+    for row in rows:
+        assert own_variance(row, rows[0], count) == statistics.variance(map(Fraction, drawn[row.policy]))
+    compared = with_intervals(rows, count, level)
     assert [it.diff for it in compared] == pytest.approx(
         sorted((sum(own) - sum(base)) / count for own in drawn.values()))
     for it in compared:
@@ -206,13 +211,6 @@ def test_intervals_are_those_of_the_costs_themselves(drawn: Costs, periods: int,
         assert it.std_error == pytest.approx(spread / math.sqrt(count), rel=1e-9, abs=1e-9)
         verdict = "worse" if wanted[0] > 0 else "better" if wanted[1] < 0 else "undecided"
         assert it.verdict == verdict or min(map(abs, wanted)) <= rounding(wanted)
-
-
-@given(costs(st.integers(2, 12)))
-def test_own_variance_is_exact(drawn: Costs) -> None:
-    base, *others = rows_of_costs(drawn, 3)
-    for row in (base, *others):
-        assert own_variance(row, base, len(drawn["p0"])) == statistics.variance(map(Fraction, drawn[row.policy]))
 
 
 @given(costs(st.integers(1, 12), least=1), st.integers(1, 9), st.integers(1, 24))
@@ -253,3 +251,37 @@ def test_figures_that_contradict_each_other_are_rejected(fields: dict[str, objec
     base, other = rows_of_costs({"p0": [3, 4], "p1": [5, 5]}, 1)
     with pytest.raises(Refused, match="^it.csv:3: this is no report of 2 replications"):
         check_replications([base, dataclasses.replace(other, **fields)], 2, "it.csv")
+
+
+STORED = ["scenario.toml", "notes.txt", "report.csv", "decision.txt", "sweep.csv", "why.txt", "suggested.toml",
+          "suggested.txt", "long_run.txt", "check.txt", "doubt.txt"]
+# The page whose blocks of `sh` are run, if it is not the one in place.
+PAGE = "CASE_README"
+
+
+@pytest.fixture
+def environment(tmp_path: Path, program: Path) -> dict[str, str]:
+    """Returns the environment of a shell that finds the tested program and this Python's crnplan."""
+    (tmp_path / "bin").mkdir()
+    (tmp_path / "bin/crnsim").symlink_to(program)
+    path = os.pathsep.join([str(tmp_path / "bin"), str(Path(sys.executable).parent), os.environ["PATH"]])
+    return {**os.environ, "PATH": path, "CRNSIM": str(program)}
+
+
+def test_the_case_is_as_its_page_says(top: Path, tmp_path: Path, environment: dict[str, str]) -> None:
+    """Each command writes each file byte for byte. Each example has a report."""
+    shutil.copytree(top / "examples/case", tmp_path / "examples/case")
+    for name in STORED:
+        (tmp_path / "examples/case" / name).unlink()
+    page = Path(os.environ.get(PAGE, top / "examples/case/README.md")).read_text("utf-8")
+    blocks = [block.split("```")[0].splitlines() for block in page.split("```sh\n")[1:]]
+    commands = [line for block in blocks for line in block]
+    assert len(commands) == 11
+    for command in commands:
+        ran = subprocess.run(["sh", "-c", command], cwd=tmp_path, env=environment, capture_output=True, text=True)
+        # `why` answers no: the scenario has faults.
+        assert ran.returncode == int("broken" in command), f"{command}: {ran.stderr}"
+    for name in STORED:
+        stored = (top / "examples/case" / name).read_bytes()
+        assert (tmp_path / "examples/case" / name).read_bytes() == stored != b"", name
+    assert {it.stem for it in (top / "examples").glob("*.toml")} == {"mail_order", "spare_part", "two_policies"}

@@ -1,7 +1,6 @@
-"""Tests of the doubt about laws: by hand, by the theory of one law and by runs; its command, its picture, its study."""
+"""Tests of the doubt about laws: by hand, by the theory of one law and by runs; its command and its picture."""
 from __future__ import annotations
 
-import csv
 import dataclasses
 import json
 import math
@@ -11,41 +10,34 @@ from pathlib import Path
 from xml.etree import ElementTree
 
 import numpy as np
-import pandas as pd
 import pytest
 
 import crnplan as crn
-from crnplan.decide.doubt import HELD, Doubt, doubt
+from crnplan.decide.doubt import Doubt, doubt
 from crnplan.decide.verdicts import t_quantile
 from crnplan.demand.posterior import AllowedLaws, allowed_laws, allowed_leads
-from crnplan.errors import Refused, ScenarioError
-from crnplan.law import Law
 from crnplan.pages.pictures import regrets_picture, save
-from crnplan.scenario import Policy, Scenario
 from crnplan.theory.lattice import theories_of
 from crnplan.theory.many_laws import LawFigures
-from planner.studies import doubt as study, laws
 from planner.tests.conftest import Command
-from planner.tests.demand.made import compare
 
 HISTORY = [0, 3, 1, 9, 0, 0, 2, 5, 14, 1, 0, 4, 2, 2, 7, 0, 1, 3, 21, 0, 6, 1]
 LEADS = [2, 3, 2, 4]
-LAW = Law((0, 3), (1, 1))
+LAW = crn.Law((0, 3), (1, 1))
 SALES = [0, 3, 1, 2, 4, 2, 2, 5, 3, 1, 8, 3, 2, 1, 3, 2, 0, 4, 3, 2]
 SALES_LEADS = [1, 2, 3, 2]
 SCENARIO = "examples/spare_part.toml"
-STUDIED = [{0: 3, 1: 2, 4: 2, 9: 1}, {0: 1, 2: 3, 3: 1}]
 
 
 @pytest.fixture
-def part() -> Scenario:
+def part() -> crn.Scenario:
     part = crn.Scenario.of(crn.fit_demand(HISTORY, method="auto"), crn.fit_lead(LEADS), setup=100, holding=1, backlog=9,
                            today=(15, 40), periods=26, replications=16)
-    return part.changed(policies=[Policy("today", 15, 40), Policy("low", 8, 30)])
+    return part.changed(policies=[crn.Policy("today", 15, 40), crn.Policy("low", 8, 30)])
 
 
 @pytest.fixture
-def by_hand(part: Scenario) -> Doubt:
+def by_hand(part: crn.Scenario) -> Doubt:
     """Returns a doubt with figures that are easy to follow: five laws, two policies."""
     cost = np.array([[100.0, 102], [110, 100], [100, 100], [121, 110], [100, 125]])
     fill = np.array([[0.95, 0.9], [0.96, 0.91], [0.97, 0.92], [0.98, 0.93], [0.99, 0.94]])
@@ -81,9 +73,6 @@ def test_sentences(by_hand: Doubt) -> None:
                  "1 laws of 6 are left out", "in steps of up to 3 items: costs are right to about 0.20%",
                  "the mean demand of the scenario is "):
         assert note in text
-
-
-def test_single_policy(by_hand: Doubt) -> None:
     figures = dataclasses.replace(by_hand.figures, cost=by_hand.figures.cost[:, :1], fill=by_hand.figures.fill[:, :1])
     alone = dataclasses.replace(by_hand, policies=by_hand.policies[:1], figures=figures)
     assert alone.sentence == "today is within 3% of the best of all under 60% of the laws that this history allows."
@@ -93,7 +82,7 @@ def test_single_policy(by_hand: Doubt) -> None:
     assert "at most 10.0% more than the best of these" in unknown.bounds
 
 
-def test_figures_are_those_of_each_law(part: Scenario) -> None:
+def test_figures_are_those_of_each_law(part: crn.Scenario) -> None:
     found = doubt(part, HISTORY, LEADS, times=12, seed=3)
     demands, leads = allowed_laws(HISTORY, times=12, seed=3).laws, allowed_leads(LEADS, times=12, seed=3).laws
     theories = [theories_of(dataclasses.replace(part, demand=demand, lead=lead), 100)[0]
@@ -111,20 +100,13 @@ def test_figures_are_those_of_each_law(part: Scenario) -> None:
     assert again.table.records == found.table.records != other.table.records
 
 
-def test_policies_and_lead_times(part: Scenario) -> None:
+def test_policies_lead_times_and_returns(part: crn.Scenario) -> None:
     found = doubt(part, HISTORY, policies=[(10, 30), (15, 40), (10, 30)], times=10)
     assert sorted(found.frame.index) == ["s10_S30", "s15_S40"] and found.lead is None
     leads = doubt(part, HISTORY, [7], policies=[(10, 30), (15, 40)], times=10)
     assert leads.table.records != found.table.records and "lead time of the scenario is 2.75, but 7 to 7" in leads.text
-    assert crn.doubt(part, HISTORY, times=10).table.records == doubt(part, HISTORY, times=10).table.records
-
-
-def test_boxes(part: Scenario) -> None:
-    found = doubt(part, [4 * it for it in HISTORY], times=10, box=4)
-    assert found.table.records == doubt(part, HISTORY, times=10).table.records
-
-
-def test_returns(part: Scenario) -> None:
+    boxes = doubt(part, [4 * it for it in HISTORY], times=10, box=4)
+    assert crn.doubt(part, HISTORY, times=10).table.records == boxes.table.records
     found = doubt(part.changed(returns={0: 1, 6: 1}), HISTORY, times=30)
     assert 0 < len(found.figures.laws) < 30
     assert f"{30 - len(found.figures.laws)} laws of 30 are left out" in found.text
@@ -133,18 +115,13 @@ def test_returns(part: Scenario) -> None:
 @pytest.mark.parametrize(("words", "text"), [
     ({"times": 9}, "times=9: there can be 10 to 2,000 laws"), ({"within": -0.1}, "within=-0.1: it is a share"),
     ({"within": math.nan}, "within=nan"), ({"policies": []}, "there is none; give at least one"),
-    ({"seed": -1}, "-1 is no seed")])
-def test_refused(part: Scenario, words: dict[str, object], text: str) -> None:
-    with pytest.raises(Refused, match=text):
+    ({"seed": -1}, "-1 is no seed"), ({"policies": [(9, 4)]}, "s = 9")])
+def test_refused(part: crn.Scenario, words: dict[str, object], text: str) -> None:
+    with pytest.raises(crn.Refused, match=text):
         doubt(part, HISTORY, **words)  # type: ignore[arg-type]
 
 
-def test_policy_out_of_range(part: Scenario) -> None:
-    with pytest.raises(ScenarioError, match="s = 9"):
-        doubt(part, HISTORY, policies=[(9, 4)])
-
-
-def runs_of(part: Scenario, program: Path) -> Iterator[list[tuple[float, float]]]:
+def runs_of(part: crn.Scenario, program: Path) -> Iterator[list[tuple[float, float]]]:
     """Yields for each law cost and standard deviation of each policy, from the intervals of a decision."""
     for law in allowed_laws(HISTORY, times=10).laws:
         frame = part.changed(demand=law).run(program=program).decide(0.9).frame
@@ -153,7 +130,7 @@ def runs_of(part: Scenario, program: Path) -> Iterator[list[tuple[float, float]]
                for it in part.policies]
 
 
-def test_runs(part: Scenario, program: Path) -> None:
+def test_runs(part: crn.Scenario, program: Path) -> None:
     """Runs have the costs of the scenario under each law; the spread of luck is that of one replication."""
     found = doubt(part, HISTORY, times=10, runs=True, program=program)
     expected = np.array([*runs_of(part, program)])
@@ -224,7 +201,7 @@ def test_picture(demand: Path, crnplan: Command) -> None:
 @pytest.mark.parametrize("most", [0.0, 0.004, 0.4, 80.0])
 def test_ticks_have_room(tmp_path: Path, most: float) -> None:
     path, costs = tmp_path / "doubt.svg", 1 + np.array([[0.0, most], [most / 2, 0.0]])
-    scenario = crn.Scenario.read(SCENARIO).with_policies([Policy("one", 1, 2), Policy("other", 3, 4)])
+    scenario = crn.Scenario.read(SCENARIO).with_policies([crn.Policy("one", 1, 2), crn.Policy("other", 3, 4)])
     figures = LawFigures((0, 1), costs, costs, costs[:, 0], 1, None)
     save(regrets_picture(Doubt(scenario, scenario.policies, 0.03, AllowedLaws({}, ()), None, figures)), path)
     texts = [it.text or "" for it in ElementTree.parse(path).iter("{http://www.w3.org/2000/svg}text")]
@@ -233,56 +210,3 @@ def test_ticks_have_room(tmp_path: Path, most: float) -> None:
     roots = np.sqrt(ticks)
     assert shares == [100, 50 if most > 0.03 else 100] or shares == [50, 50]
     assert len(ticks) >= 3 and ticks[0] == 0 and np.diff(roots).min() > 0.05 * np.sqrt(100 * max(most, 0.03))
-
-
-def test_study_has_the_figures_of_theory() -> None:
-    """For several laws at once: costs, fill rates, least costs, and the cheapest policy with a fill rate."""
-    chances = [np.bincount([*its], [*its.values()]) for its in STUDIED]
-    orders = [30.0, 200.0, 30.0, 200.0]
-    runs = study.PickedRuns(chances, 60, 160)
-    least, alone = runs.least(orders), [study.PickedRuns([it], 60, 160) for it in chances]
-    for at, (lead, backlog, _) in enumerate(study.PICKED):
-        for row, weights in enumerate(STUDIED):
-            scenario = Scenario.of(weights, {lead: 1}, setup=int(orders[at]), holding=1, backlog=backlog, today=(9, 20))
-            theory, _ = theories_of(scenario)
-            figures, best, filled = theory.figures(9, 20), theory.best(), theory.best(0.98)
-            assert runs.cost(at, orders[at], 11, 20)[row] == pytest.approx(figures.cost)
-            assert runs.fill(at, 11, 20)[row] == pytest.approx(figures.fill)
-            assert least[row, at] == pytest.approx(best.cost)
-            gap, level = alone[row].filled(at, orders[at], 0.98)
-            assert theory.figures(level - gap, level).cost == pytest.approx(filled.cost, rel=0.011)
-            assert theory.figures(level - gap, level).fill >= 0.98
-
-
-def test_one_case() -> None:
-    """Without a doubt about the law, all bounds hold and the promise is true."""
-    case = study.Case("P2")
-    best = [case.truth.best[place] for place in study.PLACES]
-    costs, fills = case.under(case.runs, best, [(it.gap, it.level) for it in best])
-    assert costs[0] == pytest.approx(case.best) == case.runs.least(case.orders)[0]
-    assert ((0.5 < fills) & (fills < 1)).all()
-
-
-def test_small_part(top: Path) -> None:
-    rows = study.study(**study.SMALL)
-    compare(rows, top / "planner/studies/doubt.csv", ["law", "periods"], [*study.FIGURES])
-
-
-def test_stored_figures(top: Path) -> None:
-    """What the package says of how often its bounds held are the least and the most of the stored figures."""
-    rows = study.summary(pd.read_csv(top / "planner/studies/doubt.csv"))
-    its = rows[rows["group"] == "all"]
-    for name in ("regret", "fill"):
-        found = its[f"{name}_held"]
-        assert HELD[name] == (round(found.min()), round(found.max()))
-    assert [*its["periods"]] == [*laws.PERIODS]
-
-
-def test_summary() -> None:
-    rows = pd.DataFrame({"group": ["designed", "others"], "law": ["a", "b"], "periods": 26,
-                         **{it: [80.0, 90.0] for it in study.FIGURES},
-                         **{f"{it}_error": [3.0, 4.0] for it in study.FIGURES}})
-    lines = study.summary(rows).to_dict("records")
-    assert [(it["group"], it["promise"], it["promise_error"]) for it in lines] == [
-        ("designed", 80, 3), ("others", 90, 4), ("all", 85, 2.5)]
-    assert [it["fill_held_worst"] for it in lines] == ["80 (a)", "90 (b)", "80 (a)"]

@@ -1,5 +1,4 @@
-"""Tests decisions of the long run: intervals, the correction of a common start, warnings, commands, and the study of
-the intervals: its items, its exact targets by a Markov chain, and a small part."""
+"""Tests decisions of the long run: intervals, correction of a common start, warnings, commands, and their study."""
 from __future__ import annotations
 
 import json
@@ -12,13 +11,13 @@ from pathlib import Path
 import pytest
 from scipy import stats
 
+from crnplan.crnsim.long_run import LongRunReport
+from crnplan.crnsim.report import Row
 from crnplan.decide import long_run
 from crnplan.decide.keys import check_long_run
 from crnplan.decide.long_run import corrected_decision, long_run_decision, start_warning
 from crnplan.decide.sensitivity import sensitivity
 from crnplan.decide.verdicts import Compared, Decision
-from crnplan.crnsim.long_run import LongRunReport
-from crnplan.crnsim.report import Row
 from crnplan.errors import Refused
 from crnplan.law import Law
 from crnplan.remarks import Remark
@@ -64,9 +63,6 @@ def test_intervals_are_paired_t_intervals(report: LongRunReport) -> None:
         assert row.verdict == ("worse" if mean > joint * error else "better" if mean < -joint * error else "undecided")
         assert row.percent == pytest.approx(100 * mean / (statistics.mean(base) / 1020))
     assert rows["today"].verdict == "base" and rows["today"].low is None
-
-
-def test_theory_beside_is_that_of_a_chain(report: LongRunReport) -> None:
     found = long_run_decision(report)
     exact = {it.name: by_chain(PART.with_policies([it]))[0] for it in PART.policies}
     for name, row in by_name(found).items():
@@ -78,8 +74,7 @@ def test_theory_beside_is_that_of_a_chain(report: LongRunReport) -> None:
 
 @pytest.mark.parametrize("returns", [None, {0: 3, 1: 1, 2: 1}], ids=["none", "returns"])
 def test_what_items_cost_is_left_out(returns: dict[int, int] | None, program: Path) -> None:
-    """In the long run each policy buys what is asked for less what comes back, whatever an item costs: a run of so
-    many periods differs from that by less than the stock of its end."""
+    """Each policy buys what is asked for less what comes back, so a run differs by its end alone."""
     asked = PART.changed(returns=returns, periods=60)
     free, priced = (by_name(corrected_decision(its.run(program=program).rows, its))
                     for its in (asked, asked.changed(costs={"unit": 10})))
@@ -112,6 +107,8 @@ def test_strong_effects_of_the_start_are_said(program: Path) -> None:
     found = corrected_decision(PART.run(program=program).rows, PART)
     assert all(abs(by_name(found)[it].effect or 0) > 0.25 for it in ("more", "less"))
     assert found.warnings == (Remark("strong start", {"policies": "more, less", "most": 0.25}),)
+    with pytest.raises(Refused, match="one replication tells nothing of spread"):
+        corrected_decision([], replace(PART, replications=1))
 
 
 def effects_of(scenario: Scenario, rows: Sequence[Row]) -> dict[str, float]:
@@ -148,31 +145,13 @@ def test_no_warning_if_theory_cannot_tell(program: Path, monkeypatch: pytest.Mon
     assert not start_warning(rows, PART)
 
 
-def test_decide_warns_of_the_start(crnplan: Command, room: Path, program: Path) -> None:
-    free = replace(PART, costs=replace(PART.costs, unit=0))
-    (room / "part.toml").write_text(free.toml())
-    rows = free.run(program=program)
-    (room / "report.csv").write_text(rows.text)
-    warning, = map(sentence, start_warning(rows.rows, free))
-    text, table, tree = (crnplan("decide", "report.csv", "--scenario", "part.toml", *it)
-                         for it in ([], ["--csv"], ["--json"]))
-    assert text.output.startswith("The coming 40 periods from a stock of 25\n\npolicy ")
-    end = f"\n\nWARNING: {warning}\n"
-    assert text.output.endswith(end) and table.errors.endswith(end)
-    read = json.loads(tree.output)
-    assert read["warnings"] == [warning] and read["horizon"] == "the coming 40 periods from a stock of 25"
-    assert "WARNING" not in crnplan("decide", "report.csv", "--replications", "64").output
-
-
-def test_no_interval_for_fewer_than_two_orders(program: Path) -> None:
+def test_no_interval(program: Path) -> None:
+    """There is none for fewer than two orders, and without spread."""
     for found in (long_run_decision(SLOW.long_run(keys=2, program=program)),
                   corrected_decision(SLOW.run(program=program).rows, SLOW)):
         row = by_name(found)["more"]
         assert (row.std_error, row.low, row.high, row.cost_low, row.verdict) == (None, None, None, None, "undecided")
         assert Remark("few orders", {"policies": "more", "least": 2}) in found.warnings
-
-
-def test_no_interval_without_spread(program: Path) -> None:
     found = long_run_decision(EVEN.long_run(program=program))
     row = by_name(found)["equal"]
     assert (row.diff, row.std_error, row.low, row.verdict) == (0, None, None, "undecided")
@@ -190,7 +169,7 @@ def test_a_start_beside_the_packs_is_said(initial: int, said: str, program: Path
 
 
 def test_disagreement_with_theory_is_said(report: LongRunReport, monkeypatch: pytest.MonkeyPatch) -> None:
-    """Theory is made wrong by a fifth of setup, and then said to be on a coarse lattice."""
+    """Theory is made wrong by a fifth of setup, then said to be on a coarse lattice, and then not known."""
     theory = long_run.theory_of(PART)
     theory.setup = theory.setup * 6 // 5
     monkeypatch.setattr(long_run, "theory_of", lambda scenario: theory)
@@ -200,21 +179,13 @@ def test_disagreement_with_theory_is_said(report: LongRunReport, monkeypatch: py
     coarse = long_run_decision(report)
     assert coarse.warnings == ()
     assert "by theory, rounded to steps of 1 items, so not compared with the intervals\n" in coarse.notes
-
-
-def refuse(scenario: Scenario) -> None:
-    raise NoTheory("too far apart")
-
-
-def test_runs_without_theory(report: LongRunReport, monkeypatch: pytest.MonkeyPatch) -> None:
     monkeypatch.setattr(long_run, "theory_of", refuse)
     found = long_run_decision(report)
     assert "theory_cost" not in found.table.names and "theory is not known: too far apart" in found.text
 
 
-def test_corrections_need_replications() -> None:
-    with pytest.raises(Refused, match="one replication tells nothing of spread"):
-        corrected_decision([], replace(PART, replications=1))
+def refuse(scenario: Scenario) -> None:
+    raise NoTheory("too far apart")
 
 
 def test_run_prints_the_long_run(crnplan: Command, room: Path) -> None:
@@ -247,7 +218,7 @@ def test_run_for_a_horizon(crnplan: Command, room: Path, program: Path) -> None:
         assert table == (wanted.status, crnplan(name, "near.toml", *rest, "--json").output, says)
 
 
-def test_decide_prints_the_long_run(crnplan: Command, room: Path, program: Path) -> None:
+def test_decide_on_a_report(crnplan: Command, room: Path, program: Path) -> None:
     (room / "part.toml").write_text(PART.toml())
     rows = PART.run(program=program)
     (room / "report.csv").write_text(rows.text)
@@ -256,6 +227,19 @@ def test_decide_prints_the_long_run(crnplan: Command, room: Path, program: Path)
     assert "from a common stock of 25 over 40 periods, less the bias of that start" in found.output
     sweep = crnplan("decide", "report.csv", "--scenario", "part.toml", "--sweep", "--long-run", "--csv")
     assert sweep.output.splitlines()[0].endswith(",theory_cost,theory_diff,effect")
+    free = replace(PART, costs=replace(PART.costs, unit=0))
+    (room / "part.toml").write_text(free.toml())
+    rows = free.run(program=program)
+    (room / "report.csv").write_text(rows.text)
+    warning, = map(sentence, start_warning(rows.rows, free))
+    text, table, tree = (crnplan("decide", "report.csv", "--scenario", "part.toml", *it)
+                         for it in ([], ["--csv"], ["--json"]))
+    assert text.output.startswith("The coming 40 periods from a stock of 25\n\npolicy ")
+    end = f"\n\nWARNING: {warning}\n"
+    assert text.output.endswith(end) and table.errors.endswith(end)
+    read = json.loads(tree.output)
+    assert read["warnings"] == [warning] and read["horizon"] == "the coming 40 periods from a stock of 25"
+    assert "WARNING" not in crnplan("decide", "report.csv", "--replications", "64").output
 
 
 def test_check_in_the_long_run(crnplan: Command, room: Path, program: Path) -> None:
@@ -274,9 +258,6 @@ def test_check_in_the_long_run(crnplan: Command, room: Path, program: Path) -> N
     assert (tree["holds"], tree["keys"], tree["replications"]) == (False, [list(key) for key in keys], 96)
     holds = crnplan("check", "part.toml", "less", "--long-run", "--csv")
     assert holds.status == 0 and holds.output.startswith("policy,s,S,cost,") and "less holds" in holds.errors
-
-
-def test_check_of_slow_movers_pools_orders(program: Path) -> None:
     found = check_long_run(SLOW, "more", keys=[["00000000000000a1"], ["00000000000000a2"]], program=program)
     assert found.decision.warnings[0].facts["policies"] == "today" and found.holds
 
@@ -300,14 +281,7 @@ def test_sensitivity_in_the_long_run(crnplan: Command, room: Path, program: Path
     assert plain.split("\n\n", 1)[1] != text.split("\n\n", 1)[1]
 
 
-def test_items_are_those_of_the_catalogue() -> None:
-    found = {it.number: it for it in items_of(1, 6)}
-    assert {number: found[number].today for number in LEVELS} == LEVELS
-    assert list(items_of(1, 6)) == list(found.values())
-
-
 def test_exact_savings_are_those_of_a_chain() -> None:
-    """Items with few states: short lead times and low levels."""
     compared = 0
     for item in items_of(1, 300):
         if max(item.lead.values) > 2 or item.today[1] > 25 or len(item.demand.values) > 5 or item.returns:
@@ -324,6 +298,9 @@ def test_exact_savings_are_those_of_a_chain() -> None:
         if compared == 4:
             return
     pytest.fail("there are too few small items")
+    found = {it.number: it for it in items_of(1, 6)}
+    assert {number: found[number].today for number in LEVELS} == LEVELS
+    assert list(items_of(1, 6)) == list(found.values())
 
 
 @pytest.fixture(scope="module")
@@ -332,7 +309,7 @@ def outcomes(program: Path) -> list[Outcome]:
 
 
 def test_small_part(outcomes: list[Outcome]) -> None:
-    """Both corrected intervals hold as often as 95% intervals do, but for a chance of 1 in 1,000."""
+    """Corrected intervals hold as often as 95% intervals do, but for a chance of 1 in 1,000."""
     least = stats.binom.ppf(0.001, len(outcomes), 0.95)
     assert len(outcomes) > 0.8 * SMALL
     for place in (0, 1):
@@ -340,9 +317,6 @@ def test_small_part(outcomes: list[Outcome]) -> None:
         held = [abs(it.found[place][0] - it.saving) <= half + 1e-9 * it.cost for it, half in halves]
         assert sum(held) >= least
     assert all(it.found[1][0] == pytest.approx(it.found[2][0] - it.bias) for it in outcomes)
-
-
-def test_table(outcomes: list[Outcome]) -> None:
     lines = table_of({1: outcomes}).splitlines()
     assert lines[0].split()[:5] == ["seed", "interval", "items", "held", "%"]
     assert [line[:20].split()[0] for line in lines[1:7]] == ["1"] * 3 + ["all"] * 3

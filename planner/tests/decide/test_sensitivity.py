@@ -1,17 +1,19 @@
-"""Tests of crnplan sensitivity: its regrets compared with runs of scenarios that are changed by hand."""
+"""Tests crnplan sensitivity and how the best policy moves, with scenarios that are changed by hand or made anew."""
 from __future__ import annotations
 
 import csv
+from decimal import Decimal
 from fractions import Fraction
 from pathlib import Path
+from typing import Any
 
 import pytest
-from hypothesis import given
-from hypothesis import strategies as st
+from hypothesis import given, strategies as st
 
 import crnplan as crn
-from crnplan.decide.sensitivity import changed_demand
-from crnplan.law import Law
+from crnplan.decide.sensitivity import AS_IT_IS, Moves, cases_of, changed_demand, moves_of
+from crnplan.theory.lattice import theories_of
+from crnplan.theory.suggestions import suggestions_of
 from planner.tests.conftest import Command
 from planner.tests.decide.answers import changed, report_of
 
@@ -74,8 +76,12 @@ def test_regrets_are_those_of_runs(program: Path, owing: str, shown: Rows) -> No
     assert [*shown] == sorted(shown, key=lambda policy: float(shown[policy]["greatest"]))
 
 
-def test_cheapest_of_each_case(top: Path, program: Path) -> None:
-    """Of many policies the one that is named has the least cost of its case, which is not the same in all cases."""
+def test_an_example_by_hand(crnplan: Command, top: Path, program: Path) -> None:
+    """A row is as worked by hand. The policy that is named has the least cost of its case."""
+    lines = crnplan("sensitivity", "examples/two_policies.toml").output.splitlines()
+    row = next(line for line in lines if line.startswith("B "))
+    regrets = "18.500 (33.33%) 18.500 (33.33%) 18.500 (33.33%) 13.250 (23.87%) 18.500 (33.33%) 18.500 (33.33%)"
+    assert " ".join(row.split()).startswith(f"B 60 80 {regrets}")
     found = crn.sensitivity(crn.Scenario.read(top / "examples/case/scenario.toml"), program=program)
     named = {case: name for case, name, _ in found.cheapest}
     assert len({*named.values()}) > 1 and len(named) == 6
@@ -83,22 +89,9 @@ def test_cheapest_of_each_case(top: Path, program: Path) -> None:
         assert found.frame[case].idxmin() == name and found.frame[case].min() == 0
 
 
-def test_an_example_by_hand(crnplan: Command) -> None:
-    """Compares a row with an example by hand.
-
-    The demands are 1, 2, 2 and 4 in all cases. A never orders and costs 222. B's one order costs 32, and its 21 items
-    are in stock at the ends of two periods: (32 + 2 * 21) / 4. With a lead time of 2 they come a period later, so they
-    are in stock at the end of one: (32 + 21) / 4.
-    """
-    lines = crnplan("sensitivity", "examples/two_policies.toml").output.splitlines()
-    row = next(line for line in lines if line.startswith("B "))
-    regrets = "18.500 (33.33%) 18.500 (33.33%) 18.500 (33.33%) 13.250 (23.87%) 18.500 (33.33%) 18.500 (33.33%)"
-    assert " ".join(row.split()).startswith(f"B 60 80 {regrets}")
-
-
 @given(st.dictionaries(st.integers(0, 9000), st.integers(1, 900), min_size=1, max_size=7), st.sampled_from([9, 11]))
 def test_changed_demand_has_the_changed_mean(weights: dict[int, int], tenths: int) -> None:
-    demand = Law.of(weights)
+    demand = crn.Law.of(weights)
     after = changed_demand(demand, tenths)
     assert after.mean == Fraction(sum(it * weights[it] for it in weights), sum(weights.values())) * tenths / 10
     assert {it for value in weights for it in (tenths * value // 10, -(-tenths * value // 10))} == set(after.values)
@@ -107,7 +100,7 @@ def test_changed_demand_has_the_changed_mean(weights: dict[int, int], tenths: in
 @given(st.dictionaries(st.integers(0, 9000), st.integers(1, 65_536), min_size=1, max_size=7).filter(
     lambda its: sum(its.values()) <= 65_536), st.sampled_from([9, 11]))
 def test_changed_weights_stay_in_range(weights: dict[int, int], tenths: int) -> None:
-    after = changed_demand(Law.of(weights), tenths)
+    after = changed_demand(crn.Law.of(weights), tenths)
     wanted = Fraction(sum(it * weights[it] for it in weights), sum(weights.values())) * tenths / 10
     assert sum(after.weights) <= 65_536 and min(after.weights) >= 1
     assert abs(after.mean - wanted) <= Fraction(14 * 9901, 65_536)
@@ -115,8 +108,8 @@ def test_changed_weights_stay_in_range(weights: dict[int, int], tenths: int) -> 
 
 def test_large_weights_keep_their_sum() -> None:
     """Checks weights that are scaled down and rounded, and that those with a common divisor stay exact."""
-    assert sum(changed_demand(Law((1, 2, 3), (1, 40_000, 25_535)), 11).weights) == 65_536
-    assert changed_demand(Law((10, 20), (20_000, 10_000)), 11) == Law((11, 22), (2, 1))
+    assert sum(changed_demand(crn.Law((1, 2, 3), (1, 40_000, 25_535)), 11).weights) == 65_536
+    assert changed_demand(crn.Law((10, 20), (20_000, 10_000)), 11) == crn.Law((11, 22), (2, 1))
 
 
 @pytest.mark.parametrize(("old", "new", "note"), NOTES, ids=[note for *_, note in NOTES])
@@ -127,3 +120,59 @@ def test_notes_what_is_left_out_or_rounded(room: Path, crnplan: Command, old: st
     assert told.status == 0 and note in told.output and not told.errors
     told = crnplan("sensitivity", "noted.toml", "--csv")
     assert told.status == 0 and note in told.errors and note not in told.output
+
+
+LAW = {0: 5, 2: 3, 4: 2, 9: 1}
+MORE = {0: 50, 2: 24, 3: 6, 4: 12, 5: 8, 9: 1, 10: 9}  # Each demand but 0 times 1.1, shared between two whole numbers.
+LESS = {0: 50, 1: 6, 2: 24, 3: 8, 4: 12, 8: 9, 9: 1}
+COSTS = {"setup": Decimal("22.5"), "holding": Decimal("0.3"), "backlog": Decimal("4.5")}
+KEPT = 4, 30
+# What each case changes: a cost by a factor, or a law.
+MOVED: dict[str, dict[str, Any]] = {
+    AS_IT_IS: {}, **{f"{name} {word}": {name: times} for name in COSTS
+                     for word, times in (("halved", Decimal("0.5")), ("doubled", Decimal(2)))},
+    "demand 10% up": {"demand": MORE}, "demand 10% down": {"demand": LESS},
+    "lead times one period longer": {"lead": {3: 1, 4: 1}}}
+
+
+def scenario_of(**changes: Any) -> crn.Scenario:
+    costs = {name: cost * changes.get(name, 1) for name, cost in COSTS.items()}
+    return crn.Scenario.of(changes.get("demand", LAW), changes.get("lead", {2: 1, 3: 1}), **costs, today=(3, 9))
+
+
+@pytest.fixture(scope="module")
+def moves() -> Moves:
+    return moves_of(scenario_of(), "mine", KEPT)
+
+
+@pytest.mark.parametrize("case", MOVED)
+def test_moves_are_those_of_scenarios_made_anew(case: str, moves: Moves) -> None:
+    """The best and the kept policy have theory's figures of the changed scenario."""
+    changed, its = scenario_of(**MOVED[case]), next(it for it in moves.moves if it.words == case)
+    best = next(it for it in suggestions_of(changed).rows if it.policy.name == "best" or "the best" in it.reasons)
+    kept = theories_of(changed)[0].figures(*KEPT)
+    scale, own = float(changed.scale), float(scenario_of().scale)
+    assert (its.s, its.S) == (best.policy.s, best.policy.S)
+    assert [its.cost / own, its.fill] == pytest.approx([best.figures.cost / scale, best.figures.fill], rel=1e-9)
+    assert [its.kept_cost / own, its.kept_fill] == pytest.approx([kept.cost / scale, kept.fill], rel=1e-9)
+    assert its.kept_more == pytest.approx(its.kept_cost / its.cost - 1) and its.kept_more >= -1e-9
+
+
+def test_all_cases_are_there(moves: Moves) -> None:
+    """The cases are those that are tested, as it is first. What cannot be changed is left out with a note below."""
+    assert {it.words for it in moves.moves} == set(MOVED) and moves.moves[0].words == AS_IT_IS
+    assert not moves.remarks and all(f"\n{it} " in moves.text for it in MOVED)
+    free = crn.Scenario.of({0: 9, 9_500: 1}, {32: 1}, setup=0, holding=1, backlog=9, today=(0, 9_500))
+    found = moves_of(free, "mine", KEPT)
+    assert not any(it.words.startswith("setup") for it in found.moves)
+    assert [it.facts["case"] for it in found.remarks] == ["demand 10% up", "lead time plus 1"]
+    assert found.text.split("\n\n")[3].splitlines() == [
+        "demand 10% up is left out: a demand would be 10,450, which is over 10,000",
+        "lead time plus 1 is left out: a lead time would be 33, which is over 32"]
+
+
+@pytest.mark.parametrize("fill, wanted", [(0.95, {"97.5%", "90%"}), (0.4, {"70%"}), (None, set())])
+def test_a_wanted_fill_rate_has_cases(fill: float | None, wanted: set[str]) -> None:
+    """Half and twice as much demand that is not met at once are cases too, if some is still met."""
+    found = {it.words for it in cases_of(scenario_of(), fill, [])}
+    assert {it.split()[3] for it in found if it.startswith("fill rate of ")} == wanted

@@ -1,12 +1,9 @@
-"""Makes histories whose law is known, chances as arrays, and compares figures of studies with stored ones."""
+"""Makes histories whose law is known, and chances as arrays."""
 from __future__ import annotations
 
-import math
 from collections.abc import Sequence
-from pathlib import Path
 
 import numpy as np
-import pandas as pd
 import pytest
 from scipy import stats
 
@@ -49,13 +46,3 @@ def check_law(law: Law, size: int | None = 65_536) -> None:
     """Checks that a law is one that a scenario can have, whose weights add up to a size."""
     assert 0 <= law.values[0] and law.values[-1] <= 10_000 and [*law.values] == sorted({*law.values})
     assert min(law.weights) > 0 and (1 <= sum(law.weights) <= 65_536 if size is None else sum(law.weights) == size)
-
-
-def compare(rows: pd.DataFrame, stored: Path, keys: list[str], figures: list[str]) -> None:
-    """Compares figures with the stored ones, within four standard errors."""
-    table = pd.read_csv(stored).set_index(keys)
-    for row in rows.to_dict("records"):
-        its = table.loc[tuple(row[it] for it in keys)]
-        for name in figures:
-            error = math.hypot(row[f"{name}_error"], its[f"{name}_error"])
-            assert row[name] == pytest.approx(its[name], abs=4 * error + 0.01), (row, name)

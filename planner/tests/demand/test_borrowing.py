@@ -12,8 +12,7 @@ from typing import Any
 
 import numpy as np
 import pytest
-from hypothesis import given, settings
-from hypothesis import strategies as st
+from hypothesis import given, settings, strategies as st
 from scipy import special, stats
 
 import crnplan as crn
@@ -28,8 +27,7 @@ from crnplan.demand.sample import Sample
 from crnplan.errors import Refused, RefusedFaults
 from crnplan.records.observed import Observed
 from crnplan.words import sentence
-from planner.tests.demand.made import (RARE, TRUE_MEAN, TRUE_SHARE, TRUE_SIZE, chances_of, check_law, history,
-                                       logarithms)
+from planner.tests.demand.made import RARE, TRUE_MEAN, TRUE_SHARE, TRUE_SIZE, chances_of, check_law, history, logarithms
 
 ONE_STEP = partial(grid.estimated, steps=1, blur=0)
 
@@ -60,7 +58,6 @@ def mixed() -> dict[str, list[int]]:
 
 
 def borrowed(law: FittedLaw) -> Borrowed:
-    """Returns what is known of a law."""
     assert law.diagnostics.borrowed
     return law.diagnostics.borrowed
 
@@ -82,18 +79,14 @@ def test_learned_prior(mixed: dict[str, list[int]]) -> None:
     assert whole.gain == pytest.approx(gains.mean(), abs=1e-5)
 
 
-def test_cells_of_histories_in_groups() -> None:
-    """Histories with as many periods and demands share a row, and each has the likelihoods that it has alone."""
+def test_histories_in_groups_and_chunks(monkeypatch: pytest.MonkeyPatch, mixed: dict[str, list[int]]) -> None:
+    """Histories with as many periods and demands share a row, and each has its own likelihoods."""
     samples = [Sample.of(it) for it in ([0, 3, 1], [2, 0, 0, 7], [5, 0, 1], [0, 0, 0], [4, 0, 0, 1])]
     cells, = chunks_of(samples)
     assert cells.starts.tolist() == [0, 1, 3] and cells.groups.tolist() == [0, 1, 1, 2, 2] and len(cells.shares) == 3
     prior = np.random.default_rng(3).dirichlet(np.ones(grid.FLAT.size)).reshape(grid.FLAT.shape)
     alone = [float(Cells.of([samples[place]]).marginal(prior)[0]) for place in (3, 0, 2, 1, 4)]
     assert cells.marginal(prior) == pytest.approx(alone)
-
-
-def test_many_histories_in_chunks(monkeypatch: pytest.MonkeyPatch, mixed: dict[str, list[int]]) -> None:
-    """Likelihoods and steps are the same however many histories are computed with at once."""
     samples = [Sample.of(it) for it in mixed.values()]
     whole = chunks_of(samples)
     monkeypatch.setattr("crnplan.demand.learning.CHUNK", 7)
@@ -125,7 +118,7 @@ def test_posterior_on_few_cells(seed: int, numbers: list[int]) -> None:
 
 
 def test_known_law_is_learned(known: Prior) -> None:
-    """The prior is near the law that all items have: its means within three errors and the cells' width."""
+    """The prior is near the law that all items have, and that of an item is all but the true one."""
     assert known.whole
     chances = known.whole.chances
     share = float(chances.sum(axis=1) @ grid.SHARES.mean(axis=1))
@@ -135,10 +128,6 @@ def test_known_law_is_learned(known: Prior) -> None:
     assert mean == pytest.approx(TRUE_MEAN, abs=3 * math.sqrt((TRUE_MEAN + TRUE_MEAN**2 / TRUE_SIZE) / demands) + 0.2)
     near = chances[(np.abs(special.logit(grid.SHARES.mean(axis=1)) - special.logit(TRUE_SHARE)) < 1)]
     assert near.sum() > 0.95
-
-
-def test_known_law_of_an_item(known: Prior) -> None:
-    """A typical item with few demands has all but the true law; its own history says far less."""
     true = np.concatenate([[1 - TRUE_SHARE], TRUE_SHARE * stats.nbinom.pmf(
         np.arange(200), TRUE_SIZE, TRUE_SIZE / (TRUE_SIZE + TRUE_MEAN))])
     distances, rejected = [], 0
@@ -201,7 +190,6 @@ DAMAGES = [
 
 @pytest.mark.parametrize(("damage", "message"), DAMAGES)
 def test_damaged_text(damage: object, message: str, known: Prior) -> None:
-    """A text that is no prior is refused, with what to do."""
     assert callable(damage)
     tree = damage(json.loads(known.text))
     with pytest.raises(Refused) as refused:
@@ -222,14 +210,12 @@ def test_damaged_text(damage: object, message: str, known: Prior) -> None:
     (130, {"borrow": "class", "classes": ["a", "b"], "histories": [[1]] * 130},
      "there are 130 histories and 2 classes; give one for each")])
 def test_refused_catalogues(items: int, words: dict[str, Any], message: str, mixed: dict[str, list[int]]) -> None:
-    """What cannot be learned from is refused, with what to do."""
     histories = dict([*mixed.items()][:items]) | ({f"large {it}": [0, 500] for it in range(4)} if items == 29 else {})
     with pytest.raises(Refused, match=message):
         learn(**{"histories": histories} | words)
 
 
 def test_refused_histories(mixed: dict[str, list[int]]) -> None:
-    """All bad histories are named at once."""
     bad = {"A-1": [0, -2, 3, -1], "B-2": [0, 1.5], "C-3": [], "D-4": np.array([3, -7])}
     with pytest.raises(RefusedFaults) as refused:
         learn({**mixed, **bad})  # type: ignore[dict-item]
@@ -265,8 +251,7 @@ def test_outside_the_grid(mixed: dict[str, list[int]]) -> None:
     ([6, 12, 0, 6, 18, 0, 6, 24], "all demands are packs of 6, as those of few others"),
     ([40] * 20 + [41] * 20, "drawn histories do not look like the real one")], ids=["packs", "guard"])
 def test_law_of_the_item_alone(numbers: list[int], alone: str, known: Prior) -> None:
-    """If few others have packs, or drawn histories do not look like the real one, the item has the law of its own
-    history."""
+    """If few have packs, or drawn histories look unlike the real one, the item's own law is taken."""
     law, expected = law_of(known, numbers), fit_demand(numbers, method="auto")
     found = borrowed(law)
     assert law == expected and (reason(law), found.share) == (alone, 0)
@@ -287,8 +272,7 @@ def test_entry_point(known: Prior) -> None:
 
 
 def expected_law(numbers: Sequence[int], prior: Floats) -> tuple[float, float, Floats]:
-    """Returns, by sums over all points, the chance that an item is like the catalogue; then the share of what was
-    learned in its law, and its law."""
+    """Returns by sums over all points the chance to be like the catalogue, the share learned, and the law."""
     sample, likelihoods = Sample.of(numbers), np.exp(logarithms(numbers))
     weights = np.kron(prior, np.ones((grid.SHARE_POINTS, grid.MEAN_POINTS)) / 80) * likelihoods
     odds = weights.sum() / likelihoods.mean()
@@ -313,8 +297,7 @@ MIXED = [*history(5, 60)[:-14], *[9] * 14]
     (UNLIKE, 0, 0.01), (IN_BETWEEN, 0.05, 0.5), (history(11, 30), 0.9, 1), (MIXED, 0.01, 0.99)],
     ids=["unlike", "in between", "like", "mixed"])
 def test_law_of_a_doubtful_item(numbers: list[int], least: float, most: float, known: Prior) -> None:
-    """The law is that of the learned prior and that of the flat one, each as likely as it is after the history, and
-    mixed with the history by the Dirichlet weight."""
+    """It mixes the laws of the learned and the flat prior by their posterior chances, and the history."""
     assert known.whole
     alike, share, expected = expected_law(numbers, known.whole.chances)
     law = law_of(known, numbers)
@@ -367,8 +350,7 @@ def test_items_with_few_demands(numbers: list[int], few: bool, known: Prior) -> 
 
 
 def test_classes(monkeypatch: pytest.MonkeyPatch, mixed: dict[str, list[int]]) -> None:
-    """A small class is pulled to the catalogue, a large one has a prior of its own, and an item without a class that of
-    the catalogue."""
+    """A small class is pulled to the catalogue, a large one is alone, an item without one has the catalogue's."""
     classes = dict(zip(mixed, itertools.cycle(["a", "b", "a", None])))
     prior = learn(mixed, classes, "class")
     assert prior.whole and prior.classes
@@ -392,7 +374,7 @@ def test_classes(monkeypatch: pytest.MonkeyPatch, mixed: dict[str, list[int]]) -
 
 
 def test_drawn_laws(known: Prior) -> None:
-    """Their mean is the law of the item within the error of the draws, and the same seed gives the same laws."""
+    """Their mean is the law of the item, but for the error of draws. Their shares spread as the posterior law does."""
     for numbers in (history(3, 40), MIXED, IN_BETWEEN):
         law, drawn = law_of(known, numbers), borrowed_laws(known, numbers, times=1500)
         assert drawn.families == {"borrowed": 1500} and {sum(it.weights) for it in drawn.laws} == {65_536}
@@ -405,10 +387,6 @@ def test_drawn_laws(known: Prior) -> None:
     assert borrowed_laws(known, RARE, times=4) != borrowed_laws(known, RARE, times=4, seed=2)
     with pytest.raises(Refused, match="0 is no number of laws; it is at least 1"):
         borrowed_laws(known, RARE, times=0)
-
-
-def test_drawn_laws_spread(known: Prior) -> None:
-    """The shares of drawn laws spread as the posterior law of the share does."""
     assert known.whole
     posterior = Posterior.of(Sample.of(history(11, 30)), known.whole.chances)
     weights = (known.whole.chances @ posterior.sizes.mean(axis=1))[:, None] * posterior.shares
@@ -419,31 +397,26 @@ def test_drawn_laws_spread(known: Prior) -> None:
     assert shares.std() == pytest.approx(deviation, rel=0.1)
 
 
-def test_units() -> None:
-    """A prior is kept in whole units, none of which is 0, so that no law is impossible."""
+def test_units_and_points() -> None:
+    """Units are whole, none 0. Points are even in the logit of the share and the logarithm of the mean."""
     chances = np.zeros(grid.FLAT.shape)
     chances[3, 5] = 1.0
     its = Learned.of(chances, 1, 1, 0.1234567)
     assert its.units.min() == 1 and its.units.max() == 2**40 and its.gain == 0.123457
     assert its.chances.sum() == pytest.approx(1)
-
-
-@settings(max_examples=12)
-@given(numbers=st.lists(st.integers(0, 150), min_size=1, max_size=40))
-def test_any_history(numbers: list[int], known: Prior) -> None:
-    """Each history has a law within the range of a scenario, always the same."""
-    check_law(law_of(known, numbers), None)
-    assert law_of(known, numbers) == law_of(known, iter(numbers))
-
-
-def test_points() -> None:
-    """The points are even in the logit of the share and in the logarithm of the mean, within the ranges."""
     steps = np.diff(special.logit(grid.SHARES).ravel())
     assert steps == pytest.approx(12 / 240) and special.logit(grid.SHARES[0, 0]) == pytest.approx(-5.5 + 12 / 480)
     means = np.log(grid.SIZE_MEANS[::8].ravel())
     step = math.log(100 / 0.05) / 192
     assert np.diff(means) == pytest.approx(step) and means[-1] == pytest.approx(math.log(100) - step / 2)
     assert grid.SIZE_DISPERSIONS[:9, 0].tolist() == [0.4, 0.7, 1, 1.6, 3, 6, 15, 60, 0.4]
+
+
+@settings(max_examples=12)
+@given(numbers=st.lists(st.integers(0, 150), min_size=1, max_size=40))
+def test_any_history(numbers: list[int], known: Prior) -> None:
+    check_law(law_of(known, numbers), None)
+    assert law_of(known, numbers) == law_of(known, iter(numbers))
 
 
 @pytest.mark.parametrize("cell", [0, 5, 90, 188, 191])

@@ -11,8 +11,7 @@ from typing import Any
 
 import numpy as np
 import pytest
-from hypothesis import given, settings
-from hypothesis import strategies as st
+from hypothesis import given, settings, strategies as st
 from scipy import optimize, stats
 
 import crnplan as crn
@@ -55,23 +54,19 @@ def history_of(numbers: Sequence[int], first: date, every: str) -> crn.History:
 
 
 def named(checks: Checks, name: str) -> Any:
-    """Returns a test by its name."""
     return next(it for it in checks.tests if it.name == name)
 
 
 def said(remarks: Sequence[Remark]) -> list[str]:
-    """Returns remarks in words, with advice."""
     return [advised(remark) for remark in remarks]
 
 
 def seasons(length: int, first: date, every: str) -> list[Season]:
-    """Returns the seasons of so many periods from a day on."""
     return seasons_of(every, period_of(first, every), length, None)[0]
 
 
 def test_quiet_history() -> None:
-    """A history of independent periods of one law has no warning, and says what would have been seen. A test warns up
-    to 5% over the number of tests."""
+    """Independent demand has no warning, and what would be seen is said. Tests warn up to 5% over their number."""
     tests = [Check(str(p), p, 0.0, {}) for p in (0.0125, 0.0126, 0.05, 0.9)]
     assert Checks(9, 9, tuple(tests)).warned == ("0.0125",) and Checks(9, 9, tuple(tests[:1])).level == 0.05
     checks = check_history(STEADY, season=52)
@@ -84,16 +79,27 @@ def test_quiet_history() -> None:
                     f"±{sizes[2]:.0%}")
 
 
-def test_words_of_what_is_seen() -> None:
-    """A sentence has what silent tests would have seen, and what they would not."""
+def test_words() -> None:
+    """Sentences have what silent tests would have seen, and what they would not, and the figures of a loss."""
     sizes = {"autocorrelation": 0.3, "trend": 1.0, "weekday": 0.25, "season": math.inf}
     assert advised(Remark("silent tests", sizes)) == (
         "no warning is no proof: in 8 of 10 such histories the tests see an autocorrelation of 0.3, a trend from "
         "nothing to twice the mean and a pattern of weekdays of ±25%, but not even a season of ±100%")
+    def advice(*loss: Any) -> str:
+        facts = {"p": 0.001, "change": 0.5, "name": "period 9", "beside": 0, "unit": "quarter", "most": 1.2,
+                 "most_first": 1, "most_last": 1, "least": 0.8, "least_first": 4, "least_last": 4}
+        return advised(Remark(loss[0], facts | Loss(*loss)._asdict()))
+    assert advice("trend", "steady", 25, 0, 70.2, -37.1, 16.2).endswith(
+        "In a study (Poisson, mean 10; trend +25%) such a plan cost 70% more than the best policy, whose S was 16% "
+        "higher, and promised a cost 37% too low")
+    assert advice("shift", "erratic", -25, 0, 6.4, 4.5, -13.8).endswith(
+        "In a study (negative binomial, mean 3, variance 9; shift -25%) such a plan cost 6.4% more than the best "
+        "policy, whose S was 14% lower, and promised a cost 4.5% too high")
+    assert "season of ±60% in 52 periods" in advice("season", "steady", 60, 52, 29.3, -31.1, 12.6)
 
 
 def test_trend() -> None:
-    """A planted trend is named by the means of the thirds, and by its slope."""
+    """A planted trend is named by the means of the thirds and its slope, a dependence with what is lost by it."""
     checks = check_history(RISING)
     ratio = np.mean(RISING[-34:]) / np.mean(RISING[:34])
     words = f"the mean of the last third is {ratio - 1:.0%} above that of the first"
@@ -104,10 +110,19 @@ def test_trend() -> None:
     falling = check_history(RISING[::-1])
     text, = said(falling.warnings)[:1]
     assert f"{1 - 1 / ratio:.0%} below that of the first" in text and "trend -50%" in text
+    checks = check_history(CHAINED)
+    one, other = np.array(CHAINED[1:]) - np.mean(CHAINED), np.array(CHAINED[:-1]) - np.mean(CHAINED)
+    found = one @ other / (np.var(CHAINED) * 104)
+    assert named(checks, "autocorrelation").size == pytest.approx(found)
+    text = said(checks.warnings)[-1]
+    assert text.startswith(f"periods are not independent: autocorrelation {found:.2f} at lag 1 (p 0.001). Ask what ")
+    assert "In a study (Poisson, mean 10; autocorrelation 0.6) such a plan cost " in text
+    turns = check_history(([2, 9, 3, 8, 1, 9] * 12)[:70])
+    assert "High and low periods take turns" in said(turns.warnings)[0] and "study" not in said(turns.warnings)[0]
 
 
 def test_shift() -> None:
-    """A planted shift is named by its first period, and by how to read the record since then."""
+    """A planted shift is named by its first period or day, and by how to read the record since then."""
     checks = check_history(RAISED)
     after = max(range(11, 94), key=lambda it: abs(stats.ttest_ind(RAISED[:it], RAISED[it:]).statistic))
     ratio = np.mean(RAISED[after:]) / np.mean(RAISED[:after])
@@ -117,10 +132,6 @@ def test_shift() -> None:
         "(p 0.001). If that is for good, plan from the record since then (leave out the rows before period "
         f"{after + 1}). In a study (Poisson, mean 10; shift +50%) such a plan cost ")
     assert not any(it.code == "trend" for it in checks.warnings)
-
-
-def test_shift_with_dates() -> None:
-    """With dates, the period has its name and the advice the option with its first day."""
     checks = check_history(history_of([3] * 40 + [9, 8] * 10, date(2025, 1, 6), "week"))
     assert "from 2025-W42 on the mean is 183% above that before" in said(checks.warnings)[0]
     assert "(start=2025-10-13)" in said(checks.warnings)[0]
@@ -148,8 +159,7 @@ def test_season() -> None:
 
 
 def test_quarters() -> None:
-    """Months are divided by the quarters of the calendar, whichever month comes first. The week from 2024-12-30 is in
-    January, and that from 2024-04-29 in the second quarter: weeks belong to the quarter of their Thursday."""
+    """Months have the calendar's quarters, weeks that of their Thursday, days weekdays, from two years on quarters."""
     numbers = [(30 if month % 12 in (9, 10, 11) else 10) + (month - 2) % 3 for month in range(2, 38)]
     checks = check_history(history_of(numbers, date(2023, 3, 1), "month"))
     assert "times the mean from October to December, " in said(checks.warnings)[0]
@@ -157,10 +167,6 @@ def test_quarters() -> None:
     weeks, = seasons(120, date(2024, 1, 1), "week")
     assert months.part_of[:11].tolist() == [0, 1, 1, 1, 2, 2, 2, 3, 3, 3, 0]
     assert weeks.part_of[12:14].tolist() == [0, 1] and weeks.part_of[51:53].tolist() == [3, 0]
-
-
-def test_weekdays() -> None:
-    """Days are divided by weekdays from two weeks on, and by quarters from two years on."""
     numbers = [0 if it % 7 > 4 else 5 + it % 3 for it in range(70)]
     checks = check_history(history_of(numbers, date(2025, 1, 6), "day"))
     assert said(checks.warnings)[0].startswith("demand follows the weekdays: 1.4 times the mean on ")
@@ -194,19 +200,6 @@ def test_parts_of_a_season(length: int) -> None:
     assert max(map(len, places)) - min(map(len, places)) <= 1
 
 
-def test_autocorrelation() -> None:
-    """A planted dependence is named, with advice and with what is lost by those who do not see it."""
-    checks = check_history(CHAINED)
-    one, other = np.array(CHAINED[1:]) - np.mean(CHAINED), np.array(CHAINED[:-1]) - np.mean(CHAINED)
-    found = one @ other / (np.var(CHAINED) * 104)
-    assert named(checks, "autocorrelation").size == pytest.approx(found)
-    text = said(checks.warnings)[-1]
-    assert text.startswith(f"periods are not independent: autocorrelation {found:.2f} at lag 1 (p 0.001). Ask what ")
-    assert "In a study (Poisson, mean 10; autocorrelation 0.6) such a plan cost " in text
-    turns = check_history(([2, 9, 3, 8, 1, 9] * 12)[:70])
-    assert "High and low periods take turns" in said(turns.warnings)[0] and "study" not in said(turns.warnings)[0]
-
-
 def test_losses() -> None:
     """The figure that is cited is the nearest by law, length of a season, and size."""
     kinds = ("autocorrelation", "trend", "shift", "season")
@@ -220,28 +213,11 @@ def test_losses() -> None:
         assert (loss.study, loss.effect_size, loss.effect_length) == expected and loss.effect == kind
 
 
-def test_words_of_losses() -> None:
-    """A sentence has the figures of a loss in their places, with their signs in words."""
-    def advice(*loss: Any) -> str:
-        """Returns the advice of a warning with a loss."""
-        facts = {"p": 0.001, "change": 0.5, "name": "period 9", "beside": 0, "unit": "quarter", "most": 1.2,
-                 "most_first": 1, "most_last": 1, "least": 0.8, "least_first": 4, "least_last": 4}
-        return advised(Remark(loss[0], facts | Loss(*loss)._asdict()))
-    assert advice("trend", "steady", 25, 0, 70.2, -37.1, 16.2).endswith(
-        "In a study (Poisson, mean 10; trend +25%) such a plan cost 70% more than the best policy, whose S was 16% "
-        "higher, and promised a cost 37% too low")
-    assert advice("shift", "erratic", -25, 0, 6.4, 4.5, -13.8).endswith(
-        "In a study (negative binomial, mean 3, variance 9; shift -25%) such a plan cost 6.4% more than the best "
-        "policy, whose S was 14% lower, and promised a cost 4.5% too high")
-    assert "season of ±60% in 52 periods" in advice("season", "steady", 60, 52, 29.3, -31.1, 12.6)
-
-
 @pytest.mark.parametrize("counts, periods, chance", [
     ([3, 1, 0, 2, 5, 0, 0, 1, 4, 2] + [0] * 10, 10, 1.548e-3),  # by hand: 10! 13! / (3! 20!)
     ([0] * 5 + [2, 0, 1] + [0] * 44, 44, 0.0211), ([7] + [0] * 20, 20, 0.0476)])
 def test_no_recent_demand(counts: list[int], periods: int, chance: float) -> None:
-    """Periods without demand at the end are named with the chance that scipy's hypergeometric law gives, if as many are
-    unlikely by luck."""
+    """Periods without demand at the end are named with their hypergeometric chance, if that is small."""
     note, = (it for it in check_history(counts).notes if it.code == "no recent demand")
     demands, last = sum(it > 0 for it in counts), f"period {len(counts) - periods}"
     assert note.facts["periods"] == periods and note.facts["last"] == last
@@ -271,14 +247,10 @@ def test_notes(numbers: list[int], notes: list[str]) -> None:
 
 
 def test_outlier_bounds() -> None:
-    """The bounds are those of the NIST/SEMATECH e-Handbook of Statistical Methods, section 1.3.5.17.3, of two sides."""
+    """Bounds are those of the NIST/SEMATECH e-Handbook, section 1.3.5.17.3. Outliers may hide one another."""
     published = {0: 3.158794, 1: 3.151430, 2: 3.143890}
     for above, value in published.items():
         assert rosner_bound(54, above, 0.05 / 2) == pytest.approx(value, abs=2e-6)
-
-
-def test_outliers() -> None:
-    """Outliers that hide one another are found, in packs too, and none among rounded numbers."""
     assert outliers_of([4, 5, 6, 5] * 10 + [90, 80, 85], 1) == [90, 85, 80]
     assert outliers_of([24, 30, 36, 30] * 10 + [540], 6) == [540]
     assert outliers_of([1] * 60 + [2], 1) == [] and outliers_of([12] * 60 + [24], 12) == []
@@ -339,13 +311,12 @@ def test_nothing_to_test(numbers: list[int]) -> None:
     assert check_history([3, 4, 9, 1, 5, 2, 6, 4]).tests
 
 
-@settings(max_examples=100)
+@settings(max_examples=40)
 @given(numbers=st.lists(st.integers(0, 10_000) | st.integers(0, 2), min_size=1, max_size=50) | st.sampled_from(
     [STEADY, RISING, RAISED, SEASONAL, CHAINED, RARE[:60], [0] * 40 + [5, 9] * 6, [3, 4] * 20]),
        season=st.sampled_from([None, 4, 52]) | st.integers(2, 30))
 def test_any_history(numbers: list[int], season: int | None) -> None:
-    """Each history has checks, always the same, with p values of 1 to 1,200 of 1,200. Those of an item of a catalogue
-    have the same warnings and notes, though most p values are not computed."""
+    """Checks are always the same, with p values of 1,200ths. An item of a catalogue has the same warnings and notes."""
     checks = check_history(numbers, season=season)
     assert checks == check_history(iter(numbers), season=season)
     assert remarks_of(numbers, season=season) == (*checks.warnings, *checks.notes)
@@ -359,7 +330,6 @@ def tilted_to(numbers: Sequence[int], mean: float) -> Any:
     values, counts = np.unique(numbers, return_counts=True)
 
     def chances(rate: float) -> Any:
-        """Returns the chances."""
         powers = np.log(counts) + rate * values
         return np.exp(powers - powers.max()) / np.exp(powers - powers.max()).sum()
     return chances(optimize.brentq(lambda rate: chances(rate) @ values - mean, -20, 20))
@@ -403,7 +373,7 @@ def test_power_of_autocorrelation() -> None:
 
 
 def test_command(tmp_path: Path, crnplan: Command) -> None:
-    """`crnplan history` says the lines on standard error; --season names a season of a history without dates."""
+    """The command says the lines on standard error; --season names a season. The table has a row for each test."""
     (tmp_path / "demand.csv").write_text("n\n" + "\n".join(map(str, SEASONAL)))
     words = ["history", tmp_path / "demand.csv", "--demand", "n", "--fit", "empirical"]
     for more, season in (([], None), (["--season", 52], 52)):
@@ -413,10 +383,6 @@ def test_command(tmp_path: Path, crnplan: Command) -> None:
         assert told.errors == "".join(f"crnplan: {it}\n" for it in lines)
         assert told.status == 0 and told.output.startswith("\n[demand]\n")
     assert crnplan(*words, "--season", 1).status == 2
-
-
-def test_frame() -> None:
-    """The table has a row for each test."""
     frame = crn.check_history(SEASONAL, season=52).frame
     assert [*frame.index] == ["autocorrelation", "trend", "shift", "season"]
     assert [*frame["warns"]] == [True, False, False, True]

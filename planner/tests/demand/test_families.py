@@ -6,12 +6,11 @@ from collections.abc import Callable, Sequence
 
 import numpy as np
 import pytest
-from hypothesis import example, given, settings
-from hypothesis import strategies as st
+from hypothesis import example, given, settings, strategies as st
 from scipy import integrate, optimize, special, stats
 
 from crnplan.chances import DEMANDS, Floats
-from crnplan.demand import families, fitting, sample as guard
+from crnplan.demand import families, sample as guard
 from crnplan.demand.families import beta_negative_binomial, fits_of, greatest_mean, parts_of, predictive_of
 from crnplan.demand.fitting import fit_demand
 from crnplan.demand.posterior import allowed_laws
@@ -168,7 +167,7 @@ def test_parts(numbers: list[int]) -> None:
 
 
 def test_bulk() -> None:
-    """The law is a mixture of ordinary demand and scipy's normal law of bulks, with the likelihood of the mixture."""
+    """Ordinary demand is mixed with scipy's normal law of bulks, whose predictive law is summed over the variance."""
     ordinary, bulks = [it for it in BULKY if it < 10], [it for it in BULKY if it >= 10]
     assert [*parts_of(Sample.of(BULKY))[1].values] == sorted(bulks)
     count, mean, squares = bulk_figures(bulks)
@@ -183,10 +182,6 @@ def test_bulk() -> None:
     assert [*fits_of(Sample.of(BULKY))][0] == "bulk"
     for few in ([0, 0, 5, 5], [4] * 8, [0, 2, 9, 9, 9]):  # no ordinary demand, no bulk, too many bulks
         assert "bulk" not in fits_of(Sample.of(few))
-
-
-def test_predictive_bulk() -> None:
-    """The size of a bulk has a normal law, summed over the posterior of its variance; the shares are a beta law's."""
     ordinary = [it for it in BULKY if it < 10]
     count, mean, squares = bulk_figures([it for it in BULKY if it >= 10])
     variance = stats.invgamma((count + 1) / 2, scale=squares / 2)
@@ -212,7 +207,7 @@ def test_predictive_lognormal(numbers: Sequence[int]) -> None:
         assert law[1:value + 1].sum() == pytest.approx(expected, abs=0.0015)
 
 
-@settings(max_examples=20, deadline=None)
+@settings(max_examples=10, deadline=None)
 @given(numbers=st.lists(st.integers(0, 400), min_size=2, max_size=60).filter(lambda it: sum(map(bool, it)) > 1))
 def test_any_history(numbers: list[int]) -> None:
     """Whatever the history, all laws of its families are laws, and the chance of no demand is that of the hurdle."""
@@ -268,15 +263,14 @@ def test_guard() -> None:
 
 @pytest.mark.parametrize("place", range(5), ids=guard.Shares._fields)
 def test_each_share_decides(place: int) -> None:
-    """A history passes if no share is at most its bound: 5% of the variances, 30% of the distances, 10% and 5% of the
-    largest."""
+    """Bounds are 5% of the variances, 30% of the distances, 10% and 5% of the largest."""
     bounds = [0.05, 0.05, 0.30, 0.10, 0.05]
     assert guard.Shares(*(it + 0.001 for it in bounds)).passes
     assert not guard.Shares(*(it + 0.001 * (at != place) for at, it in enumerate(bounds))).passes
 
 
 def test_guards_shares() -> None:
-    """The guard's shares are those of histories drawn from the law: here of variances with a chi-square law."""
+    """Shares are those of histories drawn from the law: of variances, of ties, and of the largest demand."""
     random = np.random.default_rng(3)
     cells = np.arange(400)
     law = stats.norm.pdf(cells, 200, 25)
@@ -286,20 +280,11 @@ def test_guards_shares() -> None:
     assert shares.as_much == pytest.approx(expected, abs=0.1)
     assert shares.as_much + shares.as_little == pytest.approx(1, abs=0.02)
     assert shares == guard.shares_of(Sample.of(data), law)
-
-
-def test_ties_of_drawn_histories() -> None:
-    """Drawn histories with the counts of the real one are as far as it is."""
     shares = guard.shares_of(Sample.of([0, 1] * 13), np.array([0.5, 0.5]))
     assert shares.as_far == 1 and shares.as_much < 0.4 and shares.as_little == 1
     one = guard.shares_of(Sample.of([0] * 9 + [1]), np.array([0.7, 0.3]))
     exact = stats.binom(10, 0.3)  # as far are 0, 1 and 5 or more of ten
     assert one.as_far == pytest.approx(exact.cdf(1) + exact.sf(4), abs=0.1)
-
-
-def test_guard_of_the_largest() -> None:
-    """The chances of the largest demand are those of drawn histories, and a bounded law is not taken for one with a
-    tail."""
     data = Sample.of([3, 0, 12, 5, 9])
     law = stats.geom.pmf(np.arange(1, 200), 1 / 7)
     most = np.random.default_rng(4).geometric(1 / 7, (40_000, 5)).max(axis=1) - 1

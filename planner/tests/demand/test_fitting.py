@@ -10,15 +10,15 @@ from typing import Any
 import numpy as np
 import pandas as pd
 import pytest
-from hypothesis import given, settings
-from hypothesis import strategies as st
+from hypothesis import given, settings, strategies as st
 from scipy import integrate, stats
 
-from crnplan.demand import FAMILIES, METHODS, fitting
 from crnplan.chances import blurred, in_items
+from crnplan.demand import FAMILIES, METHODS, fitting
 from crnplan.demand.families import fits_of, predictive_of
 from crnplan.demand.fitted import Borrowed, Diagnostics, FittedLaw, notes_of
 from crnplan.demand.fitting import cap_of, fit_demand, fit_lead, seen_share, share_of
+from crnplan.demand.posterior import allowed_laws, allowed_leads
 from crnplan.demand.sample import Sample, Shares
 from crnplan.errors import Refused, RefusedFaults
 from crnplan.law import Law
@@ -49,7 +49,6 @@ def test_weights(chances: list[float]) -> None:
 
 
 def test_weights_within_range() -> None:
-    """Demands above 10,000 count as 10,000."""
     assert Law.of_chances(np.bincount([3, 10_000, 10_399], [0.5, 0.25, 0.25])) == Law((3, 10_000), (32_768, 32_768))
 
 
@@ -59,17 +58,6 @@ def test_items_in_packs(pack: int, expected: dict[int, float]) -> None:
     """A law of packs is one of items, without those above 10,000."""
     law = in_items(np.array([0.25, 0.5, 0.25]), pack)
     assert {int(place): law[place] for place in np.flatnonzero(law)} == pytest.approx(expected)
-
-
-def test_bulks() -> None:
-    """Projects beside steady demand are bulks."""
-    for pack in (1, 5):
-        law = fit_demand([pack * it for it in PROJECTS], method="auto")
-        bulks = [pack * it for it in PROJECTS if it >= 25]
-        assert law.family == "bulk" and law.diagnostics.bulks == (len(bulks), min(bulks))
-        assert law.figures.mean == pytest.approx(pack * np.mean(PROJECTS), rel=0.1)
-    assert fit_demand(PROJECTS, method="predictive").family == "bulk"
-    assert fit_demand(TWO_SIZES, method="auto").diagnostics.bulks is None
 
 
 @HISTORIES
@@ -85,8 +73,7 @@ def test_named_family(family: str, numbers: list[int]) -> None:
 
 
 def test_the_guard_decides() -> None:
-    """The family with the least BIC is taken if its histories look like this one; else the history stays. A family that
-    is more than 10 units of BIC behind the least is not looked at."""
+    """The least BIC is taken if its histories look like this one, within 10 units of BIC; else the history."""
     its = fit_demand(PROJECTS, method="auto").diagnostics
     assert {*its.guard} == {it for it in its.bic if its.bic[it] <= min(its.bic.values()) + 10} != {*its.bic}
     law = fit_demand(ERRATIC, method="predictive")
@@ -177,8 +164,8 @@ def test_cap(demands: int, cap: int) -> None:
     assert cap_of(Sample.of([0] * 40 + [3] * (demands - 1) + [10])) == cap
 
 
-def test_packs() -> None:
-    """If all demands are packs, and not by luck, so are those of the law."""
+def test_packs_and_bulks() -> None:
+    """If all demands are packs, and not by luck, so are those of the law. Projects beside steady demand are bulks."""
     packs = RANDOM.poisson(0.7, 60)
     law = fit_demand((6 * packs).tolist(), method="auto")
     assert law.diagnostics.pack == 6 and {it % 6 for it in law.values} == {0}
@@ -187,6 +174,13 @@ def test_packs() -> None:
     for numbers, pack in (([6, 12, 0, 6, 18], 6), ([6, 12, 0, 6], 1), ([2, 4] * 4, 2), ([2, 4, 2, 4, 2, 4, 2], 1),
                           ([40, 80], 1), ([40, 80, 40], 40), ([6, 12, 6, 18, 9], 1), ([3] * 5, 1), ([3] * 6, 3)):
         assert fit_demand(numbers, method="auto").diagnostics.pack == pack
+    for pack in (1, 5):
+        law = fit_demand([pack * it for it in PROJECTS], method="auto")
+        bulks = [pack * it for it in PROJECTS if it >= 25]
+        assert law.family == "bulk" and law.diagnostics.bulks == (len(bulks), min(bulks))
+        assert law.figures.mean == pytest.approx(pack * np.mean(PROJECTS), rel=0.1)
+    assert fit_demand(PROJECTS, method="predictive").family == "bulk"
+    assert fit_demand(TWO_SIZES, method="auto").diagnostics.bulks is None
 
 
 @pytest.mark.parametrize("numbers", [[5], [0, 0, 4], [0, 0], [7] * 30, [0, 1] * 20], ids=str)
@@ -198,18 +192,21 @@ def test_histories_that_say_little(numbers: list[int], method: str) -> None:
 
 
 @settings(max_examples=25, deadline=None)
-@given(numbers=st.lists(st.integers(0, 10_000), min_size=1, max_size=40), method=st.sampled_from(METHODS[:3]))
-def test_any_history(numbers: list[int], method: str) -> None:
-    """Each history has a law within the range of a scenario, always the same."""
+@given(numbers=st.lists(st.integers(0, 10_000) | st.integers(0, 40), min_size=1, max_size=40),
+       method=st.sampled_from(METHODS[:3]), seed=st.integers(0, 1000))
+def test_any_history(numbers: list[int], method: str, seed: int) -> None:
+    """Each history has a law within the range of a scenario, always the same, and allows laws with demand if it has."""
     law = fit_demand(numbers, method=method)
     check_law(law, None)
     assert law == fit_demand(iter(numbers), method=method)
     if method == "auto":
         assert law.values[-1] <= 3 * max(numbers)
+    for allowed in allowed_laws(numbers, times=5, seed=seed).laws:
+        check_law(allowed)
+        assert (allowed.values[-1] > 0) == any(numbers)
 
 
 def test_diagnostics() -> None:
-    """Figures of the law stand beside those of the history."""
     law = fit_demand(ERRATIC, method="auto")
     drawn = np.repeat(law.values, law.weights)
     expected = {share: int(np.quantile(drawn, share, method="inverted_cdf")) for share in (0.95, 0.99, 0.999)}
@@ -288,31 +285,27 @@ def test_whole_numbers_of_any_kind(numbers: Any) -> None:
     assert all(type(it) is int for it in law.values)
 
 
-@pytest.mark.parametrize("numbers, part", [
-    ([1, 2.5], "demand: entry 2: 2.5 is not a whole number; round it, or count in a smaller unit"),
-    ([float("nan")], "demand: entry 1: nan is not"), (["3"], "demand: entry 1: '3' is not"),
-    ([True], "demand: entry 1: "), ([], "there are 0 numbers of demand; give 1 to 65,536"),
-    ([1] * 65_537, "there are 65,537 numbers"),
-    ([None], "demand: entry 1: ")])
-def test_refused_numbers(numbers: Sequence[Any], part: str) -> None:
-    """What is no whole number is refused, with its place."""
-    with pytest.raises(Refused, match=part):
-        fit_demand(numbers)
-
-
-@pytest.mark.parametrize("fit, words, message", [
-    (fit_demand, {"method": "normal"}, "there is no method 'normal' to fit demand; say auto, predictive, empirical, "),
-    (fit_lead, {"method": "poisson"}, "there is no method 'poisson' to fit lead times; say auto or empirical"),
-    (fit_demand, {"method": "poisson"}, "the history does not allow the family poisson; it allows none"),
-    (fit_demand, {"box": 0}, "0 is no number of items in a box; it is at least 1")])
-def test_refused_words(fit: Any, words: dict[str, Any], message: str) -> None:
-    """A method that isn't there, a family for one demand and a box of nothing are refused."""
+@pytest.mark.parametrize("fit, numbers, words, message", [
+    (fit_demand, [1, 2.5], {}, "demand: entry 2: 2.5 is not a whole number; round it, or count in a smaller unit"),
+    (fit_demand, [float("nan")], {}, "demand: entry 1: nan is"), (fit_demand, ["3"], {}, "demand: entry 1: '3' is not"),
+    (fit_demand, [True], {}, "demand: entry 1: "), (fit_demand, [None], {}, "demand: entry 1: "),
+    (fit_demand, [], {}, "there are 0 numbers of demand; give 1 to 65,536"),
+    (fit_demand, [1] * 65_537, {}, "there are 65,537 numbers"),
+    (fit_demand, [1], {"method": "normal"}, "no method 'normal' to fit demand; say auto, predictive, empirical, "),
+    (fit_lead, [1], {"method": "poisson"}, "there is no method 'poisson' to fit lead times; say auto or empirical"),
+    (fit_demand, [1], {"method": "poisson"}, "the history does not allow the family poisson; it allows none"),
+    (fit_demand, [1], {"box": 0}, "0 is no number of items in a box; it is at least 1"),
+    (allowed_laws, [1, 2], {"times": 0}, "at least 1"), (allowed_leads, [1], {"times": 0}, "at least 1"),
+    (allowed_laws, [1, -2], {}, "entry 2, -2, is below 0"), (allowed_laws, [20_000], {}, "box=2 or more"),
+    (allowed_leads, [0, 3], {}, "entry 1, 0, is below 1")])
+def test_refused(fit: Any, numbers: Sequence[Any], words: dict[str, Any], message: str) -> None:
+    """Numbers that are not whole, and methods, families, boxes and numbers of laws that are none, are refused."""
     with pytest.raises(Refused, match=message):
-        fit([1], **words)
+        fit(numbers, **words)
 
 
-def test_range_of_demand(tmp_path: Path) -> None:
-    """All numbers that a scenario can't have are named, with the box that is large enough."""
+def test_ranges(tmp_path: Path) -> None:
+    """Numbers that a scenario can't have are named, with the box that is large enough. Lead times are from 1 to 32."""
     with pytest.raises(RefusedFaults) as refused:
         fit_demand([10_001, 3, 70_001, -1], box=1)
     assert [str(it) for it in refused.value.faults] == [
@@ -326,10 +319,6 @@ def test_range_of_demand(tmp_path: Path) -> None:
     (tmp_path / "file.csv").write_text("at,n\n2026-03-02,9000\n2026-03-03,9000\n")
     with pytest.raises(RefusedFaults, match=":2:12: column 'n': week 2026-W10, which comes to 18000 in 2 rows, is "):
         fit_demand(read_history(tmp_path / "file.csv", demand="n", date="at", every="week"))
-
-
-def test_range_of_lead_times(tmp_path: Path) -> None:
-    """Lead times are from 1 to 32 periods."""
     with pytest.raises(RefusedFaults) as refused:
         fit_lead([0, 32, 33])
     assert [str(it).split("; ")[0] for it in refused.value.faults] == [

@@ -8,8 +8,7 @@ from typing import Any
 
 import numpy as np
 import pytest
-from hypothesis import given, settings
-from hypothesis import strategies as st
+from hypothesis import given, settings, strategies as st
 from scipy import stats
 
 from crnplan.demand import permutation
@@ -17,52 +16,29 @@ from crnplan.demand.permutation import Orders, bound_of, centred, p_value, stati
 
 ALL_ORDERS = [*itertools.permutations([0, 5, 2, 0, 9, 1])]
 KINDS = statistics_of({"season": np.array([0, 1, 0, 1, 0, 1])})
-VARIED = st.lists(st.integers(0, 30), min_size=10, max_size=40).filter(lambda its: len({*its}) > 1)
 
 
 def of_row(kind: str, numbers: Sequence[float], parts: Sequence[int] = ()) -> float:
-    """Returns a statistic of one history."""
     row = np.array([numbers], dtype=float)
     kinds = statistics_of({"season": np.array(parts)} if len(parts) else {})
     return float(kinds[kind](centred(row), centred(stats.rankdata(row, axis=1)))[0])
 
 
 @settings(max_examples=60)
-@given(numbers=VARIED)
-def test_autocorrelation(numbers: list[int]) -> None:
-    """Ljung and Box's statistic is the sum of its formula."""
-    size, mean = len(numbers), sum(numbers) / len(numbers)
-    far = [it - mean for it in numbers]
-    expected = 0.0
-    for lag in (1, 2, 3):
-        found = sum(one * other for one, other in zip(far, far[lag:])) / sum(it * it for it in far)
-        expected += size * (size + 2) * found**2 / (size - lag)
+@given(numbers=st.lists(st.integers(0, 30), min_size=10, max_size=40).filter(lambda its: len({*its}) > 1),
+       length=st.integers(2, 5))
+def test_statistics(numbers: list[int], length: int) -> None:
+    """They are those of Ljung and Box, Spearman (squared), the best split's squares, and Kruskal and Wallis."""
+    size, far, least = len(numbers), [it - sum(numbers) / len(numbers) for it in numbers], math.ceil(len(numbers) / 10)
+    lags = ((lag, sum(one * other for one, other in zip(far, far[lag:])) / sum(it * it for it in far))
+            for lag in (1, 2, 3))
+    expected = sum(size * (size + 2) * found**2 / (size - lag) for lag, found in lags)
     assert of_row("autocorrelation", numbers) == pytest.approx(expected)
-
-
-@settings(max_examples=60)
-@given(numbers=VARIED)
-def test_trend(numbers: list[int]) -> None:
-    """The statistic is the square of scipy's Spearman correlation, with ties."""
-    assert of_row("trend", numbers) == pytest.approx(stats.spearmanr(numbers, range(len(numbers)))[0]**2, abs=1e-12)
-
-
-@settings(max_examples=60)
-@given(numbers=VARIED)
-def test_shift(numbers: list[int]) -> None:
-    """The statistic is the greatest share of the squares that the means of two sides explain."""
-    size, least = len(numbers), math.ceil(len(numbers) / 10)
+    assert of_row("trend", numbers) == pytest.approx(stats.spearmanr(numbers, range(size))[0]**2, abs=1e-12)
     within = [sum(len(side) * np.var(side) for side in (numbers[:place], numbers[place:]))
               for place in range(least, size - least + 1)]
     assert of_row("shift", numbers) == pytest.approx(1 - min(within) / (size * np.var(numbers)), abs=1e-12)
-
-
-@settings(max_examples=60)
-@given(numbers=VARIED, length=st.integers(2, 5))
-def test_season(numbers: list[int], length: int) -> None:
-    """The statistic is scipy's of Kruskal and Wallis, with ties."""
-    parts = [it % length for it in range(len(numbers))]
-    sides = [numbers[it::length] for it in range(length)]
+    parts, sides = [it % length for it in range(size)], [numbers[it::length] for it in range(length)]
     assert of_row("season", numbers, parts) == pytest.approx(stats.kruskal(*sides).statistic)
 
 
@@ -91,10 +67,19 @@ def test_p_values_of_all_orders(kind: str, drawn: dict[str, list[float]], check_
         assert np.mean(np.array(drawn[kind]) <= level) <= level + 0.03
 
 
-def test_p_value_counts_the_history() -> None:
-    """The history is one of the orders, and equal statistics count, also if they are rounded differently."""
+def test_p_value_counts_the_history(monkeypatch: pytest.MonkeyPatch) -> None:
+    """Equal statistics count, also if rounded differently. Each order has all numbers, and is there once."""
     assert p_value(np.array([3.0, 1, 2, 3])) == 0.5 and p_value(np.array([4.0, 1, 2, 3])) == 0.25
     assert p_value(np.array([1 / 3 + 1e-15, 1 / 3, 0.1, 0.2])) == 0.5 and p_value(np.zeros(5)) == 1
+    assert [p_value(its) for its in Orders([7] * 6).statistics(KINDS).values()] == [1] * len(KINDS)
+    numbers = [*range(30)]
+    monkeypatch.setattr(permutation, "MOST_CELLS", 100)
+    drawn = np.concatenate([np.rint(far + 14.5).astype(int) for far, _ in Orders(numbers).rows()])
+    assert drawn.shape == (1200, 30) and (drawn[0] == numbers).all() and (np.sort(drawn, axis=1) == numbers).all()
+    assert len(np.unique(drawn, axis=0)) == 1200
+    # Each number comes to each place about as often: the statistic has 29^2 degrees of freedom.
+    counts = np.array([np.bincount(place, minlength=30) for place in drawn[1:].T])
+    assert stats.chi2.sf(((counts - 1199 / 30)**2 / (1199 / 30)).sum(), 29**2) > 1e-4
 
 
 @given(statistics=st.lists(st.integers(0, 20), min_size=20, max_size=60), level=st.sampled_from([0.05, 0.1, 0.25]))
@@ -104,18 +89,6 @@ def test_bound(statistics: list[int], level: float) -> None:
     bound = bound_of(drawn, level)
     for value in range(22):
         assert (p_value(np.array([value, *statistics], dtype=float)) <= level + 1e-9) == (value > bound)
-
-
-def test_orders_in_parts(monkeypatch: pytest.MonkeyPatch) -> None:
-    """Each order has all numbers, no two parts of the orders are the same, and none is lost."""
-    numbers = [*range(30)]
-    monkeypatch.setattr(permutation, "MOST_CELLS", 100)
-    drawn = np.concatenate([np.rint(far + 14.5).astype(int) for far, _ in Orders(numbers).rows()])
-    assert drawn.shape == (1200, 30) and (drawn[0] == numbers).all() and (np.sort(drawn, axis=1) == numbers).all()
-    assert len(np.unique(drawn, axis=0)) == 1200
-    # Each number comes to each place about as often: the statistic has 29^2 degrees of freedom.
-    counts = np.array([np.bincount(place, minlength=30) for place in drawn[1:].T])
-    assert stats.chi2.sf(((counts - 1199 / 30)**2 / (1199 / 30)).sum(), 29**2) > 1e-4
 
 
 @pytest.mark.parametrize("numbers", [[*range(6, 0, -1)], [3, 0, 0, 9, 1, 0, 2, 2], [0, 1] * 12],
@@ -128,9 +101,3 @@ def test_seen_at_a_level(numbers: list[int]) -> None:
         p = p_value(statistics)
         assert (name in orders.seen(kinds, p)) and (name in orders.seen(kinds, p + 1 / 1200))
         assert name not in orders.seen(kinds, p - 1 / 1200)
-
-
-@pytest.mark.parametrize("kind", KINDS)
-def test_constant_history(kind: str) -> None:
-    """A history of equal numbers looks like each of its orders."""
-    assert p_value(Orders([7] * 6).statistics({kind: KINDS[kind]})[kind]) == 1

@@ -8,7 +8,7 @@ from pathlib import Path
 import pytest
 
 from crnplan.pages.item_page import plan_item
-from planner.tests.conftest import Answer, Command
+from planner.tests.conftest import Answer, Command, script
 
 HERE = Path(__file__).parent
 Plan = Callable[..., Answer]
@@ -19,18 +19,16 @@ def furnished(folder: Path, top: Path, program: Path) -> Path:
     shutil.copy(top / "examples/case/history.csv", folder)
     shutil.copy(top / "examples/case/lead_times.csv", folder)
     shutil.copy(HERE / "settings.toml", folder)
-    (folder / "program").write_text(f'#!/bin/sh\nexec {program} "$@"\n')
-    (folder / "program").chmod(0o755)
+    script(folder / "program", f'exec {program} "$@"')
     return folder
 
 
 @pytest.fixture
 def room(tmp_path: Path, top: Path, program: Path) -> Path:
-    """Returns a folder with all that a plan needs."""
     return furnished(tmp_path, top, program)
 
 
-@pytest.fixture(scope="module")
+@pytest.fixture(scope="session")
 def whole(tmp_path_factory: pytest.TempPathFactory, top: Path, program: Path) -> Path:
     """Returns the folder of a plan that was made by the script at once. It is to be copied, not changed."""
     room = furnished(tmp_path_factory.mktemp("whole"), top, program)
@@ -40,8 +38,6 @@ def whole(tmp_path_factory: pytest.TempPathFactory, top: Path, program: Path) ->
 
 @pytest.fixture
 def plan(room: Path, crnplan: Command) -> Plan:
-    """Returns a function that plans the item of the folder."""
     def run(out: str = "plan", used: Path = room / "program") -> Answer:
-        """Plans it into a folder of the folder."""
         return crnplan("item", room / "history.csv", room / "settings.toml", "--out", room / out, "--program", used)
     return run

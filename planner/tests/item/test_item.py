@@ -11,18 +11,13 @@ from typing import NoReturn
 import pytest
 
 import crnplan as crn
-from crnplan import Scenario
-from crnplan.decide.doubt import doubt
-from crnplan.demand.checks import check_history
-from crnplan.demand.fitting import fit_demand, fit_lead
+from crnplan.errors import spelt
 from crnplan.plan import item
-from crnplan.plan.settings import read_settings
+from crnplan.plan.settings import as_setting, read_settings
 from crnplan.theory.lattice import NoTheory
 from crnplan.theory.suggestions import suggestions_of
-from crnplan.errors import spelt
-from crnplan.plan.settings import as_setting
 from crnplan.words import sentence
-from planner.tests.conftest import Command
+from planner.tests.conftest import Command, script
 from planner.tests.item.conftest import HERE, Plan
 from planner.tests.pages.page_reader import Page, rows_of
 
@@ -38,14 +33,12 @@ def bytes_of(folder: Path) -> dict[str, bytes]:
 
 
 def edit(path: Path, old: str, new: str) -> None:
-    """Changes a text that stands in a file once."""
     text = path.read_text()
     assert text.count(old) == 1
     path.write_text(text.replace(old, new))
 
 
 def counts_of(room: Path) -> list[int]:
-    """Returns the demand of the history."""
     return [int(row["demand"]) for row in rows_of(room / "history.csv")]
 
 
@@ -61,15 +54,11 @@ def test_from_nothing(room: Path, plan: Plan, horizon: str) -> None:
 
 
 def test_again_the_same_bytes(room: Path, whole: Path, crnplan: Command, monkeypatch: pytest.MonkeyPatch) -> None:
-    """It is all computed again, to the same bytes, in the same folder and in another, and with other names of files."""
+    """All is computed again, to the same bytes, also elsewhere and with other names; in Python, without a file."""
     monkeypatch.chdir(room)
     for out in ("other/plan", "other/plan"):
         assert crnplan("item", "history.csv", "./settings.toml", "--out", out, "--program", "./program").status == 0
         assert bytes_of(whole) == bytes_of(room / out)
-
-
-def test_from_python(room: Path, whole: Path) -> None:
-    """`plan_item` gives the same plan without a folder, and writes nothing."""
     before = bytes_of(room)
     item = crn.plan_item(room / "history.csv", room / "settings.toml", program=room / "program")
     assert item.table.csv == (whole / "policies.csv").read_text() and bytes_of(room) == before
@@ -107,13 +96,12 @@ def test_worked_case(top: Path, tmp_path: Path, crnplan: Command, program: Path)
         row = found[mine]
         assert (row["s"], row["S"], f"{float(row['theory_cost']):.2f}") == (s, S, cost)
         assert f"{float(row['fill']):.2%}" == fill
-    assert Scenario.read(out / "scenario.toml").demand == Scenario.read(case / "scenario.toml").demand
+    assert crn.Scenario.read(out / "scenario.toml").demand == crn.Scenario.read(case / "scenario.toml").demand
 
 
 def test_runs_are_those_of_the_scenario(whole: Path, program: Path) -> None:
-    """The scenario that is kept gives the exact figures of the run on all policies. With a horizon they are compared by
-    crnsim over these periods from the stock of today, the cheapest first."""
-    scenario, (exact,) = Scenario.read(whole / "scenario.toml"), rows_of(whole / "exact.csv")
+    """The kept scenario gives the run's exact figures, and those of the coming periods, the cheapest first."""
+    scenario, (exact,) = crn.Scenario.read(whole / "scenario.toml"), rows_of(whole / "exact.csv")
     report = {row.policy: row for row in scenario.run(program=program).rows}
     assert [str(report[it].total) for it in ("today", "chosen")] == [exact["total_today"], exact["total_chosen"]]
     assert Fraction(exact["saving"]) == -report["chosen"].diff_mean / 1_024 / Fraction(exact["units_of_money"])
@@ -130,12 +118,12 @@ def test_laws_that_the_history_allows(room: Path, plan: Plan) -> None:
     edit(room / "settings.toml", "laws = 10", "laws = 12\nconfidence = 0.95")
     edit(room / "settings.toml", "times = [2]", "times = [2, 3, 2, 4]")
     output = plan().output.replace("\n", " ")
-    scenario = Scenario.read(room / "plan/scenario.toml")
+    scenario = crn.Scenario.read(room / "plan/scenario.toml")
     names = [it.name for it in scenario.policies]
     wanted = {it.policy.name: it.policy for it in suggestions_of(scenario).rows}
     assert {"fill_95", "fill_99", "fewer_orders"} <= {*names} and any(it.startswith("sure_") for it in names)
     assert all(wanted[it.name] == it for it in scenario.policies if it.name in ("fill_95", "fill_99", "fewer_orders"))
-    found = doubt(scenario, counts_of(room), [2, 3, 2, 4], times=400).frame
+    found = crn.doubt(scenario, counts_of(room), [2, 3, 2, 4], times=400).frame
     rows = {row["policy"]: row for row in rows_of(room / "plan/doubt.csv")}
     for name in ("today", "chosen"):
         assert float(rows[name]["cost"]) == pytest.approx(found.cost[name] / 10, rel=0.05)
@@ -147,8 +135,7 @@ def test_laws_that_the_history_allows(room: Path, plan: Plan) -> None:
 
 
 def test_no_law_has_a_long_run(room: Path, plan: Plan, monkeypatch: pytest.MonkeyPatch) -> None:
-    """If under each law that the history allows as much comes back as is asked for, nothing is doubted; the choice by
-    the fitted law stays."""
+    """If under each allowed law as much comes back as is asked for, nothing is doubted, and the choice stays."""
     plan("whole")
 
     def comes_back(*_: object) -> NoReturn:
@@ -166,8 +153,8 @@ def test_a_page_says_by_which_law(fit: str, room: Path, plan: Plan) -> None:
     edit(room / "settings.toml", 'demand = "demand"', f'demand = "demand"\nfit = "{fit}"')
     edit(room / "settings.toml", "times = [2]", "times = [2, 3, 2, 4]")
     output = plan().output
-    law, lead = fit_demand(counts_of(room), method=fit), fit_lead([2, 3, 2, 4], method="auto")
-    scenario = Scenario.read(room / "plan/scenario.toml")
+    law, lead = crn.fit_demand(counts_of(room), method=fit), crn.fit_lead([2, 3, 2, 4], method="auto")
+    scenario = crn.Scenario.read(room / "plan/scenario.toml")
     assert (scenario.demand, scenario.lead) == (law.table, lead.table)
     words = {"empirical": "this history.", "hurdle-geometric": "the law fitted to this history (hurdle-geometric)."}
     page = Page(room / "plan/summary.html").words
@@ -179,7 +166,7 @@ def test_warnings_on_the_history(room: Path, plan: Plan) -> None:
     """What the checks of the history find is warned of on the page and in the summary, and the notes have the rest."""
     rows = [f"{week},{3 + week // 4 + week % 3}" for week in range(60)]
     (room / "history.csv").write_text("week,demand\n" + "\n".join(rows))
-    output, checks = plan().output, check_history(counts_of(room))
+    output, checks = plan().output, crn.check_history(counts_of(room))
     page, notes = Page(room / "plan/summary.html").words, (room / "plan/notes.txt").read_text()
     assert checks.warnings and "\nWARNING: Demand has a trend" in output
     for remark in (*checks.warnings, *checks.notes):
@@ -216,8 +203,7 @@ def test_table_of_the_summary(whole: Path) -> None:
 
 
 def test_a_wanted_fill_rate(room: Path, plan: Plan) -> None:
-    """Without a backlog cost the cheapest policy with the wanted fill rate is chosen. Money has the decimals of costs.
-    """
+    """The cheapest policy with the wanted fill rate is chosen. Money has the decimals of costs."""
     edit(room / "settings.toml", "backlog = 9.00\n", "")
     edit(room / "settings.toml", "0.60", "0.6125")
     edit(room / "settings.toml", "replications = 4\n", "")
@@ -238,7 +224,7 @@ def test_dates_returns_and_orders(room: Path, plan: Plan) -> None:
     edit(room / "settings.toml", "times = [2]", 'orders = "orders.csv"\nfit = "empirical"')
     told = plan()
     assert told.status == 0, told.errors
-    scenario = Scenario.read(room / "plan/scenario.toml")
+    scenario = crn.Scenario.read(room / "plan/scenario.toml")
     assert scenario.demand.tree == {"values": [0, 4, 5], "weights": [3, 1, 1]}
     assert scenario.lead.tree == {"values": [1, 3], "weights": [1, 1]}
     assert scenario.returns and scenario.returns.tree == {"values": [0, 1], "weights": [4, 1]}
@@ -249,17 +235,18 @@ def test_dates_returns_and_orders(room: Path, plan: Plan) -> None:
 
 
 def test_boxes(room: Path, plan: Plan) -> None:
-    """Demand above the program's range is counted in boxes by itself; levels and stock stay those of items. Then theory
-    is rounded: what the policy saves is said by the run, and the doubt has the same policies."""
+    """Large demand is counted in boxes by itself; levels and stock stay items', and savings are the run's."""
     rows = "\n".join(f"{10_000 * (week % 4) + 7}" for week in range(24))
     (room / "history.csv").write_text(f"demand\n{rows}\n")
     edit(room / "settings.toml", "s = 15\nS = 30\nstock = 20", "s = 40000\nS = 90000\nstock = 50000")
     edit(room / "settings.toml", 'demand = "demand"', 'demand = "demand"\nfit = "empirical"')
     told = plan()
     assert told.status == 0, told.errors
-    assert max(Scenario.read(room / "plan/scenario.toml").demand.values) < 10_000
+    assert max(crn.Scenario.read(room / "plan/scenario.toml").demand.values) < 10_000
     rows_by = {row["policy"]: row for row in rows_of(room / "plan/policies.csv")}
     assert (rows_by["today"]["s"], rows_by["today"]["S"]) == ("40000", "90000") and int(rows_by["chosen"]["S"]) > 10_000
+    shown = Page(room / "plan/summary.html").pictures["Demand by week, and the law that it is planned by"]
+    assert f"{sum(counts_of(room)):,} items" in shown
     saving = float(rows_by["today"]["run_cost"]) - float(rows_by["chosen"]["run_cost"])
     said = re.search(r"In the long run, by crnsim \([^)]*\), the chosen policy costs ([0-9,.]+) less a",
                      " ".join(told.output.split()))
@@ -282,7 +269,6 @@ def test_largest_numbers_fit_one_screen(room: Path, plan: Plan) -> None:
 
 
 def setting(old: str, new: str) -> Change:
-    """Returns a change of the settings."""
     return lambda room: edit(room / "settings.toml", old, new)
 
 
@@ -306,7 +292,6 @@ def test_refused_in_one_line(name: str, room: Path, plan: Plan) -> None:
 
 
 def test_all_faults_of_a_history(room: Path, plan: Plan) -> None:
-    """The faults of a history are reported in one pass, with their lines."""
     edit(room / "history.csv", "2023-W02,4", "2023-W02,many")
     edit(room / "history.csv", "2023-W07,1", "2023-W07,-1")
     status, output, errors = plan()
@@ -316,21 +301,17 @@ def test_all_faults_of_a_history(room: Path, plan: Plan) -> None:
 
 
 def test_no_program(room: Path, plan: Plan) -> None:
-    """Without the program nothing is done."""
     status, output, errors = plan(used=room / "missing")
     assert (status, output, errors.count("\n")) == (2, "", 1)
     assert errors.startswith(f"crnplan: --program: there is no program {room / 'missing'}; ")
     assert not (room / "plan").exists()
 
 
-@pytest.mark.parametrize("script, wanted, part", [("echo no report", 2, "no report"),
+@pytest.mark.parametrize("lines, wanted, part", [("echo no report", 2, "no report"),
                                                   ("echo crnsim: memory >&2; exit 7", 3, "crnsim: memory")])
-def test_program_that_fails(script: str, wanted: int, part: str, room: Path, plan: Plan) -> None:
+def test_program_that_fails(lines: str, wanted: int, part: str, room: Path, plan: Plan) -> None:
     """If the program fails, nothing is decided, and a good program then does it all."""
-    bad = room / "bad"
-    bad.write_text(f"#!/bin/sh\n{script}\n")
-    bad.chmod(0o755)
-    status, output, errors = plan(used=bad)
+    status, output, errors = plan(used=script(room / "bad", lines))
     assert (status, output) == (wanted, "") and part in errors
     assert plan().status == 0
     assert read_settings(room / "settings.toml")["run"]["horizon"] == 12

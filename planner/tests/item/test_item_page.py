@@ -1,4 +1,4 @@
-"""Tests the page of `crnplan item`: it stands alone, and its figures are those of the files beside it."""
+"""Tests the page of `crnplan item`: it stands alone, and has the files' figures and the item's laws."""
 from __future__ import annotations
 
 import re
@@ -8,18 +8,22 @@ from collections.abc import Callable, Mapping
 from decimal import Decimal
 from pathlib import Path
 
+import numpy as np
 import pytest
 
-from crnplan import Scenario
+import crnplan as crn
+from crnplan.demand.fitted import Diagnostics, FittedLaw
+from crnplan.pages.item_page import LAW_COLUMNS, law_words, laws_of
+from crnplan.plan.question import Settings, question_of
 from planner.tests.conftest import Command
 from planner.tests.item.conftest import Plan
 from planner.tests.pages.page_reader import Page, rows_of as list_of
+from planner.tests.plan.items import item_of
 
 Row = Mapping[str, str]
 
 
 def page_of(folder: Path) -> Page:
-    """Returns the page of a plan."""
     return Page(folder / "summary.html")
 
 
@@ -29,17 +33,14 @@ def rows_of(folder: Path, name: str) -> dict[str, Row]:
 
 
 def money(text: str, digits: int = 2) -> str:
-    """Returns an amount of money of a file as the page has it."""
     return "-" if text == "-" else f"{round(Decimal(text), digits) + 0:,.{digits}f}".replace("-", "\u2212")
 
 
 def share(text: str) -> str:
-    """Returns a share as the page has it."""
     return f"{float(text):.1%}"
 
 
 def policy(row: Row) -> list[str]:
-    """Returns the row of a policy in the table of all, from policies.csv."""
     ends = [money(row[f"run_cost_{end}"]) for end in ("low", "high")]
     return [row["policy"], row["s"], row["S"], money(row["theory_cost"]), share(row["fill"]), share(row["short"]),
             f"{float(row['stock']):.1f}", f"{float(row['orders']):.3f}", money(row["run_cost"]),
@@ -47,12 +48,10 @@ def policy(row: Row) -> list[str]:
 
 
 def doubted(row: Row) -> list[str]:
-    """Returns the row of a policy in the table of the doubt, from doubt.csv."""
     return [row["policy"], money(row["cost"]), f"{float(row['within']):.0%}", share(row["fill"]), share(row["fill_10"])]
 
 
 def moved(row: Row) -> list[str]:
-    """Returns the row of a case, from sensitivity.csv."""
     return [row["case"], row["s"], row["S"], money(row["cost"]), share(row["fill"]), money(row["kept_cost"]),
             f"{abs(float(row['kept_more'])):.1%}", share(row["kept_fill"])]
 
@@ -98,7 +97,7 @@ def test_pictures_say_their_figures(whole: Path) -> None:
     assert f"mean of the law: {float(law['mean']):.2f} a week; 99 of 100 weeks by the law: at most " in text
     assert text.endswith(f" at most {law['99.0%']}.")
     words = page.pictures["In how many weeks demand is so large, as it was seen and by the law"].rstrip(".").split("; ")
-    table = Scenario.read(whole / "scenario.toml").demand
+    table = crn.Scenario.read(whole / "scenario.toml").demand
     for its, said in zip((Counter(demand.values()), dict(zip(table.values, table.weights))), words, strict=True):
         shares = re.findall(r"at least (\d+) in ([0-9.]+)%", said)
         above = [100 * sum(its[it] for it in its if it >= int(least)) / sum(its.values()) for least, _ in shares]
@@ -127,8 +126,7 @@ def test_picture_of_the_law_whatever_the_order(room: Path, plan: Plan) -> None:
 
 
 def test_page_stands_alone(whole: Path) -> None:
-    """The page is closed in itself, links to nothing, allows its own style alone, and has the summary's words and all
-    policies."""
+    """The page links to nothing, allows its own style alone, and has the summary's words and all policies."""
     page = page_of(whole)
     page.check_alone()
     assert set(page.addresses) == {"data:,"} and not page.parts["script"] and all(page.pictures.values())
@@ -137,7 +135,7 @@ def test_page_stands_alone(whole: Path) -> None:
     told = re.search(r"^(Below .*?) (history: .*? weeks[.]) policy s S .* (In the long run .*?[.]) The chosen policy "
                      "is ", wanted)
     assert told and all(part in page.words for part in told.groups())
-    scenario = Scenario.read(whole / "scenario.toml")
+    scenario = crn.Scenario.read(whole / "scenario.toml")
     assert [it.name for it in scenario.policies] and set(rows_of(whole, "policies.csv")) == {
         it.name for it in scenario.policies}
     assert all(page.words.count(f" {it.name} ") >= 3 for it in scenario.policies)
@@ -154,25 +152,47 @@ def test_page_escapes_texts(room: Path, crnplan: Command, program: Path) -> None
     assert "a<b>&" in page.words and not page.open and "b" not in page.parts["h1"]
 
 
-def test_all_amounts_are_items(plan: Plan, room: Path) -> None:
-    """Of an item that is counted in boxes, each file and the page have items: ten thousand times the demand, with a
-    ten-thousandth of each cost of an item, is the same plan."""
-    history, settings = (room / "history.csv").read_text(), (room / "settings.toml").read_text()
-    counts = [int(it.rpartition(",")[2]) for it in history.splitlines()[1:]]
-    assert plan().status == 0
-    before = rows_of(room / "plan", "policies.csv")
-    times = 10_000
-    (room / "history.csv").write_text("demand\n" + "".join(f"{times * it}\n" for it in counts))
-    for name in ("holding", "backlog"):
-        settings = re.sub(rf"^{name} = (\S+)$", lambda it: f"{it[0][:it[0].index('=')]}= {float(it[1]) / times:.10f}",
-                          settings, flags=re.MULTILINE)
-    for name in ("s", "S", "stock"):
-        settings = re.sub(rf"^{name} = (\d+)$", lambda it: f"{it[0][:it[0].index('=')]}= {int(it[1]) * times}",
-                          settings, flags=re.MULTILINE)
-    (room / "settings.toml").write_text(settings)
-    assert plan("boxes").status == 0
-    after = rows_of(room / "boxes", "policies.csv")
-    assert after["today"]["s"] == str(times * int(before["today"]["s"]))
-    assert float(after["today"]["theory_cost"]) == pytest.approx(float(before["today"]["theory_cost"]), rel=0.05)
-    said = page_of(room / "boxes").pictures["Demand by week, and the law that it is planned by"]
-    assert f"{times * sum(counts):,} items" in said
+RANDOM = np.random.default_rng(2)
+ERRATIC = RANDOM.negative_binomial(1.5, 1 / 3, 104).tolist()
+TWO_SIZES = [7, 13, 7, 7, 13, 13, 7, 13] * 13  # no family has such a law
+
+
+def law(family: str, method: str, **more: object) -> FittedLaw:
+    return FittedLaw.made(crn.Law((0, 1), (1, 1)), family, Diagnostics(crn.Law((0, 1), (1, 1)), method, **more))
+
+
+@pytest.mark.parametrize("its, words", [
+    (law("empirical", "empirical"), "this history"),
+    (law("empirical", "auto"), "this history (auto: no family gives it back)"),
+    (law("empirical", "auto", side=0.0), "this history"),
+    (law("blurred", "auto", side=0.1), "the law fitted to this history (auto: blurred)"),
+    (law("poisson", "poisson"), "the law fitted to this history (poisson)"),
+    (law("poisson", "predictive"), "the law fitted to this history (predictive: poisson)"),
+    (law("poisson", "auto", families={"poisson": 1.0}), "the law fitted to this history (auto: poisson)"),
+    (law("poisson", "auto", families={"poisson": 0.62, "hurdle-poisson": 0.31, "hurdle-geometric": 0.07}, share=0.75),
+     "the law fitted to this history (auto: poisson 62% and 2 more; 25% from what was seen)")])
+def test_words(its: FittedLaw, words: str) -> None:
+    """A law is named by how it was fitted, or by the history."""
+    assert law_words(its) == words
+
+
+@pytest.mark.parametrize("numbers", [ERRATIC, TWO_SIZES], ids=["erratic", "two sizes"])
+@pytest.mark.parametrize("method", ["auto", "predictive", "empirical"])
+def test_figures(numbers: list[int], method: str) -> None:
+    """Each row has the figures that numpy has for the history, or for the law. The last one of a law names it."""
+    leads = [2, 3, 2, 4]
+    item = item_of(counts=tuple(numbers), leads=tuple(leads))
+    rows = [*laws_of(question_of(item, Settings(fit=method, lead_fit="empirical")), None).rows]
+    assert [it.name for it in LAW_COLUMNS] == ["table", "law", "mean", "variance", "95.0%", "99.0%", "99.9%", "largest"]
+    its = crn.fit_demand(numbers, method=method)
+    names, samples = ["this history"], [numbers]
+    if its.family != "empirical":
+        names, samples = ["what was seen", law_words(its)], [numbers, np.repeat(its.values, its.weights)]
+    elif method != "empirical":
+        names = [f"this history ({method}: no family gives it back)"]
+    assert [row[:2] for row in rows] == [*(["demand", name] for name in names), ["lead", "this history"]]
+    for row, sample in zip(rows, [*samples, leads]):
+        variance = np.var(sample, ddof=int(len(sample) < 65_536))
+        quantiles = [int(np.quantile(sample, it, method="inverted_cdf")) for it in (0.95, 0.99, 0.999)]
+        assert row[2:4] == pytest.approx([np.mean(sample), variance], abs=6e-5)
+        assert row[4:] == [*quantiles, max(sample)]

@@ -21,12 +21,10 @@ import psutil
 
 import crnplan as crn
 
-# What a cluster may take, from its first process to its last one. A process whose driver was ended by force ends by
-# itself soon after that.
-SECONDS = 120
+# What a test may take that uses a cluster, and, some times as much, the cluster of all tests.
+SECONDS, LIFETIME = 120, 1_200
 LOOPBACK = "127.0.0.1"
 WORKERS = ("stays", "leaves")
-WAITING = "import distributed, sys; distributed.Client(sys.argv[1]).wait_for_workers(int(sys.argv[2]), 30)"
 Found = TypeVar("Found")
 
 
@@ -42,18 +40,20 @@ def changed_package(room: Path) -> Path:
 class Cluster:
     """The processes of a cluster, and of those that use it."""
 
-    def __init__(self, room: Path) -> None:
-        """Starts nothing. What the processes print goes to files of the room."""
-        self.room, self.address = room, ""
+    def __init__(self, home: Path) -> None:
+        """Starts nothing. What the cluster itself needs is in its home."""
+        self.home, self.room, self.address = home, home, ""
         self.processes: dict[str, subprocess.Popen[bytes]] = {}
-        self.latest = time.monotonic() + SECONDS
+        self.errors: dict[str, Path] = {}
+        self.latest = 0.0
         self.environment = {name: value for name, value in os.environ.items() if not name.startswith("DASK_")}
-        self.environment["DASK_CONFIG"] = str(room / "no_settings")
+        self.environment["DASK_CONFIG"] = str(home / "no_settings")
 
     def start(self, name: str, *words: str, **others: str) -> None:
-        """Starts Python on these words. `others` are variables of its own."""
+        """Starts Python on these words in the room, where what it prints goes. `others` are variables of its own."""
         environment = {**self.environment, "CRNSIM_WORKER": name, **others}
-        with (self.room / f"{name}.out").open("wb") as output, (self.room / f"{name}.errors").open("wb") as errors:
+        self.errors[name] = self.room / f"{name}.errors"
+        with (self.room / f"{name}.out").open("wb") as output, self.errors[name].open("wb") as errors:
             self.processes[name] = subprocess.Popen([sys.executable, *words], cwd=self.room, env=environment,
                                                     stdin=subprocess.DEVNULL, stdout=output, stderr=errors,
                                                     start_new_session=True)
@@ -71,7 +71,6 @@ class Cluster:
             process.wait()
 
     def end_all(self) -> None:
-        """Ends all processes."""
         for name in self.processes:
             self.end(name)
 
@@ -103,34 +102,48 @@ class Cluster:
 
     def last_words(self, name: str) -> str:
         """Returns the last line that a process has written among its errors."""
-        text = (self.room / f"{name}.errors").read_text("utf-8", "replace")
+        text = self.errors[name].read_text("utf-8", "replace")
         return f"[{name}: {(text.strip() or '-').splitlines()[-1][:200]}]"
 
     def scheduler_address(self) -> str:
         """Returns the address that the scheduler has written; the empty text if it is not there yet."""
         try:
-            return str(json.loads((self.room / "scheduler.json").read_text("utf-8"))["address"])
+            return str(json.loads((self.home / "scheduler.json").read_text("utf-8"))["address"])
         except (OSError, ValueError):
             return ""
 
-    def open(self) -> None:
-        """Starts the scheduler and the workers, and waits until they know each other."""
-        here = ["--host", LOOPBACK, "--no-dashboard", "--dashboard-address", f"{LOOPBACK}:0"]
-        self.start("scheduler", "-m", "distributed.cli.dask_scheduler", *here, "--port", "0", "--scheduler-file",
-                   "scheduler.json", "--idle-timeout", f"{SECONDS}s")
-        self.address = self.wait_until("the scheduler's address", self.scheduler_address, "scheduler")
-        for name in WORKERS:
+    def restore(self, room: Path) -> None:
+        """Gives a test a scheduler with both workers and no other. What has ended, or never began, is started. What
+        the test starts works in its room."""
+        self.room, self.latest = room, time.monotonic() + SECONDS
+        for name in {*self.processes} - {"scheduler", *WORKERS}:
+            self.end(name)
+        if self.lacks("scheduler"):
+            self.end_all()
+            self.open()
+        for name in filter(self.lacks, WORKERS):
             self.join(name)
         self.wait_for(len(WORKERS))
 
+    def lacks(self, name: str) -> bool:
+        process = self.processes.get(name)
+        return process is None or process.returncode is not None or self.has_ended(name)
+
+    def open(self) -> None:
+        here = ["--host", LOOPBACK, "--no-dashboard", "--dashboard-address", f"{LOOPBACK}:0"]
+        (self.home / "scheduler.json").unlink(missing_ok=True)
+        self.start("scheduler", "-m", "distributed.cli.dask_scheduler", *here, "--port", "0", "--scheduler-file",
+                   str(self.home / "scheduler.json"), "--idle-timeout", f"{LIFETIME}s")
+        self.address = self.wait_until("the scheduler's address", self.scheduler_address, "scheduler")
+
     def join(self, name: str, **others: str) -> None:
-        """Starts a worker, with some variables of its own."""
         self.start(name, "-m", "distributed.cli.dask_worker", self.address, "--host", LOOPBACK, "--no-dashboard",
                    "--dashboard-address", f"{LOOPBACK}:0", "--no-nanny", "--nthreads", "1", "--memory-limit", "0",
-                   "--local-directory", str(self.room / f"of_{name}"), "--name", name, "--death-timeout",
-                   f"{SECONDS}s", "--lifetime", f"{2 * SECONDS}s", **others)
+                   "--local-directory", str(self.home / f"of_{name}"), "--name", name, "--death-timeout",
+                   f"{SECONDS}s", "--lifetime", f"{LIFETIME}s", **others)
 
     def wait_for(self, workers: int) -> None:
-        """Waits until the scheduler knows so many workers."""
-        self.start("asker", "-c", WAITING, self.address, str(workers))
-        assert self.wait_for_end("asker") == 0, f"the workers did not come: {self.last_words('asker')}"
+        """Waits until the scheduler knows just so many workers."""
+        import distributed
+        with distributed.Client(self.address, timeout=SECONDS) as client:
+            self.wait_until(f"{workers} workers", lambda: len(client.scheduler_info()["workers"]) == workers)

@@ -1,5 +1,4 @@
-"""Tests of work on a cluster: workers that end, hang, or are not as this machine; a scheduler that ends or is not
-there."""
+"""Tests work on a cluster: workers that end, hang, or are not as this machine; a scheduler that ends or isn't there."""
 from __future__ import annotations
 
 import os
@@ -14,7 +13,7 @@ import pytest
 
 import crnplan as crn
 from crnplan import jobs
-from planner.tests.conftest import Answer, Command
+from planner.tests.conftest import Answer, Command, script
 from planner.tests.decide.answers import changed, priced
 from planner.tests.jobs.clusters import LOOPBACK, SECONDS, WORKERS, Cluster, changed_package
 from planner.tests.jobs.test_sweep import kept
@@ -23,8 +22,7 @@ from planner.tests.jobs.test_sweep import kept
 GRID = ["--s", "50", "61", "1", "--S", "70", "79", "1"]
 SCENARIOS = 8
 # Says which worker begins a run and ends it. The second run of each waits until it may go on, and not for ever.
-HOLDING = """#!/bin/sh
-echo "$CRNSIM_WORKER begins" >> "{room}/taken"
+HOLDING = """echo "$CRNSIM_WORKER begins" >> "{room}/taken"
 if [ "$(grep -c "^$CRNSIM_WORKER begins" "{room}/taken")" -eq 2 ]; then
     left=600
     until [ -e "{room}/go_on" ] || [ "$left" -eq 0 ]; do sleep 0.1; left=$((left - 1)); done
@@ -34,32 +32,23 @@ status=$?
 echo "$CRNSIM_WORKER ends" >> "{room}/taken"
 exit $status
 """
-# Hangs in each run of a worker, or of all, but not for ever.
-HANGING = """#!/bin/sh
-echo "$CRNSIM_WORKER begins" >> "{room}/taken"
-case "{hangs}" in "$CRNSIM_WORKER"|both) sleep 60;; esac
+# Hangs in each run of a worker, or of all, until it may go on.
+HANGING = """echo "$CRNSIM_WORKER begins" >> "{room}/taken"
+case "{hangs}" in "$CRNSIM_WORKER"|both) until [ -e "{room}/go_on" ]; do sleep 0.1; done;; esac
 "{program}"
 echo "$CRNSIM_WORKER ends" >> "{room}/taken"
 """
 
 
 @pytest.fixture
-def cluster(room: Path, program: Path) -> Iterator[Cluster]:
-    """Opens a cluster with a base and a program that waits. Ends it, and checks that nothing of it is left."""
+def cluster(session_cluster: Cluster, room: Path, program: Path, monkeypatch: pytest.MonkeyPatch) -> Iterator[Cluster]:
+    """Returns a cluster, and makes a base and a program that waits. At the end all that waits goes on."""
     (room / "base.toml").write_text(priced(room / "examples/two_policies.toml", 3), "utf-8")
-    (room / "holding").write_text(HOLDING.format(room=room, program=program), "utf-8")
-    (room / "holding").chmod(0o755)
-    (room / "bin").mkdir()
-    (room / "bin/crnsim").symlink_to(program)
-    opened = Cluster(room)
-    opened.environment["PATH"] = f"{room / 'bin'}:{os.environ['PATH']}"
-    try:
-        opened.open()
-        yield opened
-        assert opened.living() > 0
-    finally:
-        opened.end_all()
-    assert opened.have_all_ended()
+    script(room / "holding", HOLDING.format(room=room, program=program))
+    monkeypatch.setenv("PATH", session_cluster.environment["PATH"])
+    session_cluster.restore(room)
+    yield session_cluster
+    (room / "go_on").touch()
 
 
 def taken(room: Path, worker: str) -> tuple[int, int]:
@@ -74,7 +63,6 @@ def start(cluster: Cluster, *words: str) -> None:
 
 
 def ended(cluster: Cluster) -> Answer:
-    """Returns how a sweep over the cluster has ended."""
     status = cluster.wait_for_end("sweep")
     return Answer(status, *((cluster.room / f"sweep.{it}").read_text("utf-8") for it in ("out", "errors")))
 
@@ -94,19 +82,17 @@ def test_a_worker_that_leaves_changes_nothing(cluster: Cluster, room: Path, crnp
     assert len(by_cluster) == SCENARIOS and by_cluster == kept(room / "kept_here")
 
 
-def test_a_fault_of_the_base(cluster: Cluster, room: Path) -> None:
+def test_a_fault_of_the_base(cluster: Cluster, room: Path, crnplan: Command) -> None:
     """Checks that a fault of the base is reported, and a failing program by its line."""
     text = (room / "base.toml").read_text("utf-8")
     for initial, part in ((60, "no output, status 1"), (-1, "fault 6")):
         (room / "base.toml").write_text(changed(text, "initial = 60", f"initial = {initial}"), "utf-8")
-        start(cluster, "--program", "/bin/false")
-        told = ended(cluster)
+        told = crnplan("sweep", "base.toml", *GRID, "--cluster", cluster.address, "--program", "/bin/false")
         assert told[:2] == (2, "") and part in told.errors
 
 
 def test_a_scheduler_that_ends(cluster: Cluster, room: Path) -> None:
-    """Ends the scheduler in the middle of a sweep: what is done is kept and said, with status 3. Then begins one whose
-    scheduler is not there, with status 2."""
+    """What is done is kept and said, with status 3; with status 2 if the scheduler is not there from the first."""
     for status in (3, 2):
         start(cluster, "--program", "./holding", "--out", "kept")
         if status == 3:
@@ -119,22 +105,20 @@ def test_a_scheduler_that_ends(cluster: Cluster, room: Path) -> None:
 
 
 @pytest.mark.parametrize("hangs", ["leaves", "both"])
-def test_a_batch_that_hangs(cluster: Cluster, room: Path, monkeypatch: pytest.MonkeyPatch, hangs: str) -> None:
-    """Gives a batch that takes too long to another worker, where the result is the same. If it hangs on all of them,
-    the sweep ends and says so."""
-    def swept(**more: Any) -> str:
-        """Returns the report of the same sweep."""
-        return crn.sweep(crn.Scenario.read(room / "base.toml"), range(50, 62), range(70, 80), program=room / "holding",
-                         **more).text
-    here, others = swept(), {"cluster": cluster.address, "out": room / "kept"}
-    (room / "taken").unlink()
-    (room / "holding").write_text(HANGING.format(room=room, program=room / "bin/crnsim", hangs=hangs), "utf-8")
+def test_a_batch_that_hangs(cluster: Cluster, room: Path, program: Path, monkeypatch: pytest.MonkeyPatch,
+                            hangs: str) -> None:
+    """A batch that takes too long goes to another worker, with the same result. If it hangs on all, the sweep ends."""
+    def swept(path: Path, **more: Any) -> str:
+        scenario = crn.Scenario.read(room / "base.toml")
+        return crn.sweep(scenario, range(50, 62), range(70, 80), program=path, **more).text
+    hanging = script(room / "hanging", HANGING.format(room=room, program=program, hangs=hangs))
+    others = {"cluster": cluster.address, "out": room / "kept"}
     monkeypatch.setattr(jobs, "LIMIT_SECONDS", 1.0)
     if hangs == "both":
         with pytest.raises(crn.Failed, match="has taken longer than 1 seconds on each of 3 workers"):
-            swept(**others)
+            swept(hanging, **others)
     else:
-        assert swept(**others) == here and taken(room, "leaves")[1] < taken(room, "leaves")[0]
+        assert swept(hanging, **others) == swept(program) and taken(room, "leaves")[1] < taken(room, "leaves")[0]
 
 
 @pytest.mark.parametrize("late, wanted", [([], None), (["one"], ["b", "c"]), (["one", "two", "three"], None)])
@@ -212,21 +196,20 @@ def test_a_stranger_that_comes_later(cluster: Cluster, room: Path) -> None:
 
 
 @pytest.mark.parametrize("part", ["crnsim", "crnplan"])
-def test_a_stranger_from_the_beginning(cluster: Cluster, room: Path, part: str) -> None:
+def test_a_stranger_from_the_beginning(cluster: Cluster, room: Path, crnplan: Command, part: str) -> None:
     """Refuses a worker with another program or crnplan, and no other, before anything is run. Without it, all is."""
-    (room / "other").mkdir()
-    (room / "other/crnsim").write_text(f"#!/bin/sh\nexec '{room}/bin/crnsim'\n")
-    (room / "other/crnsim").chmod(0o755)
+    script(room / "other/crnsim", f"exec '{cluster.home}/bin/crnsim'")
     cluster.join("late", **({"PATH": f"{room / 'other'}:{os.environ['PATH']}"} if part == "crnsim" else
                             {"PYTHONPATH": str(changed_package(room))}))
     cluster.wait_for(3)
+    words = ["sweep", "base.toml", *GRID, "--cluster", cluster.address, "--program", "crnsim", "--out", "kept"]
     for status, reports in ((2, 0), (0, SCENARIOS)):
-        start(cluster, "--program", "crnsim", "--out", "kept")
-        told = ended(cluster)
+        told = crnplan(*words)
         assert told.status == status and len(kept(room / "kept")) == reports, told
-        assert (f"the worker late (tcp://" in told.errors and f"has another {part}" in told.errors) == (status == 2)
+        assert ("the worker late (tcp://" in told.errors and f"has another {part}" in told.errors) == (status == 2)
         assert "stays" not in told.errors and "Traceback" not in told.errors
         cluster.end("late")
+        cluster.wait_for(len(WORKERS))
 
 
 @pytest.mark.parametrize("address, part", [

@@ -1,5 +1,4 @@
-"""Tests of crnplan sweep: its table, what it refuses, sweeps that are cut off and go on, and its progress: a bar on a
-terminal, and at most ten lines in a log."""
+"""Tests crnplan sweep: its table, what it refuses, sweeps that are cut off and go on, and their progress."""
 from __future__ import annotations
 
 import contextlib
@@ -18,10 +17,9 @@ import pytest
 
 import crnplan as crn
 from crnplan.jobs import progress
-from planner.tests.conftest import Command
+from planner.tests.conftest import Command, script
 from planner.tests.decide.answers import changed, priced
 
-COUNTING = '#!/bin/sh\necho >> "{room}/runs"\n{how}"{program}"\n'
 GRID = ["--s", "10", "60", "10", "--S", "40", "90", "10", "--jobs", "1", "--program", "./counting"]
 PAIRS = [(s, S) for s in range(10, 61, 10) for S in range(40, 91, 10) if s <= S and (s, S) != (20, 40)]
 SCENARIOS = 3
@@ -32,8 +30,7 @@ TEN = ["sweep", "examples/two_policies.toml", "--s", "1", "10", "1", "--S", "41"
 @pytest.fixture
 def base(room: Path, program: Path) -> Path:
     """Writes the base and a program that counts its runs, and returns the base's path."""
-    (room / "counting").write_text(COUNTING.format(room=room, program=program, how="exec "), "utf-8")
-    (room / "counting").chmod(0o755)
+    script(room / "counting", f'echo >> "{room}/runs"\nexec "{program}"')
     path = room / "base.toml"
     path.write_text(priced(room / "examples/two_policies.toml", 3), "utf-8")
     return path
@@ -129,29 +126,9 @@ def test_another_base_is_run_again(base: Path, crnplan: Command, runs: Callable[
 def test_programs_are_refused(base: Path, room: Path, program: Path, crnplan: Command, then: str, status: int,
                               part: str) -> None:
     """Refuses a program that gives the base another row in one report, and one that fails after a report."""
-    (room / "counting").write_text(f'#!/bin/sh\n"{program}" {then}\n', "utf-8")
+    script(room / "counting", f'"{program}" {then}')
     told = crnplan("sweep", base, *GRID)
     assert told[:2] == (status, "") and part in told.errors.splitlines()[-1]
-
-
-NINE = ["--s", "1", "3", "1", "--S", "9", "9", "1"]
-
-
-@pytest.mark.parametrize(("words", "old", "new", "part"), [
-    (["--s", "9", "3", "1", *NINE[4:]], "", "", "--s: FROM and TO are 0 to 1,000,000 and rise, and STEP is at least 1"),
-    ([*NINE[:6], "1000001", "1"], "", "", "--S: FROM and TO are 0 to 1,000,000"),
-    (["--s", "1", "3", "0", *NINE[4:]], "", "", "STEP is at least 1"),
-    (["--s", "20", "20", "1", "--S", "40", "40", "1"], "", "", "the grid has no pair with s <= S beside the base"),
-    (["--s", "50", "60", "1", "--S", "40", "40", "1"], "", "", "the grid has no pair with s <= S beside the base"),
-    ([*NINE, "--program", "./nobody"], "", "", "there is no program ./nobody"),
-    ([*NINE, "--out", "base.toml"], "", "", "base.toml: File exists; name a folder"),
-    (NINE, "initial = 60", "initial = -1", "fault 6"),
-    (NINE, 'name = "A"', 'name = "s1_S9"', "the base is called s1_S9")])
-def test_sweeps_are_refused(base: Path, crnplan: Command, words: list[str], old: str, new: str, part: str) -> None:
-    """Checks what is said of grids, programs, folders and bases that cannot be used."""
-    base.write_text(changed(base.read_text("utf-8"), *[old, new] * bool(old)), "utf-8")
-    told = crnplan("sweep", "base.toml", *words)
-    assert told[:2] == (2, "") and part in told.errors.splitlines()[-1]
 
 
 @pytest.mark.parametrize(("s", "S", "message"), [
@@ -173,11 +150,21 @@ def test_json_has_the_fields_of_the_report(base: Path, crnplan: Command) -> None
     assert [["-" if it is None else str(it) for it in record.values()] for record in data] == rows
 
 
-def test_a_log_has_a_line_for_each_ninth(crnplan: Command) -> None:
-    """Checks the lines of a sweep whose standard error is no terminal."""
+def test_progress(crnplan: Command, room: Path) -> None:
+    """A log has a line for each ninth, a terminal a bar."""
     told = crnplan(*TEN)
     wanted = [f"{done} of 10 scenarios (0 kept)" for done in (0, 2, 3, 4, 5, 6, 7, 8, 9, 10)]
     assert told.status == 0 and told.errors.splitlines() == wanted and "\r" not in told.errors
+    ours, theirs = pty.openpty()
+    with subprocess.Popen([sys.executable, "-m", "crnplan", *TEN], stdin=subprocess.DEVNULL,
+                          stdout=subprocess.DEVNULL, stderr=theirs) as process:
+        os.close(theirs)
+        shown = b""
+        with contextlib.suppress(OSError):  # the other side is closed
+            while part := os.read(ours, 4096):
+                shown += part
+    os.close(ours)
+    assert process.returncode == 0 and all(it in shown for it in (b"100%", b"10/10", b"0 kept"))
 
 
 @pytest.mark.parametrize("total", [1, 2, 8, 9, 10, 11, 100, 12345])
@@ -193,17 +180,3 @@ def test_lines_begin_and_end(capsys: pytest.CaptureFixture[str], total: int) -> 
     with progress(total, 0, False, "scenarios") as show:
         show(total)
     assert capsys.readouterr() == ("", "")
-
-
-def test_a_terminal_has_a_bar(room: Path) -> None:
-    """Runs a sweep whose standard error is a terminal."""
-    ours, theirs = pty.openpty()
-    with subprocess.Popen([sys.executable, "-m", "crnplan", *TEN], stdin=subprocess.DEVNULL,
-                          stdout=subprocess.DEVNULL, stderr=theirs) as process:
-        os.close(theirs)
-        shown = b""
-        with contextlib.suppress(OSError):  # the other side is closed
-            while part := os.read(ours, 4096):
-                shown += part
-    os.close(ours)
-    assert process.returncode == 0 and all(it in shown for it in (b"100%", b"10/10", b"0 kept"))

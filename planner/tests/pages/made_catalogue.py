@@ -15,7 +15,7 @@ from crnplan.curve.exchange_curve import keep_curve
 from crnplan.demand.learning import Prior
 from crnplan.files import own_folder
 from crnplan.pages.catalogue_page import CATALOGUE_FILES, write_catalogue
-from crnplan.plan.answer import (CHEAPER, RUN, SAME, SERVICE, THEORY, UNDECIDED, Answer, Figures, LawFacts, Run)
+from crnplan.plan.answer import CHEAPER, RUN, SAME, SERVICE, THEORY, UNDECIDED, Answer, Figures, LawFacts, Run
 from crnplan.plan.catalogue import ANSWERS, Planned, PlannedFolder, Totals
 from crnplan.plan.question import Settings
 from crnplan.records.catalogued import CATALOGUE, READ, Catalogued, Reject, Writer
@@ -100,7 +100,6 @@ def with_verdict(source: random.Random, answer: Answer) -> Answer:
 def made_rejects(source: random.Random, items: int) -> list[Reject]:
     """Returns what is left out: items, rows, and rows that are suspicious."""
     def remark(what: str, advice: str) -> Remark:
-        """Returns a remark whose words are those of the file."""
         return Remark("refused", {"what": what, "advice": advice})
     left = [Reject("item", "items.csv", line, f"L{line:05}", "lead", "0", remark(*source.choice(REASONS)),
                    source.randint(1, 90)) for line in range(2, 2 + items // 12)]

@@ -30,7 +30,6 @@ class Page(HTMLParser):
     """
 
     def __init__(self, page: Path) -> None:
-        """Reads the page."""
         super().__init__()
         self.source = page.read_text("utf-8")
         self.open: list[str] = []
@@ -50,7 +49,6 @@ class Page(HTMLParser):
         self.close()
 
     def handle_starttag(self, tag: str, attrs: list[tuple[str, str | None]]) -> None:
-        """Opens an element."""
         its = {name: value or "" for name, value in attrs}
         self.attributes |= its.keys()
         self.elements[tag] += 1
@@ -78,7 +76,6 @@ class Page(HTMLParser):
         self.attributes |= {name for name, _ in attrs}
 
     def handle_endtag(self, tag: str) -> None:
-        """Closes an element."""
         ended = self.open.pop()
         assert ended.partition("#")[0] == tag
         if tag == "desc" and ended.partition("#")[2] in self._labels:
@@ -86,7 +83,6 @@ class Page(HTMLParser):
             self.pictures[title] = text
 
     def handle_data(self, data: str) -> None:
-        """Keeps a text."""
         tag, _, identity = (self.open or [""])[-1].partition("#")
         self.parts[identity or tag].append(data)
         if tag in ("style", "script"):
@@ -108,8 +104,7 @@ class Page(HTMLParser):
         return {row[0]: dict(zip(self.columns, row, strict=True)) for row in self.tables["All items"][1:]}
 
     def check_alone(self) -> None:
-        """Checks that each element is closed, that the policy allows the own style and script alone, and that nothing
-        else can run or be asked for but pages of items."""
+        """Checks that all is closed, and that nothing can run or be asked for but the own style, script and pages."""
         def digest(part: str) -> str:
             """Returns the source of a content security policy that allows an element."""
             text = "".join(self.parts[part])

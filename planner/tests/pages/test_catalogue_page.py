@@ -47,15 +47,19 @@ def hostile(tmp_path_factory: pytest.TempPathFactory) -> Path:
 
 @pytest.fixture(scope="module")
 def large(tmp_path_factory: pytest.TempPathFactory) -> Path:
-    """Returns a folder with thousands of items and its page, which nobody changes."""
-    folder = made_folder(tmp_path_factory.mktemp("large") / "plan", 3_000)
+    """Returns a folder with hundreds of items and its page, which nobody changes."""
+    folder = made_folder(tmp_path_factory.mktemp("large") / "plan", 600)
     crn.report(folder)
     return folder
 
 
+@pytest.fixture(scope="module")
+def large_page(large: Path) -> Page:
+    return Page(large / "report.html")
+
+
 @pytest.fixture
 def folder(hostile: Path, tmp_path: Path) -> Path:
-    """Returns a folder of its own."""
     return Path(shutil.copytree(hostile, tmp_path / "plan"))
 
 
@@ -72,30 +76,26 @@ def test_cells_are_those_of_the_table(name: str, request: pytest.FixtureRequest)
 
 @pytest.fixture(scope="module")
 def plain(tmp_path_factory: pytest.TempPathFactory) -> Counter[str]:
-    """Returns the elements of the page of three items whose names are plain."""
-    return Page(crn.report(made_folder(tmp_path_factory.mktemp("plain") / "plan", 3, has_curve=False))).elements
+    """Returns the elements of the page of twelve items whose names are plain."""
+    return Page(crn.report(made_folder(tmp_path_factory.mktemp("plain") / "plan", 12, has_curve=False))).elements
 
 
-@settings(max_examples=10, deadline=None, suppress_health_check=[HealthCheck.function_scoped_fixture])
-@given(names=st.lists(NAMES, min_size=3, max_size=3, unique=True))
+@settings(max_examples=3, deadline=None, suppress_health_check=[HealthCheck.function_scoped_fixture])
+@given(names=st.lists(NAMES, min_size=12, max_size=12, unique=True))
 def test_names_stand_as_they_are(plain: Counter[str], tmp_path: Path, names: list[str]) -> None:
     """Whatever an item is called, the page shows just that, and has no element of it."""
-    page = Page(crn.report(made_folder(tmp_path / "plan", 3, names, has_curve=False)))
+    page = Page(crn.report(made_folder(tmp_path / "plan", 12, names, has_curve=False)))
     assert sorted(page.items) == sorted(names)
     assert page.elements == plain
 
 
-def test_column_of_policies_alone(tmp_path: Path) -> None:
-    """The policies of items alone are shown if there are any."""
+def test_columns_and_texts(tmp_path: Path) -> None:
+    """Policies of items alone are shown if there are any. Each text keeps its blanks and signs."""
     item, answer = made_pair(random.Random(1), "alone")
     alone = replace(answer.chosen, point=7, level=19)
     page = Page(crn.report(made_folder(tmp_path / "plan", 5, change=(item, replace(answer, alone=alone)))))
     assert {"s_alone", "S_alone"} < set(page.columns)
     assert {name: its["S_alone"] for name, its in page.items.items() if its["S_alone"]} == {"alone": "19"}
-
-
-def test_texts_stand_as_they_are(tmp_path: Path) -> None:
-    """Each text of an item keeps its blanks and signs."""
     item, answer = made_pair(random.Random(1), "texts")
     item = replace(item, description="  <b>two</b>  blanks ", group="&amp;",
                    remarks=(Remark("refused", {"what": "'a' \"b\" < c", "advice": ""}),))
@@ -104,12 +104,11 @@ def test_texts_stand_as_they_are(tmp_path: Path) -> None:
                                                                             "'a' \"b\" < c"]
 
 
-def test_totals(large: Path) -> None:
-    """Sums are those of the unrounded answers, the same on the page and in summary.txt. The interval follows from the
-    items' own: their errors are independent."""
+def test_totals(large: Path, large_page: Page) -> None:
+    """Page and summary have the sums of unrounded answers, with the interval of independent errors."""
     with contextlib.closing(Store(large / ANSWERS, Answer)) as store:
         answers = [it for _, _, it in store.answers() if isinstance(it, Answer)]
-    page, summary = Page(large / "report.html"), (large / "summary.txt").read_text("utf-8")
+    page, summary = large_page, (large / "summary.txt").read_text("utf-8")
     saving, run = (math.fsum(its) for its in ([it.saving for it in answers],
                                               [it.run.saving for it in answers]))
     today, chosen = (math.fsum(its) for its in ([it.cost_today for it in answers], [it.cost_chosen for it in answers]))
@@ -139,29 +138,16 @@ def test_totals(large: Path) -> None:
 @pytest.mark.parametrize("error, said", [(0.6, "the runs cannot tell the chosen policies from today's"),
                                          (0.5, "The chosen policies save 1.00 a week, 10.0% of today's cost")])
 def test_headline_of_runs(tmp_path: Path, error: float, said: str) -> None:
-    """If all items go by runs, the chosen policies are better only if the 95% interval, 1 with 1.96 standard errors at
-    each side, is above 0."""
+    """By runs, the chosen policies are better only if the interval, 1.96 errors around 1, is above 0."""
     item, answer = made_pair(random.Random(1), "it")
     run = replace(answer.run, saving=1.0, error=error)
     answer = replace(answer, source=RUN, cost_today=10.0, cost_chosen=9.0, saving=1.0, run=run)
     assert said in Page(crn.report(made_folder(tmp_path / "plan", 0, has_curve=False, change=(item, answer)))).words
 
 
-def test_service_is_weighted_by_value() -> None:
-    """An item of 90 money a period with all met, and one of 10 with half of it met, give 95%."""
-    totals = Totals()
-    for price, demand, fill in ((30, 3, 1.0), (2, 5, 0.5)):
-        item, answer = made_pair(random.Random(1), "it")
-        answer = replace(answer, law=replace(answer.law, mean=demand), today=replace(answer.today, fill=fill),
-                         chosen=replace(answer.chosen, fill=1.0))
-        totals.add(replace(item, price=Fraction(price)), answer)
-    assert totals.fill("today") == pytest.approx(0.95) and totals.fill("chosen") == pytest.approx(1)
-    assert Totals().fill("today") is None
-
-
-def test_left_out(large: Path) -> None:
+def test_left_out(large: Path, large_page: Page) -> None:
     """Each kind has as many rows as rejects.csv, and the first of each reason stands with its place."""
-    page, rejects = Page(large / "report.html"), rows_of(large / "rejects.csv")
+    page, rejects = large_page, rows_of(large / "rejects.csv")
     titles = {"Items left out": "item", "Rows rejected": "row",
               "Suspicious rows, which count all the same": "suspicious"}
     for title, kind in titles.items():
@@ -173,8 +159,8 @@ def test_left_out(large: Path) -> None:
     assert f"{first['file']}:{first['line']}, item {first['item']}: {first['reason']}; {first['advice']}" in page.words
 
 
-def test_reasons_are_in_order() -> None:
-    """Reasons are those of a column and a code. The most frequent of a kind stands first, with its first row."""
+def test_reasons_verdicts_and_service() -> None:
+    """Reasons are those of a column and a code, by their number. Service is weighted by value."""
     rejects = [Reject("row", "d.csv", line, item, column, "", Remark(code, {"items": line, "reason": ""}), 1)
                for line, (item, column, code) in enumerate([("A", "day", "steps"), ("B", "amount", "steps"),
                                                             ("B", "day", "own laws"), ("A", "day", "steps")], 2)]
@@ -182,19 +168,23 @@ def test_reasons_are_in_order() -> None:
         ("theory counts in steps of \u2026 items", "day", 2, 2, {"A"}),
         ("theory counts in steps of \u2026 items", "amount", 1, 3, {"B"}),
         ("each item has the law of its own history", "day", 1, 4, {"B"})]
+    assert set(MEANING) == {CHEAPER, DEARER, SERVICE, SAME, UNDECIDED}
+    totals = Totals()
+    for price, demand, fill in ((30, 3, 1.0), (2, 5, 0.5)):
+        item, answer = made_pair(random.Random(1), "it")
+        answer = replace(answer, law=replace(answer.law, mean=demand), today=replace(answer.today, fill=fill),
+                         chosen=replace(answer.chosen, fill=1.0))
+        totals.add(replace(item, price=Fraction(price)), answer)
+    assert totals.fill("today") == pytest.approx(0.95) and totals.fill("chosen") == pytest.approx(1)
+    assert Totals().fill("today") is None
 
 
-def test_page_is_small_and_stands_alone(large: Path, hostile: Path) -> None:
-    """The page of 3,000 items has under 2 MB. No page names another place, or lets anything run but its own script."""
-    pages = [Page(large / "report.html"), Page(crn.report(hostile))]
-    assert (large / "report.html").stat().st_size < 2_000_000
-    for page in pages:
+def test_page_is_small_and_stands_alone(large: Path, large_page: Page, hostile: Path, tmp_path: Path) -> None:
+    """The page of 600 items has under 0.4 MB, runs its own script alone, and has the same bytes again."""
+    assert (large / "report.html").stat().st_size < 400_000
+    for page in (large_page, Page(crn.report(hostile))):
         page.check_alone()
         assert {"style", "script"} <= page.parts.keys()
-
-
-def test_bytes_are_the_same(hostile: Path, tmp_path: Path) -> None:
-    """The same tables in another folder give the same bytes, and the page is written anew without asking."""
     other = Path(shutil.copytree(hostile, tmp_path / "elsewhere"))
     first = crn.report(hostile).read_bytes()
     assert first == crn.report(hostile).read_bytes() == crn.report(other).read_bytes()
@@ -212,9 +202,9 @@ def test_greatest_are_shown_of_very_many(hostile: Path, folder: Path, monkeypatc
     assert Page(hostile / "report.html").words.split(".")[0] in page.words
 
 
-def test_curve(large: Path) -> None:
+def test_curve(large: Path, large_page: Page) -> None:
     """The named points have their figures, also for a screen reader. The line ends within the picture."""
-    page = Page(large / "report.html")
+    page = large_page
     with contextlib.closing(Store(large / ANSWERS, Answer)) as store:
         named = [it for it in json.loads(store.fact("curve") or "")["points"] if it["name"]]
     points = page.tables["Points of the curve"][1:]
@@ -270,24 +260,24 @@ def test_items_with_a_page_are_links(folder: Path) -> None:
 
 @pytest.mark.parametrize("items", [0, 1])
 def test_few_items(tmp_path: Path, items: int) -> None:
-    """A plan without items, or with one, has a page too."""
     page = Page(crn.report(made_folder(tmp_path / "plan", items, has_curve=False)))
     assert len(page.items) == items and f"{items} of" not in page.words
     assert ("No item is planned" in page.words) == (items == 0)
 
 
 def test_lost_items_are_said(folder: Path) -> None:
-    """If items are lost, the page says so at its top."""
+    """Lost items are said at the top. If rows have changed since, the answers are those of an earlier plan."""
     base = sqlite3.connect(folder / READ)
     with base:
         base.execute("UPDATE facts SET value = replace(value, '\"named\": 65', '\"named\": 66')")
     base.close()
     assert "THE COUNTS DO NOT ADD UP. items: 66 are named" in Page(crn.report(folder)).words
-
-
-def test_each_verdict_has_a_meaning() -> None:
-    """The page says what each verdict means."""
-    assert set(MEANING) == {CHEAPER, DEARER, SERVICE, SAME, UNDECIDED}
+    with own_folder(folder, CATALOGUE) as own:
+        writer = Writer(own)
+        writer.add(replace(made_pair(random.Random(1), "P00020")[0], counts=(1,)))
+        writer.finish({"counts": {}, "every": "week", "decimals": 2})
+    with pytest.raises(crn.Refused, match="its plan is not as the rows that were read last; run crnplan catalogue"):
+        crn.report(folder)
 
 
 def test_command(folder: Path, tmp_path: Path, crnplan: Command) -> None:
@@ -298,16 +288,6 @@ def test_command(folder: Path, tmp_path: Path, crnplan: Command) -> None:
     empty.mkdir()
     message = f"no plan is in it; run crnplan catalogue DEMAND.csv ITEMS.csv --out {empty} first"
     assert crnplan("report", empty) == (2, "", f"crnplan: {empty}: {message}\n") and not [*empty.iterdir()]
-
-
-def test_plan_of_other_rows_is_refused(folder: Path) -> None:
-    """If the rows were read again and have changed, the answers are those of an earlier plan."""
-    with own_folder(folder, CATALOGUE) as own:
-        writer = Writer(own)
-        writer.add(replace(made_pair(random.Random(1), "P00020")[0], counts=(1,)))
-        writer.finish({"counts": {}, "every": "week", "decimals": 2})
-    with pytest.raises(crn.Refused, match="its plan is not as the rows that were read last; run crnplan catalogue"):
-        crn.report(folder)
 
 
 def test_page_of_a_plan(tmp_path: Path, program: Path, crnplan: Command) -> None:

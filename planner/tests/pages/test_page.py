@@ -1,26 +1,35 @@
-"""Tests the scales, numbers and security policy of a page."""
+"""Tests the scales, numbers and security policy of a page, and the pictures of a decision."""
 from __future__ import annotations
 
+import csv
 import itertools
 import math
+import sys
+import xml.etree.ElementTree
+from collections.abc import Callable
+from fractions import Fraction
 from pathlib import Path
 from types import SimpleNamespace
 from typing import Any
 
+import numpy as np
 import pytest
-from hypothesis import given
-from hypothesis import strategies as st
+from hypothesis import example, given, strategies as st
 
+from crnplan.crnsim.trajectory import Period
 from crnplan.curve.exchange import Point
 from crnplan.demand.fitting import fit_demand
 from crnplan.pages.item_page import history_plot
 from crnplan.pages.page import UNITS, Scale, curve_ends, number, percent, rendered, source, tick
+from crnplan.scenario import Policy
+from planner.tests.conftest import Command
 from planner.tests.pages.page_reader import Page
 
 VALUES = st.lists(st.floats(-1e9, 1e9).filter(lambda it: it == 0 or abs(it) > 1e-6), min_size=1, max_size=5)
 
 
 @given(VALUES, st.booleans())
+@example([0, 0], False)
 def test_scale_has_all_values_and_zero(values: list[float], is_whole: bool) -> None:
     """Each value and 0 stand within the picture, in their order, and there are round numbers in it."""
     values = [round(it) for it in values] if is_whole else values
@@ -28,13 +37,13 @@ def test_scale_has_all_values_and_zero(values: list[float], is_whole: bool) -> N
     places = [scale.at(it) for it in sorted([*values, 0])]
     assert 0 <= places[0] and places[-1] <= UNITS and places == sorted(places)
     assert 0 in scale.ticks and all(0 <= scale.at(it) <= UNITS for it in scale.ticks) and len(scale.ticks) <= 7
+    assert any(values) or scale.at(1) == UNITS
     assert not is_whole or all(it == int(it) for it in scale.ticks)
 
 
 @given(st.lists(st.floats(1e-6, 1), min_size=1, max_size=5))
 def test_chances_stand_in_their_order(chances: list[float]) -> None:
-    """Each chance stands within the picture, ten times as large a one always as far above it, and 1 at the top. The
-    least one stands in the lowest step."""
+    """Ten times as large a chance stands as far above it, 1 at the top, the least one in the lowest step."""
     scale = Scale.of_chances(min(chances))
     places = [scale.at(it) for it in sorted(chances)]
     assert 0 <= places[0] and places[-1] <= UNITS == scale.at(1) and places == sorted(places) and scale.at(0) == 0
@@ -64,46 +73,24 @@ def test_bars_of_a_long_history() -> None:
 
 
 def test_ends_of_a_curve() -> None:
-    """The axis of stock ends at 1.35 times the greatest stock of a named point, and that of service begins 4 points
-    below the least, but at 0 at least."""
+    """The axes end at 1.35 times the greatest named stock, and 4 points below the least service, from 0 on."""
     named = [Point(100.0, 0.9, 1.0, 1.0), Point(200.0, 0.95, 1.0, 1.0)]
     assert curve_ends(named) == pytest.approx((270, 86)) and curve_ends([named[0]._replace(fill=0.03)])[1] == 0
 
 
-def test_scale_of_nothing() -> None:
-    """A history without demand has a scale too."""
-    assert (Scale.of([0, 0]).at(0), Scale.of([0]).at(1)) == (0, UNITS)
-
-
-@pytest.mark.parametrize("value, digits, text", [(1234.5, 2, "1,234.50"), (-1234.5, 2, "\u22121,234.50"),
-                                                 (-0.001, 2, "0.00"), (12, 0, "12"), (math.nan, 2, "-")])
-def test_number(value: float, digits: int, text: str) -> None:
-    """A number has separators of thousands and a minus sign, and no sign if it is rounded to 0."""
-    assert number(value, digits) == text
-
-
-@pytest.mark.parametrize("share, text", [("-1e-17", "0.0%"), ("0.98449", "98.4%"), (1, "100.0%")])
-def test_percent(share: str | float, text: str) -> None:
-    """A share that rounding made less than none is none."""
-    assert percent(share) == text
-
-
-@pytest.mark.parametrize("value, text", [(0.0, "0"), (-2000.0, "\u22122,000"), (2.5, "2.5")])
-def test_tick(value: float, text: str) -> None:
-    """A round number at an axis has no decimals that it does not need."""
-    assert tick(value) == text
-
-
-@pytest.mark.parametrize("text, wanted", [
-    ("alert('Hello, world.');", "'sha256-qznLcsROx4GACP2dm0UCKCzCG+HiZ1guq6ZZDob/Tng='"), ("", "'none'")])
-def test_source(text: str, wanted: str) -> None:
-    """A script has the source of the example in Content Security Policy Level 3, section 8.4; no text allows none."""
-    assert source(text) == wanted
+@pytest.mark.parametrize("function, words, text", [
+    (number, (1234.5, 2), "1,234.50"), (number, (-1234.5, 2), "\u22121,234.50"), (number, (-0.001, 2), "0.00"),
+    (number, (12, 0), "12"), (number, (math.nan, 2), "-"), (percent, ("-1e-17",), "0.0%"),
+    (percent, ("0.98449",), "98.4%"), (percent, (1,), "100.0%"), (tick, (0.0,), "0"), (tick, (-2000.0,), "\u22122,000"),
+    (tick, (2.5,), "2.5"), (source, ("",), "'none'"),
+    (source, ("alert('Hello, world.');",), "'sha256-qznLcsROx4GACP2dm0UCKCzCG+HiZ1guq6ZZDob/Tng='")])
+def test_texts(function: Callable[..., str], words: tuple[object, ...], text: str) -> None:
+    """Numbers and shares are spelt so. A script has the source of Content Security Policy Level 3, section 8.4."""
+    assert function(*words) == text
 
 
 def test_page_allows_its_own_style_alone(tmp_path: Path) -> None:
-    """The policy of a page allows the style that stands in it, no script if there is none, and no other file. What
-    would run besides is found."""
+    """The policy allows the own style, no script if there is none, and no file; what else would run is found."""
     page = tmp_path / "page.html"
     text = rendered("base.html", {})
     page.write_text(text)
@@ -114,3 +101,86 @@ def test_page_allows_its_own_style_alone(tmp_path: Path) -> None:
         page.write_text(text.replace(old, new, 1))
         with pytest.raises(AssertionError):
             Page(page).check_alone()
+
+
+PNG = b"\x89PNG\r\n\x1a\n"
+SWEEP = ["examples/case/sweep.csv", "--scenario", "examples/case/scenario.toml", "--sweep"]
+REPORTS = {"few": ["examples/spare_part.csv", "--replications", "64"], "many": SWEEP}
+FEW = {"both (7, 20)", "today (10, 26)", "-5.33%", "better", "base", "cost of a replication less that of today",
+       "in the scenario's money; joint level 95%", "Policies compared with today (10, 26)", "64 replications"}
+
+
+@pytest.fixture(autouse=True)
+def at_the_top(top: Path, monkeypatch: pytest.MonkeyPatch) -> None:
+    """Runs each test in the folder of the repository."""
+    monkeypatch.chdir(top)
+
+
+def texts_of(path: Path) -> list[str | None]:
+    return [it.text for it in xml.etree.ElementTree.parse(path).iter("{http://www.w3.org/2000/svg}text")]
+
+
+def drawn(crnplan: Command, name: str, folder: Path) -> tuple[list[str | None], list[str | None]]:
+    """Draws both pictures of a report as SVG, and returns their texts."""
+    words = ["--plot", folder / "plot.svg", "--map", folder / "map.svg"]
+    status, output, errors = crnplan("decide", *REPORTS[name], *words)
+    assert status == 0 and "better than today" in output, errors
+    return texts_of(folder / "plot.svg"), texts_of(folder / "map.svg")
+
+
+def test_few_policies(crnplan: Command, tmp_path: Path) -> None:
+    """The picture says what it compares. Drawn again, it has the same bytes. Matplotlib's settings stay."""
+    import matplotlib
+    before, pictures = (dict(matplotlib.rcParams), sys.modules.get("matplotlib.pyplot")), []
+    for _ in range(2):
+        assert FEW <= set(drawn(crnplan, "few", tmp_path)[0])
+        pictures.append([(tmp_path / name).read_bytes() for name in ("plot.svg", "map.svg")])
+    assert pictures[0] == pictures[1]
+    assert crnplan("decide", *REPORTS["few"], "--plot", tmp_path / "a.PNG", "--map", tmp_path / "b.png").status == 0
+    assert all((tmp_path / name).read_bytes().startswith(PNG) for name in ("a.PNG", "b.png"))
+    assert (dict(matplotlib.rcParams), sys.modules.get("matplotlib.pyplot")) == before
+
+
+def test_many_policies(crnplan: Command, tmp_path: Path, top: Path) -> None:
+    """Of many policies 20 are drawn, the base among them. The map names the best and the base with their costs."""
+    texts, of_map = drawn(crnplan, "many", tmp_path)
+    assert len([it for it in texts if it and it.startswith("s") and it.endswith(")")]) == 19
+    assert "today (15, 30)" in texts and "64 replications, 20 of 121 policies shown" in texts
+    base, *others = csv.DictReader((top / "examples/case/sweep.csv").read_text().splitlines())
+    best = min(others, key=lambda row: int(row["total"]))
+    wanted = {f"{word}: {row['policy']} ({row['s']}, {row['S']}), {float(Fraction(row['per_period'])):,.3f} a period"
+              for word, row in (("best", best), ("base", base))}
+    wanted |= {"cost per period, in the scenario's money (dark is cheap)", "reorder point s, in items"}
+    assert wanted <= {*of_map}
+
+
+@pytest.mark.parametrize("words", [["decide", *REPORTS["few"], "--plot"], ["decide", *REPORTS["few"], "--map"],
+                                   ["trajectory", "examples/two_policies.toml", "A", "--out"]], ids=" ".join)
+def test_no_matplotlib(crnplan: Command, words: list[str], tmp_path: Path, program: Path,
+                       monkeypatch: pytest.MonkeyPatch) -> None:
+    """Without matplotlib a picture is refused in one line that says how to get it."""
+    monkeypatch.setenv("CRNSIM", str(program))
+    monkeypatch.setitem(sys.modules, "matplotlib", None)
+    monkeypatch.delitem(sys.modules, "crnplan.pages.pictures", raising=False)  # Another test may have loaded it.
+    status, output, errors = crnplan(*words, tmp_path / "none.svg")
+    assert (status, output, errors.count("\n")) == (2, "", 1) and "apt-get install python3-matplotlib" in errors
+    assert not (tmp_path / "none.svg").exists()
+
+
+@pytest.mark.parametrize("level", [11, 12, 20, 21, 30, 100])
+def test_names_of_levels_stand_apart(level: int) -> None:
+    """The names of s and S, of 9 points each, do not overlap, and are at their levels if these are far apart."""
+    from crnplan.pages.pictures import trajectories_picture
+    policy = Policy("it", 10, level)
+    figure = trajectories_picture([policy], [[Period(0, 50, 150, 150), Period(0, 150, 0, 0)]], 200)
+    low, high = (text.get_window_extent() for text in figure.axes[0].texts)
+    assert low.y1 <= high.y0 + 1
+    assert level < 100 or {text.xyann for text in figure.axes[0].texts} == {(5, 0)}
+
+
+def test_position_goes_over_the_periods() -> None:
+    """From 20, it falls by 15 in period 0, and in period 1 rises by 10 at the review, before 5 are asked for."""
+    from crnplan.pages.pictures import trajectories_picture
+    figure = trajectories_picture([Policy("it", 5, 15)], [[Period(0, 15, 5, 5), Period(10, 5, 0, 10)]], 20)
+    line, = (it for it in figure.axes[0].lines if it.get_label() == "inventory position")
+    assert np.asarray(line.get_xydata()).tolist() == [[0, 20], [0, 20], [1, 5], [1, 15], [2, 10]]

@@ -1,32 +1,37 @@
-"""Tests the answer to one item: whose figures it has, the run beside them, and that theory and runs agree."""
+"""Tests the answer to one item: whose figures it has, the run beside them, and that a catalogue gives the same."""
 from __future__ import annotations
 
+import csv
+import datetime
 import math
+from collections.abc import Mapping
 from fractions import Fraction
 from pathlib import Path
 from typing import Any
 
 import numpy as np
+import pandas as pd
 import pytest
 
+import crnplan as crn
+from crnplan.demand.learning import Prior
 from crnplan.plan import one, question as questions
 from crnplan.plan.answer import CHEAPER, RUN, SAME, SERVICE, THEORY, UNDECIDED, Answer
-from crnplan.plan.item import Depth
-from crnplan.plan.one import Disagreement, allowed_by, plan_batch, plan_one
+from crnplan.plan.catalogue import planned_folder
+from crnplan.plan.item import Depth, planned, read_item
+from crnplan.plan.one import Disagreement, plan_batch, plan_one
 from crnplan.plan.question import Question, Settings, question_of
-from crnplan.demand.learning import Prior
 from crnplan.records.item import Item
 from crnplan.remarks import Remark
 from crnplan.theory.long_run import Candidate, LongRun
-from planner.tests.plan.items import WEEKS, alone, item_of
+from planner.tests.conftest import Command, rows_of
+from planner.tests.plan.items import WEEKS, alone, item_of, several
 from planner.tests.theory.long_run_costs import cost_of, shortfall_of
 
 NONE = Prior("none")
-LEAST = 10  # laws that are drawn at least
 
 
 def answer_of(item: Item, settings: Settings, program: Path) -> Answer:
-    """Returns the answer to an item."""
     return plan_one(question_of(item, settings), str(program))
 
 
@@ -57,8 +62,11 @@ def test_costs_are_those_of_the_run_where_theory_is_rounded(program: Path, monke
     assert (answer.verdict == UNDECIDED) == (estimate.low is None or estimate.low <= 0 <= (estimate.high or 0))
 
 
-def test_the_best_policy_is_kept(program: Path) -> None:
-    """An item with its best policy has no saving, with an interval of no width."""
+def test_the_run_is_that_of_the_key_of_the_name(program: Path) -> None:
+    """Another name has another run of the same figures. The best policy saves nothing."""
+    first, same, other = (answer_of(item_of(name=name), alone(), program) for name in ("A", "A", "B"))
+    assert first == same and first.run.key != other.run.key and first.run.total_today != other.run.total_today
+    assert (first.today, first.chosen, first.saving) == (other.today, other.chosen, other.saving)
     best = answer_of(item_of(), alone(), program).chosen
     answer = answer_of(item_of(levels=(best.point, best.level)), alone(), program)
     estimate = answer.run
@@ -66,19 +74,8 @@ def test_the_best_policy_is_kept(program: Path) -> None:
         SAME, 0, 0, 0, 0, 0)
     assert [str(end) for end in (estimate.saving, estimate.low, estimate.high)] == ["0.0"] * 3  # none is -0.0
     assert answer.run.total_today == answer.run.total_chosen and answer.run.variance == 0
-
-
-def test_a_wanted_fill_rate_may_cost_more(program: Path) -> None:
-    """A policy that keeps a fill rate that today's misses is for more service, and has a negative saving."""
     answer = answer_of(item_of(backlog=None, fill=Fraction(99, 100), levels=(1, 8)), alone(), program)
     assert answer.today.fill < 0.99 <= answer.chosen.fill and (answer.verdict, answer.saving < 0) == (SERVICE, True)
-
-
-def test_the_run_is_that_of_the_key_of_the_name(program: Path) -> None:
-    """The same name and seed give the same run; another name gives the same figures with another run."""
-    first, same, other = (answer_of(item_of(name=name), alone(), program) for name in ("A", "A", "B"))
-    assert first == same and first.run.key != other.run.key and first.run.total_today != other.run.total_today
-    assert (first.today, first.chosen, first.saving) == (other.today, other.chosen, other.saving)
 
 
 def raised(times: float) -> Any:
@@ -117,17 +114,13 @@ def test_a_run_without_rare_events_is_no_fault(program: Path, monkeypatch: pytes
     assert len(seen) > 8
 
 
-def test_why_there_is_no_interval(program: Path) -> None:
-    """A policy that hardly orders in a run has no interval, which is said with the orders that are expected."""
+def test_remarks(program: Path) -> None:
+    """It is said if a policy hardly orders, and if no scale makes costs whole: beside 9000, 2.55 is 3."""
     slow = item_of(counts=(1, *[0] * 400, 1), setup=Fraction(1_000), holding=Fraction(1, 100), levels=(0, 90))
     answer = answer_of(slow, alone(fit="empirical"), program)
     remark, = (it for it in answer.remarks if it.code == "no interval")
     assert answer.run.error is answer.run.low is None and answer.source == THEORY
     assert 0 < float(remark.facts["orders"] or 0) < 2 and answer.verdict == CHEAPER
-
-
-def test_costs_that_are_rounded(program: Path) -> None:
-    """Costs that no scale makes whole within their ranges are rounded: beside 9000 of at most 10,000, 2.55 is 3."""
     answer = answer_of(item_of(unit=Fraction(9_000), holding=Fraction(1), backlog=Fraction("2.55")), alone(), program)
     remark, = (it for it in answer.remarks if it.code == "rounded costs")
     assert remark.facts["error"] == pytest.approx(3 / 2.55 - 1)
@@ -170,18 +163,7 @@ def test_no_decision_without_the_largest_of_few_periods(program: Path) -> None:
     assert Depth(question, plan_one(question, str(program)), str(program)).without is None
 
 
-def test_no_law_with_a_long_run(program: Path) -> None:
-    """There is no doubt to state if as much comes back as is asked for under each law that the history allows."""
-    returns = (*[1] * 58, 0, 1)  # 60 are asked for at once, and 59 come back
-    questions_of_names = (question_of(item_of(name=str(name), counts=(*[0] * 59, 60), returns=returns, levels=(5, 30)),
-                                      alone(fit="empirical")) for name in range(200))
-    question = next(it for it in questions_of_names
-                    if all(60 * law.mean <= 59 for law in allowed_by(it, LEAST)[0]))
-    assert Depth(question, plan_one(question, str(program)), str(program), LEAST).doubt is None
-
-
 def test_an_item_without_a_policy(program: Path, monkeypatch: pytest.MonkeyPatch) -> None:
-    """An item for which there is no policy has a fault with facts."""
     monkeypatch.setattr(type(question_of(item_of(), alone()).theory()), "best", lambda *_: Candidate(math.inf, 0, 0))
     assert plan_batch([(item_of(), None)], alone(), NONE, str(program)) == [Remark("no policy", {"fill": None})]
     monkeypatch.setattr(one, "choice_of", lambda *_: 1 // 0)
@@ -203,3 +185,102 @@ def test_counting_in_boxes_changes_no_figure(program: Path, monkeypatch: pytest.
         assert (after.cost, after.fill, after.orders) == (before.cost, before.fill, before.orders)
         assert math.isclose(after.stock, 10 * before.stock)
     assert (answer.run, answer.saving) == (plain.run, plain.saving)
+
+
+ITEMS, START = 20, datetime.date(2024, 1, 1)  # a Monday
+LAST = START + datetime.timedelta(7 * WEEKS - 1)
+SETTINGS = """
+[history]
+demand = "demand"{returns}
+every = "week"
+date = "date"
+to = {last}
+[lead]
+times = {leads}
+[costs]
+setup = {setup}
+holding = {holding}
+{backlog}
+[today]
+s = {s}
+S = {S}
+stock = 7
+[run]
+name = "{name}"
+replications = 4
+{fill}
+"""
+
+
+@pytest.fixture(scope="module")
+def items() -> Mapping[str, Item]:
+    return {item.name: item for item in several(ITEMS)}
+
+
+def moves(item: Item) -> list[tuple[datetime.date, int, int]]:
+    """Returns the movements of an item: day, demand and what came back."""
+    returns = item.returns or (0,) * WEEKS
+    return [(START + datetime.timedelta(7 * week + week % 5), asked, back)
+            for week, (asked, back) in enumerate(zip(item.counts, returns)) if asked or back]
+
+
+def write(folder: Path, item: Item) -> Path:
+    """Writes the history and the settings of an item into a folder."""
+    folder.mkdir(parents=True)
+    with (folder / "history.csv").open("w", newline="") as file:
+        csv.writer(file).writerows([("date", "demand", "returned"), *moves(item)])
+    amounts = {name: float(getattr(item, name)) for name in ("setup", "holding")}
+    (folder / "settings.toml").write_text(SETTINGS.format(
+        name=item.name, leads=[*item.leads], s=item.levels[0], S=item.levels[1], **amounts,
+        last=LAST, returns='\nreturns = "returned"' * bool(item.returns),
+        backlog="" if item.backlog is None else f"backlog = {float(item.backlog)}",
+        fill="" if item.fill is None else f"fill = {float(item.fill)}"))
+    return folder
+
+
+@pytest.fixture(scope="module")
+def folder(items: Mapping[str, Item], tmp_path_factory: pytest.TempPathFactory, program: Path) -> Path:
+    """Returns a folder with the plan of all items as a catalogue."""
+    room = tmp_path_factory.mktemp("both") / "plan"
+    sales = [(item.name, *move) for item in items.values() for move in moves(item)]
+    masters = [{"item": it.name, "setup": float(it.setup), "holding": float(it.holding), "s": it.levels[0],
+                "S": it.levels[1], "lead": " ".join(map(str, it.leads)), "stock": 7,
+                "backlog": it.backlog and float(it.backlog), "fill": it.fill and float(it.fill)}
+               for it in items.values()]
+    crn.plan(pd.DataFrame(sales, columns=["item", "date", "quantity", "returned"]), pd.DataFrame(masters), start=START,
+             end=LAST, out=room, jobs=1, program=program, borrow="none", replications=4)
+    return room
+
+
+def test_items_have_the_same_answer(items: Mapping[str, Item], folder: Path, tmp_path: Path,
+                                          program: Path) -> None:
+    """Each figure of the answer is the same: by theory, of the run, its key and what must be said."""
+    with planned_folder(folder) as its:
+        answers = {item.name: answer for item, answer in its.answers()}
+    assert len(answers) == ITEMS and len({it.verdict for it in answers.values() if isinstance(it, Answer)}) > 1
+    for name, item in items.items():
+        room = write(tmp_path / name, item)
+        alone = planned(read_item(room / "history.csv", room / "settings.toml"), program)
+        assert alone.answer == answers[name], name
+
+
+@pytest.mark.parametrize("name", ["I-001", "I-002"])
+def test_both_commands_show_the_same(items: Mapping[str, Item], folder: Path, tmp_path: Path, program: Path,
+                                     crnplan: Command, name: str) -> None:
+    """The tables of both commands have the same figures of today's and of the chosen policy, and of the run."""
+    room = write(tmp_path / name, items[name])
+    told = crnplan("item", room / "history.csv", room / "settings.toml", "--out", room / "plan", "--program", program)
+    assert told.status == 0, told.errors
+    exact, = rows_of(room / "plan/exact.csv").values()
+    assert exact == rows_of(folder / "exact.csv")[name]
+    decided, policies = rows_of(folder / "decisions.csv")[name], rows_of(room / "plan/policies.csv", "policy")
+    for policy, row in policies.items():
+        if policy not in ("today", "chosen"):
+            continue
+        shown = [row["s"], row["S"], f"{float(row['stock']):.5g}", f"{float(row['orders']):.5g}",
+                 f"{float(row['fill']):.4f}"]
+        assert shown == [decided[f"{it}_{policy}"] for it in ("s", "S", "stock", "orders", "fill")]
+        assert row["cost"] == decided[f"cost_{policy}"]
+    chosen = policies["chosen"]
+    assert [-float(chosen[it]) for it in ("difference", "run_difference", "run_high", "run_low")] == [
+        float(decided[it]) for it in ("saving", "run_saving", "run_low", "run_high")]

@@ -1,4 +1,4 @@
-"""Tests that answers are kept in columns as they are, that a changed file is named, and that sums are exact."""
+"""Tests that answers are kept as they are, that changed files are named, and that sums and rates are right."""
 from __future__ import annotations
 
 import math
@@ -7,11 +7,14 @@ from fractions import Fraction
 from pathlib import Path
 
 import pytest
-from hypothesis import given
-from hypothesis import strategies as some
+from hypothesis import given, settings, strategies as some, strategies as st
 
+from crnplan import formats
+from crnplan.errors import Refused
+from crnplan.money import rounded_costs
 from crnplan.plan.answer import Answer, LawFacts
 from crnplan.plan.catalogue import Totals, add_exactly
+from crnplan.plan.question import finest
 from crnplan.records.item import Item
 from crnplan.remarks import Remark
 from crnplan.stored import Columns, Damaged, Store
@@ -34,12 +37,11 @@ def test_columns_give_back_what_they_are_given(value: Answer | Item) -> None:
 
 
 def item(name: str) -> Item:
-    """Returns an item."""
     return Item(name, (1, 2), (3,), (4, 5), Fraction(1, 3), Fraction(2))
 
 
 def test_a_store_keeps_answers_and_faults(tmp_path: Path) -> None:
-    """Answers come back in order of their names, with what they depend on; a fault stands for one that there is not."""
+    """Answers come back by name with what they depend on; a fault stands for one. A store of other columns has none."""
     store = Store(tmp_path / "kept", Item)
     store.keep([("b", "2", item("b")), ("a", "1", Remark("none", {"x": 1}))])
     store.keep([("b", "3", item("c"))])
@@ -50,10 +52,6 @@ def test_a_store_keeps_answers_and_faults(tmp_path: Path) -> None:
     assert again.digests() == {"a": "1", "b": "3"} and again.digest("b") == "3" and again.digest("c") is None
     assert again.answer("b") == item("c") and (again.fact("one"), again.fact("two")) == ("text", None)
     again.close()
-
-
-def test_columns_of_another_version_are_made_anew(tmp_path: Path) -> None:
-    """A store of other columns has no answers."""
     store = Store(tmp_path / "kept", LawFacts)
     store.keep([("a", "1", LawFacts("auto", 1.0, None, 2.0, 1.0))])
     store.close()
@@ -95,3 +93,34 @@ def test_sums_are_exact(numbers: list[float], times: int) -> None:
         add_exactly(totals.parts["x"], number)
     assert math.isclose(totals["x"], float(sum(map(Fraction, many))), rel_tol=1e-15, abs_tol=1e-9)
     assert totals["y"] == 0 and len(totals.parts["x"]) <= 1_000
+
+
+COSTS = st.fractions(Fraction(1, 10_000), 10_000, max_denominator=10_000)
+
+
+@settings(max_examples=40)
+@given(COSTS, COSTS, st.fractions(0, 10**6, max_denominator=100))
+def test_whole_rates(holding: Fraction, backlog: Fraction, setup: Fraction) -> None:
+    """Has whole rates in range that are within half a unit of the costs, and holding exact."""
+    costs = {"setup": setup, "holding": holding, "backlog": backlog}
+    try:
+        rates, scale, error = rounded_costs(costs, "holding")
+    except Refused as why:
+        assert "too far apart" in str(why) and (setup > 10**8 * holding or backlog > 10**4 * holding)
+        return
+    assert rates["holding"] == holding * scale > 0
+    assert all(abs(rates[it] - costs[it] * scale) <= Fraction(1, 2) for it in costs)
+    assert all(low <= rates[it] <= high for it in costs for low, high in [formats.limits("costs", it)])
+    worst = max(abs(rates[it] / (costs[it] * scale) - 1) for it in costs if costs[it])
+    assert abs(error - worst) < 1e-12
+
+
+@settings(max_examples=40)
+@given(st.integers(0, 10**8), st.integers(1, 10_000))
+def test_finest_rates(setup: int, holding: int) -> None:
+    """Takes the greatest power of ten that both ranges allow."""
+    rates, scale = finest({"setup": setup, "holding": holding}, Fraction(3))
+    times = scale / 3
+    assert rates == {"setup": setup * times, "holding": holding * times}
+    assert rates["setup"] <= 10**8 and rates["holding"] <= 10_000
+    assert 10 * rates["setup"] > 10**8 or 10 * rates["holding"] > 10_000

@@ -30,7 +30,6 @@ class Counted(NamedTuple):
 
 
 def chances_of(law: Law | None) -> list[tuple[int, float]]:
-    """Returns each value with its chance."""
     law = law or Law((0,), (1,))
     return [(value, weight / sum(law.weights)) for value, weight in zip(law.values, law.weights) if weight]
 

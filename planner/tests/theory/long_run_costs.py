@@ -15,6 +15,7 @@ import numpy as np
 
 from crnplan.law import Law
 from crnplan.scenario import Scenario
+from planner.tests.demand.made import chances_of
 
 LEAST_CHANCE = 1e-12
 
@@ -35,13 +36,6 @@ class Best(NamedTuple):
     cost: float
     point: int
     level: int
-
-
-def chances_of(table: Law) -> np.ndarray:
-    """Returns the chance of each number from 0 to the greatest of a table."""
-    chances = np.zeros(max(table.values) + 1)
-    chances[list(table.values)] = table.weights
-    return chances / chances.sum()
 
 
 def net_demand(scenario: Scenario) -> tuple[int, np.ndarray]:
@@ -123,14 +117,12 @@ def fills_of(scenario: Scenario, short: Shortfall, levels: np.ndarray) -> np.nda
 
 
 def costs_of(scenario: Scenario, short: Shortfall, levels: np.ndarray) -> np.ndarray:
-    """Returns the cost per period of each order-up-to level S."""
     stock, costs = levels[:, None] - short.least - np.arange(len(short.chances)), scenario.costs
     rates = np.where(stock > 0, costs.holding * stock, -costs.backlog * stock)
     return costs.setup * short.orders + rates @ short.chances
 
 
 def cost_of(scenario: Scenario, short: Shortfall, level: int) -> float:
-    """Returns the cost per period of order-up-to level S."""
     return float(costs_of(scenario, short, np.array([level]))[0])
 
 

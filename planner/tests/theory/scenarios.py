@@ -16,7 +16,6 @@ COSTS = Costs(7, 2, 1, 4)
 
 
 def table(pair: Pair) -> Law:
-    """Returns a table of values and weights."""
     return Law(tuple(pair[0]), tuple(pair[1]))
 
 

@@ -8,8 +8,7 @@ from pathlib import Path
 
 import numpy as np
 import pytest
-from hypothesis import example, given, settings
-from hypothesis import strategies as st
+from hypothesis import example, given, settings, strategies as st
 
 from crnplan.scenario import Costs, Policy, Scenario
 from crnplan.theory.lattice import NoTheory
@@ -119,7 +118,7 @@ def test_many_periods(case: str, monkeypatch: pytest.MonkeyPatch) -> None:
     assert shorter.biases == pytest.approx(found.biases, abs=1e-7)
 
 
-@settings(max_examples=40, deadline=None)
+@settings(max_examples=20, deadline=None)
 @given(st.lists(st.integers(0, 9), min_size=2, max_size=40).filter(lambda it: any(it[1:])),
        st.sampled_from([([1], [1]), ([5], [1]), ([2, 3, 7], [1, 5, 2])]), st.integers(0, 150), st.integers(0, 250),
        st.integers(0, 400), st.sampled_from([1, 2, 6, 7, 8, 300]))
@@ -160,14 +159,11 @@ def test_end_effects_are_those_of_a_chain(demand: Pair, back: Pair | None, pairs
     assert ends_of(scenario, pairs) == pytest.approx([10 * (mean - means[0]) for mean in means], abs=1e-4)
 
 
-def test_end_effects_of_large_numbers() -> None:
-    """Far below S the lows are evenly spread, so the mean depth grows by half of what S - s grows by."""
+def test_end_effects_of_large_numbers(monkeypatch: pytest.MonkeyPatch) -> None:
+    """Far below S the mean depth grows by half of what S - s grows by. Steps hardly matter."""
     wide = scenario_of((range(0, 10_001, 5), [1] * 2001), costs=Costs(0, 1, 1, 1))
     effects = ends_of(wide, [(0, 20_000), (0, 60_000), (30_000, 70_000)])
     assert effects == pytest.approx([0, 20_000, 40_000], abs=150)
-
-
-def test_end_effects_in_steps_of_several_items(monkeypatch: pytest.MonkeyPatch) -> None:
     middle = scenario_of((range(0, 501, 3), [1 + it % 4 for it in range(167)]), costs=Costs(0, 1, 1, 1))
     pairs = [(0, 3000), (0, 1500), (900, 1000), (700, 700)]
     exact = ends_of(middle, pairs)

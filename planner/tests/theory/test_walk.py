@@ -3,13 +3,11 @@ from __future__ import annotations
 
 import numpy as np
 import pytest
-from hypothesis import given, settings
-from hypothesis import strategies as st
+from hypothesis import given, settings, strategies as st
 
 from crnplan.law import Law
 from crnplan.theory.walk import (MOST_PRODUCTS, NOTHING, LatticeLaw, Surplus, convolved, factors_of, power_of,
                                  renewal_sequence, room_for, sum_of)
-
 from planner.tests.theory.scenarios import table
 
 MOST_HEIGHT = 300
@@ -20,7 +18,6 @@ tables = st.dictionaries(st.integers(0, 10_000), st.integers(0, 65_536), min_siz
 
 
 def as_dict(law: LatticeLaw) -> dict[int, float]:
-    """Returns the chance of each cell."""
     return dict(zip(law.cells.tolist(), law.chances.tolist()))
 
 
@@ -33,9 +30,16 @@ def direct_sum(left: dict[int, float], right: dict[int, float]) -> dict[int, flo
     return total
 
 
-@given(laws, laws)
-def test_a_sum_equals_the_direct_sum(left: LatticeLaw, right: LatticeLaw) -> None:
+@given(laws, laws, st.integers(0, 7))
+def test_sums_equal_direct_sums(left: LatticeLaw, right: LatticeLaw, count: int) -> None:
     assert as_dict(sum_of(left, right)) == pytest.approx(direct_sum(as_dict(left), as_dict(right)), abs=1e-14)
+    twice, total = left.reflected.reflected, as_dict(NOTHING)
+    assert (twice.low, twice.chances.tolist()) == (left.low, left.chances.tolist())
+    assert as_dict(left.reflected) == {-cell: chance for cell, chance in as_dict(left).items()}
+    for _ in range(count):
+        total = direct_sum(total, as_dict(left))
+    told = as_dict(power_of(left, count))
+    assert {cell: told.get(cell, 0.0) for cell in total} == pytest.approx(total, abs=1e-13)
 
 
 @pytest.mark.parametrize("left, right", [(240, 208), (900, 700), (4000, 13)])
@@ -47,22 +51,6 @@ def test_a_convolution_by_transform_equals_the_direct_sum(left: int, right: int)
     for place, it in enumerate(first):
         sums[place:place + right] += it * second
     assert convolved(first, second) == pytest.approx(sums, rel=1e-12)
-
-
-@given(laws)
-def test_a_law_reflected_twice_is_itself(law: LatticeLaw) -> None:
-    twice = law.reflected.reflected
-    assert (twice.low, twice.chances.tolist()) == (law.low, law.chances.tolist())
-    assert as_dict(law.reflected) == {-cell: chance for cell, chance in as_dict(law).items()}
-
-
-@given(laws, st.integers(0, 7))
-def test_a_power_equals_repeated_sums(law: LatticeLaw, count: int) -> None:
-    total = as_dict(NOTHING)
-    for _ in range(count):
-        total = direct_sum(total, as_dict(law))
-    told = as_dict(power_of(law, count))
-    assert {cell: told.get(cell, 0.0) for cell in total} == pytest.approx(total, abs=1e-13)
 
 
 @given(tables, st.integers(1, 700))

@@ -1,5 +1,4 @@
-"""Tests what is said of edited scenarios, and the number that the program reports of each. The cases are in
-edits.toml."""
+"""Tests what is said of edited scenarios, and the number that the program reports of each, as in edits.toml."""
 from __future__ import annotations
 
 import re
@@ -56,8 +55,7 @@ def test_messages(part: str, case: list[Any], two_policies: str) -> None:
 
 @pytest.mark.parametrize("name", EDITS["lines"])
 def test_lines_in_many_spellings(name: str) -> None:
-    """Compares the line of each table, key and entry of a document, also with CR LF; a tree with other keys has
-    none."""
+    """Compares the line of each table, key and entry, also with CR LF; a tree with other keys has none."""
     text, wanted = EDITS["lines"][name]
     tree, faults = read_document(text.encode())
     found = places_of(text_of_document(text.encode()), tree)

@@ -1,19 +1,17 @@
-"""Writes docs/TABLES.md from the declared columns: `python -m planner.tests.tables_page` at the top of the
-repository."""
+"""Writes docs/TABLES.md from the declared columns: `python -m planner.tables_page` at the top of the repository."""
 from __future__ import annotations
 
 from collections.abc import Mapping, Sequence
 from pathlib import Path
 
-from crnplan.crnsim import long_run as exact_long_run
-from crnplan.crnsim import report, trajectory
+from crnplan.crnsim import long_run as exact_long_run, report, trajectory
 from crnplan.curve import exchange_curve
 from crnplan.decide import doubt, sensitivity, verdicts
 from crnplan.pages import backtest_tables, catalogue_tables, change_tables, item_page
 from crnplan.table import Column
 from crnplan.theory import suggestions
 
-PAGE = Path(__file__).parents[2] / "docs/TABLES.md"
+PAGE = Path(__file__).parents[1] / "docs/TABLES.md"
 HEAD = """# The tables of crnplan
 
 Each table is declared once, in Python; this page follows from that. A file has a heading and a row for each item, policy or period, in

@@ -1,30 +1,45 @@
-"""Tests of the studies of laws: how they measure, and small parts of them against the stored figures."""
+"""Tests the studies: how they measure, small parts of them, what the package cites, and their page."""
 from __future__ import annotations
 
+import importlib
 import math
 from collections.abc import Callable
 from pathlib import Path
 from typing import Any
 
+import click
 import numpy as np
 import pandas as pd
 import pytest
 from scipy import stats
 
+from crnplan.decide.doubt import HELD
 from crnplan.demand.checks import STUDIED, losses
 from crnplan.demand.fitted import DOUBT, Diagnostics, FittedLaw
 from crnplan.demand.fitting import fit_demand
 from crnplan.law import Law
 from crnplan.scenario import Scenario
+from crnplan.theory import suggestions
 from crnplan.theory.lattice import theories_of
-from planner.studies import borrowing, dependence, laws, laws_leads, warnings
+from planner.studies import __main__, borrowing, dependence, doubt, fills, laws, laws_leads, page, search, warnings
 from planner.studies.dependence import Case
+from planner.studies.laws import Truth
 from planner.studies.made_catalogues import KINDS, catalogue, customers, negative_binomial, poisson
-from planner.tests.demand.made import chances_of, compare
+from planner.tests.demand.made import chances_of
+from planner.tests.theory.long_run_costs import costs_of, fills_of, shortfall_of
+
+
+def compare(rows: pd.DataFrame, stored: Path, keys: list[str], figures: list[str]) -> None:
+    """Compares figures with the stored ones, within four standard errors."""
+    table = pd.read_csv(stored).set_index(keys)
+    for row in rows.to_dict("records"):
+        its = table.loc[tuple(row[it] for it in keys)]
+        for name in figures:
+            error = math.hypot(row[f"{name}_error"], its[f"{name}_error"])
+            assert row[name] == pytest.approx(its[name], abs=4 * error + 0.01), (row, name)
 
 
 def moments(law: Any) -> tuple[float, float]:
-    """Returns the mean and the variance of a law."""
     cells = np.arange(len(law))
     return float(law @ cells), float(law @ cells**2 - (law @ cells)**2)
 
@@ -41,18 +56,17 @@ def borrowing_rows() -> pd.DataFrame:
     ("borrowing", 4 + 5, ["kind", "periods", "part", "method"], ["regret", "over"], borrowing_rows),
     ("borrowing_odd", 4, ["item", "periods", "method"], ["regret", "over"],
      lambda: borrowing.odd_study(**borrowing.SMALL_ODD)),
+    ("doubt", 2, ["law", "periods"], [*doubt.FIGURES], lambda: doubt.study(**doubt.SMALL)),
     ("dependence", len(dependence.SMALL), ["kind", "law", "size", "length"], ["regret", "promise"],
      lambda: dependence.study(dependence.SMALL, dependence.SMALL_PATHS, dependence.SMALL_CYCLES))])
 def test_small_part(stored: str, count: int, keys: list[str], figures: list[str],
                     rows_of: Callable[[], pd.DataFrame], top: Path) -> None:
-    """A small part of a study has the stored figures."""
     rows = rows_of()
     assert len(rows) == count
     compare(rows, top / f"planner/studies/{stored}.csv", keys, figures)
 
 
 def test_best_policies() -> None:
-    """The best policy of each setting costs what the theory of the package says."""
     law = fit_demand([0, 3, 1, 0, 2, 7, 4, 0, 1, 1], method="auto")
     runs, orders = laws.LongRuns(chances_of(law), 60, 160), {2: 40, 8: 300}
     for at, (lead, backlog, cover) in enumerate(laws.SETTINGS):
@@ -77,16 +91,26 @@ def test_laws() -> None:
 
 
 def test_stored_figures(top: Path) -> None:
-    """What the package says of short records of lead times are the stored figures, and no law is missing."""
+    """What the package says of lead times, bounds and searches are the stored figures, and none is missing."""
     leads = pd.read_csv(top / "planner/studies/laws_leads.csv").query("method == 'auto'").groupby("seen")["regret"]
     for seen, (least, most) in DOUBT.items():
         assert (least, most) == pytest.approx((leads.min()[seen], leads.max()[seen]), abs=0.051)
     table = pd.read_csv(top / "planner/studies/laws.csv")
     assert {*table["law"]} == {*laws.LAWS} and len(table) == len(laws.LAWS) * len(laws.PERIODS) * len(laws.METHODS)
+    rows = doubt.summary(pd.read_csv(top / "planner/studies/doubt.csv")).query("group == 'all'")
+    for name in ("regret", "fill"):
+        assert HELD[name] == (round(rows[f"{name}_held"].min()), round(rows[f"{name}_held"].max()))
+    assert [*rows["periods"]] == [*laws.PERIODS]
+    table = pd.read_csv(top / "planner/studies/fills.csv")
+    assert len(table) == table["law"].nunique() * len(laws.PERIODS) * len(fills.METHODS)
+    assert set(table["histories"]) == {fills.HISTORIES}
+    table = pd.read_csv(top / "planner/studies/search.csv", dtype={"leads": str})
+    several = table.loc[table["leads"].str.contains(" "), "excess"]
+    assert suggestions.MOST_EXCESS == pytest.approx(several.max(), abs=0.051) and table["excess"].min() > -1e-6
 
 
 def test_summary() -> None:
-    """A summary has the mean over laws, its standard error, and the worst law."""
+    """A summary has means, errors and the worst law. Errors of a difference and a ratio are those of repeated draws."""
     rows = pd.DataFrame({"group": "others", "periods": 52, "method": "auto", "law": ["a", "b"], "regret": [4.0, 8.0],
                          "promise": [-1.0, -3.0], "gain": [1.0, -0.5], "regret_error": [0.3, 0.4],
                          "promise_error": [0.6, 0.8], "gain_error": [0.0, 0.2]})
@@ -94,6 +118,20 @@ def test_summary() -> None:
     assert (line["regret"], line["promise"], line["gain"]) == (6.0, -2.0, 0.25)
     assert (line["regret_error"], line["promise_error"], line["gain_error"]) == pytest.approx((0.25, 0.5, 0.1))
     assert (line["worst"], line["worst_gain"], line["worst_error"]) == ("b", -0.5, 0.2)
+    rows = pd.DataFrame({"group": ["designed", "others"], "law": ["a", "b"], "periods": 26,
+                         **{it: [80.0, 90.0] for it in doubt.FIGURES},
+                         **{f"{it}_error": [3.0, 4.0] for it in doubt.FIGURES}})
+    lines = doubt.summary(rows).to_dict("records")
+    assert [(it["group"], it["promise"], it["promise_error"]) for it in lines] == [
+        ("designed", 80, 3), ("others", 90, 4), ("all", 85, 2.5)]
+    assert [it["fill_held_worst"] for it in lines] == ["80 (a)", "90 (b)", "80 (a)"]
+    random, found = np.random.default_rng(5), []
+    for _ in range(2000):
+        others = random.gamma(4, 1, 50)
+        found.append(borrowing.paired(0.5 * others + random.gamma(2, 0.5, 50), others))
+    means, spread = np.mean(found, axis=0), np.std(found, axis=0)
+    assert means[[0, 2]] == pytest.approx([-1, 0.75], abs=0.02)
+    assert means[[1, 3]] == pytest.approx(spread[[0, 2]], rel=0.1)
 
 
 @pytest.mark.parametrize("kind", KINDS)
@@ -116,7 +154,6 @@ def test_customers() -> None:
         """Draws 0 each time, so that parameters are their medians."""
 
         def standard_normal(self, *_: object) -> float:  # type: ignore[override]
-            """Returns 0."""
             return 0.0
     law, cells = customers(Fixed(np.random.PCG64(1))).law, np.arange(4000)
     sizes = np.diff(stats.lognorm(0.8, scale=4).cdf(np.arange(int(4 * np.exp(3.2)) + 2) + 0.5), prepend=0.0)
@@ -141,21 +178,9 @@ def test_regret() -> None:
 
 @pytest.mark.parametrize("numbers", [[0, 0, 3, 0, 1, 9, 0, 0, 2, 5, 0, 4], [6, 0, 12, 6, 0, 6, 18, 0], [40] * 9 + [2]])
 def test_predictive_law(numbers: list[int]) -> None:
-    """The law made from that of `auto` is that of `predictive`."""
     found = borrowing.predictive_law(fit_demand(numbers, method="auto"), numbers)
     expected = fit_demand(numbers, method="predictive")
     assert (found.values, found.weights, found.family) == (expected.values, expected.weights, expected.family)
-
-
-def test_paired() -> None:
-    """Errors of a difference and of a ratio are those of repeated draws."""
-    random, found = np.random.default_rng(5), []
-    for _ in range(2000):
-        others = random.gamma(4, 1, 50)
-        found.append(borrowing.paired(0.5 * others + random.gamma(2, 0.5, 50), others))
-    means, spread = np.mean(found, axis=0), np.std(found, axis=0)
-    assert means[[0, 2]] == pytest.approx([-1, 0.75], abs=0.02)
-    assert means[[1, 3]] == pytest.approx(spread[[0, 2]], rel=0.1)
 
 
 def simulated_cost(demand: list[int], lead: int, low: int, level: int, costs: tuple[float, float], used: int) -> float:
@@ -175,7 +200,7 @@ def simulated_cost(demand: list[int], lead: int, low: int, level: int, costs: tu
 
 
 def test_costs_on_paths() -> None:
-    """One pass gives the cost that each policy has if it is simulated alone."""
+    """Costs of one pass are those of policies alone. Each half of the paths chooses the best policy for the other."""
     demand = np.random.default_rng(6).negative_binomial(1.5, 1 / 3, (400, 2))
     on_paths = dependence.Paths(demand, 12, 40)
     for setting, (lead, backlog, _) in enumerate(laws.SETTINGS):
@@ -185,10 +210,6 @@ def test_costs_on_paths() -> None:
                 alone = simulated_cost(demand[:, path].tolist(), lead, level - gap, level, (7.0, backlog), 394)
                 assert costs[path, gap, level] == pytest.approx(alone)
         assert costs[0, 11, 10] == math.inf
-
-
-def test_best_is_judged_on_the_other_half() -> None:
-    """Each half of the paths chooses the best policy for the other."""
     costs = np.ones((4, 1, 3)) * [[[4.0, 2, 3]], [[4, 3, 2]], [[4, 2, 3]], [[4, 3, 2]]]
     regrets, level = dependence.judged(costs, laws.Choice(0, 0, 0.0))
     assert regrets == pytest.approx([1 / 3] * 4) and level == 1.5
@@ -206,7 +227,7 @@ def test_chains(law: str, mean: float, variance: float, size: int) -> None:
 
 
 def test_stored_figures_of_dependence(top: Path) -> None:
-    """What the package cites are the stored figures, no case is missing, and the control loses nothing."""
+    """What is cited is stored, the control loses nothing, and false alarms are below 5% but for chance."""
     stored = pd.read_csv(top / "planner/studies/dependence.csv")
     keys = ["kind", "law", "size", "length"]
     assert [tuple(it) for it in stored[keys].to_numpy()] == [tuple(it) for it in dependence.CASES]
@@ -220,10 +241,16 @@ def test_stored_figures_of_dependence(top: Path) -> None:
         law = dependence.scaled_law(name, 1.0)
         mean = law @ np.arange(len(law))
         assert math.sqrt(law @ (np.arange(len(law)) - mean)**2) / mean == pytest.approx(variation, abs=0.001)
+    stored = pd.read_csv(top / "planner/studies/warnings.csv")
+    alarms = stored[stored["part"] == "independent"]
+    assert len(alarms) == len(laws.LAWS) * len(laws.PERIODS) and (alarms["histories"] >= 400).all()
+    assert (alarms["any"] <= 0.05 + 4 * math.sqrt(0.05 * 0.95 / 400)).all()
+    assert (alarms.groupby("periods")["any"].mean() <= 0.05).all()
+    effects = stored[stored["part"] == "effect"]
+    assert len(effects) == sum(len(laws.PERIODS) - 2 * (it.kind == "season") for it in warnings.EFFECTS)
 
 
 def test_small_part_of_warnings(top: Path) -> None:
-    """A small part of the study of warnings has the stored figures."""
     rows = warnings.study(**warnings.SMALL)
     keys = ["part", "law", "kind", "periods"]
     stored = pd.read_csv(top / "planner/studies/warnings.csv")
@@ -240,12 +267,72 @@ def test_small_part_of_warnings(top: Path) -> None:
             assert row[name] == pytest.approx(kept[name], abs=4 * error)
 
 
-def test_false_alarms_stay_below_five_percent(top: Path) -> None:
-    """Stored false alarms are below 5% but for chance, for each law and each number of periods, and on average."""
-    stored = pd.read_csv(top / "planner/studies/warnings.csv")
-    alarms = stored[stored["part"] == "independent"]
-    assert len(alarms) == len(laws.LAWS) * len(laws.PERIODS) and (alarms["histories"] >= 400).all()
-    assert (alarms["any"] <= 0.05 + 4 * math.sqrt(0.05 * 0.95 / 400)).all()
-    assert (alarms.groupby("periods")["any"].mean() <= 0.05).all()
-    effects = stored[stored["part"] == "effect"]
-    assert len(effects) == sum(len(laws.PERIODS) - 2 * (it.kind == "season") for it in warnings.EFFECTS)
+def test_small_part_of_fills(top: Path) -> None:
+    """Figures of the first histories are those of all, but for what so few may differ, and excesses the stored ones."""
+    stored = pd.read_csv(top / "planner/studies/fills.csv").set_index(["law", "periods", "method"])
+    rows = fills.study(**fills.SMALL)
+    assert len(rows) == len(fills.SMALL["laws"]) * len(fills.METHODS)
+    for row in rows.to_dict("records"):
+        its = stored.loc[row["law"], row["periods"], row["method"]]
+        for name in fills.FIGURES:
+            error = its[f"{name}_error"] * math.sqrt(its["histories"] / row["histories"])
+            assert row[name] == pytest.approx(its[name], abs=4 * error + 0.01), (row, name)
+    keys = ["law", "leads", "cover", "history", "sought"]
+    stored = pd.read_csv(top / "planner/studies/search.csv", dtype={"leads": str}).set_index(keys)["excess"]
+    rows = search.study(**search.SMALL).set_index(keys)["excess"]
+    assert rows.to_numpy() == pytest.approx(stored.loc[rows.index].to_numpy(), abs=1e-3)
+
+
+def test_true_fill_and_cost() -> None:
+    truth = Truth("INT")
+    scenario = fills.scenarios_of(fills.table_of(truth.law[:60]), truth.mean)[0]
+    theory, _ = theories_of(scenario)
+    for point, level in ((5, 18), (20, 25)):
+        figures, short, levels = theory.figures(point, level), shortfall_of(scenario, level - point), np.array([level])
+        assert figures.fill == pytest.approx(fills_of(scenario, short, levels)[0], abs=1e-9)
+        assert figures.cost == pytest.approx(costs_of(scenario, short, levels)[0], rel=1e-9)
+
+
+def test_page_has_the_stored_figures() -> None:
+    text, tables = page.PAGE.read_text(encoding="utf-8"), page.all_tables()
+    assert page.page_with(text, tables) == text, "run python -m planner.studies.page"
+    assert sorted(it["name"] for it in page.PLACE.finditer(text)) == sorted(tables)
+    table = pd.DataFrame({"law": ["a", "b"], "regret": ["1.0 ± 0.1", "-"]})
+    assert page.markdown(table) == "| law | regret |\n| --- | --: |\n| a | 1.0 ± 0.1 |\n| b | - |\n"
+
+
+@pytest.mark.parametrize("study", page.STUDIES)
+def test_words_of_a_study(study: str) -> None:
+    """A study takes the words that it is run with, and writes what is stored."""
+    module = importlib.import_module(f"planner.studies.{study}")
+    command: click.Command = getattr(module, "main", None) or module.command
+    words = [*__main__.words_of(study, 3)]
+    assert words[2] == module.__name__
+    given = command.make_context(study, words[3:]).params
+    assert not given["small"] and given.get("jobs", 3) == 3
+    assert "out" not in given or given["out"].exists()
+
+
+def test_figures_of_several_laws() -> None:
+    """Costs, fill rates and least costs are theory's. Without a doubt about the law, bounds hold."""
+    weighted = [{0: 3, 1: 2, 4: 2, 9: 1}, {0: 1, 2: 3, 3: 1}]
+    chances = [np.bincount([*its], [*its.values()]) for its in weighted]
+    orders = [30.0, 200.0, 30.0, 200.0]
+    runs = doubt.PickedRuns(chances, 60, 160)
+    least, alone = runs.least(orders), [doubt.PickedRuns([it], 60, 160) for it in chances]
+    for at, (lead, backlog, _) in enumerate(doubt.PICKED):
+        for row, weights in enumerate(weighted):
+            scenario = Scenario.of(weights, {lead: 1}, setup=int(orders[at]), holding=1, backlog=backlog, today=(9, 20))
+            theory, _ = theories_of(scenario)
+            figures, best, filled = theory.figures(9, 20), theory.best(), theory.best(0.98)
+            assert runs.cost(at, orders[at], 11, 20)[row] == pytest.approx(figures.cost)
+            assert runs.fill(at, 11, 20)[row] == pytest.approx(figures.fill)
+            assert least[row, at] == pytest.approx(best.cost)
+            gap, level = alone[row].filled(at, orders[at], 0.98)
+            assert theory.figures(level - gap, level).cost == pytest.approx(filled.cost, rel=0.011)
+            assert theory.figures(level - gap, level).fill >= 0.98
+    case = doubt.Case("P2")
+    best = [case.truth.best[place] for place in doubt.PLACES]
+    costs, fills = case.under(case.runs, best, [(it.gap, it.level) for it in best])
+    assert costs[0] == pytest.approx(case.best) == case.runs.least(case.orders)[0]
+    assert ((0.5 < fills) & (fills < 1)).all()
