@@ -19,6 +19,8 @@ from .errors import argument, worded
 from .formats import MOST_ITEMS
 from .remarks import Remark
 
+# What each promise rests on, beside it.
+PREMISE = "if the coming year is like the last one"
 Facts = Mapping[str, Any]
 Say = str | Callable[[Facts], str]
 
@@ -35,7 +37,7 @@ def exactness(step: int | None) -> str:
 def _templates(file: str) -> dict[str, tuple[Say, Say]]:
     """Returns what a table says of each code, and what to do about it, with its parts in place and arguments marked."""
     table = tomllib.loads(Path(__file__).with_name(file).read_text("utf-8"))
-    parts: dict[str, str] = table.pop("parts", {})
+    parts: dict[str, str] = {"premise": PREMISE, **table.pop("parts", {})}
 
     def marked(text: str) -> str:
         whole = re.sub("<[+](.*?)>", lambda part: parts[part[1]], text)

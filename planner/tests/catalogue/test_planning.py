@@ -96,6 +96,7 @@ def test_decisions(planned: Path, planted: Made) -> None:
 def test_summary_adds_up(planned: Path, planted: Made) -> None:
     """Has the sums of savings, the runs' with the root of the sum of squares as its interval, as the page has."""
     table, text = pd.read_csv(planned / "decisions.csv"), (planned / "summary.txt").read_text("utf-8")
+    assert "laws fitted to the histories, if the coming year is like the last one." in text
     lines = {line.partition(":")[0]: line for line in text.splitlines()}
     saving, run, low, high = (float(it) for it in re.findall(r"-?\d+\.\d\d", lines["saved"].replace(" 0.95 ", "")))
     assert math.isclose(saving, table.saving.sum(), abs_tol=0.01)

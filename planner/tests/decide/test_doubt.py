@@ -66,6 +66,7 @@ def test_sentences(by_hand: Doubt) -> None:
                                 "history allows.")
     assert by_hand.bounds.startswith("Under 90% of the laws it costs at most 30.9% more than the best of all policies, "
                                      "and under 90% its fill rate is at least 95.4%. In a study ")
+    assert by_hand.bounds.endswith(" for the fill rate. All of it holds if the coming year is like the last one.")
     text = by_hand.text
     assert text.startswith("The long run under 5 laws that the history allows\n\npolicy ")
     assert "\ntoday   15  40  106.20   4.00%     10.00%     60%      60%" in text

@@ -131,7 +131,8 @@ def test_laws_that_the_history_allows(room: Path, plan: Plan) -> None:
         assert float(row["regret"]) <= float(row["own_regret"]) + 1e-9 and float(row["fill_10"]) <= float(row["fill"])
     assert sum(float(row["is_best"]) for row in rows.values()) >= 1 - 1e-9  # one is the best under each law, or several
     assert f"of these {len(names)} policies under " in output
-    assert f"The cost to promise is {float(rows['chosen']['cost']):,.2f} a week" in output
+    assert f"The cost to promise is {float(rows['chosen']['cost']):,.2f} a week in the long run, the mean over these " \
+        "laws, if the coming year is like the last one." in output
 
 
 def test_no_law_has_a_long_run(room: Path, plan: Plan, monkeypatch: pytest.MonkeyPatch) -> None:
@@ -209,6 +210,7 @@ def test_a_wanted_fill_rate(room: Path, plan: Plan) -> None:
     edit(room / "settings.toml", "replications = 4\n", "")
     edit(room / "settings.toml", "laws = 10", "laws = 10\nfill = 0.99")
     output = plan().output.replace("\n", " ")
+    assert "%, if the coming year is like the last one." in output
     assert "A fill rate of 99% is wanted." in output and "Over the coming 12 weeks (64 replications" in output
     rows = {row["policy"]: row for row in rows_of(room / "plan/policies.csv")}
     assert float(rows["today"]["fill"]) < 0.99 <= float(rows["chosen"]["fill"]) < 0.995

@@ -117,7 +117,7 @@ def test_totals(large: Path, large_page: Page) -> None:
     errors = [(float(high) - float(low)) / 2 / QUANTILE for (high, low), _ in widths]
     assert half == pytest.approx(1.959964 * math.sqrt(sum(it**2 for it in errors)), rel=0.001)
     assert min(saving, run, today, chosen) > LARGE
-    assert f"The difference is {saving:,.0f}, if demand keeps to the laws" in page.words
+    assert f"The difference is {saving:,.0f}, if the coming year is like the last one, by the laws" in page.words
     ends = f"from {run - half:,.0f} to {run + half:,.0f} (95% interval)"
     assert f"By crnsim's runs it is {run:,.0f}, {ends}" in page.words
     assert f"cost {today:,.0f} a week with today's policies, and {chosen:,.0f} with the chosen ones" in page.words

@@ -165,8 +165,8 @@ def test_the_texts() -> None:
         assert sure.reasons[0] == (f"the cheapest with a fill rate of at least {100 * share:g}% under 90% of the laws "
                                    f"that the history allows, for {more:.1%} more")
         assert more > 0 and sure.figures.fill > plain.figures.fill
-    assert ("\nsure: under 90% of the laws that the history allows, of which 10 were drawn; their fill rates are exact "
-            "but for rounding\n") in found.notes
+    assert ("\nsure: under 90% of the laws that the history allows, of which 10 were drawn, if the coming year is "
+            "like the last one; their fill rates are exact but for rounding\n") in found.notes
     assert len(names) == 16 and "\nleft out, since a scenario has at most 16 policies: " in found.notes
 
 

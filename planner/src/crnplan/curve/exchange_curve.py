@@ -32,7 +32,7 @@ from ..remarks import Remark
 from ..scenario import Policy
 from ..stored import Store, digest_of
 from ..table import Cell, DataTable, MONEY, Result, aligned, number, text, whole
-from ..words import advice, sentence
+from ..words import PREMISE, advice, sentence
 from .candidates import PRICES, VERSION, Candidates, candidates_batch
 from .exchange import NEAR, Budget, Choice, Items, Ladder, OffCurve, Point, chosen_by, gap_of, with_more_orders
 
@@ -69,7 +69,7 @@ KEYS = 8
 CLOSE = 0.02
 NOTES = (
     "Met at once: the share of demand by value. All figures are by theory, rounded and unproved, of the long run under "
-    "the laws fitted to the histories.",
+    f"the laws fitted to the histories, {PREMISE}.",
     "One price for a unit of value that is not met at once chooses the policy of each item, with setup and holding as "
     "in the masters. Points with more orders or fewer lie beside the curve.",
     "Above the best: setup and holding are at most so much above the least of all policies that were looked at with "

@@ -23,7 +23,7 @@ from ..law import Law
 from ..money import Number
 from ..scenario import Policies, policies_of, Policy, Scenario
 from ..table import Cell, DataTable, Json, Result, number
-from ..words import sentence
+from ..words import PREMISE, sentence
 from .verdicts import POLICY, horizon_of, own_variance
 
 if TYPE_CHECKING:
@@ -143,7 +143,7 @@ class Doubt(Result):
         return (f"Under {MOST:.0%} of the laws it costs at most {columns[name][best]:.1%} more than the best of "
                 f"{among}, and under {MOST:.0%} its fill rate is at least {columns['fill_10'][best]:.1%}. In a study "
                 f"with known laws such a bound held in {held} of cases for the cost, and in {held_fill} for the fill "
-                "rate.")
+                f"rate. All of it holds {PREMISE}.")
 
     @property
     def remarks(self) -> list[str]:

@@ -27,7 +27,7 @@ from ..plan.settings import as_setting
 from ..records.cells import EVERY, period_name
 from ..remarks import Remark
 from ..table import MONEY, Cell, DataTable, number as numbers, text, whole
-from ..words import advised, exactness, sentence
+from ..words import PREMISE, advised, exactness, sentence
 from .catalogue_tables import DECISION_COLUMNS, EXACT, decision_row, exact_of
 from .page import (OF_CHOSEN, OF_TODAY, UNITS, Line, Plot, Scale, capital, marks_of, number, percent, rendered,
                    tick)
@@ -198,7 +198,7 @@ class ItemWords:
         name = "The chosen policy" if self.depth.chosen == CHOSEN else "Today's policy"
         return (f"{name} is {self.near} of the best of these {len(self.doubted)} policies under {row['within']:.0%} of "
                 f"the laws that this history allows. The cost to promise is {self.money(row['cost'])} a {self.every} "
-                "in the long run, the mean over these laws.")
+                f"in the long run, the mean over these laws, {PREMISE}.")
 
     @property
     def largest(self) -> str:
@@ -221,7 +221,7 @@ class ItemWords:
         """Returns what was decided in sentences: what it saves, what it meets at once, and how sure that is."""
         service = "" if self.item.fill is None else (
             f"A fill rate of {100 * float(self.item.fill):g}% is wanted. By theory the chosen policy meets "
-            f"{percent(self.answer.chosen.fill)} of demand at once, and today's {percent(self.answer.today.fill)}.")
+            f"{percent(self.answer.chosen.fill)} of demand at once, and today's {percent(self.answer.today.fill)}, {PREMISE}.")
         return [*filter(None, (self.saving, service, self.promise))]
 
     @property

@@ -12,7 +12,7 @@ from collections.abc import Iterable, Mapping, Sequence
 from typing import TYPE_CHECKING, Any, NamedTuple
 
 from .. import __version__
-from ..words import sentence
+from ..words import PREMISE, sentence
 
 if TYPE_CHECKING:
     from markupsafe import Markup
@@ -65,7 +65,7 @@ def rendered(template: str, context: Mapping[str, Any]) -> str:
                                undefined=jinja2.StrictUndefined)
     pages.filters |= {"number": number, "percent": percent, "capital": capital, "sentence": sentence,
                       "source": source}
-    pages.globals["version"] = __version__
+    pages.globals |= {"version": __version__, "premise": PREMISE}
     return pages.get_template(template).render(context)
 
 
