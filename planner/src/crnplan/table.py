@@ -18,7 +18,7 @@ if TYPE_CHECKING:
 
 Cell = str | int | float | Fraction | None
 Json = str | int | float | bool | None | Sequence["Json"] | Mapping[str, "Json"]
-Kind = Literal["text", "whole", "number", "exact", "fraction"]
+Kind = Literal["text", "name", "whole", "number", "exact", "fraction"]
 # The spelling of money: with as many decimals as its smallest unit has.
 MONEY = "money"
 TYPES = {"whole": "Int64", "number": float}
@@ -41,14 +41,19 @@ class Column:
     shown: str = ""
     kind: Kind = "number"
 
+    @property
+    def is_text(self) -> bool:
+        return self.kind in ("text", "name")
+
     def speller(self, decimals: int, missing: str, is_shown: bool = False) -> Callable[[Cell], str]:
         """Returns the function that spells a cell. Money has so many decimals; `missing` stands for no figure."""
         style = self.shown if is_shown and self.shown else self.written
         style = f".{decimals}f" if style == MONEY else style
         if style.endswith(("f", "%")):  # no zero has a sign
             style = f"+z{style[1:]}" if style.startswith("+") else f"z{style}"
-        if self.kind == "text":
-            return lambda value: missing if value is None else str(value) if is_shown else unrun(str(value))
+        if self.is_text:
+            is_safe = is_shown or self.kind == "name"
+            return lambda value: missing if value is None else str(value) if is_safe else unrun(str(value))
         if self.kind == "fraction" and not is_shown:
             return lambda value: missing if value is None else str(plain(value))
         if self.kind == "number" and style:
@@ -56,9 +61,10 @@ class Column:
         return lambda value: missing if is_missing(value) else str(value)
 
 
-# Columns of rounded numbers, of whole ones, of whole numbers and fractions, and of fractions as crnsim writes them.
+# Columns of rounded numbers, of whole ones, of whole numbers and fractions; of fractions and of names as crnsim writes
+# them.
 number, whole, exact = Column, partial(Column, kind="whole"), partial(Column, kind="exact")
-fraction = partial(Column, kind="fraction")
+fraction, name = partial(Column, kind="fraction"), partial(Column, unit="text", kind="name")
 
 
 def text(name: str, meaning: str) -> Column:
@@ -154,13 +160,13 @@ class DataTable:
     @property
     def text(self) -> str:
         """Returns the table for a reader, with its columns in line."""
-        return aligned(list(self.spelt(True)), [at for at, column in enumerate(self.columns) if column.kind == "text"])
+        return aligned(list(self.spelt(True)), [at for at, column in enumerate(self.columns) if column.is_text])
 
     @property
     def html(self) -> str:
         """Returns the table as HTML. Each heading has the meaning of its column as its title."""
         heading, *rows = self.spelt(True)
-        styles = ["left" if column.kind == "text" else "right" for column in self.columns]
+        styles = ["left" if column.is_text else "right" for column in self.columns]
         head = "".join(f'<th scope="col" style="text-align: {style}" title="{html.escape(column.meaning)}">'
                        f"{html.escape(name)}</th>" for name, style, column in zip(heading, styles, self.columns))
         body = "".join("<tr>" + "".join(f'<td style="text-align: {style}">{html.escape(cell)}</td>'

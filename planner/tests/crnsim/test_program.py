@@ -96,6 +96,8 @@ def test_values(two_policies: str) -> None:
     rows = read_rows(TEXT)
     assert rows[1] == Row("B", 60, 80, 200, Fraction(50), -22, Fraction(-11, 2), Fraction(7, 2), Fraction(-1, 9))
     assert table_of(rows).csv == TEXT and read_rows(TEXT.replace("\n", "\r\n")) == rows
+    signs = TEXT.replace("\nB,", "\n-B,")  # a name that a spreadsheet would run stays as crnsim writes it
+    assert table_of(read_rows(signs)).csv == signs
     report = Report(tuple(rows), Scenario.parse(two_policies))
     frame = report.frame
     assert report.text == TEXT and frame.index.name == "policy" and list(frame) == HEADER.split(",")[1:]

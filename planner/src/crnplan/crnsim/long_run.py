@@ -31,7 +31,7 @@ from ..toml.scenarios import checked_tree, plain_text
 from ..errors import Refused, argument
 from ..law import Law
 from ..scenario import Costs, Scenario, key_words
-from ..table import DataTable, Result, exact
+from ..table import DataTable, Result, exact, text
 from .program import MOST_STOCK, PERIODS_OF_BLOCK, State, checkpoint_text, find_program, resume_all
 from .report import COLUMNS as REPORT_COLUMNS, Row, joined, parts_of, pooled, rows_of
 
@@ -52,7 +52,8 @@ AGES = formats.MOST_LEAD + 1
 COUNT_ORDERS = Costs(1, 0, 0, 0)
 # With fewer orders in all replications of our own periods, those of the counted periods are counted too.
 FEW_ORDERS = 20
-COLUMNS = (*REPORT_COLUMNS[:3], exact("cost", "money a period", "mean cost, without `unit`"),
+COLUMNS = (text("policy", "name of the policy"), *REPORT_COLUMNS[1:3],
+           exact("cost", "money a period", "mean cost, without `unit`"),
            exact("difference", "money a period", "cost less the base's"),
            exact("variance", "squared money", "variance of the mean of that difference"))
 

@@ -30,7 +30,7 @@ from ..toml.documents import shown
 from ..toml.scenarios import checked_tree, name_faults, plain_text
 from ..errors import Fault, ProgramError, Refused, argument
 from ..scenario import Costs, Policy, Scenario
-from ..table import DataTable, Json, Result, fraction, text, whole
+from ..table import DataTable, Json, Result, fraction, name, whole
 from .program import find_program, run_all
 
 if TYPE_CHECKING:
@@ -42,7 +42,7 @@ HEADER = list(formats.COLUMNS)
 WHOLE = re.compile("-?[0-9]{1,40}")
 FRACTION = re.compile("-?[0-9]{1,60}/[1-9][0-9]{0,59}")
 COLUMNS = (
-    text("policy", "name of the policy"), whole("s", "items", "reorder point"),
+    name("policy", meaning="name of the policy"), whole("s", "items", "reorder point"),
     whole("S", "items", "order-up-to level"), whole("total", "money", "cost of all replications"),
     fraction("per_period", "money a period", "mean cost"), whole("diff_total", "money", "total less the base's"),
     fraction("diff_mean", "money a replication", "mean difference from the base's cost"),
