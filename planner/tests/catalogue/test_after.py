@@ -26,6 +26,7 @@ from crnplan.scenario import Policy
 from crnplan.theory.many_laws import figures_of_laws
 from planner.tests.backtest.test_catalogue import START, write
 from planner.tests.conftest import Command
+from planner.tests.pages.page_reader import Page
 from planner.tests.plan.items import SHORT, alone, item_of, several
 from planner.tests.theory.chain import by_chain
 
@@ -154,6 +155,17 @@ def test_reasons(month: Month) -> None:
     assert changes.why["I-005"] == "there is no master of this item" and pd.isna(changes.s_after["I-005"])
 
 
+def test_an_item_that_the_earlier_plan_has_dropped(month: Month, tmp_path: Path) -> None:
+    """An answer that is left in the folder of the earlier plan, of an item that it no longer has, does not count."""
+    words, changes = month.until(BEFORE), of_frame(month.plan(least_gain=0.9).changes)
+    name = changes.index[changes.change == "damped"][0]
+    crn.plan(out=tmp_path / "before", **words)
+    crn.plan(out=tmp_path / "before", **{**words, "masters": month.masters[month.masters["item"] != name]})
+    row = of_frame(month.plan(after=tmp_path / "before", least_gain=0.9).changes).loc[name]
+    best = changes.loc[name]
+    assert row.change == "new" and (row.s_after, row.S_after) == (best.s_best, best.S_best)
+
+
 def simulated(item: Item, levels: Levels, start: int, since: int) -> tuple[float, float]:
     """Returns the mean cost and the share of demand met at once of the last periods, by a program of its own: for an
     item with one lead time and no returns."""
@@ -185,6 +197,29 @@ def test_what_came_of_the_earlier_plan(month: Month, items: Mapping[str, Item]) 
             assert any((row.cost_since, row.fill_since) == pytest.approx(one, nan_ok=True) for one in came)
             tested += 1
     assert tested >= 6
+
+
+def test_sums_and_page(month: Month, items: Mapping[str, Item], tmp_path: Path) -> None:
+    """Summary and page have the sums of the table: kinds, gains, and what was promised and came, in which all items
+    weigh alike but for costs. The page lists the items that move most."""
+    plan = month.plan(out=tmp_path / "plan", least_gain=0.1)
+    changes = of_frame(plan.changes)
+    asked = changes.demand_since / [sum(items[str(name)].counts) / WEEKS for name in changes.index]
+    promised = (asked * changes.promised_fill).sum() / asked.sum()
+    came = (asked * changes.fill_since.fillna(0)).sum() / asked.sum()
+    dearer = changes.cost_since.sum() / changes.promised_cost.sum() - 1
+    moved = changes[changes.change == "moved"].sort_values("gain", key=abs, ascending=False)
+    kinds = [f"{(changes.change == kind).sum()} {kind}" for kind in ("same", "moved", "damped", "new", "gone")]
+    page = Page(tmp_path / "plan/report.html")
+    for line in (f"olicies since the earlier plan: {', '.join(kinds)} (changes.csv says why)",
+                 f"he moved policies change the cost of a week by {-moved.gain.sum():+.2f}, by the new laws",
+                 f"he earlier plan on the 8 weeks since: {100 * promised:.1f}% promised and {100 * came:.1f} ± ",
+                 f"met at once; it cost {100 * dearer:+.1f} ± "):
+        assert line in plan.text and line in page.words
+    shown = page.tables["The items that move most"][1:]
+    assert [row[0] for row in shown] == [*moved.index]
+    assert [row[1:3] for row in shown] == [[f"{row.s_before}, {row.S_before}", f"{row.s_after}, {row.S_after}"]
+                                           for row in moved.itertuples()]
 
 
 def costed(item: Item, settings: Settings, levels: Levels) -> tuple[float, float]:

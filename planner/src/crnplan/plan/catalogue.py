@@ -174,8 +174,9 @@ class PlannedFolder:
         return digest_of(self.planned.common, *sorted(self.store.digests().items()))
 
     def answer(self, name: str) -> Answer | Remark | None:
-        """Returns the answer that is kept to an item; None if there is none."""
-        return None if self.store.digest(name) is None else self.store.answer(name)
+        """Returns the answer to an item of the catalogue; None if there is none."""
+        is_there = self.read.item(name) is not None and self.store.digest(name) is not None
+        return self.store.answer(name) if is_there else None
 
     def changes(self) -> Iterator[Change]:
         """Yields what has changed since the earlier plan, by item. Raises Refused if that is not known."""
