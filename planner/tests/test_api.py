@@ -155,7 +155,7 @@ def few() -> list[pd.DataFrame]:
 
 
 def test_frames_and_files_give_the_same(plan: crn.Plan, paths: list[Path], program: Path, tmp_path: Path) -> None:
-    """Decisions, what is left out but for names of files, and totals are those of the files; the folder has them."""
+    """Frames give decisions, rejects and totals of files. A number is a seed: another run, the same figures."""
     other = crn.plan(*paths, out=tmp_path / "plan", program=program, **SETTINGS)
     pd.testing.assert_frame_equal(plan.decisions, other.decisions)
     pd.testing.assert_frame_equal(plan.rejects.drop(columns="file"), other.rejects.drop(columns="file"))
@@ -164,6 +164,8 @@ def test_frames_and_files_give_the_same(plan: crn.Plan, paths: list[Path], progr
     assert list(written.columns) == list(plan.decisions.columns) and list(written.item) == list(plan.decisions.item)
     assert (written.saving - plan.decisions.saving).abs().max() <= 0.005 + 1e-9
     assert other.report() == tmp_path / "plan/report.html" and crn.open_plan(tmp_path / "plan").totals == other.totals
+    one, other = crn.plan(*paths, seed=7, program=program, **SETTINGS).decisions, plan.decisions
+    assert (one.saving == other.saving).all() and (one.run_saving != other.run_saving).any()
 
 
 def test_nothing_is_written_elsewhere(few: list[pd.DataFrame], monkeypatch: pytest.MonkeyPatch, tmp_path: Path,
@@ -240,12 +242,6 @@ def test_rows_that_were_read_and_not_planned(few: list[pd.DataFrame], tmp_path: 
     with pytest.raises(catalogue.Lost, match="1 of 40 is lost"):
         crn.plan(*few, out=tmp_path / "plan", program=program, **SETTINGS)
     assert (tmp_path / "plan/summary.txt").read_text().endswith(".\n\nLOST: items: 1 of 40 is lost\n")
-
-
-def test_a_seed_may_be_a_number(plan: crn.Plan, paths: list[Path], program: Path) -> None:
-    """A whole number is a seed as a text is, and another one gives other runs of the same figures of theory."""
-    one, other = crn.plan(*paths, seed=7, program=program, **SETTINGS).decisions, plan.decisions
-    assert (one.saving == other.saving).all() and (one.run_saving != other.run_saving).any()
 
 
 def test_a_series_is_never_silently_dense() -> None:

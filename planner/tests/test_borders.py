@@ -103,7 +103,7 @@ def test_most_orders(write: Write, crnplan: Command) -> None:
 
 
 def test_amounts_far_above_all_others(write: Write, crnplan: Command, program: Path) -> None:
-    """Says which rows, and how many times the next largest the least of them is: 3,000 is 750 times 4."""
+    """3,000 is 750 times 4. A row with too few cells lacks its last ones, and a text too many is rejected."""
     day = datetime.date(2025, 1, 6)
     amounts = [4, 3, 1, 3_000, 2, 4, 4_500, *[1, 2, 3] * 12]
     days = [day + datetime.timedelta(7 * week) for week in range(len(amounts))]
@@ -112,6 +112,12 @@ def test_amounts_far_above_all_others(write: Write, crnplan: Command, program: P
     catalogue(crnplan, ["A", "B"], "--program", program)
     row, = (it for it in rejects() if it["item"] == "A")
     assert "lines 8, 5" in row["reason"] and "750 times 4" in row["reason"] and row["text"] == "4500"
+    day = datetime.date(2025, 1, 6)
+    rows = [[str(day + datetime.timedelta(7 * week)), "A", 1 + week % 3, "x"] for week in range(20)]
+    odd = [rows[0][:3], rows[1][:2], [*rows[2], ""], [*rows[3], "y"]]
+    write("demand.csv", [["date", "item", "quantity", "note"], *odd, *rows[4:]])
+    catalogue(crnplan, ["A"], "--program", program)
+    assert {(row["line"], row["column"]) for row in rejects() if row["kind"] == "row"} == {("3", "quantity"), ("5", "")}
 
 
 @pytest.mark.parametrize("blank", [0, 2])
@@ -122,16 +128,6 @@ def test_blank_rows_are_counted(write: Write, crnplan: Command, program: Path, b
     told = catalogue(crnplan, ["A"], "--program", program)
     line, = (it for it in told.output.splitlines() if it.startswith("demand.csv:"))
     assert ("2 blank rows" in line, "blank" in line) == (blank == 2, blank == 2)
-
-
-def test_rows_of_another_width(write: Write, crnplan: Command, program: Path) -> None:
-    """A row with too few cells lacks its last ones. Empty cells too many are nothing, texts are rejected."""
-    day = datetime.date(2025, 1, 6)
-    rows = [[str(day + datetime.timedelta(7 * week)), "A", 1 + week % 3, "x"] for week in range(20)]
-    odd = [rows[0][:3], rows[1][:2], [*rows[2], ""], [*rows[3], "y"]]
-    write("demand.csv", [["date", "item", "quantity", "note"], *odd, *rows[4:]])
-    catalogue(crnplan, ["A"], "--program", program)
-    assert {(row["line"], row["column"]) for row in rejects() if row["kind"] == "row"} == {("3", "quantity"), ("5", "")}
 
 
 @pytest.mark.parametrize("count", range(1, 13))

@@ -252,7 +252,7 @@ def files_of_at_most(size: int) -> Iterator[None]:
 
 
 def test_a_disk_that_gets_full(tmp_path: Path) -> None:
-    """Without space for a whole marker or file, that is said, and a file stays as it was, without a part beside."""
+    """Without space for a whole file, that is said, and the old one stays. Each fault has a line with its place."""
     with files_of_at_most(50), pytest.raises(Failed, match="plan: No space left"), own_folder(tmp_path / "plan", "x"):
         pass
     assert (tmp_path / "plan/crnplan-folder.txt").stat().st_size == 50
@@ -263,6 +263,10 @@ def test_a_disk_that_gets_full(tmp_path: Path) -> None:
         assert (tmp_path / "other/a.csv").read_text() == "old text" and not any(folder.room().iterdir())
         with files_of_at_most(50), pytest.raises(Failed, match="/other: No space left on device; what was done before"):
             folder.write("b.csv", "a new name in the marker")
+    faults = [Fault("a"), Fault("b", "f.csv"), Fault("c", "f.csv", 3), Fault("d", "f.csv", 3, 2)]
+    assert str(RefusedFaults(faults)) == "a\nf.csv: b\nf.csv:3: c\nf.csv:3:2: d"
+    with pytest.raises(BrokenPipeError), faults_of(tmp_path):
+        raise BrokenPipeError
 
 
 @pytest.mark.parametrize("fault", [Failed("a disk", "make room"), RefusedFaults([Fault("no date", "a.csv", 3, 2)])])
@@ -270,14 +274,6 @@ def test_an_error_of_another_process(fault: CrnplanError) -> None:
     """An error that was sent by another process is as it was there, with what its kind has."""
     sent = pickle.loads(pickle.dumps(fault))
     assert type(sent) is type(fault) and (str(sent), vars(sent)) == (str(fault), vars(fault))
-
-
-def test_places_of_faults(tmp_path: Path) -> None:
-    """Each fault has a line with its place. A broken pipe is left to who has written on it."""
-    faults = [Fault("a"), Fault("b", "f.csv"), Fault("c", "f.csv", 3), Fault("d", "f.csv", 3, 2)]
-    assert str(RefusedFaults(faults)) == "a\nf.csv: b\nf.csv:3: c\nf.csv:3:2: d"
-    with pytest.raises(BrokenPipeError), faults_of(tmp_path):
-        raise BrokenPipeError
 
 
 def test_parts_on_a_terminal() -> None:
@@ -316,13 +312,6 @@ def test_a_damaged_store(plan: Path, crnplan: Command, name: str, words: Sequenc
     assert crnplan(*CATALOGUE).status == 0 and (plan / "decisions.csv").read_bytes() == before
 
 
-def test_a_store_that_cannot_be_opened(plan: Path, crnplan: Command) -> None:
-    """Says that SQLite can't open a store, which is not damaged."""
-    (plan / "answers.sqlite-wal").mkdir()
-    status, _, errors = crnplan(*CATALOGUE)
-    assert status == 3 and "plan: " in errors and "name a folder that can be written" in errors, errors
-
-
 def test_a_plan_that_was_refused(room: Path, crnplan: Command) -> None:
     """Finds no plan in a folder of which only the rows were read: one item is too few to learn from."""
     assert crnplan(*CATALOGUE, "--borrow", "all").status == 2 and (room / "plan/answers.sqlite").is_file()
@@ -331,13 +320,16 @@ def test_a_plan_that_was_refused(room: Path, crnplan: Command) -> None:
 
 
 def test_an_answer_that_was_changed(plan: Path, crnplan: Command) -> None:
-    """Names a store in which one figure was changed: each answer has a digest."""
+    """Names a store in which one figure was changed, and one that SQLite can't open, which is not damaged."""
     base = sqlite3.connect(plan / "answers.sqlite", isolation_level=None)
     assert base.execute("UPDATE answers SET saving = saving + 1 WHERE item = 'A'").rowcount == 1
     base.close()
     for words in (REPORT, CATALOGUE):
         status, _, errors = crnplan(*words)
         assert status == 3 and "answers.sqlite: the answer to 'A' is not as it was kept" in errors, errors
+    (plan / "answers.sqlite-wal").mkdir()
+    status, _, errors = crnplan(*CATALOGUE)
+    assert status == 3 and "plan: " in errors and "name a folder that can be written" in errors, errors
 
 
 EVIL = ("\x1b[31mred\x1b]0;title\x07", "bell\x07", "del\x7f", "\u202eright to left", "c1\x9b31m", "a\x1fmark\x1eof ours")

@@ -51,15 +51,6 @@ def test_read_written_and_run(path: Path, program: Path) -> None:
     assert read.run(program=program).text == path.with_suffix(".csv").read_text("utf-8")
 
 
-def test_standard_input(two_policies: str, crnplan: Command) -> None:
-    assert crnplan("why", "-", data=two_policies.encode()) == (0, "no fault\n", "")
-    told = json.loads(crnplan("why", "-", "--json", data=b"version = 3").output)[0]
-    assert (told["rule"], told["line"], told["column"], told["where"]) == (2, 1, 1, "the document, key version")
-    faults = crnplan("run", "-", data=b"version = 3")
-    start = "crnplan: 1:1: fault 2: the document, key version: 3 is not 1 or 2"
-    assert faults.status == 2 and faults.errors.startswith(start)
-
-
 def test_faults_have_places(tmp_path: Path, two_policies: str) -> None:
     """Checks file, line and column of all faults, and that there are no more than 20 in the text of the error."""
     path = tmp_path / "asked.toml"
@@ -278,7 +269,7 @@ def test_many_policies(program: Path, scenario: Scenario) -> None:
         scenario.run(program="/bin/true")
 
 
-def test_command_run(program: Path, crnplan: Command, tmp_path: Path) -> None:
+def test_command_run(program: Path, crnplan: Command, tmp_path: Path, two_policies: str) -> None:
     path = TOP / "examples/two_policies.toml"
     assert crnplan("run", path, "--program", program) == (0, path.with_suffix(".csv").read_text("utf-8"), "")
     table = tmp_path / "policies.csv"
@@ -289,3 +280,9 @@ def test_command_run(program: Path, crnplan: Command, tmp_path: Path) -> None:
     assert crnplan("run", path, "--program", program, "--csv").output == path.with_suffix(".csv").read_text("utf-8")
     answer = crnplan("run", path, "--program", program, "--json")
     assert '"diff_total": 74,\n    "diff_mean": "74/1",\n    "diff_var": null' in answer.output
+    assert crnplan("why", "-", data=two_policies.encode()) == (0, "no fault\n", "")
+    told = json.loads(crnplan("why", "-", "--json", data=b"version = 3").output)[0]
+    assert (told["rule"], told["line"], told["column"], told["where"]) == (2, 1, 1, "the document, key version")
+    faults = crnplan("run", "-", data=b"version = 3")
+    start = "crnplan: 1:1: fault 2: the document, key version: 3 is not 1 or 2"
+    assert faults.status == 2 and faults.errors.startswith(start)

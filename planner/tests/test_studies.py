@@ -67,6 +67,7 @@ def test_small_part(stored: str, count: int, keys: list[str], figures: list[str]
 
 
 def test_best_policies() -> None:
+    """Best policies, true fill rates and costs are those of theories."""
     law = fit_demand([0, 3, 1, 0, 2, 7, 4, 0, 1, 1], method="auto")
     runs, orders = laws.LongRuns(chances_of(law), 60, 160), {2: 40, 8: 300}
     for at, (lead, backlog, cover) in enumerate(laws.SETTINGS):
@@ -74,6 +75,13 @@ def test_best_policies() -> None:
         choice, best = runs.best(np.array([*orders.values()]))[at], theories_of(scenario)[0].best()
         assert (choice.level - choice.gap, choice.level) == (best.point, best.level)
         assert choice.cost == pytest.approx(best.cost) == runs.cost(at, orders[cover], choice.gap, choice.level)
+    truth = Truth("INT")
+    scenario = fills.scenarios_of(fills.table_of(truth.law[:60]), truth.mean)[0]
+    theory, _ = theories_of(scenario)
+    for point, level in ((5, 18), (20, 25)):
+        figures, short, levels = theory.figures(point, level), shortfall_of(scenario, level - point), np.array([level])
+        assert figures.fill == pytest.approx(fills_of(scenario, short, levels)[0], abs=1e-9)
+        assert figures.cost == pytest.approx(costs_of(scenario, short, levels)[0], rel=1e-9)
 
 
 def test_laws() -> None:
@@ -250,7 +258,20 @@ def test_stored_figures_of_dependence(top: Path) -> None:
     assert len(effects) == sum(len(laws.PERIODS) - 2 * (it.kind == "season") for it in warnings.EFFECTS)
 
 
-def test_small_part_of_warnings(top: Path) -> None:
+def test_small_part_of_fills(top: Path) -> None:
+    """Small parts of the studies of fill rates, searches and warnings have the stored figures, but for chance."""
+    stored = pd.read_csv(top / "planner/studies/fills.csv").set_index(["law", "periods", "method"])
+    rows = fills.study(**fills.SMALL)
+    assert len(rows) == len(fills.SMALL["laws"]) * len(fills.METHODS)
+    for row in rows.to_dict("records"):
+        its = stored.loc[row["law"], row["periods"], row["method"]]
+        for name in fills.FIGURES:
+            error = its[f"{name}_error"] * math.sqrt(its["histories"] / row["histories"])
+            assert row[name] == pytest.approx(its[name], abs=4 * error + 0.01), (row, name)
+    keys = ["law", "leads", "cover", "history", "sought"]
+    stored = pd.read_csv(top / "planner/studies/search.csv", dtype={"leads": str}).set_index(keys)["excess"]
+    rows = search.study(**search.SMALL).set_index(keys)["excess"]
+    assert rows.to_numpy() == pytest.approx(stored.loc[rows.index].to_numpy(), abs=1e-3)
     rows = warnings.study(**warnings.SMALL)
     keys = ["part", "law", "kind", "periods"]
     stored = pd.read_csv(top / "planner/studies/warnings.csv")
@@ -265,32 +286,6 @@ def test_small_part_of_warnings(top: Path) -> None:
             kept = its[(its[keys] == [row[it] for it in keys]).all(axis=1)].iloc[0]
             error = math.hypot(row[f"{name}_error"], kept[f"{name}_error"])
             assert row[name] == pytest.approx(kept[name], abs=4 * error)
-
-
-def test_small_part_of_fills(top: Path) -> None:
-    """Figures of the first histories are those of all, but for what so few may differ, and excesses the stored ones."""
-    stored = pd.read_csv(top / "planner/studies/fills.csv").set_index(["law", "periods", "method"])
-    rows = fills.study(**fills.SMALL)
-    assert len(rows) == len(fills.SMALL["laws"]) * len(fills.METHODS)
-    for row in rows.to_dict("records"):
-        its = stored.loc[row["law"], row["periods"], row["method"]]
-        for name in fills.FIGURES:
-            error = its[f"{name}_error"] * math.sqrt(its["histories"] / row["histories"])
-            assert row[name] == pytest.approx(its[name], abs=4 * error + 0.01), (row, name)
-    keys = ["law", "leads", "cover", "history", "sought"]
-    stored = pd.read_csv(top / "planner/studies/search.csv", dtype={"leads": str}).set_index(keys)["excess"]
-    rows = search.study(**search.SMALL).set_index(keys)["excess"]
-    assert rows.to_numpy() == pytest.approx(stored.loc[rows.index].to_numpy(), abs=1e-3)
-
-
-def test_true_fill_and_cost() -> None:
-    truth = Truth("INT")
-    scenario = fills.scenarios_of(fills.table_of(truth.law[:60]), truth.mean)[0]
-    theory, _ = theories_of(scenario)
-    for point, level in ((5, 18), (20, 25)):
-        figures, short, levels = theory.figures(point, level), shortfall_of(scenario, level - point), np.array([level])
-        assert figures.fill == pytest.approx(fills_of(scenario, short, levels)[0], abs=1e-9)
-        assert figures.cost == pytest.approx(costs_of(scenario, short, levels)[0], rel=1e-9)
 
 
 def test_page_has_the_stored_figures() -> None:

@@ -37,7 +37,7 @@ def test_files_and_texts() -> None:
 
 
 def test_data_is_not_rounded() -> None:
-    """JSON and frames have the numbers as they are, None for no figure. HTML has the text's cells, and no markup."""
+    """JSON and frames have the numbers as they are, None for no figure. Named columns without figures are left out."""
     table = DataTable(COLUMNS, ROWS, index="name")
     assert table.records[0] == {"name": "A", "count": 3, "cost": 1234.5678, "share": 0.25, "mean": "7/2"}
     assert json.loads(json.dumps(table.records))[1] == dict.fromkeys(table.names) | {"name": "b, c"}
@@ -49,6 +49,8 @@ def test_data_is_not_rounded() -> None:
     cells = [html.unescape(it) for it in re.findall(r"<td[^>]*>(.*?)</td>", page)]
     assert cells == ["<b>&", "1", "2.0", "50.0%", "1"] and "<b>" not in page
     assert re.findall(r'title="(.*?)"', page) == [it.meaning for it in COLUMNS]
+    table = DataTable(COLUMNS, [["A", None, math.nan, 0.0, None]]).without_empty(("count", "cost", "share"))
+    assert table.names == ["name", "share", "mean"] and table.rows == [["A", 0.0, None]]
 
 
 @pytest.mark.parametrize("cell, is_run", [*((it, True) for it in RUN), *((it, False) for it in PLAIN)])
@@ -58,12 +60,6 @@ def test_a_spreadsheet_runs_no_cell(cell: str, is_run: bool) -> None:
     (_, [written]) = csv.reader(io.StringIO(table.csv, newline=""))
     assert written == ("'" + cell if is_run else cell)
     assert table.records == [{"name": cell}] and html.escape(cell) in table.html
-
-
-def test_columns_without_a_figure() -> None:
-    """Only the named columns are left out, and only if no row has a figure."""
-    table = DataTable(COLUMNS, [["A", None, math.nan, 0.0, None]]).without_empty(("count", "cost", "share"))
-    assert table.names == ["name", "share", "mean"] and table.rows == [["A", 0.0, None]]
 
 
 @given(st.integers(1, 4).flatmap(lambda width: st.lists(st.lists(TEXTS, min_size=width, max_size=width), min_size=1,

@@ -71,7 +71,7 @@ def test_usage(tmp_path: Path) -> None:
 
 
 def test_figures_of_parts(tmp_path: Path) -> None:
-    """The last figures of each part are kept, and added up."""
+    """The last figures of each part are kept, and added up, and the page has them."""
     path = tmp_path / "figures.json"
     for part, figure in (("one", 1), ("two", 2), ("one", 3)):
         keep(part, {"load": 1.5}, [{"figure": figure}], path)
@@ -81,9 +81,6 @@ def test_figures_of_parts(tmp_path: Path) -> None:
     rows = [part, {**part, "part": "plan", "own": 20.0, "all": 50.0}, {**part, "items": 3}]
     whole_row = {**part, "part": "**all**", "wall": 2.0, "processor": 4.0, "bytes": 10, "own": 30.0, "all": 50.0}
     assert page.with_sums(rows) == [*rows[:2], whole_row, rows[2]]
-
-
-def test_page_has_the_stored_figures() -> None:
     text, tables = page.PAGE.read_text(encoding="utf-8"), page.all_tables()
     assert page_with(text, tables) == text, "run python -m planner.bench.page"
     assert sorted(it["name"] for it in PLACE.finditer(text)) == sorted(tables)

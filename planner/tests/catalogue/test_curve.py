@@ -95,8 +95,13 @@ def test_named_points_are_as_good_as_many_small_orders(plan: Path, times: float)
     assert service.fill >= today.fill - 1e-9 and service.value < today.value
 
 
-def test_named_points_of_a_today_that_no_choice_can_be(plan: Path) -> None:
-    """Has no point with more service than the curve ends with, and the curve's own if others have too many orders."""
+def test_curve_rises(plan: Path) -> None:
+    """The curve rises with less and less gain. A point of today that it can't reach is missing, and why is said."""
+    curve = crn.exchange_curve(plan, jobs=1).frame.query("point == 'curve'")
+    assert len(curve) > 25 and (curve.gap == 0).all()
+    assert (np.diff(curve.price) > 0).all() and (np.diff(curve.cost) > 0).all() and (np.diff(curve.fill) > 0).all()
+    gains = np.diff(curve.fill) / np.diff(curve.cost)
+    assert (gains[1:] <= gains[:-1] * (1 + 1e-6)).all()
     whole = drawn(plan)
     its = whole.gathered
     plain = chosen_by(its.items, Budget(fill=0.9)).point
@@ -108,15 +113,6 @@ def test_named_points_of_a_today_that_no_choice_can_be(plan: Path) -> None:
     today = plain._replace(value=plain.value / 2, orders=plain.orders / 2)
     points, missing = points_of(replace(its, points={**its.points, "today": today}), Budget())
     assert points["same service"].point == plain and points["same service"].point.value > today.value
-
-
-def test_curve_rises(plan: Path) -> None:
-    """Has more service and more cost with each price, less for each further unit of cost, and no gap."""
-    curve = crn.exchange_curve(plan, jobs=1).frame.query("point == 'curve'")
-    assert len(curve) > 25 and (curve.gap == 0).all()
-    assert (np.diff(curve.price) > 0).all() and (np.diff(curve.cost) > 0).all() and (np.diff(curve.fill) > 0).all()
-    gains = np.diff(curve.fill) / np.diff(curve.cost)
-    assert (gains[1:] <= gains[:-1] * (1 + 1e-6)).all()
 
 
 @pytest.mark.parametrize("budget", [

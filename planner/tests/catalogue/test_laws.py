@@ -98,11 +98,6 @@ def test_alone_is_the_plan_that_borrows_nothing(prior: Prior, program: Path, nam
     assert costs.get("fill") or its.cost >= learned.chosen.cost * (1 - 1e-9)
 
 
-def test_borrowing_changes_a_policy(prior: Prior, program: Path) -> None:
-    given = (alone_and_chosen(answered(item, prior, program)) for item in [*CATALOGUE.values()][:4])
-    assert sum(single != chosen for single, chosen in given) >= 2
-
-
 @pytest.mark.parametrize("usual, said, source", [
     (ALL, "", ALL), (ALL, "class", "X"), (CLASS, "", "X"), (CLASS, "all", ALL), (NONE, "class", "X"), (NONE, "", NONE),
     (ALL, "none", NONE), (CLASS, "none", NONE)])
@@ -182,9 +177,11 @@ def test_confidence(prior: Prior, program: Path, way: str, leads: tuple[int, ...
     assert sure.confidence_cost == pytest.approx(price) and price > 0 and plain.confidence_cost is None
 
 
-def test_confidence_is_one_in_a_wanted_fill_rate(prior: Prior, program: Path) -> None:
+def test_what_changes_a_policy(prior: Prior, program: Path) -> None:
     item = CATALOGUE["I-004"]
     assert answered(item, prior, program, ALL, 0.8) == answered(item, prior, program)
+    given = (alone_and_chosen(answered(item, prior, program)) for item in [*CATALOGUE.values()][:4])
+    assert sum(single != chosen for single, chosen in given) >= 2
 
 
 def test_a_promise_that_no_policy_keeps(program: Path, monkeypatch: pytest.MonkeyPatch) -> None:

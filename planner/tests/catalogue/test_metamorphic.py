@@ -134,8 +134,7 @@ def test_money_is_counted_in_another_unit(planned: Planner, factor: float) -> No
 
 
 def test_changes_that_do_not_matter(planned: Planner) -> None:
-    """Rows and items in another order, and two rows for one of a day, give the same decisions, cell by cell. Days plan as
-    weeks do. Theory does not depend on names, as samples do."""
+    """Order, split rows, and days for weeks change no decision, and names no figure of theory."""
     items = slow_sellers()
     before = planned(items)
     for other in (planned(items, seed=3), planned(items[::-1], seed=4), planned(items, is_split=True)):

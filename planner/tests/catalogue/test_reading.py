@@ -123,9 +123,9 @@ def test_what_was_found_is_stated(catalogue: Catalogue, files: Path) -> None:
     assert [*again.rejects.itertuples()] == [*catalogue.rejects.itertuples()]
 
 
-def test_limits_change_nothing(files: Path, catalogue: Catalogue, tmp_path: Path,
-                               monkeypatch: pytest.MonkeyPatch) -> None:
-    """Reads the same if few cells are remembered, and leaves its own files alone."""
+def test_limits_change_nothing(files: Path, catalogue: Catalogue, tmp_path: Path, monkeypatch: pytest.MonkeyPatch,
+                               planted: Made) -> None:
+    """Reads the same if few cells are remembered, and from rows and masters in another order."""
     monkeypatch.setattr(rows, "MOST_KEPT", 3)
     paths = dict(zip(("demand", "items", "orders"), (files / it for it in FILES)))
     again = Catalogue(read_alone(tmp_path, paths, Words(today=TODAY)))
@@ -135,10 +135,6 @@ def test_limits_change_nothing(files: Path, catalogue: Catalogue, tmp_path: Path
     again.path.unlink()
     with pytest.raises(Refused, match="no catalogue was read"):
         again.opened()
-
-
-def test_order_of_rows_changes_nothing(planted: Made, catalogue: Catalogue, tmp_path: Path) -> None:
-    """Reads the same items from rows and masters in another order, but for the lines in which they stand."""
     mixed = copy.deepcopy(planted)
     total = mixed.demand.pop()
     random.Random(2).shuffle(mixed.demand)
@@ -237,13 +233,16 @@ def test_unused_words_are_refused(tmp_path: Path) -> None:
 
 
 def test_record_from_and_to(tmp_path: Path) -> None:
-    """Cuts the record where it is stated, and counts what is left out."""
+    """Cuts the record where it is stated, counts what is left out, and how dates are read."""
     its = read_text(tmp_path, start="2026-02-01", end="2026-09-30", every="month",
                     units={"items": dict.fromkeys(("lead", "holding", "backlog"), "month")})
     item = items_of(its)["A"]
     assert item.counts == (3,) * 8 and item.rows == 8
     assert list(its.rejects.reason) == ["2026-01-15 is before start", "2026-10-15 is after end"]
     assert json.loads(json.dumps(its.counts)) == its.counts and its.missing == []
+    found = read_text(tmp_path, date_formats=("%Y-%m-%d",)).found
+    assert "# dates by date_formats: 10\n" in found and found.count("# dates by") == 1
+    assert "day or the month first: 2; say" in read_text(tmp_path, DEMAND + "A,03/04/2026,2\nA,03/04/2026,5\n").found
 
 
 @pytest.mark.parametrize("changes, unit, said", [
@@ -314,10 +313,3 @@ def test_demand_that_has_no_law(tmp_path: Path, asked: int, back: int, said: str
     """Leaves an item out of which nothing was asked for, or all of it came back: 3 in each of 10 months."""
     rejects = read_text(tmp_path, "item,date,quantity,returned\n" + ROWS.replace(",3", f",{asked},{back}")).rejects
     assert list(rejects.item) == ["A"] and said in rejects.reason[0]
-
-
-def test_how_dates_are_read_is_stated(tmp_path: Path) -> None:
-    """Counts dates that are read by stated patterns, once, and those that can't be read without one."""
-    found = read_text(tmp_path, date_formats=("%Y-%m-%d",)).found
-    assert "# dates by date_formats: 10\n" in found and found.count("# dates by") == 1
-    assert "day or the month first: 2; say" in read_text(tmp_path, DEMAND + "A,03/04/2026,2\nA,03/04/2026,5\n").found

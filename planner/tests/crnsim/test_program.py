@@ -92,7 +92,8 @@ BASE, OTHER = "A,20,40,222,111/2,0,0/1,0/1,5/3", "B,60,80,200,50/1,-22,-11/2,7/2
 TEXT = f"{HEADER}\n{BASE}\n{OTHER}\n"
 
 
-def test_values(two_policies: str) -> None:
+def test_values(two_policies: str, program: Path) -> None:
+    """Values are those of the text. B orders 21 items in period 1 and holds 59, 57, 76 and 72 items."""
     rows = read_rows(TEXT)
     assert rows[1] == Row("B", 60, 80, 200, Fraction(50), -22, Fraction(-11, 2), Fraction(7, 2), Fraction(-1, 9))
     assert table_of(rows).csv == TEXT and read_rows(TEXT.replace("\n", "\r\n")) == rows
@@ -109,6 +110,11 @@ def test_values(two_policies: str) -> None:
     report = Report(tuple(read_rows(text)), Scenario.parse(two_policies))
     assert report.text == text and list(report.frame.loc["A"])[-2:] == [None, None]
     assert report.floats().loc["A"].isna().sum() == 2
+    scenario = Scenario.parse(two_policies)
+    held = [59 + 57 + 55 + 51, 59 + 57 + 76 + 72]
+    runs = [scenario, *(counting(scenario, cost) for cost in COSTS)]
+    totals = [[row.total for row in run.run(program=program).rows] for run in runs]
+    assert totals == [[222, 296], [0, 1], [0, 21], held, [0, 0]]
 
 
 REFUSED = {
@@ -133,15 +139,6 @@ def test_refused(name: str) -> None:
     text, message = REFUSED[name]
     with pytest.raises(Refused, match=f"^{re.escape(f'r.csv{message}')}"):
         read_rows(text, "r.csv")
-
-
-def test_counts_of_the_worked_periods(program: Path, two_policies: str) -> None:
-    """Counts orders, items ordered, held and owed. B orders 21 items in period 1 and holds 59, 57, 76 and 72 items."""
-    scenario = Scenario.parse(two_policies)
-    held = [59 + 57 + 55 + 51, 59 + 57 + 76 + 72]
-    runs = [scenario, *(counting(scenario, cost) for cost in COSTS)]
-    totals = [[row.total for row in run.run(program=program).rows] for run in runs]
-    assert totals == [[222, 296], [0, 1], [0, 21], held, [0, 0]]
 
 
 @given(st.data(), st.integers(1, 4), st.integers(2, 4), st.integers(1, 3), st.integers(1, 1024))

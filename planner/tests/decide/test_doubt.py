@@ -59,9 +59,6 @@ def test_columns(by_hand: Doubt) -> None:
     assert [*by_hand.frame] == [*list(today)[1:]]
     rounded = dataclasses.replace(by_hand.figures, least=by_hand.figures.cost.min(axis=1) * (1 + 1e-12))
     assert dataclasses.replace(by_hand, figures=rounded).own_regrets.min() == 0
-
-
-def test_sentences(by_hand: Doubt) -> None:
     assert by_hand.sentence == ("today is within 3% of the best of these 2 policies under 60% of the laws that this "
                                 "history allows.")
     assert by_hand.bounds.startswith("Under 90% of the laws it costs at most 30.9% more than the best of all policies, "

@@ -103,12 +103,22 @@ def test_corrected_costs_are_less_the_bias_of_a_chain(unit: int, program: Path) 
             assert its.effect == pytest.approx((bias - first) / error, abs=1e-4)
 
 
-def test_strong_effects_of_the_start_are_said(program: Path) -> None:
+def test_strong_effects_of_the_start_are_said(program: Path, monkeypatch: pytest.MonkeyPatch) -> None:
+    """Nothing is said of the start if theory is not exact or knows nothing, and with nothing to compare."""
     found = corrected_decision(PART.run(program=program).rows, PART)
     assert all(abs(by_name(found)[it].effect or 0) > 0.25 for it in ("more", "less"))
     assert found.warnings == (Remark("strong start", {"policies": "more, less", "most": 0.25}),)
     with pytest.raises(Refused, match="one replication tells nothing of spread"):
         corrected_decision([], replace(PART, replications=1))
+    rows = PART.run(program=program).rows
+    assert start_warning(rows, PART) and not start_warning(rows[:1], PART)
+    assert not start_warning(rows, replace(PART, replications=1))
+    bias = long_run.start_bias(PART)
+    bias.theory.exact = False
+    monkeypatch.setattr(long_run, "start_bias", lambda scenario: bias)
+    assert not start_warning(rows, PART)
+    monkeypatch.setattr(long_run, "start_bias", refuse)
+    assert not start_warning(rows, PART)
 
 
 def effects_of(scenario: Scenario, rows: Sequence[Row]) -> dict[str, float]:
@@ -130,19 +140,6 @@ def test_the_start_of_a_report_is_warned_of(initial: int, unit: int, program: Pa
     facts = {"periods": 40, "initial": initial, "most": 0.25, "policies": ", ".join(strong)}
     assert start_warning(rows, asked) == [Remark("start of coming periods", facts)] * bool(strong)
     assert strong or initial != 25
-
-
-def test_no_warning_if_theory_cannot_tell(program: Path, monkeypatch: pytest.MonkeyPatch) -> None:
-    """Nothing is said of the start if theory is not exact or knows nothing, and with nothing to compare."""
-    rows = PART.run(program=program).rows
-    assert start_warning(rows, PART) and not start_warning(rows[:1], PART)
-    assert not start_warning(rows, replace(PART, replications=1))
-    bias = long_run.start_bias(PART)
-    bias.theory.exact = False
-    monkeypatch.setattr(long_run, "start_bias", lambda scenario: bias)
-    assert not start_warning(rows, PART)
-    monkeypatch.setattr(long_run, "start_bias", refuse)
-    assert not start_warning(rows, PART)
 
 
 def test_no_interval(program: Path) -> None:
@@ -188,7 +185,7 @@ def refuse(scenario: Scenario) -> None:
     raise NoTheory("too far apart")
 
 
-def test_run_prints_the_long_run(crnplan: Command, room: Path) -> None:
+def test_run_prints_the_long_run(crnplan: Command, room: Path, program: Path) -> None:
     (room / "part.toml").write_text(PART.toml())
     forms: list[list[str]] = [[], ["--csv"], ["--json"]]
     text, table, tree = (crnplan("run", "part.toml", "--long-run", *form).output for form in forms)
@@ -199,9 +196,6 @@ def test_run_prints_the_long_run(crnplan: Command, room: Path) -> None:
     pair = crnplan("run", "part.toml", "--long-run", "--csv", "--policies", "6,14", "--keys", "5", "--level", "0.5")
     assert [line.split(",")[0] for line in pair.output.splitlines()[1:]] == ["today", "s6_S14"]
     assert "replications: 5, comparisons with today: 1, joint level: 0.5" in pair.errors
-
-
-def test_run_for_a_horizon(crnplan: Command, room: Path, program: Path) -> None:
     (room / "part.toml").write_text(PART.toml())
     found = crnplan("run", "part.toml", "--horizon", "12", "--stock", "3")
     wanted = PART.changed(periods=12, initial=3).run(program=program).text

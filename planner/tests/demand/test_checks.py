@@ -79,25 +79,6 @@ def test_quiet_history() -> None:
                     f"±{sizes[2]:.0%}")
 
 
-def test_words() -> None:
-    """Sentences have what silent tests would have seen, and what they would not, and the figures of a loss."""
-    sizes = {"autocorrelation": 0.3, "trend": 1.0, "weekday": 0.25, "season": math.inf}
-    assert advised(Remark("silent tests", sizes)) == (
-        "no warning is no proof: in 8 of 10 such histories the tests see an autocorrelation of 0.3, a trend from "
-        "nothing to twice the mean and a pattern of weekdays of ±25%, but not even a season of ±100%")
-    def advice(*loss: Any) -> str:
-        facts = {"p": 0.001, "change": 0.5, "name": "period 9", "beside": 0, "unit": "quarter", "most": 1.2,
-                 "most_first": 1, "most_last": 1, "least": 0.8, "least_first": 4, "least_last": 4}
-        return advised(Remark(loss[0], facts | Loss(*loss)._asdict()))
-    assert advice("trend", "steady", 25, 0, 70.2, -37.1, 16.2).endswith(
-        "In a study (Poisson, mean 10; trend +25%) such a plan cost 70% more than the best policy, whose S was 16% "
-        "higher, and promised a cost 37% too low")
-    assert advice("shift", "erratic", -25, 0, 6.4, 4.5, -13.8).endswith(
-        "In a study (negative binomial, mean 3, variance 9; shift -25%) such a plan cost 6.4% more than the best "
-        "policy, whose S was 14% lower, and promised a cost 4.5% too high")
-    assert "season of ±60% in 52 periods" in advice("season", "steady", 60, 52, 29.3, -31.1, 12.6)
-
-
 def test_trend() -> None:
     """A planted trend is named by the means of the thirds and its slope, a dependence with what is lost by it."""
     checks = check_history(RISING)
@@ -142,7 +123,7 @@ def test_shift() -> None:
 
 
 def test_season() -> None:
-    """A planted season is named by its fullest and its emptiest part, and its amplitude is about the true one."""
+    """A planted season is named by its fullest and emptiest part. A named length counts from the first period."""
     checks = check_history(SEASONAL, season=52)
     means = [np.mean([it for place, it in enumerate(SEASONAL) if place % 52 // 13 == part]) for part in range(4)]
     first, last = (sorted(range(4), key=means.__getitem__)[it] * 13 for it in (-1, 0))
@@ -156,6 +137,13 @@ def test_season() -> None:
     assert "no season was tested" in said(check_history(SEASONAL).unknown)[-1]
     both = RANDOM.poisson(10 * (1 + 0.6 * SINE) * np.linspace(0.6, 1.4, 208)).tolist()
     assert {"trend", "season"} <= {*check_history(both, season=52).warned}
+    checks = check_history(history_of([4, 1, 1, 1, 1] * 8, date(2025, 1, 6), "week"), season=5)
+    assert checks.warned[-1] == "season" and "2.5 times the mean in period 1 of 5" in said(checks.warnings)[0]
+    assert said(check_history([1, 2] * 10, season=11).unknown)[-1] == "a season is tested from 22 periods on"
+    assert "season" in [it.name for it in check_history([1, 2] * 11, season=11).tests]
+    for wrong, message in ((1, "a season of 1 periods is none; say 2 or more"), (2.5, "season: 2.5 ")):
+        with pytest.raises(Refused, match=message):
+            check_history([1, 2] * 10, season=wrong)  # type: ignore[arg-type]
 
 
 def test_quarters() -> None:
@@ -179,17 +167,6 @@ def test_quarters() -> None:
     assert not short and said(untested)[0] == "weekdays are tested from 14 days on"
 
 
-def test_season_of_a_named_length() -> None:
-    """A named length takes the place of the calendar's, counts from the first period, and needs two seasons."""
-    checks = check_history(history_of([4, 1, 1, 1, 1] * 8, date(2025, 1, 6), "week"), season=5)
-    assert checks.warned[-1] == "season" and "2.5 times the mean in period 1 of 5" in said(checks.warnings)[0]
-    assert said(check_history([1, 2] * 10, season=11).unknown)[-1] == "a season is tested from 22 periods on"
-    assert "season" in [it.name for it in check_history([1, 2] * 11, season=11).tests]
-    for wrong, message in ((1, "a season of 1 periods is none; say 2 or more"), (2.5, "season: 2.5 ")):
-        with pytest.raises(Refused, match=message):
-            check_history([1, 2] * 10, season=wrong)  # type: ignore[arg-type]
-
-
 @pytest.mark.parametrize("length", [2, 7, 8, 10, 30, 53])
 def test_parts_of_a_season(length: int) -> None:
     """A season of up to seven periods has as many parts, a longer one four; each has its first and its last place."""
@@ -201,7 +178,7 @@ def test_parts_of_a_season(length: int) -> None:
 
 
 def test_losses() -> None:
-    """The figure that is cited is the nearest by law, length of a season, and size."""
+    """The cited loss is the nearest by law, length and size. Sentences have what tests would see, and losses."""
     kinds = ("autocorrelation", "trend", "shift", "season")
     assert {it[:2] for it in losses()} == {(kind, law) for kind in kinds for law in STUDIED}
     for kind, size, variation, length, expected in (
@@ -211,6 +188,21 @@ def test_losses() -> None:
             ("season", 0.4, 0.1, 14, ("steady", 30, 12)), ("season", 0.31, 0, 4, ("steady", 30, 7))):
         loss = loss_of(kind, size, variation, length)
         assert (loss.study, loss.effect_size, loss.effect_length) == expected and loss.effect == kind
+    sizes = {"autocorrelation": 0.3, "trend": 1.0, "weekday": 0.25, "season": math.inf}
+    assert advised(Remark("silent tests", sizes)) == (
+        "no warning is no proof: in 8 of 10 such histories the tests see an autocorrelation of 0.3, a trend from "
+        "nothing to twice the mean and a pattern of weekdays of ±25%, but not even a season of ±100%")
+    def advice(*loss: Any) -> str:
+        facts = {"p": 0.001, "change": 0.5, "name": "period 9", "beside": 0, "unit": "quarter", "most": 1.2,
+                 "most_first": 1, "most_last": 1, "least": 0.8, "least_first": 4, "least_last": 4}
+        return advised(Remark(loss[0], facts | Loss(*loss)._asdict()))
+    assert advice("trend", "steady", 25, 0, 70.2, -37.1, 16.2).endswith(
+        "In a study (Poisson, mean 10; trend +25%) such a plan cost 70% more than the best policy, whose S was 16% "
+        "higher, and promised a cost 37% too low")
+    assert advice("shift", "erratic", -25, 0, 6.4, 4.5, -13.8).endswith(
+        "In a study (negative binomial, mean 3, variance 9; shift -25%) such a plan cost 6.4% more than the best "
+        "policy, whose S was 14% lower, and promised a cost 4.5% too high")
+    assert "season of ±60% in 52 periods" in advice("season", "steady", 60, 52, 29.3, -31.1, 12.6)
 
 
 @pytest.mark.parametrize("counts, periods, chance", [

@@ -248,7 +248,7 @@ def test_distances_by_definition(weights: list[int], histories: list[list[int]])
 
 
 def test_guard() -> None:
-    """The guard lets a history of its law pass, and none that varies more or less, or has another shape."""
+    """The guard lets a history of its law pass, and no other. Shares are those of histories drawn from the law."""
     random = np.random.default_rng(11)
     law = np.exp(stats.poisson.logpmf(np.arange(60), 10))
 
@@ -259,18 +259,6 @@ def test_guard() -> None:
     assert not any(passes(random.negative_binomial(5, 1 / 3, 100)) for _ in range(40))
     assert not any(passes(random.binomial(13, 10 / 13, 100)) for _ in range(40))
     assert not any(passes(random.choice([7, 13], 100)) for _ in range(40))
-
-
-@pytest.mark.parametrize("place", range(5), ids=guard.Shares._fields)
-def test_each_share_decides(place: int) -> None:
-    """Bounds are 5% of the variances, 30% of the distances, 10% and 5% of the largest."""
-    bounds = [0.05, 0.05, 0.30, 0.10, 0.05]
-    assert guard.Shares(*(it + 0.001 for it in bounds)).passes
-    assert not guard.Shares(*(it + 0.001 * (at != place) for at, it in enumerate(bounds))).passes
-
-
-def test_guards_shares() -> None:
-    """Shares are those of histories drawn from the law: of variances, of ties, and of the largest demand."""
     random = np.random.default_rng(3)
     cells = np.arange(400)
     law = stats.norm.pdf(cells, 200, 25)
@@ -293,3 +281,11 @@ def test_guards_shares() -> None:
     *_, low, high = guard.shares_of(even, stats.geom.pmf(np.arange(400) + 1, 1 / 7.5))
     assert low < 0.001 and high > 0.999
     assert guard.shares_of(Sample.of([0, 0]), np.array([0.5, 0.5]))[3:] == pytest.approx((0.25, 1.0))
+
+
+@pytest.mark.parametrize("place", range(5), ids=guard.Shares._fields)
+def test_each_share_decides(place: int) -> None:
+    """Bounds are 5% of the variances, 30% of the distances, 10% and 5% of the largest."""
+    bounds = [0.05, 0.05, 0.30, 0.10, 0.05]
+    assert guard.Shares(*(it + 0.001 for it in bounds)).passes
+    assert not guard.Shares(*(it + 0.001 * (at != place) for at, it in enumerate(bounds))).passes

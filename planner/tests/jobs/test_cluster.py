@@ -154,7 +154,7 @@ def test_so_many_batches_are_under_way(monkeypatch: pytest.MonkeyPatch) -> None:
 
 
 def test_a_program_that_only_workers_have(room: Path, monkeypatch: pytest.MonkeyPatch) -> None:
-    """Takes the digest of a program that is not on this machine from the workers."""
+    """Workers give the digest of a program that is not here. One unlike this machine calls nothing."""
     own = jobs.identity("")
     client = Mock(ncores=lambda: {"a": 1}, scheduler_info=lambda: {"workers": {}},
                   run=lambda *_, **__: {"a": {**own, "crnsim": "theirs"}})
@@ -165,10 +165,6 @@ def test_a_program_that_only_workers_have(room: Path, monkeypatch: pytest.Monkey
     assert jobs.program_digest(sys.executable, LOOPBACK) == jobs.identity(sys.executable)["crnsim"] != ""
     with pytest.raises(crn.Refused, match="has another crnsim"):
         jobs.Cluster(client, sys.executable)
-
-
-def test_a_worker_says_whether_it_is_as_here(monkeypatch: pytest.MonkeyPatch) -> None:
-    """A worker that is as this machine calls a function; a stranger does not, and is named."""
     worker = Mock(address=f"tcp://{LOOPBACK}:1")
     worker.name = "late"
     monkeypatch.setitem(sys.modules, "distributed", Mock(get_worker=lambda: worker))

@@ -49,7 +49,7 @@ def runs(room: Path) -> Callable[[], int]:
 
 
 def test_the_table_has_the_programs_rows_by_rank(base: Path, room: Path, crnplan: Command) -> None:
-    """Checks the pairs of a sweep, their ranks, and the row of one pair, which is the program's."""
+    """The table has all pairs by rank, as the program writes them, and CSV and JSON have its cells."""
     table = crnplan("sweep", base, *GRID).output
     first, *rows = [line.split(",") for line in table.splitlines()[1:]]
     assert first[0] == "A" and sorted((int(row[1]), int(row[2])) for row in rows) == PAIRS
@@ -58,6 +58,12 @@ def test_the_table_has_the_programs_rows_by_rank(base: Path, room: Path, crnplan
     ran = subprocess.run(["./counting"], input=one, cwd=room, capture_output=True, text=True, check=True)
     alone = ran.stdout.splitlines()
     assert set(alone) < set(table.splitlines()) and len(alone) == 3
+    table = crnplan("sweep", base, *GRID).output
+    heading, *rows = csv.reader(table.splitlines())
+    assert crnplan("sweep", base, *GRID, "--csv").output == table
+    data = json.loads(crnplan("sweep", base, *GRID, "--json").output)
+    assert [list(it) for it in data] == [heading] * len(rows)
+    assert [["-" if it is None else str(it) for it in record.values()] for record in data] == rows
 
 
 @pytest.mark.parametrize("jobs", [1, 3])
@@ -138,16 +144,6 @@ def test_levels_of_the_function_are_refused(base: Path, s: list[int], S: list[in
     """Checks what is said of levels that no policy has, before anything is run."""
     with pytest.raises(crn.Refused, match=message):
         crn.sweep(crn.Scenario.read(base), s, S, program="./counting")
-
-
-def test_json_has_the_fields_of_the_report(base: Path, crnplan: Command) -> None:
-    """Compares the data with the table, cell by cell. As CSV the table is the same, which crnplan decide reads."""
-    table = crnplan("sweep", base, *GRID).output
-    heading, *rows = csv.reader(table.splitlines())
-    assert crnplan("sweep", base, *GRID, "--csv").output == table
-    data = json.loads(crnplan("sweep", base, *GRID, "--json").output)
-    assert [list(it) for it in data] == [heading] * len(rows)
-    assert [["-" if it is None else str(it) for it in record.values()] for record in data] == rows
 
 
 def test_progress(crnplan: Command, room: Path) -> None:

@@ -146,7 +146,7 @@ def test_headline_of_runs(tmp_path: Path, error: float, said: str) -> None:
 
 
 def test_left_out(large: Path, large_page: Page) -> None:
-    """Each kind has as many rows as rejects.csv, and the first of each reason stands with its place."""
+    """Each kind has the rows of rejects.csv, the first of each reason with its place. The curve has its figures."""
     page, rejects = large_page, rows_of(large / "rejects.csv")
     titles = {"Items left out": "item", "Rows rejected": "row",
               "Suspicious rows, which count all the same": "suspicious"}
@@ -157,6 +157,20 @@ def test_left_out(large: Path, large_page: Page) -> None:
     assert f"Items left out: {len(items)}, with {sum(int(row['rows']) for row in items):,} rows" in page.words
     first = next(row for row in rejects if row["kind"] == "row")
     assert f"{first['file']}:{first['line']}, item {first['item']}: {first['reason']}; {first['advice']}" in page.words
+    page = large_page
+    with contextlib.closing(Store(large / ANSWERS, Answer)) as store:
+        named = [it for it in json.loads(store.fact("curve") or "")["points"] if it["name"]]
+    points = page.tables["Points of the curve"][1:]
+    assert [[row[0].strip(), row[3]] for row in points] == [[it["name"], f"{it['orders']:g}"] for it in named]
+    figures = [[f"{it['value']:,.0f}", f"{it['fill']:.2%}"] for it in named]
+    assert [row[1:3] for row in points] == figures and len(named) == 4
+    said = page.pictures["Exchange curve: demand met at once against the value of the stock"]
+    assert all(f"{fill} met at once with a stock of {value}" in said for value, fill in figures)
+    assert 'y="0.0%">100</text>' in page.source
+    (path,) = re.findall(r'class="line of-chosen" d="M([^"]+)"', page.source)
+    places = [tuple(map(float, it.split())) for it in path.split("L")]
+    assert all(0 <= it <= 1000 for place in places for it in place) and len(places) > 5
+    assert places == sorted(places, key=lambda it: (it[0], -it[1]))
 
 
 def test_reasons_verdicts_and_service() -> None:
@@ -202,24 +216,6 @@ def test_greatest_are_shown_of_very_many(hostile: Path, folder: Path, monkeypatc
     assert Page(hostile / "report.html").words.split(".")[0] in page.words
 
 
-def test_curve(large: Path, large_page: Page) -> None:
-    """The named points have their figures, also for a screen reader. The line ends within the picture."""
-    page = large_page
-    with contextlib.closing(Store(large / ANSWERS, Answer)) as store:
-        named = [it for it in json.loads(store.fact("curve") or "")["points"] if it["name"]]
-    points = page.tables["Points of the curve"][1:]
-    assert [[row[0].strip(), row[3]] for row in points] == [[it["name"], f"{it['orders']:g}"] for it in named]
-    figures = [[f"{it['value']:,.0f}", f"{it['fill']:.2%}"] for it in named]
-    assert [row[1:3] for row in points] == figures and len(named) == 4
-    said = page.pictures["Exchange curve: demand met at once against the value of the stock"]
-    assert all(f"{fill} met at once with a stock of {value}" in said for value, fill in figures)
-    assert 'y="0.0%">100</text>' in page.source
-    (path,) = re.findall(r'class="line of-chosen" d="M([^"]+)"', page.source)
-    places = [tuple(map(float, it.split())) for it in path.split("L")]
-    assert all(0 <= it <= 1000 for place in places for it in place) and len(places) > 5
-    assert places == sorted(places, key=lambda it: (it[0], -it[1]))
-
-
 POINTS = st.tuples(st.floats(0, 1e6, allow_subnormal=False), st.floats(0, 100, allow_subnormal=False))
 
 
@@ -246,8 +242,8 @@ def test_no_curve(kept: dict[str, str] | None, said: str, tmp_path: Path) -> Non
     assert said in page.words and not page.pictures
 
 
-def test_items_with_a_page_are_links(folder: Path) -> None:
-    """An item is a link if its page is there, whatever its name, and the link leads to the file."""
+def test_items_with_a_page_are_links(folder: Path, tmp_path: Path, crnplan: Command) -> None:
+    """An item with a page is a link. The command prints the page, and refuses a folder without a plan."""
     linked = {HOSTILE[0], HOSTILE[3], HOSTILE[5], HOSTILE[6], HOSTILE[9], HOSTILE[11]}
     for name in linked:
         path = file_of(folder, name)
@@ -256,6 +252,12 @@ def test_items_with_a_page_are_links(folder: Path) -> None:
     page = Page(crn.report(folder))
     assert set(page.links) == linked
     assert all((folder / unquote(address)).read_text() == name for name, address in page.links.items())
+    assert crnplan("report", folder) == (0, f"{folder / 'report.html'}\n", "")
+    assert len(Page(folder / "report.html").items) == 60
+    empty = tmp_path / "empty"
+    empty.mkdir()
+    message = f"no plan is in it; run crnplan catalogue DEMAND.csv ITEMS.csv --out {empty} first"
+    assert crnplan("report", empty) == (2, "", f"crnplan: {empty}: {message}\n") and not [*empty.iterdir()]
 
 
 @pytest.mark.parametrize("items", [0, 1])
@@ -278,16 +280,6 @@ def test_lost_items_are_said(folder: Path) -> None:
         writer.finish({"counts": {}, "every": "week", "decimals": 2})
     with pytest.raises(crn.Refused, match="its plan is not as the rows that were read last; run crnplan catalogue"):
         crn.report(folder)
-
-
-def test_command(folder: Path, tmp_path: Path, crnplan: Command) -> None:
-    """The command writes the page, and prints where. A folder without a plan is refused, and nothing is written."""
-    assert crnplan("report", folder) == (0, f"{folder / 'report.html'}\n", "")
-    assert len(Page(folder / "report.html").items) == 60
-    empty = tmp_path / "empty"
-    empty.mkdir()
-    message = f"no plan is in it; run crnplan catalogue DEMAND.csv ITEMS.csv --out {empty} first"
-    assert crnplan("report", empty) == (2, "", f"crnplan: {empty}: {message}\n") and not [*empty.iterdir()]
 
 
 def test_page_of_a_plan(tmp_path: Path, program: Path, crnplan: Command) -> None:

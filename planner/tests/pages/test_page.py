@@ -61,7 +61,7 @@ def test_narrow_pages_have_room_for_marks(values: list[float], inner: list[str])
 
 
 def test_bars_of_a_long_history() -> None:
-    """Of a history of 521 weeks the last 520 are drawn, but for those without demand, and the picture says so."""
+    """Of 521 weeks the last 520 are drawn, but for those without demand. A curve's axes end near its named points."""
     item = SimpleNamespace(counts=(9, 0, *[1] * 519), box=1)
     law = fit_demand(item.counts, method="empirical")
     words: Any = SimpleNamespace(item=item, every="week", question=SimpleNamespace(demand=law),
@@ -70,10 +70,6 @@ def test_bars_of_a_long_history() -> None:
     assert len(plot.bars) == 519 and plot.across == "week; the 1 before are not drawn" and plot.marks[0][1] == "W1"
     assert "521 weeks from W0 to W520, 528 items; 1 weeks without demand; the greatest demand is 9, in W0;" in \
         plot.description
-
-
-def test_ends_of_a_curve() -> None:
-    """The axes end at 1.35 times the greatest named stock, and 4 points below the least service, from 0 on."""
     named = [Point(100.0, 0.9, 1.0, 1.0), Point(200.0, 0.95, 1.0, 1.0)]
     assert curve_ends(named) == pytest.approx((270, 86)) and curve_ends([named[0]._replace(fill=0.03)])[1] == 0
 
@@ -128,8 +124,8 @@ def drawn(crnplan: Command, name: str, folder: Path) -> tuple[list[str | None], 
     return texts_of(folder / "plot.svg"), texts_of(folder / "map.svg")
 
 
-def test_few_policies(crnplan: Command, tmp_path: Path) -> None:
-    """The picture says what it compares. Drawn again, it has the same bytes. Matplotlib's settings stay."""
+def test_few_policies(crnplan: Command, tmp_path: Path, top: Path) -> None:
+    """Pictures say what they compare, 20 policies at most, with the same bytes again. Matplotlib's settings stay."""
     import matplotlib
     before, pictures = (dict(matplotlib.rcParams), sys.modules.get("matplotlib.pyplot")), []
     for _ in range(2):
@@ -139,10 +135,6 @@ def test_few_policies(crnplan: Command, tmp_path: Path) -> None:
     assert crnplan("decide", *REPORTS["few"], "--plot", tmp_path / "a.PNG", "--map", tmp_path / "b.png").status == 0
     assert all((tmp_path / name).read_bytes().startswith(PNG) for name in ("a.PNG", "b.png"))
     assert (dict(matplotlib.rcParams), sys.modules.get("matplotlib.pyplot")) == before
-
-
-def test_many_policies(crnplan: Command, tmp_path: Path, top: Path) -> None:
-    """Of many policies 20 are drawn, the base among them. The map names the best and the base with their costs."""
     texts, of_map = drawn(crnplan, "many", tmp_path)
     assert len([it for it in texts if it and it.startswith("s") and it.endswith(")")]) == 19
     assert "today (15, 30)" in texts and "64 replications, 20 of 121 policies shown" in texts

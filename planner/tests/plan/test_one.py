@@ -115,7 +115,7 @@ def test_a_run_without_rare_events_is_no_fault(program: Path, monkeypatch: pytes
 
 
 def test_remarks(program: Path) -> None:
-    """It is said if a policy hardly orders, and if no scale makes costs whole: beside 9000, 2.55 is 3."""
+    """A policy that hardly orders, costs that no scale makes whole, and a law below its history are named."""
     slow = item_of(counts=(1, *[0] * 400, 1), setup=Fraction(1_000), holding=Fraction(1, 100), levels=(0, 90))
     answer = answer_of(slow, alone(fit="empirical"), program)
     remark, = (it for it in answer.remarks if it.code == "no interval")
@@ -124,10 +124,6 @@ def test_remarks(program: Path) -> None:
     answer = answer_of(item_of(unit=Fraction(9_000), holding=Fraction(1), backlog=Fraction("2.55")), alone(), program)
     remark, = (it for it in answer.remarks if it.code == "rounded costs")
     assert remark.facts["error"] == pytest.approx(3 / 2.55 - 1)
-
-
-def test_a_law_below_the_history_is_named(program: Path) -> None:
-    """A law with much less variance than the history is named with both; the history itself is not."""
     item = item_of(counts=(*[1, 2, 3] * 15, 40, 60), levels=(9, 30))
     mean = np.mean(item.counts)
     codes = {fit: {it.code: it.facts for it in answer_of(item, alone(fit=fit), program).remarks}

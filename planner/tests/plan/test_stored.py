@@ -41,7 +41,7 @@ def item(name: str) -> Item:
 
 
 def test_a_store_keeps_answers_and_faults(tmp_path: Path) -> None:
-    """Answers come back by name with what they depend on; a fault stands for one. A store of other columns has none."""
+    """Answers come back by name with what they depend on. A file with other bytes, or cut in its middle, is named."""
     store = Store(tmp_path / "kept", Item)
     store.keep([("b", "2", item("b")), ("a", "1", Remark("none", {"x": 1}))])
     store.keep([("b", "3", item("c"))])
@@ -56,21 +56,6 @@ def test_a_store_keeps_answers_and_faults(tmp_path: Path) -> None:
     store.keep([("a", "1", LawFacts("auto", 1.0, None, 2.0, 1.0))])
     store.close()
     assert Store(tmp_path / "kept", Item).digests() == {}
-
-
-@pytest.mark.parametrize("change", ["UPDATE answers SET holding = 3", "UPDATE answers SET digest = 'x'"])
-def test_a_changed_answer_is_damaged(tmp_path: Path, change: str) -> None:
-    """An answer that is not as it was kept is named, with what to do."""
-    store = Store(tmp_path / "kept", Item)
-    store.keep([("a", "1", item("a"))])
-    with store.base:
-        store.base.execute(change)
-    with pytest.raises(Damaged, match="kept: the answer to 'a' is not as it was kept: .* remove it"):
-        store.answer("a")
-
-
-def test_a_file_that_is_none_is_damaged(tmp_path: Path) -> None:
-    """A file with other bytes, or cut in its middle, is named."""
     path = tmp_path / "kept"
     path.write_bytes(b"no store" * 999)
     with pytest.raises(Damaged, match="kept: "):
@@ -83,6 +68,17 @@ def test_a_file_that_is_none_is_damaged(tmp_path: Path) -> None:
     path.write_bytes(data[:len(data) // 2] + bytes(4_096) + data[len(data) // 2 + 4_096:])
     with pytest.raises(Damaged, match="kept: "):
         [*Store(path, Item).answers()]
+
+
+@pytest.mark.parametrize("change", ["UPDATE answers SET holding = 3", "UPDATE answers SET digest = 'x'"])
+def test_a_changed_answer_is_damaged(tmp_path: Path, change: str) -> None:
+    """An answer that is not as it was kept is named, with what to do."""
+    store = Store(tmp_path / "kept", Item)
+    store.keep([("a", "1", item("a"))])
+    with store.base:
+        store.base.execute(change)
+    with pytest.raises(Damaged, match="kept: the answer to 'a' is not as it was kept: .* remove it"):
+        store.answer("a")
 
 
 @given(some.lists(some.floats(-1e15, 1e15), max_size=50), some.integers(1, 100))

@@ -152,7 +152,7 @@ def test_the_gap_is_a_good_one(lead: Pair) -> None:
 
 
 def test_the_texts() -> None:
-    """Each promise stands beside the plain policy, with what it costs more."""
+    """A promise has its cost beside the plain policy: none if all laws are alike. One law has no long run."""
     demand = range(31), [31 - it for it in range(31)]
     scenario = scenario_of(demand, ([2], [1]), costs=COSTS)
     found = suggestions_of(scenario, laws_near(demand, 10, 1), confidence=0.9)
@@ -168,10 +168,6 @@ def test_the_texts() -> None:
     assert ("\nsure: under 90% of the laws that the history allows, of which 10 were drawn, if the coming year is "
             "like the last one; their fill rates are exact but for rounding\n") in found.notes
     assert len(names) == 16 and "\nleft out, since a scenario has at most 16 policies: " in found.notes
-
-
-def test_promises_at_the_ends() -> None:
-    """A promise costs nothing if all laws are the own one. A law without a long run keeps none."""
     scenario = scenario_of(([0, 1, 2, 5], [5, 3, 2, 1]), ([1, 2], [1, 1]), costs=COSTS)
     plain, sure = suggestions_of(scenario), suggestions_of(scenario, [scenario.demand] * 5)
     assert [it.policy for it in plain.rows] == [it.policy for it in sure.rows]

@@ -44,15 +44,6 @@ def test_the_start_and_the_price(crnplan: Command, top: Path, asked: Path, words
     assert "\nunit: a run also pays it" in errors and "without unit, which adds 57.00 to each policy" in errors
 
 
-def test_no_line_on_a_price_of_0(crnplan: Command, top: Path) -> None:
-    errors = crnplan("suggest", top / "examples/mail_order.toml").errors
-    assert "\nunit: " not in errors and "\ninitial: " in errors
-    path = top / "examples/spare_part.toml"
-    assert crnplan("suggest", "-", data=path.read_bytes()) == crnplan("suggest", path)
-    told = crnplan("suggest", "-", data=changed(path.read_text("utf-8"), "holding = 2", "holding = 0").encode())
-    assert told[:2] == (2, "") and told.errors.startswith("crnplan: 14:1: the cost holding is 0, ")
-
-
 def test_the_table_in_other_forms(crnplan: Command, top: Path) -> None:
     path = top / "examples/spare_part.toml"
     shown = [line.split() for line in crnplan("suggest", path).errors.split("\n\n")[0].splitlines()]
@@ -69,6 +60,12 @@ def test_the_table_in_other_forms(crnplan: Command, top: Path) -> None:
     assert [{name: f"{value:.10g}" if isinstance(value, float) else str(value) for name, value in it.items()}
             for it in told["policies"]] == rows
     assert told["initial"] == round(told["position"])
+    errors = crnplan("suggest", top / "examples/mail_order.toml").errors
+    assert "\nunit: " not in errors and "\ninitial: " in errors
+    path = top / "examples/spare_part.toml"
+    assert crnplan("suggest", "-", data=path.read_bytes()) == crnplan("suggest", path)
+    told = crnplan("suggest", "-", data=changed(path.read_text("utf-8"), "holding = 2", "holding = 0").encode())
+    assert told[:2] == (2, "") and told.errors.startswith("crnplan: 14:1: the cost holding is 0, ")
 
 
 HISTORY = "period,demand\n" + "".join(f"{place},{it}\n" for place, it in enumerate([0, 3, 1, 0, 6, 0, 2, 0, 0, 4] * 5))

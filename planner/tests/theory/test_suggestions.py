@@ -104,7 +104,7 @@ def test_a_level_below_half_a_step() -> None:
     assert "same_S" not in [it.policy.name for it in found.rows]
 
 
-def test_the_text_keeps_the_order_and_the_first_comment(top: Path) -> None:
+def test_the_text_keeps_and_has(top: Path) -> None:
     text = (top / "examples" / "spare_part.toml").read_text("utf-8")
     lines = text.splitlines(keepends=True)
     head = "".join(lines[:next(place for place, line in enumerate(lines) if not line.startswith("#"))])
@@ -118,9 +118,6 @@ def test_the_text_keeps_the_order_and_the_first_comment(top: Path) -> None:
     assert "\n\n[lead]\nweights = [1]\nvalues = [1]\n\n[demand]\nweights = [1, 1]\nvalues = [0, 3]\n\n[costs]\n" in told
     wanted, its = tomllib.loads(turned.replace("\r", "")), tomllib.loads(told)
     assert its.pop("policy")[0] == wanted.pop("policy")[0] and its == wanted
-
-
-def test_the_text_has_what_was_changed(top: Path) -> None:
     scenario = Scenario.read(top / "examples/mail_order.toml").changed(returns=None, initial=7, costs={"setup": 10})
     found = suggestions_of(scenario)
     assert Scenario.parse(found.toml()) == scenario.with_policies(it.policy for it in found.rows)

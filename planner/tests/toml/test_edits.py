@@ -68,7 +68,7 @@ def test_lines_in_many_spellings(name: str) -> None:
     assert places_of(text, {**tree, "other": 1}) == places_of(f"{text}\nother", {**tree, "other": 1}) == {}
 
 
-def test_columns(two_policies: str) -> None:
+def test_columns(two_policies: str, tmp_path: Path, crnplan: Command) -> None:
     """Checks that the text of a key or an entry is in the column of its path."""
     tree, _ = read_document(two_policies.encode())
     lines = two_policies.splitlines()
@@ -79,6 +79,8 @@ def test_columns(two_policies: str) -> None:
         elif path[0] != "policy":
             entries = tree[path[0]] if len(path) == 2 else tree[path[0]][path[1]]
             assert rest.startswith(f'"{entries[last - 1]}"' if path[0] == "key" else str(entries[last - 1]))
+    path = tmp_path / "missing.toml"
+    assert crnplan("why", path) == (2, "", f"crnplan: {path}: No such file or directory\n")
 
 
 WHOLE = {"empty": (b"", 1, "missing"), "a picture": (b"\x89PNG\r\n\x1a\n\0\0", 1, "UTF-8"),
@@ -97,8 +99,3 @@ def test_files_that_are_no_scenarios(name: str, tmp_path: Path, crnplan: Command
         lines = (answer.output if status == 1 else answer.errors).splitlines()
         assert answer.status == status and (len(lines) == 1 or name == "empty" and lines)
         assert part in lines[0] and "Traceback" not in answer.errors
-
-
-def test_a_missing_file(tmp_path: Path, crnplan: Command) -> None:
-    path = tmp_path / "missing.toml"
-    assert crnplan("why", path) == (2, "", f"crnplan: {path}: No such file or directory\n")
