@@ -2,6 +2,7 @@
 from __future__ import annotations
 
 import json
+import tomllib
 from collections.abc import Iterator
 from pathlib import Path
 from typing import Any
@@ -14,6 +15,7 @@ from planner.tests.catalogue.made import NO_PLAN, TODAY, Made, made
 
 FILES = ("Bewegungen.csv", "Artikel.csv", "Bestellungen.csv")
 WORDS = [FILES[0], FILES[1], "--orders", FILES[2]]
+REFUSED = tomllib.loads(Path(__file__).with_name("refused.toml").read_text("utf-8"))
 TABLES = ("decisions.csv", "exact.csv", "rejects.csv", "summary.txt")
 # Laws as they were observed, and short runs: a third of the time.
 SETTINGS: dict[str, Any] = {"fit": "empirical", "borrow": "none", "periods": 64, "replications": 8}

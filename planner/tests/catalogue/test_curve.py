@@ -23,7 +23,7 @@ from crnplan.plan.one import figures_of
 from crnplan.plan.question import Question
 from crnplan.records.catalogued import READ
 from crnplan.words import advice, sentence
-from planner.tests.catalogue.conftest import FILES, SETTINGS, leave_few
+from planner.tests.catalogue.conftest import FILES, REFUSED, SETTINGS, leave_few
 from planner.tests.catalogue.made import NO_PLAN, TODAY, Made
 from planner.tests.conftest import Command
 
@@ -207,17 +207,7 @@ def test_command(plan: Path, crnplan: Command, program: Path) -> None:
     assert told.status == 0 and told.output == (plan / CURVE).read_text("utf-8")
 
 
-@pytest.mark.parametrize("words, said", [
-    (["--stock-value", "1"], "--stock-value 1: the curve has stock worth "),
-    (["--stock-value", "1e9"], "--stock-value 1,000,000,000: the most stock on the curve is worth "),
-    (["--fill", "0.9999999999"], "of demand by value; name less"),
-    (["--fill", "0.01"], "--fill 0.01: the curve begins with 0."),
-    (["--fill", "95"], "--fill 95 is not between 0 and 1; write 0.95"),
-    (["--fill", "0.9", "--stock-value", "9"], "leave one out"),
-    (["--orders", "0"], "--orders 0 is not above 0"),
-    (["--orders", "0.1", "--fill", "0.9"], "orders a period or more; name more"),
-    (["--stock-value", "1", "--orders", "9"], "stock of so little value takes more orders, or is not to be had"),
-    (["--plot", "curve.pdf"], "does not end with .png or .svg")])
+@pytest.mark.parametrize("words, said", REFUSED["curve"])
 def test_refused_words(plan: Path, crnplan: Command, words: list[str], said: str) -> None:
     told = crnplan("curve", plan, "--jobs", "1", "--confirm", "0", *words)
     assert told.status == 2 and said in told.errors and told.errors.count("\n") == 1

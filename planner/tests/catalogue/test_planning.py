@@ -19,7 +19,7 @@ import pytest
 import crnplan as crn
 from crnplan.plan.question import Question, Settings
 from planner.tests.catalogue.audit import audit
-from planner.tests.catalogue.conftest import FILES, SETTINGS, TABLES, WORDS, leave_few
+from planner.tests.catalogue.conftest import FILES, REFUSED, SETTINGS, TABLES, WORDS, leave_few
 from planner.tests.catalogue.made import NO_PLAN, START, TITLES, WEEKS, Made
 from planner.tests.conftest import Command, rows_of
 
@@ -229,15 +229,7 @@ def test_confidence_and_its_price(begun: Path, crnplan: Command, program: Path) 
     assert math.isclose(float(cost), price, abs_tol=0.01)
 
 
-@pytest.mark.parametrize("text, said", [
-    ("[catalogue]\nevry = 'week'\n", "crnplan.toml:2:1: [catalogue] evry: there should be no such key; write every"),
-    ("[catalogue]\nfit = 'best'\n", "[catalogue] fit:"),
-    ("[catalogue.demand]\namount = 'x'\n", "[catalogue.demand] amount"),
-    ("catalogue = 3\n", "[catalogue]: 3 is a whole number; a table should stand here"), ("[catalogue]\nlevel = 2\n",
-                                                                                         "level"),
-    ("[catalogue]\nconfidence = 80\n", "0.8 for 80% of the laws"),
-    ("[catalogue.units]\n'items.lead' = 7\n", "7 is a whole number; a text should stand here"),
-    ("[catalogue\n", "crnplan.toml:1")])
+@pytest.mark.parametrize("text, said", REFUSED["settings"])
 def test_refused_settings(folder: Path, crnplan: Command, text: str, said: str) -> None:
     (folder / "crnplan.toml").write_text(text, "utf-8")
     told = crnplan("catalogue", *WORDS, "--out", "plan")

@@ -24,7 +24,7 @@ from crnplan.records.observed import Record, record_of
 from crnplan.records.rows import far_above
 from crnplan.words import sentence
 from planner.tests.catalogue.audit import Audit, audit
-from planner.tests.catalogue.conftest import FILES
+from planner.tests.catalogue.conftest import FILES, REFUSED
 from planner.tests.catalogue.made import ITEMS, START, TITLES, TODAY, WEEKS, Made, name_of
 
 LAST = START + datetime.timedelta(days=7 * WEEKS - 3)
@@ -245,15 +245,7 @@ def test_record_from_and_to(tmp_path: Path) -> None:
     assert "day or the month first: 2; say" in read_text(tmp_path, DEMAND + "A,03/04/2026,2\nA,03/04/2026,5\n").found
 
 
-@pytest.mark.parametrize("changes, unit, said", [
-    ({"holding": "25", "price": "2"}, "share", "25% or 25 as a share"), ({"holding": "20%"}, "", "'20%' is a share"),
-    ({"holding": "0.2"}, "share", "no price"), ({"lead": ""}, "", "no lead time, and no received order"),
-    ({"lead": "14 pcs"}, "", "'14 pcs' is no lead time"), ({"setup": "0.123456789"}, "", "more than 8 decimals"),
-    ({"s": "2.5"}, "", "'2.5' is not a whole number from 0"), ({"S": "-9"}, "", "'-9' is not a whole number from 0"),
-    ({"setup": "EUR 5 EUR"}, "", "'EUR 5 EUR' is not a number"), ({"S": "1000001"}, "", "S is above 1,000,000"),
-    ({"fill": "1"}, "", "'1' is no share between"), ({"fill": "0%"}, "", "'0%' is no share between"),
-    ({"lead": "33"}, "", "33 is not from 1 to 32"), ({"s": "10"}, "", "s = 10 is above S = 9"),
-    ({"borrow": "some"}, "", "'some' is not none, class or all")])
+@pytest.mark.parametrize("changes, unit, said", REFUSED["cells"])
 def test_cells_of_masters_that_are_not_taken(tmp_path: Path, changes: dict[str, str], unit: str, said: str) -> None:
     """Leaves an item out for one cell of its master, and names the column and why."""
     units = {"items": {"holding": unit}} if unit else {}
