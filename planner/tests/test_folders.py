@@ -73,7 +73,7 @@ def plant(path: Path) -> None:
 
 @KEEPING
 def test_a_folder_of_others(room: Path, crnplan: Command, words: Sequence[str]) -> None:
-    """Leaves a folder as it is that has files and no marker, whatever they are called."""
+    """Leaves a folder of others as it is, whatever its files are called, and one in which another run works."""
     for name in NAMES:
         plant(room / "plan" / name)
         before = contents(room / "plan")
@@ -81,6 +81,11 @@ def test_a_folder_of_others(room: Path, crnplan: Command, words: Sequence[str]) 
         assert told.status == 2 and "plan: the folder is not empty" in told.errors
         assert contents(room / "plan") == before
         shutil.rmtree(room / "plan")
+    assert crnplan(*words).status == 0
+    with (room / "plan/crnplan-folder.txt").open() as marker:
+        fcntl.flock(marker, fcntl.LOCK_EX)
+        told = crnplan(*words)
+    assert told.status == 2 and "another run of crnplan works in this folder" in told.errors
 
 
 def test_check_writes_nothing(room: Path, crnplan: Command) -> None:
@@ -141,16 +146,6 @@ def test_a_folder_of_another_kind(plan: Path, crnplan: Command) -> None:
         told = crnplan(*words)
         assert told.status == 2 and f"not that of a folder of crnplan {words[0]}" in told.errors
         assert contents(plan) == before
-
-
-@KEEPING
-def test_one_run_at_a_time(room: Path, crnplan: Command, words: Sequence[str]) -> None:
-    """Refuses a folder in which another run works: the lock is that of the whole folder."""
-    assert crnplan(*words).status == 0
-    with (room / "plan/crnplan-folder.txt").open() as marker:
-        fcntl.flock(marker, fcntl.LOCK_EX)
-        told = crnplan(*words)
-    assert told.status == 2 and "another run of crnplan works in this folder" in told.errors
 
 
 def test_a_marker_that_is_no_file(room: Path, crnplan: Command) -> None:

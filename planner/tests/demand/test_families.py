@@ -45,7 +45,7 @@ def test_no_demand_above_the_range(name: str) -> None:
 
 @HISTORIES
 def test_fits_are_the_most_likely(numbers: Sequence[int]) -> None:
-    """Likelihoods are as great as those that a general search over the parameters of scipy's laws finds."""
+    """Likelihoods are as great as a general search finds. BIC counts parameters, and the least comes first."""
     fits, data = fits_of(Sample.of(numbers)), np.array(numbers)
     sizes, share = data[data > 0] - 1, np.mean(data == 0)
     zeros = special.xlogy(len(data) - len(sizes), share) + special.xlogy(len(sizes), 1 - share)
@@ -67,25 +67,6 @@ def test_fits_are_the_most_likely(numbers: Sequence[int]) -> None:
         assert fits[name].log_likelihood == pytest.approx(expected[name], abs=1e-6)
     assert ("negative-binomial" in fits) == (np.var(data) > np.mean(data))
     assert ("hurdle-negative-binomial" in fits) == (np.var(sizes) > np.mean(sizes))
-
-
-@HISTORIES
-def test_lognormal_sizes(numbers: Sequence[int]) -> None:
-    """A lognormal fit has the moments of the logarithms, and scipy's chances of the rounded sizes."""
-    data = np.array(numbers)
-    logarithms = np.log(data[data > 0])
-    law = stats.lognorm(logarithms.std(ddof=1), scale=math.exp(logarithms.mean()))
-    share = np.mean(data == 0)
-    fit = fits_of(Sample.of(numbers))["hurdle-lognormal"]
-    chances = (1 - share) * np.diff([0, *law.cdf(np.arange(1, 41) + 0.5)])
-    assert fit.chances[1:41] == pytest.approx(chances, rel=1e-9)
-    seen = [share if it == 0 else chances[it - 1] for it in numbers]
-    assert fit.log_likelihood == pytest.approx(np.log(seen).sum())
-
-
-@HISTORIES
-def test_bic_is_in_order(numbers: Sequence[int]) -> None:
-    """BIC counts parameters, that of the hurdle too, and the least comes first."""
     fits = fits_of(Sample.of(numbers))
     hurdle = 0 in numbers
     counts = {"poisson": 1, "negative-binomial": 2, "hurdle-geometric": 1 + hurdle, "hurdle-poisson": 1 + hurdle,
@@ -96,6 +77,29 @@ def test_bic_is_in_order(numbers: Sequence[int]) -> None:
                               < [*ordinary].index("negative-binomial") else 2)
     values = [counts[name] * math.log(len(numbers)) - 2 * fit.log_likelihood for name, fit in fits.items()]
     assert values == sorted(values) == pytest.approx([fit.bic for fit in fits.values()])
+
+
+@HISTORIES
+def test_lognormal_sizes(numbers: Sequence[int]) -> None:
+    """A fit has scipy's chances of the rounded sizes. The logarithm of the next size has Student's law."""
+    data = np.array(numbers)
+    logarithms = np.log(data[data > 0])
+    law = stats.lognorm(logarithms.std(ddof=1), scale=math.exp(logarithms.mean()))
+    share = np.mean(data == 0)
+    fit = fits_of(Sample.of(numbers))["hurdle-lognormal"]
+    chances = (1 - share) * np.diff([0, *law.cdf(np.arange(1, 41) + 0.5)])
+    assert fit.chances[1:41] == pytest.approx(chances, rel=1e-9)
+    seen = [share if it == 0 else chances[it - 1] for it in numbers]
+    assert fit.log_likelihood == pytest.approx(np.log(seen).sum())
+    data = np.array(numbers)
+    logarithms = np.log(data[data > 0])
+    count = len(logarithms)
+    student = stats.t(count - 1, logarithms.mean(), logarithms.std(ddof=1) * math.sqrt(1 + 1 / count))
+    some = 1 - ((len(data) - count + 0.5) / (len(data) + 1) if 0 in numbers else 0)
+    law = predictive_of("hurdle-lognormal", Sample.of(numbers))
+    for value in (2, 5, 10, 20):
+        expected = some * student.cdf(math.log(value + 0.5))
+        assert law[1:value + 1].sum() == pytest.approx(expected, abs=0.0015)
 
 
 @HISTORIES
@@ -191,20 +195,6 @@ def test_bulk() -> None:
         below, _ = integrate.quad(lambda it: variance.pdf(it) * stats.norm.cdf(
             value + 0.5, mean, math.sqrt(it * (1 + 1 / count))), 0, np.inf, limit=300)
         assert law[:value + 1].sum() == pytest.approx(share * below + (1 - share) * base[:value + 1].sum(), abs=1e-5)
-
-
-@HISTORIES
-def test_predictive_lognormal(numbers: Sequence[int]) -> None:
-    """The logarithm of a size has Student's law, as long as its deviation is not cut."""
-    data = np.array(numbers)
-    logarithms = np.log(data[data > 0])
-    count = len(logarithms)
-    student = stats.t(count - 1, logarithms.mean(), logarithms.std(ddof=1) * math.sqrt(1 + 1 / count))
-    some = 1 - ((len(data) - count + 0.5) / (len(data) + 1) if 0 in numbers else 0)
-    law = predictive_of("hurdle-lognormal", Sample.of(numbers))
-    for value in (2, 5, 10, 20):
-        expected = some * student.cdf(math.log(value + 0.5))
-        assert law[1:value + 1].sum() == pytest.approx(expected, abs=0.0015)
 
 
 @settings(max_examples=10, deadline=None)

@@ -46,11 +46,18 @@ def test_mean_of_drawn_laws(family: str, numbers: Sequence[int]) -> None:
 
 @HISTORIES
 def test_laws_of_members(numbers: Sequence[int]) -> None:
-    """They are scaled, and only the end of their tail is left out."""
+    """Members' laws are scaled. Weights add up, the same seed gives the same laws, and each ends within its range."""
     its = REGISTRY["hurdle-lognormal"]
     parameters = its.drawn(Sample.of(numbers), uniform(20), 1.0)
     laws, more = its.laws(parameters, max(numbers)), its.chances(np.arange(10_001), *parameters)
     assert laws.sum(axis=1) == pytest.approx(1) and np.allclose(laws, more[:, :laws.shape[1]], rtol=1e-3)
+    found = allowed_laws(numbers, times=200)
+    assert found == allowed_laws(numbers, times=200) != allowed_laws(numbers, times=200, seed=2)
+    assert len(found.laws) == sum(found.families.values()) == 200
+    for law in found.laws:
+        check_law(law)
+        assert law.values[-1] <= posterior.end_of(Sample.of(numbers)) * max(numbers)
+    assert np.mean([float(law.mean) for law in found.laws]) == pytest.approx(np.mean(numbers), rel=0.25)
 
 
 @pytest.mark.parametrize("family", [it for it in FAMILIES if it != "bulk"])  # Twice the numbers have other bulks.
@@ -162,18 +169,6 @@ def test_families_without_a_doubt(monkeypatch: pytest.MonkeyPatch) -> None:
     below = np.cumsum([np.pad(it, (0, 60))[:60] for it in laws], axis=1)
     errors = below.std(axis=0) / np.sqrt(len(below))
     assert (np.abs(below.mean(axis=0) - np.cumsum(expected)) <= SURELY * errors + 3e-3).all()
-
-
-@HISTORIES
-def test_allowed_laws(numbers: Sequence[int]) -> None:
-    """Weights add up, the same seed gives the same laws, and each ends within its range."""
-    found = allowed_laws(numbers, times=200)
-    assert found == allowed_laws(numbers, times=200) != allowed_laws(numbers, times=200, seed=2)
-    assert len(found.laws) == sum(found.families.values()) == 200
-    for law in found.laws:
-        check_law(law)
-        assert law.values[-1] <= posterior.end_of(Sample.of(numbers)) * max(numbers)
-    assert np.mean([float(law.mean) for law in found.laws]) == pytest.approx(np.mean(numbers), rel=0.25)
 
 
 def test_ends_and_strata() -> None:
