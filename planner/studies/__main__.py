@@ -15,7 +15,7 @@ import click
 from .page import STUDIES
 
 FOLDER = Path(__file__).parent
-WITH_JOBS = ("laws", "laws_leads", "long_run", "fills", "borrowing", "doubt")
+WITH_JOBS = ("laws", "laws_leads", "long_run", "fills", "borrowing", "doubt", "broken", "level_spread_tail")
 PRINTED = ("long_run",)  # its table is a text
 SEVERAL = ("borrowing",)  # it writes more than one file, into a folder
 

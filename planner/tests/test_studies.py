@@ -21,7 +21,8 @@ from crnplan.law import Law
 from crnplan.scenario import Scenario
 from crnplan.theory import suggestions
 from crnplan.theory.lattice import theories_of
-from planner.studies import __main__, borrowing, dependence, doubt, fills, laws, laws_leads, page, search, warnings
+from planner.studies import (__main__, borrowing, dependence, doubt, fills, laws, laws_leads, level_spread_tail, page,
+                             search, warnings)
 from planner.studies.dependence import Case
 from planner.studies.laws import Truth
 from planner.studies.made_catalogues import KINDS, catalogue, customers, negative_binomial, poisson
@@ -56,6 +57,8 @@ def borrowing_rows() -> pd.DataFrame:
     ("borrowing", 4 + 5, ["kind", "periods", "part", "method"], ["regret", "over"], borrowing_rows),
     ("borrowing_odd", 4, ["item", "periods", "method"], ["regret", "over"],
      lambda: borrowing.odd_study(**borrowing.SMALL_ODD)),
+    ("level_spread_tail", 16, ["set", "backlog", "law"], level_spread_tail.FIGURES,
+     lambda: level_spread_tail.study(**level_spread_tail.SMALL)),
     ("doubt", 2, ["law", "periods"], [*doubt.FIGURES], lambda: doubt.study(**doubt.SMALL)),
     ("dependence", len(dependence.SMALL), ["kind", "law", "size", "length"], ["regret", "promise"],
      lambda: dependence.study(dependence.SMALL, dependence.SMALL_PATHS, dependence.SMALL_CYCLES))])

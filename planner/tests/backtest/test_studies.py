@@ -1,15 +1,23 @@
-"""Tests how the study of walk-forward tests reads real series, and what it says of made ones."""
+"""Tests the studies of real series: how they are read, laws are swapped and codes compared; and parts of made ones."""
 from __future__ import annotations
 
 import shutil
+from pathlib import Path
 from typing import Any
 
+import numpy as np
+import pandas as pd
 import pytest
 
+from crnplan.demand.fitting import fit_demand
 from crnplan.plan.backtest.sums import HOLDS, TIME, UNSURE
-from planner.studies import real_series, walk_forward
+from planner.studies import broken, real_series, walk_forward
+from planner.studies.level_spread_tail import Ratios, on_lattice, ratios_of, swapped
 from planner.studies.real_series import Series, parse
 from planner.tests.backtest.test_sums import made
+from planner.tests.demand.made import chances_of
+
+DEMAND = np.random.default_rng(3).negative_binomial(12, 0.375, 52).tolist()
 
 
 def test_lines_of_the_script() -> None:
@@ -41,3 +49,62 @@ def test_halves_by_hand() -> None:
 def test_small_part(kind: str, verdicts: set[str]) -> None:
     """Independent demand keeps its promise, and demand whose level grows by half does not, by time."""
     assert {*walk_forward.made_verdicts(kind, 1, 20, "95%")} <= verdicts
+
+
+
+def test_points_on_the_lattice() -> None:
+    """A point is shared by the whole numbers beside it, what is below 0 counts there, and the mean is as asked for."""
+    law = on_lattice(np.array([-2.0, 1.25, 3.0]), np.array([0.25, 0.5, 0.25]), 1.375)
+    assert chances_of(law) == pytest.approx([0.25, 0.375, 0.125, 0.25], abs=1e-4)
+    assert float(on_lattice(np.array([0.0, 10.0]), np.array([0.5, 0.5]), 7.0).mean) == pytest.approx(7, abs=1e-3)
+
+
+@pytest.mark.parametrize("parts, mean, deviation", [
+    ("level", 1.5, 1.5), ("spread", 1.0, 0.8), ("level, spread", 1.5, 0.8), ("normal", 1.0, 1.0), ("all", 1.5, 0.8)])
+def test_swapped_parts(parts: str, mean: float, deviation: float) -> None:
+    """A law has the smoothed level and spread where these are swapped, else its own mean, and what was seen elsewhere.
+    """
+    law = fit_demand(DEMAND)
+    assert law.figures.variance
+    found = chances_of(swapped(law, parts, Ratios(1.5, 0.8)))
+    cells = np.arange(len(found))
+    variance = found @ cells**2 - (found @ cells)**2
+    seen = parts in ("normal", "all")
+    expected = (np.mean(DEMAND) if seen else law.figures.mean) * mean
+    spread = np.std(DEMAND, ddof=1) if seen or "spread" in parts else law.figures.variance**0.5
+    assert found @ cells == pytest.approx(expected, rel=0.01)
+    assert variance**0.5 == pytest.approx(spread * deviation, rel=0.06)
+
+
+def test_ratios_by_hand() -> None:
+    assert ratios_of([2, 4, 6], (8.0, 16.0)) == pytest.approx((2, 2)) and ratios_of([0, 0], (1.0, 4.0)) == (1, 1)
+
+
+def test_difference_within_sets() -> None:
+    """The difference is that of a regression with a constant for each set, and its error the sandwich of clusters."""
+    random = np.random.default_rng(4)
+    rows = pd.DataFrame({"set": random.choice(["a", "b", "c"], 90), "95": random.integers(0, 2, 90),
+                         "cluster": random.choice([*"pqrstu"], 90)})
+    has = pd.Series(random.random(90) < 0.4)
+    columns = np.column_stack([has, *(rows["set"] == name for name in "abc")]).astype(float)
+    inverse = np.linalg.inv(columns.T @ columns)
+    coefficients = inverse @ columns.T @ rows["95"]
+    residuals = rows["95"] - columns @ coefficients
+    sums = [columns[own].T @ residuals[own] for own in (rows["cluster"] == name for name in "pqrstu")]
+    variance = inverse @ np.add.reduce([np.outer(it, it) for it in sums]) @ inverse * 6 / 5
+    assert broken.difference(rows, has, "95") == pytest.approx((coefficients[0], variance[0, 0]**0.5))
+
+
+def test_clusters() -> None:
+    """Items of a brand move together, and so do those of a data set of cases, and of each other set."""
+    names = [("juice", "store 5 brand 3"), ("cases", "momo momo 2"), ("cheese", "ALBANY   PRICE CHOPPER")]
+    assert [broken.cluster_of(*its) for its in names] == ["juice 3", "momo", "cheese"]
+
+
+def test_small_part_of_broken_promises(top: Path) -> None:
+    """A small part has the stored rows, and so has each real set."""
+    stored = pd.read_csv(top / "planner/studies/broken.csv", keep_default_na=False).set_index(["set", "item"])
+    for row in broken.study(**broken.SMALL).to_dict("records"):
+        own = stored.loc[(row["set"], row["item"])]
+        assert [own[name] for name in ("codes", *broken.FILLS)] == [row[name] for name in ("codes", *broken.FILLS)]
+    assert {*broken.SETS} < {*stored.index.get_level_values("set")}

@@ -227,15 +227,14 @@ def test_no_recent_demand(counts: list[int], periods: int, chance: float) -> Non
     ([6, 12, 0, 6, 18] * 6, ["all demands are multiples of 6; with box=6 the tables count in packs"]),
     ([4, 5, 6, 5] * 10 + [90], [
         "far above all others (the next is 6): 90 in period 41; if that is a mistake or will not come again, correct "
-        "it or leave it out, else keep it",
-        "one period (90 in period 41) makes 97% of the variance and decides the result; plan with and without it"]),
+        "it or leave it out, else keep it"]),
     ([4, 5, 6, 5] * 10 + [90, 5, 80], [
         "far above all others (the next is 6): 90 in period 41, 80 in period 43; if that is a mistake or will not come "
         "again, correct it or leave it out, else keep it"]),
     ([1, 1, 1, 2, 1, 3, 0, 1, 1, 1, 1, 2, 1, 1], [])], ids=["none", "few", "packs", "far", "two far", "ones"])
 def test_notes(numbers: list[int], notes: list[str]) -> None:
-    """Few demands, packs, demands far above all others and one that decides are named."""
-    assert [it for it in said(check_history(numbers).notes) if "one period" not in it or it in notes] == notes
+    """Few demands, packs and demands far above all others are named."""
+    assert said(check_history(numbers).notes) == notes
 
 
 def test_outlier_bounds() -> None:
@@ -267,11 +266,11 @@ def test_largest_demands() -> None:
 
 @pytest.mark.parametrize("numbers", [*([4, 5, 6, 5] * 4 + [most] for most in range(7, 20)), [1] * 11 + [2], [3] * 12],
                          ids=lambda it: str(it[-1]))
-def test_decisive_demand(numbers: list[int]) -> None:
-    """A demand is named that makes more than half of the variance."""
-    share = (numbers[-1] - np.mean(numbers))**2 / max(len(numbers) * np.var(numbers), 1e-9)
-    shares = [it.facts["share"] for it in check_history(numbers).notes if it.code == "decisive demand"]
-    assert shares == ([pytest.approx(share)] if share > 0.5 else [])
+def test_share_of_the_variance(numbers: list[int]) -> None:
+    """The largest demands make as much of the variance as the largest one, and two of those just below it."""
+    squares = (np.sort(numbers)[:-4:-1] - np.mean(numbers))**2
+    shares = [it.facts["share"] for it in check_history(numbers).largest]
+    assert shares == [pytest.approx(squares.sum() / max(len(numbers) * np.var(numbers), 1e-9))]
 
 
 @pytest.mark.parametrize("seed", range(12))

@@ -32,7 +32,6 @@ if TYPE_CHECKING:
 FALSE_ALARMS = 0.05  # of all tests of a history together, at most
 LEAST_PERIODS = 8  # for the tests
 LEVELS = ("trend", "shift")
-DECISIVE = 0.5  # the share of the variance above which one period decides the result
 MOST_LARGEST = 3  # periods that are shown with the law, with the share of the variance that they make
 # So many periods without demand at the end of the record are named if as many come by luck with at most this chance.
 NO_DEMAND = 0.05
@@ -259,8 +258,8 @@ def check_history(observed: Observed | Iterable[Number], *, season: int | None =
     Permutation tests look for autocorrelation (Ljung and Box), a trend (Spearman), a shift of the level, and a season
     (Kruskal and Wallis) from two years on. With dates the calendar says the seasons: weekdays of days, and quarters of
     a year. `season` is the number of periods of another season, from 2; without dates there is none unless it is given.
-    Notes name few periods with demand, a long time without any, packs, demands far above all others, and one that
-    decides the result. `largest` names the three largest demands, with the share of the variance that they make.
+    Notes name few periods with demand, a long time without any, packs, and demands far above all others. `largest`
+    names the three largest demands, with the share of the variance that they make.
 
     The same history has the same checks. Raises RefusedFaults for numbers that are not whole, and Refused for a season
     of less than 2 periods.
@@ -363,9 +362,6 @@ def _notes(facts: Facts) -> Iterator[Remark]:
         return
     if far := len(outliers_of(demands, pack)):
         yield Remark("far demands", {"next": demands[far], **_largest(facts, far)})
-    share = share_of_variance(numbers, largest_places(numbers, 1))
-    if share > DECISIVE:
-        yield Remark("decisive demand", {"share": share, **_largest(facts, 1)})
 
 
 def largest_places(numbers: Sequence[int], count: int = MOST_LARGEST) -> list[int]:
