@@ -137,7 +137,7 @@ def test_reasons(month: Month) -> None:
     words = month.until(WEEKS)
     sales, masters = words["sales"].copy(), words["masters"].set_index("item")
     masters.loc["I-001", ["holding", "lead"]] = 0.6, "2 2 4"
-    masters.loc["I-004", ["s", "S"]] = 1, 99
+    masters.loc["I-004", ["s", "S", "class"]] = 1, 99, "c"
     masters.loc["I-012"] = masters.loc["I-000"]
     masters = masters.drop("I-005")
     sales = pd.concat([sales, sales[sales.item == "I-000"].assign(item="I-012")])
@@ -149,7 +149,7 @@ def test_reasons(month: Month) -> None:
         assert changes.why[name].startswith(f"8 new periods with {amount} item{'s' * (amount != 1)} in {rows} "
                                             f"row{'s' * (rows != 1)}; mean ")
     assert "holding 0.55 to 0.6; mean lead time 2 to 2.667" in changes.why["I-001"]
-    assert "today's policy is (1, 99)" in changes.why["I-004"]
+    assert "class a to c; today's policy is (1, 99)" in changes.why["I-004"]
     assert "1 earlier periods have other rows, +7 items" in changes.why["I-006"]
     assert changes.change["I-012"] == "new" and changes.change["I-005"] == "gone"
     assert changes.why["I-005"] == "there is no master of this item" and pd.isna(changes.s_after["I-005"])

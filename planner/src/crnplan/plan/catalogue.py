@@ -136,7 +136,7 @@ class Planned:
         return json.dumps([self.base, self.earlier, self.settings.least_gain]) if self.earlier else self.base
 
     def keep(self, answers: Store[Answer]) -> None:
-        tree = {"settings": dataclasses.asdict(self.settings), "borrow": self.prior.borrow, "base": self.base,
+        tree = {"settings": dataclasses.asdict(self.settings), "borrow": self.prior.borrow, "common": self.base,
                 "earlier": self.earlier}
         answers.keep_facts({PLANNED: json.dumps(tree)})
 
@@ -149,7 +149,7 @@ class Planned:
         try:
             tree = json.loads(text)
             prior = Prior(NONE) if tree["borrow"] == NONE else Prior.parse(answers.fact(PRIOR) or "", str(answers.path))
-            return cls(Settings(**tree["settings"]), prior, str(tree["base"]), str(tree["earlier"]))
+            return cls(Settings(**tree["settings"]), prior, str(tree["common"]), str(tree.get("earlier", "")))
         except (ValueError, LookupError, TypeError) as fault:
             raise Damaged(answers.path, f"what was planned is not as it was kept ({fault})") from fault
 

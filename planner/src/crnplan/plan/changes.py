@@ -20,7 +20,8 @@ from .question import Settings
 
 # What an item's policy is beside the earlier one: the same, moved, the same though another costs less, new, or gone.
 KINDS = SAME, MOVED, DAMPED, NEW, GONE = ("same", "moved", "damped", "new", "gone")
-COSTS = ("setup", "holding", "backlog", "fill", "group", "borrow")  # of a master
+# The facts of a master, but for lead times and levels, by the names of their columns.
+COLUMNS = {name: name for name in ("setup", "holding", "backlog", "fill", "borrow")} | {"class": "group"}
 Planned = tuple[Item, Answer]
 
 
@@ -96,8 +97,8 @@ def rows_of(old: Item, new: Item, stop: int) -> Iterator[Remark]:
 def masters_of(old: Item, new: Item, earlier: tuple[int, int]) -> Iterator[Remark]:
     """Yields what has changed in the master of an item: costs and the like, lead times, and today's policy."""
     facts: dict[str, Value] = {}
-    for name in COSTS:
-        values = [getattr(item, name) for item in (old, new)]
+    for name, field_name in COLUMNS.items():
+        values = [getattr(item, field_name) for item in (old, new)]
         if values[0] != values[1]:
             facts |= {f"{name} {when}": float(value) if isinstance(value, Fraction) else value
                       for when, value in zip(("before", "after"), values)}
