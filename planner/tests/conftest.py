@@ -2,8 +2,10 @@
 from __future__ import annotations
 
 import csv
+import fcntl
 import io
 import os
+import shutil
 import signal
 import sys
 from collections.abc import Callable, Iterator
@@ -39,6 +41,19 @@ def script(path: Path, lines: str) -> Path:
     path.write_text(f"#!/bin/sh\n{lines}\n", "utf-8")
     path.chmod(0o755)
     return path
+
+
+def shared(factory: pytest.TempPathFactory, name: str, make: Callable[[Path], object]) -> Path:
+    """Returns a copy of a folder that the first worker which needs it makes for all, and which nobody changes."""
+    base = factory.getbasetemp()
+    place = (base.parent if "PYTEST_XDIST_WORKER" in os.environ else base) / f"shared {name}"
+    with place.with_suffix(".lock").open("w") as lock:
+        fcntl.flock(lock, fcntl.LOCK_EX)
+        if not place.with_suffix(".made").exists():
+            place.mkdir()
+            make(place)
+            place.with_suffix(".made").touch()
+    return Path(shutil.copytree(place, factory.mktemp("copy") / "made", symlinks=True))
 
 
 def rows_of(path: Path, key: str = "item", kind: str = "", delimiter: str = ",") -> dict[str, dict[str, str]]:

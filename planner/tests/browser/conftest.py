@@ -14,6 +14,7 @@ from crnplan.pages.catalogue_page import file_of, report
 from crnplan.pages.item_page import plan_item
 from planner.tests.browser.browser import Browser
 from planner.tests.catalogue.conftest import SETTINGS
+from planner.tests.conftest import shared
 from planner.tests.item.conftest import furnished
 from planner.tests.pages.made_catalogue import made_folder
 
@@ -45,14 +46,15 @@ def pages(tmp_path_factory: pytest.TempPathFactory, request: pytest.FixtureReque
         """Returns the program, for the pages that need it."""
         found: Path = request.getfixturevalue("program")
         return found
-    makers: dict[str, Callable[[Path], Path]] = {
-        "catalogue": lambda folder: report(made_folder(folder, 40, HOSTILE)),
-        "catalogue without a curve": lambda folder: report(made_folder(folder, 12, has_curve=False)),
-        "catalogue of hundreds": lambda folder: report(made_folder(folder, 230, HOSTILE)),
-        "catalogue of a thousand": lambda folder: report(made_folder(folder, 1_000, HOSTILE)),
-        "catalogue of thousands": lambda folder: report(made_folder(folder, 3_000, HOSTILE)),
-        "planned catalogue": lambda folder: report(planned(folder, program()), PLANNED, program=program()),
-        "item": lambda folder: planned_item(furnished(folder, top, program()))}
+    makers: dict[str, tuple[str, Callable[[Path], object]]] = {
+        "catalogue": ("report.html", lambda folder: report(made_folder(folder, 40, HOSTILE))),
+        "catalogue without a curve": ("report.html", lambda folder: report(made_folder(folder, 12, has_curve=False))),
+        "catalogue of hundreds": ("report.html", lambda folder: report(made_folder(folder, 230, HOSTILE))),
+        "catalogue of a thousand": ("report.html", lambda folder: report(made_folder(folder, 1_000, HOSTILE))),
+        "catalogue of thousands": ("report.html", lambda folder: report(made_folder(folder, 3_000, HOSTILE))),
+        "planned catalogue": ("plan/report.html",
+                              lambda folder: report(planned(folder, program()), PLANNED, program=program())),
+        "item": ("plan/summary.html", lambda folder: planned_item(furnished(folder, top, program())))}
     made: dict[str, Path] = {}
 
     def page(name: str) -> Path:
@@ -60,14 +62,14 @@ def pages(tmp_path_factory: pytest.TempPathFactory, request: pytest.FixtureReque
         if name in PLANNED:
             return file_of(page("planned catalogue").parent, name)
         if name not in made:
-            made[name] = makers[name](tmp_path_factory.mktemp("page"))
+            place, make = makers[name]
+            made[name] = shared(tmp_path_factory, name, make) / place
         return made[name]
     return page
 
 
-def planned_item(folder: Path) -> Path:
+def planned_item(folder: Path) -> None:
     plan_item(folder / "history.csv", folder / "settings.toml", folder / "plan", program=folder / "program")
-    return folder / "plan/summary.html"
 
 
 def planned(folder: Path, program: Path) -> Path:

@@ -12,6 +12,7 @@ import pytest
 from crnplan import plan
 from crnplan.records.catalogue_reading import Catalogue, read_catalogue
 from planner.tests.catalogue.made import NO_PLAN, TODAY, Made, made
+from planner.tests.conftest import shared
 
 FILES = ("Bewegungen.csv", "Artikel.csv", "Bestellungen.csv")
 WORDS = [FILES[0], FILES[1], "--orders", FILES[2]]
@@ -42,9 +43,8 @@ def catalogue(files: Path) -> Catalogue:
 @pytest.fixture(scope="session")
 def planned(catalogue: Catalogue, tmp_path_factory: pytest.TempPathFactory, program: Path) -> Path:
     """Returns a folder with the plan of the made catalogue, by one process, which nobody changes."""
-    path = tmp_path_factory.mktemp("planned") / "plan"
-    plan(catalogue, out=path, jobs=1, program=program, **SETTINGS)
-    return path
+    return shared(tmp_path_factory, "planned", lambda folder: plan(
+        catalogue, out=folder / "plan", jobs=1, program=program, **SETTINGS)) / "plan"
 
 
 def leave_few(folder: Path, few: int) -> None:

@@ -25,7 +25,7 @@ from crnplan.records.catalogued import READ
 from crnplan.words import advice, sentence
 from planner.tests.catalogue.conftest import FILES, REFUSED, SETTINGS, leave_few
 from planner.tests.catalogue.made import NO_PLAN, TODAY, Made
-from planner.tests.conftest import Command
+from planner.tests.conftest import Command, shared
 
 TABLES = (CURVE, POLICIES, LEFT_OUT)
 ITEMS = 20
@@ -35,19 +35,18 @@ NO_PRICE = ("A-036", "A-040")
 @pytest.fixture(scope="module")
 def twenty(planted: Made, tmp_path_factory: pytest.TempPathFactory, program: Path) -> Path:
     """Returns a folder with the plan of 20 items, of which two have no price, and the candidates of the others."""
-    files = planted.write(tmp_path_factory.mktemp("twenty"))
-    leave_few(files, ITEMS)
-    path = files / FILES[1]
-    rows = [row.split(";") for row in path.read_text("utf-8").splitlines()]
-    column = rows[0].index("Preis")
-    for row in rows:
-        row[column] = {NO_PRICE[0]: "", NO_PRICE[1]: "0"}.get(row[0], row[column])
-    path.write_text("\r\n".join([";".join(row) for row in rows] + [""]), "utf-8")
-    crn.plan(crn.read_catalogue(*(files / it for it in FILES), today=TODAY), out=files / "plan", jobs=1,
-             program=program,
-             **SETTINGS)
-    crn.exchange_curve(files / "plan", jobs=1)
-    return files / "plan"
+    def make(files: Path) -> None:
+        leave_few(planted.write(files), ITEMS)
+        path = files / FILES[1]
+        rows = [row.split(";") for row in path.read_text("utf-8").splitlines()]
+        column = rows[0].index("Preis")
+        for row in rows:
+            row[column] = {NO_PRICE[0]: "", NO_PRICE[1]: "0"}.get(row[0], row[column])
+        path.write_text("\r\n".join([";".join(row) for row in rows] + [""]), "utf-8")
+        read = crn.read_catalogue(*(files / it for it in FILES), today=TODAY)
+        crn.plan(read, out=files / "plan", jobs=1, program=program, **SETTINGS)
+        crn.exchange_curve(files / "plan", jobs=1)
+    return shared(tmp_path_factory, "twenty", make) / "plan"
 
 
 @pytest.fixture

@@ -22,7 +22,7 @@ from crnplan.jobs import BATCH
 from crnplan.plan.catalogue import ANSWERS
 from planner.tests.catalogue.conftest import FAST, FILES, TABLES, WORDS, leave_few
 from planner.tests.catalogue.made import Made
-from planner.tests.conftest import Command, heed_interrupts, script
+from planner.tests.conftest import Command, heed_interrupts, script, shared
 from planner.tests.jobs.clusters import SECONDS, Cluster
 
 # Two batches and a half. After so many runs of the program all others wait, so that a plan stops in its middle: one
@@ -49,12 +49,12 @@ def few(folder: Path) -> None:
 @pytest.fixture(scope="module")
 def whole(planted: Made, tmp_path_factory: pytest.TempPathFactory, program: Path) -> Path:
     """Returns the plan of the few items, which was never interrupted."""
-    files = planted.write(tmp_path_factory.mktemp("few"))
-    leave_few(files, FEW)
-    (files / "crnplan.toml").write_text(FAST, "utf-8")
-    subprocess.run([sys.executable, "-m", "crnplan", *PLAN[0], "--jobs", "1", "--program", program], cwd=files,
-                   check=True, capture_output=True)
-    return files / "plan"
+    def make(files: Path) -> None:
+        leave_few(planted.write(files), FEW)
+        (files / "crnplan.toml").write_text(FAST, "utf-8")
+        words = [sys.executable, "-m", "crnplan", *PLAN[0], "--jobs", "1", "--program", program]
+        subprocess.run(words, cwd=files, check=True, capture_output=True)
+    return shared(tmp_path_factory, "few", make) / "plan"
 
 
 @pytest.fixture(scope="module")

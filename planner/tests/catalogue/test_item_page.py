@@ -18,7 +18,7 @@ from crnplan.pages.catalogue_page import file_name, file_of, report
 from crnplan.records.catalogue_reading import read_catalogue
 from planner.tests.catalogue.conftest import FILES
 from planner.tests.catalogue.made import NO_PLAN, TODAY, made
-from planner.tests.conftest import rows_of, script
+from planner.tests.conftest import rows_of, script, shared
 from planner.tests.pages.page_reader import Page
 
 PAIRS = "Today's and the chosen policy, as in decisions.csv"
@@ -138,12 +138,13 @@ def test_other_program(folder: Path, names: list[str], tmp_path: Path, program: 
 @pytest.fixture(scope="module")
 def learned(tmp_path_factory: pytest.TempPathFactory, program: Path) -> Path:
     """Returns a planned folder whose items learn from one another: hardly more than the 30 that are needed."""
-    place = made().write(tmp_path_factory.mktemp("learned"))
-    masters = (place / FILES[1]).read_text("utf-8").splitlines()
-    (place / FILES[1]).write_text("\n".join(it for it in masters if not "A-000" <= it < "A-015"), "utf-8")
-    read = read_catalogue(*(place / it for it in FILES), today=TODAY)
-    plan(read, out=place / "plan", jobs=1, program=program, borrow="all", periods=16, replications=2, confidence=0.8)
-    return place / "plan"
+    def make(place: Path) -> None:
+        masters = (made().write(place) / FILES[1]).read_text("utf-8").splitlines()
+        (place / FILES[1]).write_text("\n".join(it for it in masters if not "A-000" <= it < "A-015"), "utf-8")
+        read = read_catalogue(*(place / it for it in FILES), today=TODAY)
+        words = {"borrow": "all", "periods": 16, "replications": 2, "confidence": 0.8}
+        plan(read, out=place / "plan", jobs=1, program=program, **words)
+    return shared(tmp_path_factory, "learned", make) / "plan"
 
 
 def test_learned_law_stands_beside_the_items_own(learned: Path, program: Path) -> None:

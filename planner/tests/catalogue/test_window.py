@@ -22,6 +22,11 @@ def tables(tmp_path_factory: pytest.TempPathFactory) -> Sequence[Path]:
     return write(tmp_path_factory.mktemp("tables"), {item.name: item for item in several(ITEMS)})
 
 
+@pytest.fixture(scope="module")
+def few(tmp_path_factory: pytest.TempPathFactory) -> Sequence[Path]:
+    return write(tmp_path_factory.mktemp("few"), {item.name: item for item in [*several(ITEMS)][8:16]})
+
+
 @pytest.mark.parametrize("borrow", ["none", "all"])
 def test_as_if_no_earlier_row_were_there(tables: Sequence[Path], borrow: str, program: Path) -> None:
     """A plan with a window is that of tables without the earlier rows: laws, what is learned, checks and figures."""
@@ -51,20 +56,20 @@ def test_another_window_learns_anew(tables: Sequence[Path], tmp_path: Path, prog
     assert "in an earlier run" in crn.plan(*tables, window=WINDOW, **words).text
 
 
-def test_no_demand_in_the_window(tables: Sequence[Path], tmp_path: Path, program: Path) -> None:
+def test_no_demand_in_the_window(few: Sequence[Path], tmp_path: Path, program: Path) -> None:
     """An item that nobody has asked for in the window is left out, and it is said why."""
-    sales = pd.read_csv(tables[0], parse_dates=["date"])
-    quiet = sales[(sales.item != "I-002") | (sales.date < pd.Timestamp(CUT))]
-    rejects = crn.plan(quiet, tables[1], window=WINDOW, borrow="none", jobs=1, program=program, **SHORT).rejects
-    reason, = rejects[rejects.item == "I-002"].reason
+    sales = pd.read_csv(few[0], parse_dates=["date"])
+    quiet = sales[(sales.item != "I-009") | (sales.date < pd.Timestamp(CUT))]
+    rejects = crn.plan(quiet, few[1], window=WINDOW, borrow="none", jobs=1, program=program, **SHORT).rejects
+    reason, = rejects[rejects.item == "I-009"].reason
     assert reason == f"its last {WINDOW} periods, which count alone, have no demand"
 
 
-def test_by_command_and_by_settings(tables: Sequence[Path], tmp_path: Path, monkeypatch: pytest.MonkeyPatch,
+def test_by_command_and_by_settings(few: Sequence[Path], tmp_path: Path, monkeypatch: pytest.MonkeyPatch,
                                     crnplan: Command, program: Path) -> None:
     """The option and the key of crnplan.toml give the same bytes, and the backtest of the folder has its window."""
     monkeypatch.chdir(tmp_path)
-    words = *tables, "--jobs", 1, "--program", program, "--borrow", "none"
+    words = *few, "--jobs", 1, "--program", program, "--borrow", "none"
     (tmp_path / "crnplan.toml").write_text("[catalogue]\nperiods = 64\nreplications = 4\n", "utf-8")
     assert crnplan("catalogue", *words, "--window", WINDOW, "--out", "one").status == 0
     with (tmp_path / "crnplan.toml").open("a", encoding="utf-8") as file:

@@ -8,7 +8,7 @@ from pathlib import Path
 import pytest
 
 from crnplan.pages.item_page import plan_item
-from planner.tests.conftest import Answer, Command, script
+from planner.tests.conftest import Answer, Command, script, shared
 
 HERE = Path(__file__).parent
 Plan = Callable[..., Answer]
@@ -31,9 +31,10 @@ def room(tmp_path: Path, top: Path, program: Path) -> Path:
 @pytest.fixture(scope="session")
 def whole(tmp_path_factory: pytest.TempPathFactory, top: Path, program: Path) -> Path:
     """Returns the folder of a plan that was made by the script at once. It is to be copied, not changed."""
-    room = furnished(tmp_path_factory.mktemp("whole"), top, program)
-    plan_item(room / "history.csv", room / "settings.toml", room / "plan", program=room / "program")
-    return room / "plan"
+    def make(room: Path) -> None:
+        furnished(room, top, program)
+        plan_item(room / "history.csv", room / "settings.toml", room / "plan", program=room / "program")
+    return shared(tmp_path_factory, "item", make) / "plan"
 
 
 @pytest.fixture

@@ -64,7 +64,7 @@ def test_again_the_same_bytes(room: Path, whole: Path, crnplan: Command, monkeyp
     assert item.table.csv == (whole / "policies.csv").read_text() and bytes_of(room) == before
 
 
-@pytest.mark.parametrize("writes", [0, 1, 5, 9])
+@pytest.mark.parametrize("writes", [0, 5])
 def test_interrupted_at_a_write(writes: int, room: Path, whole: Path, plan: Plan,
                                 monkeypatch: pytest.MonkeyPatch) -> None:
     """If it is interrupted between two files, no file is there in part, and the next run gives the same bytes."""

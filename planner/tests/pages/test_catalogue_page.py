@@ -30,7 +30,7 @@ from crnplan.remarks import Remark
 from crnplan.stored import Store
 from planner.tests.catalogue.conftest import FILES, SETTINGS, leave_few
 from planner.tests.catalogue.made import TODAY, made
-from planner.tests.conftest import Command
+from planner.tests.conftest import Command, shared
 from planner.tests.pages.made_catalogue import QUANTILE, made_folder, made_pair
 from planner.tests.pages.page_reader import Page, rows_of
 
@@ -48,9 +48,7 @@ def hostile(tmp_path_factory: pytest.TempPathFactory) -> Path:
 @pytest.fixture(scope="module")
 def large(tmp_path_factory: pytest.TempPathFactory) -> Path:
     """Returns a folder with hundreds of items and its page, which nobody changes."""
-    folder = made_folder(tmp_path_factory.mktemp("large") / "plan", 600)
-    crn.report(folder)
-    return folder
+    return shared(tmp_path_factory, "large", lambda folder: crn.report(made_folder(folder, 600)))
 
 
 @pytest.fixture(scope="module")
