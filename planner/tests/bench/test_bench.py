@@ -21,7 +21,7 @@ from planner.bench.stored import keep, stored
 from planner.bench.usage import usage_of
 from planner.bench.zheng_federgruen import Floats, Renewals, Search, best_policy
 from planner.studies.page import PLACE, page_with
-from planner.tests.theory.scenarios import scenario_of
+from planner.tests.theory.scenarios import PUBLISHED, scenario_of
 
 ITEMS = 120
 
@@ -105,11 +105,6 @@ def test_needs_of_a_million() -> None:
         f"{page.LOOP}, with none": (1.67, "minutes"), "SQLite alone": (16.67, "minutes"),
         "to workers and back, plan and curve": (3.0, "GB"), "kept in the folder": (3.0, "GB"),
         "the curve's candidates as arrays": (2.0, "GB of memory")}
-
-
-# Table I of the paper: Poisson means with s, S and the cost. Setup costs 64, holding 1 and backlog 9. Orders arrive at
-# once.
-PUBLISHED = [(10, 6, 40, "35.022"), (15, 10, 49, "42.698"), (20, 14, 62, "49.173"), (25, 19, 56, "54.262")]
 
 
 def chances(weights: list[int]) -> Floats:

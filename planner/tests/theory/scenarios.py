@@ -13,6 +13,9 @@ from crnplan.theory.long_run import LongRun
 # Values and their weights.
 Pair = tuple[Sequence[int], Sequence[int]]
 COSTS = Costs(7, 2, 1, 4)
+# Zheng and Federgruen (1991), table I: Poisson means with s, S and the cost. Setup costs 64, holding 1 and backlog 9.
+# They order at s too, so s is one below crnsim's. Orders arrive at once.
+PUBLISHED = [(10, 6, 40, "35.022"), (15, 10, 49, "42.698"), (20, 14, 62, "49.173"), (25, 19, 56, "54.262")]
 
 
 def table(pair: Pair) -> Law:

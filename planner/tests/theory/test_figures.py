@@ -1,6 +1,7 @@
 """Tests figures with a Markov chain, published optima and a second theory, lattices, and scenarios without a theory."""
 from __future__ import annotations
 
+import itertools
 import math
 
 import numpy as np
@@ -13,7 +14,7 @@ from crnplan.theory.long_run import FEW, LongRun, Means, gap_grid
 from crnplan.theory.one_lead import OneLead
 from planner.tests.theory.chain import by_chain
 from planner.tests.theory.long_run_costs import cost_of, shortfall_of
-from planner.tests.theory.scenarios import Pair, laws, scenario_of, table, theory_of
+from planner.tests.theory.scenarios import PUBLISHED, Pair, laws, scenario_of, table, theory_of
 
 # Demands, lead times and returns, and the levels of a policy.
 CHAINS = [(([0, 1, 3], [3, 2, 1]), ([1], [1]), None, (2, 5)), (([0, 2], [1, 1]), ([3], [1]), None, (4, 6)),
@@ -22,8 +23,6 @@ CHAINS = [(([0, 1, 3], [3, 2, 1]), ([1], [1]), None, (2, 5)), (([0, 2], [1, 1]),
           (([1, 3], [1, 1]), ([1, 2], [1, 1]), ([0, 1], [2, 1]), (3, 5)),
           (([0, 3], [1, 1]), ([2], [1]), ([0, 1, 2], [4, 2, 1]), (3, 5))]
 DEMANDS, GAPS = (range(21), [1 + it % 5 for it in range(21)]), [0, 1, 7, 30]
-# Zheng and Federgruen (1991), table I: they order at s too, so s is one below crnsim's. Orders arrive at once.
-PUBLISHED = [(10, 6, 40, "35.022"), (15, 10, 49, "42.698"), (20, 14, 62, "49.173"), (25, 19, 56, "54.262")]
 # A grid of gaps finds a first policy whose S costs more than that policy does.
 STEEP = [scenario_of(([6, 7], [5, 9]), costs=Costs(500, 0, 3, 10000)),
          scenario_of(([28, 32], [2, 1]), ([2], [1]), costs=Costs(5000, 0, 3, 10000))]
@@ -82,20 +81,12 @@ def test_the_best_if_the_first_found_has_a_high_level(scenario: Scenario) -> Non
     assert cost_of(scenario, shorts[gap], best.level) == pytest.approx(least, abs=1e-6)
 
 
-@pytest.fixture(params=[1, 3])
-def step(request: pytest.FixtureRequest) -> int:
-    return int(request.param)
-
-
-@pytest.fixture(params=[None, ([0, 1, 2], [4, 2, 1])], ids=["no returns", "returns"])
-def back(request: pytest.FixtureRequest) -> Pair | None:
-    pair: Pair | None = request.param
-    return pair
-
-
-@pytest.fixture(params=[([2], [1]), ([2, 3, 5], [1, 2, 1])], ids=["one lead time", "several"])
-def theory(step: int, back: Pair | None, request: pytest.FixtureRequest) -> LongRun:
-    scenario = scenario_of(DEMANDS, request.param, back, Costs(90, 0, 1, 9))
+@pytest.fixture(ids=str, params=[*itertools.product([1, 3], [None, ([0, 1, 2], [4, 2, 1])],
+                                                    [([2], [1]), ([2, 3, 5], [1, 2, 1])])])
+def theory(request: pytest.FixtureRequest) -> LongRun:
+    """Returns a theory in steps of so many items, with or without returns, with one lead time or several."""
+    step, back, lead = request.param
+    scenario = scenario_of(DEMANDS, lead, back, Costs(90, 0, 1, 9))
     return theory_on(scenario, shape_of(scenario), step, step == 1)
 
 
