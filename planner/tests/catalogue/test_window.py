@@ -28,9 +28,11 @@ def few(tmp_path_factory: pytest.TempPathFactory) -> Sequence[Path]:
 
 
 @pytest.mark.parametrize("borrow", ["none", "all"])
-def test_as_if_no_earlier_row_were_there(tables: Sequence[Path], borrow: str, program: Path) -> None:
+def test_as_if_no_earlier_row_were_there(tables: Sequence[Path], few: Sequence[Path], borrow: str,
+                                         program: Path) -> None:
     """A plan with a window is that of tables without the earlier rows: laws, what is learned, checks and figures."""
     words = {**SHORT, "borrow": borrow, "jobs": 1, "program": program, "end": START + datetime.timedelta(7 * WEEKS - 1)}
+    tables = few if borrow == "none" else tables
     sales = pd.read_csv(tables[0], parse_dates=["date"])
     windowed = crn.plan(sales, tables[1], window=WINDOW, **words)
     cut = crn.plan(sales[sales.date >= pd.Timestamp(CUT)], tables[1], start=CUT, **words)
@@ -39,10 +41,10 @@ def test_as_if_no_earlier_row_were_there(tables: Sequence[Path], borrow: str, pr
     pd.testing.assert_frame_equal(windowed.decisions[~is_late], cut.decisions[~is_late])
     figures = windowed.decisions.columns.drop(["codes", "warnings"])
     pd.testing.assert_frame_equal(windowed.decisions[figures], cut.decisions[figures])
-    assert windowed.item("I-001").words.item.counts == cut.item("I-001").words.item.counts
+    assert windowed.item("I-009").words.item.counts == cut.item("I-009").words.item.counts
     whole = crn.plan(sales, tables[1], **words).decisions
     assert set(windowed.decisions.periods) == {WINDOW} and set(whole.periods) == {WEEKS, 30}
-    assert (windowed.decisions[["s_chosen", "S_chosen"]] != whole[["s_chosen", "S_chosen"]]).any(axis=1).sum() > 20
+    assert (windowed.decisions[["s_chosen", "S_chosen"]] != whole[["s_chosen", "S_chosen"]]).any(axis=1).mean() >= 0.5
 
 
 def test_another_window_learns_anew(tables: Sequence[Path], tmp_path: Path, program: Path) -> None:
