@@ -195,8 +195,10 @@ def made_series(kind: str, items: int) -> list[Series]:
 
 
 def sets_of(sets: Sequence[str], kinds: Sequence[str], items: int) -> Iterator[tuple[str, list[Series]]]:
-    """Yields real and made series by set: so many of each, evenly."""
+    """Yields real and made series by set: so many of each, evenly. Raises ClickException without the real ones."""
     real = real_series() if sets else {}
+    if sets and not real:
+        raise click.ClickException("there are no real series: install R with r-cran-surveillance and r-cran-bayesm")
     for name in sets:
         series = real.get(name, [])
         shown = [series[place * len(series) // items] for place in range(items)] if len(series) > items else series

@@ -5,6 +5,7 @@ import shutil
 from pathlib import Path
 from typing import Any
 
+import click
 import numpy as np
 import pandas as pd
 import pytest
@@ -12,7 +13,7 @@ import pytest
 from crnplan.demand.fitting import fit_demand
 from crnplan.plan.backtest.sums import HOLDS, TIME, UNSURE
 from planner.studies import broken, real_series, walk_forward
-from planner.studies.level_spread_tail import Ratios, on_lattice, ratios_of, swapped
+from planner.studies.level_spread_tail import Ratios, on_lattice, ratios_of, sets_of, swapped
 from planner.studies.real_series import Series, parse
 from planner.tests.backtest.test_sums import made
 from planner.tests.demand.made import chances_of
@@ -30,6 +31,8 @@ def test_lines_of_the_script() -> None:
 def test_without_r_there_is_no_series(monkeypatch: pytest.MonkeyPatch) -> None:
     monkeypatch.setattr(shutil, "which", lambda name: None)
     assert real_series.real_series() == {}
+    with pytest.raises(click.ClickException, match="no real series: install R"):
+        [*sets_of(["juice"], (), 3)]
 
 
 def test_masters_by_hand() -> None:
