@@ -102,7 +102,7 @@ def test_most_orders(write: Write, crnplan: Command) -> None:
     assert f"orders.csv:{MOST_ORDERS + 2}:" in told.errors and "65,537 orders are more than 65,536" in told.errors
 
 
-def test_amounts_far_above_all_others(write: Write, crnplan: Command, program: Path) -> None:
+def test_odd_rows(write: Write, crnplan: Command, program: Path) -> None:
     """3,000 is 750 times 4. A row with too few cells lacks its last ones, and a text too many is rejected."""
     day = datetime.date(2025, 1, 6)
     amounts = [4, 3, 1, 3_000, 2, 4, 4_500, *[1, 2, 3] * 12]

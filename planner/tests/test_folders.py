@@ -246,7 +246,7 @@ def files_of_at_most(size: int) -> Iterator[None]:
         resource.setrlimit(resource.RLIMIT_FSIZE, limits)
 
 
-def test_a_disk_that_gets_full(tmp_path: Path) -> None:
+def test_full_disks_and_places_of_faults(tmp_path: Path) -> None:
     """Without space for a whole file, that is said, and the old one stays. Each fault has a line with its place."""
     with files_of_at_most(50), pytest.raises(Failed, match="plan: No space left"), own_folder(tmp_path / "plan", "x"):
         pass

@@ -269,7 +269,7 @@ def test_many_policies(program: Path, scenario: Scenario) -> None:
         scenario.run(program="/bin/true")
 
 
-def test_command_run(program: Path, crnplan: Command, tmp_path: Path, two_policies: str) -> None:
+def test_commands(program: Path, crnplan: Command, tmp_path: Path, two_policies: str) -> None:
     path = TOP / "examples/two_policies.toml"
     assert crnplan("run", path, "--program", program) == (0, path.with_suffix(".csv").read_text("utf-8"), "")
     table = tmp_path / "policies.csv"

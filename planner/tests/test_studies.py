@@ -261,7 +261,7 @@ def test_stored_figures_of_dependence(top: Path) -> None:
     assert len(effects) == sum(len(laws.PERIODS) - 2 * (it.kind == "season") for it in warnings.EFFECTS)
 
 
-def test_small_part_of_fills(top: Path) -> None:
+def test_small_parts(top: Path) -> None:
     """Small parts of the studies of fill rates, searches and warnings have the stored figures, but for chance."""
     stored = pd.read_csv(top / "planner/studies/fills.csv").set_index(["law", "periods", "method"])
     rows = fills.study(**fills.SMALL)

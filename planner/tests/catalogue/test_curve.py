@@ -94,7 +94,7 @@ def test_named_points_are_as_good_as_many_small_orders(plan: Path, times: float)
     assert service.fill >= today.fill - 1e-9 and service.value < today.value
 
 
-def test_curve_rises(plan: Path) -> None:
+def test_curve_and_a_today_beyond_it(plan: Path) -> None:
     """The curve rises with less and less gain. A point of today that it can't reach is missing, and why is said."""
     curve = crn.exchange_curve(plan, jobs=1).frame.query("point == 'curve'")
     assert len(curve) > 25 and (curve.gap == 0).all()

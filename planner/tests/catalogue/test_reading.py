@@ -123,8 +123,8 @@ def test_what_was_found_is_stated(catalogue: Catalogue, files: Path) -> None:
     assert [*again.rejects.itertuples()] == [*catalogue.rejects.itertuples()]
 
 
-def test_limits_change_nothing(files: Path, catalogue: Catalogue, tmp_path: Path, monkeypatch: pytest.MonkeyPatch,
-                               planted: Made) -> None:
+def test_limits_and_order_change_nothing(files: Path, catalogue: Catalogue, tmp_path: Path,
+                                         monkeypatch: pytest.MonkeyPatch, planted: Made) -> None:
     """Reads the same if few cells are remembered, and from rows and masters in another order."""
     monkeypatch.setattr(rows, "MOST_KEPT", 3)
     paths = dict(zip(("demand", "items", "orders"), (files / it for it in FILES)))
@@ -232,7 +232,7 @@ def test_unused_words_are_refused(tmp_path: Path) -> None:
             read_text(tmp_path, **words)
 
 
-def test_record_from_and_to(tmp_path: Path) -> None:
+def test_records_and_dates(tmp_path: Path) -> None:
     """Cuts the record where it is stated, counts what is left out, and how dates are read."""
     its = read_text(tmp_path, start="2026-02-01", end="2026-09-30", every="month",
                     units={"items": dict.fromkeys(("lead", "holding", "backlog"), "month")})

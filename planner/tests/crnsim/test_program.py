@@ -92,7 +92,7 @@ BASE, OTHER = "A,20,40,222,111/2,0,0/1,0/1,5/3", "B,60,80,200,50/1,-22,-11/2,7/2
 TEXT = f"{HEADER}\n{BASE}\n{OTHER}\n"
 
 
-def test_values(two_policies: str, program: Path) -> None:
+def test_values_and_counts(two_policies: str, program: Path) -> None:
     """Values are those of the text. B orders 21 items in period 1 and holds 59, 57, 76 and 72 items."""
     rows = read_rows(TEXT)
     assert rows[1] == Row("B", 60, 80, 200, Fraction(50), -22, Fraction(-11, 2), Fraction(7, 2), Fraction(-1, 9))

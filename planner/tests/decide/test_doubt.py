@@ -46,7 +46,7 @@ def by_hand(part: crn.Scenario) -> Doubt:
     return Doubt(part, part.policies, 0.03, laws, None, figures)
 
 
-def test_columns(by_hand: Doubt) -> None:
+def test_columns_and_sentences(by_hand: Doubt) -> None:
     """Regrets by hand are 0, 10, 0, 10, 0 and 2, 0, 0, 0, 25 percent, of all policies 0, 37.5, 0, 21, 0 and so on."""
     assert list(by_hand.frame.index) == ["today", "low"]
     today, low = by_hand.table.records

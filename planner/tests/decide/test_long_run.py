@@ -103,7 +103,7 @@ def test_corrected_costs_are_less_the_bias_of_a_chain(unit: int, program: Path) 
             assert its.effect == pytest.approx((bias - first) / error, abs=1e-4)
 
 
-def test_strong_effects_of_the_start_are_said(program: Path, monkeypatch: pytest.MonkeyPatch) -> None:
+def test_effects_of_the_start(program: Path, monkeypatch: pytest.MonkeyPatch) -> None:
     """Nothing is said of the start if theory is not exact or knows nothing, and with nothing to compare."""
     found = corrected_decision(PART.run(program=program).rows, PART)
     assert all(abs(by_name(found)[it].effect or 0) > 0.25 for it in ("more", "less"))
@@ -185,7 +185,7 @@ def refuse(scenario: Scenario) -> None:
     raise NoTheory("too far apart")
 
 
-def test_run_prints_the_long_run(crnplan: Command, room: Path, program: Path) -> None:
+def test_run(crnplan: Command, room: Path, program: Path) -> None:
     (room / "part.toml").write_text(PART.toml())
     forms: list[list[str]] = [[], ["--csv"], ["--json"]]
     text, table, tree = (crnplan("run", "part.toml", "--long-run", *form).output for form in forms)

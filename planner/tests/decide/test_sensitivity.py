@@ -76,7 +76,7 @@ def test_regrets_are_those_of_runs(program: Path, owing: str, shown: Rows) -> No
     assert [*shown] == sorted(shown, key=lambda policy: float(shown[policy]["greatest"]))
 
 
-def test_an_example_by_hand(crnplan: Command, top: Path, program: Path) -> None:
+def test_an_example_and_the_cheapest(crnplan: Command, top: Path, program: Path) -> None:
     """A row is as worked by hand. The policy that is named has the least cost of its case."""
     lines = crnplan("sensitivity", "examples/two_policies.toml").output.splitlines()
     row = next(line for line in lines if line.startswith("B "))

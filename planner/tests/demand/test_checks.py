@@ -79,7 +79,7 @@ def test_quiet_history() -> None:
                     f"±{sizes[2]:.0%}")
 
 
-def test_trend() -> None:
+def test_trend_and_autocorrelation() -> None:
     """A planted trend is named by the means of the thirds and its slope, a dependence with what is lost by it."""
     checks = check_history(RISING)
     ratio = np.mean(RISING[-34:]) / np.mean(RISING[:34])
@@ -146,7 +146,7 @@ def test_season() -> None:
             check_history([1, 2] * 10, season=wrong)  # type: ignore[arg-type]
 
 
-def test_quarters() -> None:
+def test_quarters_and_weekdays() -> None:
     """Months have the calendar's quarters, weeks that of their Thursday, days weekdays, from two years on quarters."""
     numbers = [(30 if month % 12 in (9, 10, 11) else 10) + (month - 2) % 3 for month in range(2, 38)]
     checks = check_history(history_of(numbers, date(2023, 3, 1), "month"))
@@ -177,7 +177,7 @@ def test_parts_of_a_season(length: int) -> None:
     assert max(map(len, places)) - min(map(len, places)) <= 1
 
 
-def test_losses() -> None:
+def test_losses_and_words() -> None:
     """The cited loss is the nearest by law, length and size. Sentences have what tests would see, and losses."""
     kinds = ("autocorrelation", "trend", "shift", "season")
     assert {it[:2] for it in losses()} == {(kind, law) for kind in kinds for law in STUDIED}
@@ -237,7 +237,7 @@ def test_notes(numbers: list[int], notes: list[str]) -> None:
     assert said(check_history(numbers).notes) == notes
 
 
-def test_outlier_bounds() -> None:
+def test_outliers() -> None:
     """Bounds are those of the NIST/SEMATECH e-Handbook, section 1.3.5.17.3. Outliers may hide one another."""
     published = {0: 3.158794, 1: 3.151430, 2: 3.143890}
     for above, value in published.items():

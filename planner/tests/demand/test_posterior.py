@@ -45,7 +45,7 @@ def test_mean_of_drawn_laws(family: str, numbers: Sequence[int]) -> None:
 
 
 @HISTORIES
-def test_laws_of_members(numbers: Sequence[int]) -> None:
+def test_members_and_allowed_laws(numbers: Sequence[int]) -> None:
     """Members' laws are scaled. Weights add up, the same seed gives the same laws, and each ends within its range."""
     its = REGISTRY["hurdle-lognormal"]
     parameters = its.drawn(Sample.of(numbers), uniform(20), 1.0)
@@ -121,7 +121,7 @@ def test_round_history(share: float) -> None:
     assert round_history(base, sample, 1.0, random) is base
 
 
-def test_bootstrap_alone() -> None:
+def test_history_alone() -> None:
     """Without a family, what was seen has Dirichlet weights. Two sizes in turn stay two. Packs are as in a fit."""
     found = allowed_laws(SINGLE, times=2000)
     assert found.families == {"history": 2000} and {*found.laws[0].values} == {0, 7}

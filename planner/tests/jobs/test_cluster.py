@@ -153,7 +153,7 @@ def test_so_many_batches_are_under_way(monkeypatch: pytest.MonkeyPatch) -> None:
     assert found == (3, os.cpu_count(), ("here", "program"))
 
 
-def test_a_program_that_only_workers_have(room: Path, monkeypatch: pytest.MonkeyPatch) -> None:
+def test_what_workers_have(room: Path, monkeypatch: pytest.MonkeyPatch) -> None:
     """Workers give the digest of a program that is not here. One unlike this machine calls nothing."""
     own = jobs.identity("")
     client = Mock(ncores=lambda: {"a": 1}, scheduler_info=lambda: {"workers": {}},

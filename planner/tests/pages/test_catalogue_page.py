@@ -143,7 +143,7 @@ def test_headline_of_runs(tmp_path: Path, error: float, said: str) -> None:
     assert said in Page(crn.report(made_folder(tmp_path / "plan", 0, has_curve=False, change=(item, answer)))).words
 
 
-def test_left_out(large: Path, large_page: Page) -> None:
+def test_left_out_and_curve(large: Path, large_page: Page) -> None:
     """Each kind has the rows of rejects.csv, the first of each reason with its place. The curve has its figures."""
     page, rejects = large_page, rows_of(large / "rejects.csv")
     titles = {"Items left out": "item", "Rows rejected": "row",
@@ -240,7 +240,7 @@ def test_no_curve(kept: dict[str, str] | None, said: str, tmp_path: Path) -> Non
     assert said in page.words and not page.pictures
 
 
-def test_items_with_a_page_are_links(folder: Path, tmp_path: Path, crnplan: Command) -> None:
+def test_links_and_command(folder: Path, tmp_path: Path, crnplan: Command) -> None:
     """An item with a page is a link. The command prints the page, and refuses a folder without a plan."""
     linked = {HOSTILE[0], HOSTILE[3], HOSTILE[5], HOSTILE[6], HOSTILE[9], HOSTILE[11]}
     for name in linked:
@@ -265,7 +265,7 @@ def test_few_items(tmp_path: Path, items: int) -> None:
     assert ("No item is planned" in page.words) == (items == 0)
 
 
-def test_lost_items_are_said(folder: Path) -> None:
+def test_lost_items_and_other_rows(folder: Path) -> None:
     """Lost items are said at the top. If rows have changed since, the answers are those of an earlier plan."""
     base = sqlite3.connect(folder / READ)
     with base:

@@ -151,7 +151,7 @@ def test_the_gap_is_a_good_one(lead: Pair) -> None:
         assert cost <= 1.02 * least[name]
 
 
-def test_the_texts() -> None:
+def test_the_texts_and_the_ends() -> None:
     """A promise has its cost beside the plain policy: none if all laws are alike. One law has no long run."""
     demand = range(31), [31 - it for it in range(31)]
     scenario = scenario_of(demand, ([2], [1]), costs=COSTS)
