@@ -1,4 +1,4 @@
-"""Runs all studies, stores their figures and writes the page: python -m planner.studies, in about two hours.
+"""Runs all studies, stores their figures and writes the page: python -m planner.studies, in some hours.
 
     python -m planner.studies --jobs 4        several processes, where a study takes them
     python -m planner.studies doubt fills     some studies alone
@@ -15,9 +15,10 @@ import click
 from .page import STUDIES
 
 FOLDER = Path(__file__).parent
-WITH_JOBS = ("laws", "laws_leads", "long_run", "fills", "borrowing", "doubt", "broken", "level_spread_tail")
+WITH_JOBS = ("laws", "laws_leads", "long_run", "fills", "borrowing", "doubt", "walk_forward", "broken",
+             "level_spread_tail")
 PRINTED = ("long_run",)  # its table is a text
-SEVERAL = ("borrowing",)  # it writes more than one file, into a folder
+SEVERAL = ("borrowing", "walk_forward")  # they write more than one file, into a folder
 
 
 def words_of(study: str, jobs: int) -> Sequence[str]:

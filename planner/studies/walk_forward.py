@@ -1,23 +1,32 @@
 """Tests plans on series that nobody here made, and on made ones whose past is known: what was promised, and what came.
 
-    python -m planner.studies.walk_forward --jobs 2       real series, as far as packages of R are installed
-    python -m planner.studies.walk_forward --made         made catalogues: how often each verdict is given
+    python -m planner.studies.walk_forward --jobs 2 --out planner/studies    all, in about an hour
+    python -m planner.studies.walk_forward --small                           a small part, in some seconds
 
-Each series is an item of a catalogue that `crnplan.backtest` tests. An order comes after 2 periods and costs what is
-best for two periods of demand. Four goals: fill rates of 95% and 98%, and backlog costs of 9 and 49 times holding. Of
-long sets every fifth series is taken, in the order of the package. `missed` is by how many points the kept plan missed
-the fill that it promised; `shuffled` what it missed in a random order, and `time` the rest. Costs are in percent:
-`dearer` beside the promise, others beside the kept plan. `broken` is the share of items that missed their promise by
-more than a point, `above` of those with a later period above the largest before. A standard error follows each ±.
+The real series are those of `real_series.py`: it needs packages of R, and refuses to go on without them. Each series is
+an item of a catalogue that `crnplan.backtest` tests. An order comes after 2 periods and costs what is best for two
+periods of demand. Four goals: fill rates of 95% and 98%, and backlog costs of 9 and 49 times holding. Of long sets
+every fifth series is taken, in the order of the package.
 
-The last table says whether an item's own test says something of its next periods: the share of items that miss their
-promise by more than a point in the second half of the later periods, of those that did in the first half, and of
-those that did not.
+`missed` is by how many points the kept plan missed the fill that it promised; `shuffled` what it missed in a random
+order, and `time` the rest. Costs are in percent: `dearer` beside the promise, others beside the kept plan. `broken` is
+the share of items that missed their promise by more than a point, `above` of those with a later period above the
+largest before. A standard error follows each ±, of items and of blocks of periods as clusters.
+
+The second table says whether an item's own test says something of its next periods: the share of items that miss their
+promise by more than a point in the second half of the later periods, of those that did in the first half, and of those
+that did not. The third how often each verdict is given on made catalogues: demand that is independent in time, or put
+into a random order, has nothing that time could break.
 """
 from __future__ import annotations
 
 import datetime
-from collections.abc import Callable, Iterable, Iterator, Sequence
+import math
+from collections.abc import Callable, Iterable, Mapping, Sequence
+from concurrent.futures import ProcessPoolExecutor
+from dataclasses import replace
+from functools import partial
+from pathlib import Path
 from typing import Any
 
 import click
@@ -29,6 +38,7 @@ from crnplan.backtesting import Backtests
 from crnplan.plan.backtest.one import Backtest
 from crnplan.plan.backtest.sums import SLACK, VERDICTS, Estimate, Sums
 from crnplan.records.items import KEEP
+from planner.studies.page import markdown
 from planner.studies.real_series import Series, real_series
 
 HOLDING, LEAD, COVER = 1.0, 2, 2
@@ -36,8 +46,12 @@ GOALS: dict[str, dict[str, float]] = {"95%": {"fill": 0.95}, "98%": {"fill": 0.9
                                       "49 times": {"backlog": 49.0}}
 # The record of a set, what is refitted after, and the window; of all others 52, 13 and 52.
 WALKS = {"cheese": (26, 4, 26), "monthly rotaBB": (52, 12, 52), "monthly meningo.age": (52, 12, 52)}
-MANY, STRIDE = 200, 5
+MANY, STRIDE = 100, 5
 START = datetime.date(2000, 1, 3)  # a Monday
+CATALOGUES = {"steady": 100, "shuffled shift": 100, "shift": 20, "promotions": 20}  # made ones of each kind
+ITEMS, MADE_GOAL = 20, "95%"  # of a made catalogue
+FOLDER = Path(__file__).parent
+REAL, SINGLE, MADE_ONES = (FOLDER / f"walk_forward{part}.csv" for part in ("", "_single", "_made"))
 
 
 def tables_of(series: Sequence[Series], goal: dict[str, float], record: int) -> tuple[pd.DataFrame, pd.DataFrame]:
@@ -61,19 +75,19 @@ def tested(series: Sequence[Series], goal: dict[str, float], walk: tuple[int, in
     return crnplan.backtest(catalogue, record=record, every=every, window=window, jobs=jobs)
 
 
-def _percent(estimate: Estimate, sign: str = "") -> str:
-    return f"{100 * estimate.value:{sign}.1f} ± {100 * estimate.error:.1f}"
+def figures(estimates: Mapping[str, Estimate]) -> dict[str, float]:
+    """Returns estimates in percent, each with its error."""
+    return {name + end: 100 * figure for name, its in estimates.items()
+            for end, figure in (("", its.value), ("_error", its.error))}
 
 
-def row_of(sums: Sums) -> dict[str, str]:
-    """Returns the figures of all items of a set as texts."""
-    return {"items": str(sums.items), "promised": f"{100 * sums.promised:.1f}",
-            **{policy: f"{100 - 100 * unmet.value:.1f} ± {100 * unmet.error:.1f}" for policy, unmet in
-               sums.unmet.items() if policy != "today"},
-            "missed": _percent(sums.missed), "shuffled": _percent(sums.chance), "time": _percent(sums.time),
-            "dearer": _percent(sums.dearer, "+"), "cost refitted": _percent(sums.beside["refitted"], "+"),
-            "cost smoothed": _percent(sums.beside["smoothed"], "+"), "broken": f"{sums.broken / sums.items:.0%}",
-            "above": f"{sums.above / sums.items:.0%}", "verdict": sums.verdict}
+def row_of(sums: Sums) -> dict[str, float | str]:
+    """Returns the figures of all items of a set, in percent."""
+    fills = {policy: replace(unmet, value=1 - unmet.value) for policy, unmet in sums.unmet.items() if policy != "today"}
+    parts = {"missed": sums.missed, "shuffled": sums.chance, "time": sums.time, "dearer": sums.dearer,
+             **{f"cost_{policy}": sums.beside[policy] for policy in ("refitted", "smoothed")}}
+    return {"items": sums.items, "promised": 100 * sums.promised, **figures(fills), **figures(parts),
+            "broken": 100 * sums.broken / sums.items, "above": 100 * sums.above / sums.items, "verdict": sums.verdict}
 
 
 def halves(tests: Iterable[Backtest]) -> tuple[list[bool], list[bool]]:
@@ -89,28 +103,29 @@ def halves(tests: Iterable[Backtest]) -> tuple[list[bool], list[bool]]:
     return missed
 
 
-def single_row(tests: Backtests) -> dict[str, str]:
-    """Returns how often items miss their promise again, and for the first time."""
+def single_row(tests: Backtests) -> dict[str, float]:
+    """Returns how often items miss their promise again, and for the first time, in percent."""
     first, second = map(np.array, halves(test for _, test in tests.tested.items if isinstance(test, Backtest)))
+    row: dict[str, float] = {}
+    for name, chosen in (("again", first), ("first", ~first)):
+        count, share = int(chosen.sum()), float(second[chosen].mean()) if chosen.any() else 0.0
+        row |= {f"{name}_items": count, name: 100 * share,
+                f"{name}_error": 100 * math.sqrt(share * (1 - share) / max(1, count))}
+    return row
 
-    def share(chosen: Any) -> str:
-        """Returns the share that missed in the second half, of the chosen items."""
-        count, share = int(chosen.sum()), second[chosen].mean() if chosen.any() else 0.0
-        return f"{100 * share:.0f} ± {100 * np.sqrt(share * (1 - share) / max(1, count)):.0f} of {count}"
-    return {"missed before": share(first), "kept before": share(~first)}
 
-
-def real_rows(jobs: int, only: Sequence[str]) -> Iterator[tuple[dict[str, str], dict[str, str]]]:
-    """Yields for each set and goal the figures of all items, and what is known of single ones."""
+def real_study(jobs: int, only: Sequence[str] = ()) -> tuple[pd.DataFrame, pd.DataFrame]:
+    """Returns for each set and goal the figures of all items, and what is known of single ones."""
+    rows: list[dict[str, float | str]] = []
+    single: list[dict[str, float | str]] = []
     for name, series in real_series().items():
-        if only and name not in only:
-            continue
         taken = series[::STRIDE] if len(series) > MANY else series
-        for goal, words in GOALS.items():
+        for goal, words in GOALS.items() if not only or name in only else ():
             tests = tested(taken, words, WALKS.get(name, (52, 13, 52)), jobs)
-            sums = tests.tested.sums
-            if sums:
-                yield ({"set": name, "goal": goal, **row_of(sums[0])}, {"set": name, "goal": goal, **single_row(tests)})
+            if tests.tested.sums:
+                rows.append({"set": name, "goal": goal, **row_of(tests.tested.sums[0])})
+                single.append({"set": name, "goal": goal, **single_row(tests)})
+    return pd.DataFrame(rows), pd.DataFrame(single)
 
 
 Draw = Callable[[np.random.Generator, int], "np.ndarray[Any, Any]"]
@@ -143,43 +158,61 @@ def _shuffled(random: np.random.Generator, periods: int) -> np.ndarray[Any, Any]
 MADE: dict[str, Draw] = {"steady": _steady, "shuffled shift": _shuffled, "shift": _shifted, "promotions": _promoted}
 
 
-def made_verdicts(kind: str, catalogues: int, items: int, goal: str, periods: int = 104, seed: int = 1) -> list[str]:
-    """Returns the verdict on each of some made catalogues of a kind."""
-    verdicts = []
-    for number in range(catalogues):
-        random = np.random.default_rng([[*MADE].index(kind), seed, number])
-        series = [Series(f"{kind} {number} {place}", tuple(MADE[kind](random, periods).tolist()))
-                  for place in range(items)]
-        verdicts.append(tested(series, GOALS[goal]).tested.sums[0].verdict)
-    return verdicts
+def made_verdict(kind: str, number: int, items: int = ITEMS, periods: int = 104, seed: int = 1) -> str:
+    """Returns the verdict on a made catalogue of a kind."""
+    random = np.random.default_rng([[*MADE].index(kind), seed, number])
+    series = [Series(f"{kind} {number} {place}", tuple(MADE[kind](random, periods).tolist())) for place in range(items)]
+    return tested(series, GOALS[MADE_GOAL]).tested.sums[0].verdict
 
 
-def made_rows(catalogues: int, items: int, goal: str) -> Iterator[dict[str, str]]:
-    """Yields how often each verdict is given, by kind, in percent."""
-    for kind in MADE:
-        verdicts = made_verdicts(kind, catalogues, items, goal)
-        yield {"kind": kind, "catalogues": str(catalogues), "items": str(items), "goal": goal,
-               **{word: f"{100 * verdicts.count(word) / catalogues:.1f}" for word in VERDICTS}}
+def made_study(jobs: int, catalogues: Mapping[str, int]) -> pd.DataFrame:
+    """Returns on how many made catalogues each verdict is given, by kind."""
+    with ProcessPoolExecutor(jobs) as pool:
+        given = {kind: [*pool.map(partial(made_verdict, kind), range(count))] for kind, count in catalogues.items()}
+    counts = {kind: {word: verdicts.count(word) for word in VERDICTS} for kind, verdicts in given.items()}
+    return pd.DataFrame([{"kind": kind, "catalogues": catalogues[kind], **row} for kind, row in counts.items()])
+
+
+def shown(row: Mapping[str, Any], names: Iterable[str], sign: str = "") -> dict[str, str]:
+    """Returns figures of a row as texts, with their errors."""
+    return {name.replace("_", " "): f"{row[name]:{sign}.1f} ± {row[f'{name}_error']:.1f}" for name in names}
+
+
+def tables() -> dict[str, str]:
+    """Returns the stored figures for the page: of real series, of single items, and of made catalogues."""
+    rows, single, made = (pd.read_csv(stored).to_dict("records") for stored in (REAL, SINGLE, MADE_ONES))
+    fills = [{"set": row["set"], "goal": row["goal"], "items": row["items"], "promised": f"{row['promised']:.1f}",
+              **shown(row, ("kept", "refitted", "smoothed", "missed", "shuffled", "time")), "verdict": row["verdict"]}
+             for row in rows]
+    costs = [{"set": row["set"], "goal": row["goal"], **shown(row, ("dearer", "cost_refitted", "cost_smoothed"), "+"),
+              "broken": f"{row['broken']:.0f}", "above": f"{row['above']:.0f}"} for row in rows]
+    again = [{"set": row["set"], "goal": row["goal"], **{
+        words: f"{row[name]:.0f} ± {row[f'{name}_error']:.0f} of {row[f'{name}_items']}" for name, words in
+        (("again", "missed before"), ("first", "kept before"))}} for row in single]
+    verdicts = [{"kind": row["kind"], "catalogues": row["catalogues"], **{
+        word: f"{100 * share:.1f} ± {100 * math.sqrt(share * (1 - share) / row['catalogues']):.1f}"
+        for word in VERDICTS for share in [row[word] / row["catalogues"]]}} for row in made]
+    return {name: markdown(pd.DataFrame(lines)) for name, lines in (
+        ("real-fills", fills), ("real-costs", costs), ("real-single", again), ("made-verdicts", verdicts))}
 
 
 @click.command()
 @click.argument("sets", nargs=-1)
-@click.option("--made", is_flag=True, help="Made catalogues, in place of real series.")
-@click.option("--catalogues", type=click.IntRange(1), default=40, show_default=True)
-@click.option("--items", type=click.IntRange(10), default=30, show_default=True)
-@click.option("--goal", type=click.Choice([*GOALS]), default="95%", show_default=True)
+@click.option("--small", is_flag=True, help="Run a small part: one made catalogue of each kind.")
+@click.option("--made/--no-made", default=True, help="With or without the made catalogues.")
 @click.option("--jobs", type=click.IntRange(1), default=1, show_default=True)
-@click.option("--out", type=click.Path(), help="Write the first table here, as CSV.")
-def main(sets: Sequence[str], made: bool, catalogues: int, items: int, goal: str, jobs: int, out: str | None) -> None:
-    """Test plans on real series, or on made ones."""
+@click.option("--out", type=click.Path(file_okay=False, path_type=Path), help="Write the tables as CSV to this folder.")
+def main(sets: Sequence[str], small: bool, made: bool, jobs: int, out: Path | None) -> None:
+    """Test plans on real series, all or some SETS, and on made catalogues."""
+    if not small and not real_series():
+        raise click.ClickException("the real series need R with the packages surveillance and bayesm")
+    found = {} if small else dict(zip((REAL.name, SINGLE.name), real_study(jobs, sets)))
     if made:
-        tables = [pd.DataFrame(made_rows(catalogues, items, goal))]
-    else:
-        tables = [pd.DataFrame(rows) for rows in zip(*real_rows(jobs, sets))]
-    for table in tables:
-        click.echo(table.to_string(index=False))
-    if out and tables:
-        tables[0].to_csv(out, index=False)
+        found[MADE_ONES.name] = made_study(jobs, dict.fromkeys(MADE, 1) if small else CATALOGUES)
+    for name, table in found.items():
+        if out:
+            table.to_csv(out / name, index=False, float_format="%.4f")
+        click.echo(table.round(2).to_string(index=False))
 
 
 if __name__ == "__main__":
