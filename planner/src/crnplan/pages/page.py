@@ -7,8 +7,10 @@ from __future__ import annotations
 
 import base64
 import hashlib
+import json
 import math
 from collections.abc import Iterable, Mapping, Sequence
+from functools import partial
 from typing import TYPE_CHECKING, Any, NamedTuple
 
 from .. import __version__
@@ -64,7 +66,7 @@ def rendered(template: str, context: Mapping[str, Any]) -> str:
                                trim_blocks=True, lstrip_blocks=True, keep_trailing_newline=True,
                                undefined=jinja2.StrictUndefined)
     pages.filters |= {"number": number, "percent": percent, "capital": capital, "sentence": sentence,
-                      "source": source}
+                      "source": source, "quoted": partial(json.dumps, ensure_ascii=False)}
     pages.globals |= {"version": __version__, "premise": PREMISE}
     return pages.get_template(template).render(context)
 

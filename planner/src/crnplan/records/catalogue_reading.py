@@ -5,17 +5,16 @@ import contextlib
 import datetime
 import json
 import tempfile
-from collections import Counter
 from collections.abc import Iterator, Mapping, Sequence
 from dataclasses import dataclass, field
 from pathlib import Path
-from typing import TYPE_CHECKING, cast
+from typing import TYPE_CHECKING, Any, cast
 
 from ..errors import Fault, RefusedFaults, argument, worded
 from ..files import Folder, faults_of, own_folder
 from ..table import Json
 from .catalogued import CATALOGUE, Catalogued, Writer
-from .cells import NAMES, DateReader, Unreadable, on_one_line, text_of
+from .cells import NAMES, Unreadable, on_one_line, text_of
 from .columns import ROLES, converted, find_columns
 from .item import AMOUNTS
 from .items import KEEP, LEAVE_OUT, Counts, Reader, Words
@@ -52,7 +51,9 @@ class Catalogue:
     @property
     def found(self) -> str:
         """Returns what was found in the files, as TOML that states it."""
-        return str(self.fact("found"))
+        from ..pages.page import rendered
+        facts = cast(Mapping[str, Json], self.fact("found"))
+        return rendered("found.toml", {**facts, "formats": worded(argument("date_formats"))})
 
     @property
     def said(self) -> list[str]:
@@ -154,70 +155,37 @@ def read_into(folder: Folder, tables: Mapping[str, Table | None], words: Words) 
         reader.read()
         periods = reader.record.periods
         return writer.finish({"counts": reader.counts, "every": words.every, "decimals": reader.decimals,
-                              "periods": [periods.start, periods.stop], "found": found_text(reader),
+                              "periods": [periods.start, periods.stop], "found": found_of(reader),
                               "said": [f"{sheet.file_name}: {converted(column, role, words.every)}"
                                        for sheet in sheets.values() for role, column in sheet.columns.items()
                                        if column.unit]})
 
 
-def found_text(reader: Reader) -> str:
-    """Returns what was found in the tables, as the lines of crnplan.toml that would state it, with comments."""
+def found_of(reader: Reader) -> dict[str, Any]:
+    """Returns what was found in the tables, of which `Catalogue.found` makes lines of crnplan.toml."""
     record = reader.record
-    lines = ["[catalogue]", f"every = {json.dumps(record.every)}",
-             f"# the record: {record.first} to {record.last}, {len(record.periods):,} {record.every}s"]
-    for kind, rows in reader.rows.items():
-        amounts = {role: reader.amounts[role] for role in AMOUNTS[kind]}
-        lines += ["", f"[catalogue.{kind}]", *_file_lines(kind, rows), *_date_lines(rows, reader.dates[kind])]
-        lines += [f"# the decimal sign is {NAMES[stated]}, as stated"
-                  for stated in {its.stated for its in amounts.values() if its.stated}]
-        for role, its in amounts.items():
-            signs = " and ".join(f"{NAMES[sign]} in {on_one_line(text)}" for sign, text in sorted(its.sides.items()))
-            lines += [f"# the decimal sign of {role} is {signs}"] * bool(signs)
-    return worded("\n".join(lines)) + "\n"
+    return {"every": record.every, "first": str(record.first), "last": str(record.last), "periods": len(record.periods),
+            "tables": [_table_facts(reader, kind) for kind in reader.rows]}
 
 
-def _file_lines(kind: str, rows: Rows) -> Iterator[str]:
-    """Yields lines on a table: how it is written, its columns and its first rows."""
-    sheet, blank = rows.sheet, len(rows.blank)
-    yield (f"# {sheet.file_name}: {sheet.written}, heading in line {sheet.line}, {len(rows):,} rows"
-           + f" and {blank:,} blank ones" * (blank > 0))
-    if sheet.titles:
-        titles = [on_one_line(" ".join(filter(None, cells))) for _, cells in sheet.titles]
-        yield f"# lines above the heading, passed over: {json.dumps(titles, ensure_ascii=False)}"
-    for role in ROLES[kind]:
-        column = sheet.columns.get(role)
-        if column:
-            said = "  # found by its name" * column.is_guess + f"  # in {column.unit}" * bool(column.unit)
-            yield f"{role} = {json.dumps(column.name, ensure_ascii=False)}{said}"
-        else:
-            yield f"# no column is the {role}"
-    places = {column.place for column in sheet.columns.values()}
-    unused = [on_one_line(name) for place, name in enumerate(sheet.heading) if name and place not in places]
-    if unused:
-        yield f"# not used: {', '.join(unused)}"
-    yield from (f"# row: {' | '.join(map(on_one_line, cells))}" for _, cells in sheet.first_rows)
-
-
-def _date_lines(rows: Rows, reader: DateReader) -> Iterator[str]:
-    """Yields a line for each form of the dates of a table, and says what decides a form that could be two."""
-    firsts, counts, unclear = dict[str, str](), Counter[str](), 0
+def _table_facts(reader: Reader, kind: str) -> dict[str, Any]:
+    """Returns how a table is written, its columns, its first rows, its dates, and the signs of its amounts."""
+    rows, dates, amounts = reader.rows[kind], reader.dates[kind], {role: reader.amounts[role] for role in AMOUNTS[kind]}
+    sheet, used = rows.sheet, {column.place for column in rows.sheet.columns.values()}
+    forms, unclear = dict[str, list[Any]](), 0
     for cell, count in (pair for role in DATES for pair in rows.counts(role)):
         try:
-            form = reader.read(cell)[1]
+            form = dates.read(cell)[1]
+            forms.setdefault(form, [form, 0, text_of(cell)])[1] += count
         except Unreadable as why:
             unclear += count * (why.remark.code in ("day or month", "day and month"))
-            continue
-        firsts.setdefault(form, text_of(cell))
-        counts[form] += count
-    formats = argument("date_formats")
-    if reader.patterns and counts:
-        yield f"# dates by {formats}: {counts.total():,}"
-        return
-    for form, count in sorted(counts.items()):
-        yield f"# dates as {form}: {count:,}, such as {firsts[form]}"
-    if reader.sides:
-        first = " and ".join(f"the {'day' if side else 'month'} comes first in {text}"
-                             for side, text in sorted(reader.sides.items()))
-        yield f"# of dates with slashes, {first}"
-    if unclear:
-        yield f"# dates that may have the day or the month first: {unclear:,}; say {formats}"
+    return {
+        "kind": kind, "file": sheet.file_name, "written": sheet.written, "line": sheet.line, "rows": len(rows),
+        "blank": len(rows.blank), "titles": [on_one_line(" ".join(filter(None, cells))) for _, cells in sheet.titles],
+        "columns": {role: vars(sheet.columns[role]) if role in sheet.columns else None for role in ROLES[kind]},
+        "unused": [on_one_line(name) for place, name in enumerate(sheet.heading) if name and place not in used],
+        "first_rows": [[*map(on_one_line, cells)] for _, cells in sheet.first_rows],
+        "forms": sorted(forms.values()), "unclear": unclear, "by_patterns": bool(dates.patterns),
+        "sides": sorted(dates.sides.items()), "stated": NAMES[sheet.rules.decimal] if sheet.rules.decimal else "",
+        "signs": [[role, [f"{NAMES[sign]} in {on_one_line(text)}" for sign, text in sorted(its.sides.items())]]
+                  for role, its in amounts.items() if its.sides]}
