@@ -17,9 +17,8 @@ import pandas as pd
 from crnplan.plan.answer import Answer
 from crnplan.plan.catalogue import ANSWERS, learned_of
 from crnplan.plan.question import ALL, Question, Settings, question_of
-from crnplan.records.catalogue_reading import read_alone
 from crnplan.records.items import Words
-from crnplan.records.catalogued import CATALOGUE, Catalogued
+from crnplan.records.catalogue_reading import CATALOGUE, Catalogued, read_alone
 from crnplan.records.item import Item
 from crnplan.stored import Store
 from crnplan.jobs import processes

@@ -21,7 +21,7 @@ from crnplan.curve.exchange_curve import CANDIDATES, gather
 from crnplan.pages.catalogue_page import PAGE
 from crnplan.pages.catalogue_tables import DECISIONS, EXACT, planned_of
 from crnplan.plan.catalogue import ANSWERS, PlannedFolder, planned_folder
-from crnplan.records.catalogued import CATALOGUE, READ
+from crnplan.records.catalogue_reading import CATALOGUE, READ
 from crnplan.files import own_folder
 from planner.bench.made import Made
 from planner.bench.page import ARRAYS, FIRST_PASS, LOOP, SENT, TRANSACTIONS, million_table

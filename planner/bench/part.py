@@ -13,9 +13,8 @@ from pathlib import Path
 import click
 
 from crnplan.plan.question import Settings
-from crnplan.records.catalogue_reading import read_alone
 from crnplan.records.items import Words
-from crnplan.records.catalogued import CATALOGUE, READ, Catalogued
+from crnplan.records.catalogue_reading import CATALOGUE, READ, Catalogued, read_alone
 from crnplan.files import own_folder
 from planner.bench.made import Made
 

@@ -12,9 +12,8 @@ from typing import Any
 
 from crnplan.plan.answer import Answer
 from crnplan.plan.catalogue import Planned
-from crnplan.records.catalogue_reading import open_sources
 from crnplan.records.items import Words
-from crnplan.records.catalogued import Catalogued
+from crnplan.records.catalogue_reading import Catalogued, open_sources
 from crnplan.records.item import Item
 from crnplan.records.rows import read_rows
 from crnplan.stored import Store

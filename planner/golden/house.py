@@ -21,7 +21,7 @@ from crnplan.demand.checks import check_history
 from crnplan.plan.answer import CHOSEN, Answer
 from crnplan.plan.catalogue import planned_folder
 from crnplan.plan.item import Depth, planned, read_item
-from crnplan.records.catalogued import Catalogued
+from crnplan.records.catalogue_reading import Catalogued
 from crnplan.records.item import Item
 from crnplan.remarks import Remark
 from crnplan.stored import Store

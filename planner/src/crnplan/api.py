@@ -21,8 +21,7 @@ from .pages.item_page import ItemWords, item_page, item_summary, plan_item as pl
 from .plan.catalogue import Lost, Totals, check_earlier, plan_into, planned_folder
 from .plan.item import Depth
 from .plan.question import Settings
-from .records.catalogue_reading import Catalogue, read_into
-from .records.catalogued import CATALOGUE, READ
+from .records.catalogue_reading import CATALOGUE, READ, Catalogue, read_into
 from .records.items import KEEP, LEAVE_OUT, Words
 from .records.sources import Table
 from .remarks import Remark

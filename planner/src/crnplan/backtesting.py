@@ -16,8 +16,7 @@ from .pages.backtest_tables import (BACKTEST, PAGE, SUMMARY, SUMS, VERDICTS, bac
 from .plan.backtest.catalogue import Tested, backtest_into
 from .plan.backtest.one import Walk
 from .plan.question import Settings
-from .records.catalogue_reading import Catalogue
-from .records.catalogued import CATALOGUE
+from .records.catalogue_reading import CATALOGUE, Catalogue
 from .records.items import Words
 from .table import DataTable, Result
 

@@ -21,7 +21,7 @@ from crnplan.curve.exchange_curve import CANDIDATES, CURVE, LEFT_OUT, POLICIES, 
 from crnplan.plan.catalogue import ANSWERS, planned_folder
 from crnplan.plan.one import figures_of
 from crnplan.plan.question import Question
-from crnplan.records.catalogued import READ
+from crnplan.records.catalogue_reading import READ
 from crnplan.words import advice, sentence
 from planner.tests.catalogue.conftest import FILES, REFUSED, SETTINGS, leave_few
 from planner.tests.catalogue.made import NO_PLAN, TODAY, Made

@@ -18,7 +18,7 @@ from crnplan.plan.answer import Answer
 from crnplan.plan.catalogue import PRIOR, learned_of
 from crnplan.plan.one import allowed_by, plan_one
 from crnplan.plan.question import ALL, CLASS, NONE, Question, Settings, question_of
-from crnplan.records.catalogued import CATALOGUE as FOLDER, Catalogued, Writer
+from crnplan.records.catalogue_reading import CATALOGUE as FOLDER, Catalogued, Writer
 from crnplan.records.item import Item
 from crnplan.stored import Store
 from crnplan.theory.long_run import NO_POLICY

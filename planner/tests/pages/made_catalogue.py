@@ -18,7 +18,8 @@ from crnplan.pages.catalogue_page import CATALOGUE_FILES, write_catalogue
 from crnplan.plan.answer import CHEAPER, RUN, SAME, SERVICE, THEORY, UNDECIDED, Answer, Figures, LawFacts, Run
 from crnplan.plan.catalogue import ANSWERS, Planned, PlannedFolder, Totals
 from crnplan.plan.question import Settings
-from crnplan.records.catalogued import CATALOGUE, READ, Catalogued, Reject, Writer
+from crnplan.records.catalogue_reading import CATALOGUE, READ, Catalogued, Writer
+from crnplan.records.items import Reject
 from crnplan.records.item import Item
 from crnplan.remarks import Remark
 from crnplan.stored import Store

@@ -25,7 +25,8 @@ from crnplan.pages.catalogue_page import COLUMNS, LARGE, MEANING, clipped, file_
 from crnplan.pages.catalogue_tables import reasons_of
 from crnplan.plan.answer import CHEAPER, DEARER, RUN, SAME, SERVICE, UNDECIDED, Answer
 from crnplan.plan.catalogue import ANSWERS, Totals
-from crnplan.records.catalogued import CATALOGUE, READ, Reject, Writer
+from crnplan.records.catalogue_reading import CATALOGUE, READ, Writer
+from crnplan.records.items import Reject
 from crnplan.remarks import Remark
 from crnplan.stored import Store
 from planner.tests.catalogue.conftest import FILES, SETTINGS, leave_few

@@ -17,8 +17,8 @@ from crnplan.records import read_history, read_lead_times
 from crnplan.records.catalogue_reading import Catalogue, read_catalogue
 from crnplan.records.columns import find_columns
 from crnplan.records.cells import Unreadable
-from crnplan.records.item import Item, leads_of
-from crnplan.records.items import Words
+from crnplan.records.item import Item
+from crnplan.records.items import Words, leads_of
 from crnplan.records.sources import opened
 from crnplan.remarks import Remark
 

@@ -14,8 +14,7 @@ from ..plan.backtest.one import Walk
 from ..plan.catalogue import planned_folder
 from ..plan.question import Settings
 from ..plan.settings import read_config
-from ..records.catalogue_reading import read_into
-from ..records.catalogued import CATALOGUE
+from ..records.catalogue_reading import CATALOGUE, read_into
 from .catalogues import words_of
 from .words import command, share_of, worker_options
 

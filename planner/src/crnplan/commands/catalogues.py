@@ -17,8 +17,7 @@ from ..pages.catalogue_tables import counted_rows, reasons_of, rejects_of
 from ..plan.catalogue import Lost, check_earlier, plan_into
 from ..plan.question import Settings
 from ..plan.settings import CONFIG, read_config
-from ..records.catalogue_reading import Catalogue, read_into
-from ..records.catalogued import CATALOGUE
+from ..records.catalogue_reading import CATALOGUE, Catalogue, read_into
 from ..records.cells import DECIMALS, EVERY
 from ..records.columns import ROLES
 from ..records.item import BORROW

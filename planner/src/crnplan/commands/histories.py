@@ -15,8 +15,7 @@ from ..decide.doubt import TIMES, WITHIN
 from ..demand import FAMILIES, METHODS
 from ..errors import RefusedFaults
 from ..records.cells import DECIMALS, EVERY
-from ..records.histories import RefusedFiles, printed, write_rejects
-from ..records.histories import column_names
+from ..records.histories import RefusedFiles, column_names, printed, write_rejects
 from ..records.observed import LeadTimes, Observed
 from ..records.sources import Rules
 from ..toml.documents import places_of

@@ -27,7 +27,7 @@ from ..jobs import Work, workers_of
 from ..plan.answer import CHOSEN, TODAY, Answer
 from ..plan.catalogue import PlannedFolder, planned_folder
 from ..plan.question import Levels, Question
-from ..records.catalogued import CATALOGUE
+from ..records.catalogue_reading import CATALOGUE
 from ..remarks import Remark
 from ..scenario import Policy
 from ..stored import Store, digest_of

@@ -19,8 +19,7 @@ from ..plan.answer import CHEAPER, DEARER, SAME, SERVICE, UNDECIDED, Answer
 from ..plan.backtest.catalogue import past_of
 from ..plan.catalogue import PlannedFolder, Totals, planned_folder
 from ..plan.item import Depth
-from ..records.catalogue_reading import missing_of
-from ..records.catalogued import CATALOGUE, Catalogued
+from ..records.catalogue_reading import CATALOGUE, Catalogued, missing_of
 from ..records.item import Item
 from ..remarks import Remark
 from ..table import DataTable

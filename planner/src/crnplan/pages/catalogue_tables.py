@@ -7,8 +7,7 @@ from fractions import Fraction
 
 from ..plan.answer import RUN, THEORY, Answer
 from ..plan.catalogue import PlannedFolder, Totals
-from ..records.items import FileCounts
-from ..records.catalogued import Reject
+from ..records.items import FileCounts, Reject
 from ..records.item import Item
 from ..remarks import Remark
 from ..table import MONEY, Cell, Column, DataTable, exact, number, text, whole

@@ -23,8 +23,7 @@ from ..demand.learning import LEAST_ITEMS, LEAST_ON_REQUEST, Prior, learn
 from ..errors import Failed, Refused, argument
 from ..files import Folder, faults_of, read_folder
 from ..jobs import Work, program_digest, workers_of
-from ..records.catalogue_reading import missing_of
-from ..records.catalogued import CATALOGUE, READ, Catalogued
+from ..records.catalogue_reading import CATALOGUE, READ, Catalogued, missing_of
 from ..records.item import Item
 from ..remarks import Remark
 from ..stored import Damaged, Store, digest_of

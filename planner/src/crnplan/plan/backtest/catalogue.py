@@ -12,7 +12,7 @@ from pathlib import Path
 from ...demand.learning import Prior
 from ...files import Folder, faults_of
 from ...jobs import Work, workers_of
-from ...records.catalogued import READ, Catalogued
+from ...records.catalogue_reading import READ, Catalogued
 from ...records.item import Item
 from ...remarks import Remark
 from ...stored import Store
