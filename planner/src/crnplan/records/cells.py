@@ -162,13 +162,6 @@ class AmountReader:
         """Returns the decimal sign: the stated one, or the only one that the column has; None if it is not known."""
         return self.stated or (next(iter(self.sides)) if len(self.sides) == 1 else None)
 
-    @property
-    def decided(self) -> str | None:
-        """Returns what decides a number that could be two, as `the comma in 2,5`; None if there is none, or nothing."""
-        if not self.is_doubtful or self.stated or self.sign is None:
-            return None
-        return f"{NAMES[self.sign]} in {shown(self.sides[self.sign])}"
-
     def number(self, cell: Cell, kind: str = "number") -> Fraction:
         """Returns the number of a cell, which is of a kind of KINDS. Raises Unreadable."""
         if_empty, *rules = KINDS[kind]

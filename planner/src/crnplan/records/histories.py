@@ -16,7 +16,7 @@ from ..formats import MOST_WEIGHT
 from ..remarks import Remark, Value
 from ..table import DataTable, text, whole
 from ..words import message
-from .cells import (DECIMALS, EVERY, KINDS, MOST_NAMED, NEED_PERIOD, TOTAL, Numbers, first_day,
+from .cells import (DECIMALS, EVERY, KINDS, MOST_NAMED, NAMES, NEED_PERIOD, TOTAL, Numbers, first_day,
                     named_lines, other_reading, period_name, period_of, periods_of_days,
                     shown, text_of)
 from .columns import NO_ROW, conversion, converted, periods_of, stated_columns
@@ -237,8 +237,8 @@ class Reading:
         """Reads the amounts of a column, which are of a kind of KINDS."""
         reader, unit = self.rows.amount_reader(role), self.sheet.columns[role].unit
         packs = unit if unit.isdecimal() else ""
-        if reader.decided:
-            self.note("decimal sign", role=role, sign=reader.decided)
+        if reader.is_doubtful and reader.sign and not reader.stated:
+            self.note("decimal sign", role=role, sign=f"{NAMES[reader.sign]} in {shown(reader.sides[reader.sign])}")
         if packs:
             self.note_unit(role)
         _, place, words = self.said(Remark(KINDS[kind][0]), role=role)

@@ -430,7 +430,7 @@ class Reader:
         if len({*self.master_twins[rows].tolist()}) > 1:
             raise Left("items", lines[1], fault("item", name, "several masters", masters=len(rows),
                                                 lines=named_lines(lines)))
-        read, faults = self.masters.read(table.cells(rows[0]), leads)
+        read, faults = self.masters.read({role: table.cell(role, rows[0]) for role in table.columns}, leads)
         if faults:
             raise Left("items", lines[0], *faults)
         if not len(moves.lines):

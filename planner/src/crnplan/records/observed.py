@@ -10,6 +10,8 @@ import numpy as np
 
 from ..errors import Fault, Refused, argument
 from ..formats import MOST_WEIGHT
+from ..remarks import Remark
+from ..words import message
 from .cells import DateReader, Numbers, Unreadable, first_day, period_name, period_of
 
 if TYPE_CHECKING:
@@ -20,7 +22,6 @@ Day = datetime.date
 FAR_DAYS, RARE = 366, 1_000
 # An item that is first seen after so many periods begins at its first movement.
 HALF_YEAR = {"day": 183, "week": 26, "month": 6}
-CHANGE = f"change {argument('start')} or {argument('end')}"
 
 
 @dataclass(frozen=True)
@@ -119,12 +120,6 @@ def _near(days: Sequence[Day], counts: Mapping[Day, int]) -> Day:
     return nearest
 
 
-def too_long(periods: int, every: str, advice: str = CHANGE) -> str:
-    """Returns what is wrong with a record of more periods than a law can count; the empty text if nothing is."""
-    return "" if periods <= MOST_WEIGHT else (f"{periods:,} {every}s are more than {MOST_WEIGHT:,}; {advice}, or take "
-                                              f"longer periods ({argument('every')})")
-
-
 def record_of(counts: Mapping[Day, int], every: str, start: Day | None, end: Day | None, today: Day) -> Record:
     """Returns the record of a file whose days have so many rows. Without `start` and `end` it is from the first to the
     last movement, without rare days that are more than a year away from all others, and without days after `today`.
@@ -132,11 +127,12 @@ def record_of(counts: Mapping[Day, int], every: str, start: Day | None, end: Day
     latest = end or today
     days = sorted(day for day in counts if day <= latest and (start is None or day >= start))
     if not days:
-        raise Refused(f"no row of demand has a date from {start or 'the beginning'} to {latest}; {CHANGE}")
+        raise Refused(message(Remark("no demand", {"start": str(start or "the beginning"), "end": str(latest)})))
     first, last = start or _near(days, counts), end or _near(days[::-1], counts)
     record = Record(every, first, last, "before start" if start else "far before", "after end" if end else "late date")
-    if wrong := too_long(len(record.periods), every):
-        raise Refused(wrong)
+    if len(record.periods) > MOST_WEIGHT:
+        raise Refused(message(Remark("too many periods", {
+            "count": len(record.periods), "every": every, "most": MOST_WEIGHT})))
     return record
 
 

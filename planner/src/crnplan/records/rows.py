@@ -123,10 +123,6 @@ class Rows:
         """Returns the value of a row's cell; the empty text if the table has no such column."""
         return self.columns[role].distinct[self.codes[role][row]] if role in self.columns else ""
 
-    def cells(self, row: int) -> dict[str, Cell]:
-        """Returns the values of a row by role."""
-        return {role: self.cell(role, row) for role in self.columns}
-
     def counts(self, role: str) -> Iterator[tuple[Cell, int]]:
         """Yields each value of a column that good rows have, and how many have it; nothing if there is no column."""
         if role in self.columns:

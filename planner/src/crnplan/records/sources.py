@@ -9,7 +9,6 @@ import codecs
 import contextlib
 import csv
 import datetime
-import functools
 import io
 import itertools
 import math
@@ -22,6 +21,7 @@ from collections import Counter
 from collections.abc import Callable, Iterable, Iterator, Mapping, Sequence, Set
 from dataclasses import dataclass, field
 from decimal import Decimal
+from functools import partial
 from pathlib import Path
 from typing import TYPE_CHECKING, Any, Union
 
@@ -128,56 +128,24 @@ def byte_fault(name: str, text: str, encoding: str, line: int = 1) -> Fault | No
                  f"{EXPORT}", name, *place_behind(text[:bad.start()], line))
 
 
-def head_of(path: Path, name: str, rules: Rules) -> tuple[str, str, Fault | None]:
-    """Returns the encoding of a file, the text of its first lines, and what is wrong with its bytes. The encoding is
-    that of a byte order mark, else the stated one, else UTF-8. If nobody has stated it and the bytes are not UTF-8, it
-    is the likely one, with a fault: so the rest of the file can be checked too. Raises Refused, and RefusedFaults for
-    other bytes that can't be decoded, and for NUL characters, as UTF-16 without a byte order mark has."""
-    try:
-        with path.open("rb") as file:
-            data = file.read(HEAD_BYTES)
-    except OSError as fault:
-        raise Refused(f"{name}: {fault.strerror}; check the name of the file") from fault
-    encoding = next((its for mark, its in MARKS if data.startswith(mark)), rules.encoding or "utf-8")
-    is_all = len(data) < HEAD_BYTES
-    if not is_all and not re.search(b"[\r\n]", data):
-        raise RefusedFaults([Fault(f"the first line has more than {HEAD_BYTES:,} bytes; end each row with a line feed",
-                                   name, 1)])
-    if not is_all and not encoding.startswith("utf-16"):
-        data = data[:data.rfind(b"\n") + 1] or data
-    try:
-        text = codecs.getincrementaldecoder(encoding)(ESCAPES).decode(data, is_all)
-    except UnicodeError:  # UTF-16 without its byte order mark
-        text = chr(0xDC00 + data[0])
-    wrong = byte_fault(name, text, encoding)
-    if wrong and (rules.encoding or encoding != "utf-8"):
-        raise RefusedFaults([wrong])
-    if wrong:
-        encoding = likely_encoding(data)
-        text = data.decode(encoding, "replace")
-    before, zero, _ = text.partition("\0")
-    if zero:
-        is_large = data[::2].count(0) > data[1::2].count(0)
-        wide = argument("encoding", "utf-16-be" if is_large else "utf-16-le")
-        raise RefusedFaults([Fault(f"there is a NUL character, as in UTF-16; say {wide}, {EXPORT}", name,
-                                   *place_behind(before))])
-    return encoding, text, wrong
+def refused(what: str, name: str, *place: int) -> RefusedFaults:
+    """Returns the error of a file with one fault, in a line and perhaps a column."""
+    return RefusedFaults([Fault(what, name, *place)])
 
 
-def state_of(path: Path) -> tuple[int, int]:
+def state_of(path: Path | None) -> tuple[int, int]:
     """Returns the size of a file and the time of its last change; zeros if there is none."""
-    with contextlib.suppress(OSError):
-        state = path.stat()
-        return state.st_size, state.st_mtime_ns
-    return 0, 0
+    state = path.stat() if path and path.exists() else None
+    return (state.st_size, state.st_mtime_ns) if state else (0, 0)
 
 
 @contextlib.contextmanager
-def unchanged(path: Path, name: str, state: tuple[int, int]) -> Iterator[None]:
-    """Raises Refused after the block if a file is no longer in a state: others have changed it."""
-    yield
-    if state_of(path) != state:
-        raise Refused(f"{name}: the file was changed while it was read; run again when it is whole")
+def readable(name: str) -> Iterator[None]:
+    """Turns errors of the file system into Refused."""
+    try:
+        yield
+    except OSError as fault:
+        raise Refused(f"{name}: {fault.strerror}; check the name of the file") from fault
 
 
 def rows_of_lines(name: str, lines: Iterable[str], delimiter: str) -> Iterator[tuple[int, list[str]]]:
@@ -190,8 +158,8 @@ def rows_of_lines(name: str, lines: Iterable[str], delimiter: str) -> Iterator[t
             yield line, texts
             line = reader.line_num + 1
     except csv.Error as fault:
-        advice = f"check the quotes and the length of the cells in this row, or say {argument('delimiter')}"
-        raise RefusedFaults([Fault(f"{fault}; {advice}", name, line)]) from fault
+        raise refused(f"{fault}; check the quotes and the length of the cells in this row, or say "
+                      f"{argument('delimiter')}", name, line) from fault
 
 
 def sample(text: str, delimiter: str) -> list[TextRow]:
@@ -203,22 +171,17 @@ def sample(text: str, delimiter: str) -> list[TextRow]:
     return rows
 
 
-def heading_of(rows: Sequence[TextRow], wanted: Set[str], role_of: RoleOf) -> int:
+def heading_of(rows: Sequence[TextRow], wanted: Set[str], role_of: RoleOf) -> tuple[int, tuple[int, int, int]]:
     """Returns the place of the heading among the first rows: the row with most of the wanted names, else with usual
-    names of most roles, else with most texts. A cell that other rows have in the same column is data and no name,
-    unless the whole row comes again."""
+    names of most roles, else with most texts; and how many it has of each. A cell that other rows have in the same
+    column is data and no name, unless the whole row comes again."""
     cells = Counter(cell for _, row in rows for cell in enumerate(row))
     again = Counter(tuple(row) for _, row in rows)
     fits = [(0, 0, 0)]
     for _, row in rows[:TITLE_ROWS]:
         names = [cell for place, cell in enumerate(row) if cells[place, cell] == again[tuple(row)]]
-        fits.append((len(wanted & {*row}), roles_in(names, role_of), sum(map(bool, row))))
-    return max(0, fits.index(max(fits)) - 1)
-
-
-def roles_in(names: Iterable[str], role_of: RoleOf) -> int:
-    """Returns of how many roles names are usual ones."""
-    return len({role_of(name) for name in names} - {None})
+        fits.append((len(wanted & {*row}), len({*map(role_of, names)} - {None}), sum(map(bool, row))))
+    return max(0, fits.index(max(fits)) - 1), max(fits)
 
 
 def delimiter_of(name: str, text: str, wanted: Set[str], role_of: RoleOf) -> str:
@@ -227,16 +190,15 @@ def delimiter_of(name: str, text: str, wanted: Set[str], role_of: RoleOf) -> str
     fits = {}
     for delimiter in (",", ";", "\t"):
         rows = sample(text, delimiter)
-        place = heading_of(rows, wanted, role_of)
-        heading, below = (rows[place][1], rows[place + 1:]) if rows else ([], [])
-        alike = sum(len(row) == len(heading) for _, row in below) / max(1, len(below))
-        fits[delimiter] = len(wanted & {*heading}), roles_in(heading, role_of), len(heading) > 1, alike
+        place, (stated, usual, _) = heading_of(rows, wanted, role_of)
+        widths = [len(row) for _, row in rows[place:]] or [0]
+        fits[delimiter] = stated, usual, widths[0] > 1, (widths.count(widths[0]) - 1) / max(1, len(widths) - 1)
     best = max(fits.values())
     fitting = [delimiter for delimiter, fit in fits.items() if fit == best]
     if len(fitting) > 1 and best[2]:
         named = [word for word, sign in DELIMITERS.items() if sign in fitting and word != "\t"]
-        raise RefusedFaults([Fault(f"{' and '.join(named)} may both be the delimiter; say "
-                                   + " or ".join(argument("delimiter", sign) for sign in named[:2]), name, 1)])
+        raise refused(f"{' and '.join(named)} may both be the delimiter; say "
+                      + " or ".join(argument("delimiter", sign) for sign in named[:2]), name, 1)
     return fitting[0]
 
 
@@ -264,28 +226,32 @@ class Sheet:
     delimiter = sign = ","
     fault: Fault | None = None
 
-    def __init__(self, name: str, written: str, rules: Rules,
+    def __init__(self, name: str, written: str, rules: Rules, path: Path | None = None,
                  given: Callable[[], Iterable[Sequence[Any]]] = tuple) -> None:
-        """Takes what gives the cells of each row, as a sheet or a frame stores them; a file of text has none."""
-        self.name, self.written, self.rules, self.given = name, written, rules, given
-        self.columns: dict[str, Column] = {}
+        """Takes the file, which nobody may change while it is read, and what gives the cells of each row, as a sheet or
+        a frame stores them. A file of text has none."""
+        self.name, self.written, self.rules, self.path, self.given = name, written, rules, path, given
+        self.file_name, self.state, self.columns = Path(name).name, state_of(path), dict[str, Column]()
+
+    @contextlib.contextmanager
+    def unchanged(self) -> Iterator[None]:
+        """Raises Refused after the block if others have changed the file since it was opened."""
+        yield
+        if state_of(self.path) != self.state:
+            raise Refused(f"{self.name}: the file was changed while it was read; run again when it is whole")
 
     def rows(self) -> Iterator[Row]:
         """Yields the line in which each row begins, and its cells."""
-        for line, cells in enumerate(self.given(), 1):
-            yield line, [stored(cell) for cell in cells]
+        with self.unchanged():
+            for line, cells in enumerate(self.given(), 1):
+                yield line, [stored(cell) for cell in cells]
 
     def find_heading(self, wanted: Iterable[str] = (), role_of: RoleOf = lambda cell: None) -> None:
         """Finds the heading among the first rows, by wanted names or usual ones."""
         rows = self.head({*wanted}, role_of)
-        place = heading_of(rows, {*wanted}, role_of)
+        place, _ = heading_of(rows, {*wanted}, role_of)
         self.line, self.heading = rows[place] if rows else (1, [])
         self.titles, self.first_rows = rows[:place], rows[place + 1:place + 1 + SHOWN_ROWS]
-
-    @property
-    def file_name(self) -> str:
-        """Returns the name of the table in tables: that of the file without its folder."""
-        return Path(self.name).name
 
     def data(self) -> Iterator[Row]:
         """Yields the line in which each row below the heading begins, and its cells."""
@@ -297,8 +263,18 @@ class Sheet:
 
     def texts(self, lines: Iterable[int]) -> dict[int, str]:
         """Returns the text of each of the rows that begin in these lines."""
-        wanted = {*lines}
-        return {line: ",".join(map(text_of, cells)) for line, cells in self.rows() if line in wanted} if wanted else {}
+        wanted, texts = {*lines}, dict[int, str]()
+        with self.unchanged():  # Rows that are left early don't look.
+            for line, cells in self.rows() if wanted else ():
+                if line in wanted:
+                    texts[line] = self.text_of(cells)
+                if len(texts) == len(wanted):
+                    break
+        return texts
+
+    def text_of(self, cells: Sequence[Cell]) -> str:
+        """Returns the text of the row that was given last."""
+        return ",".join(map(text_of, cells))
 
     def place(self, text: str, line: int, place: int) -> tuple[int, int]:
         """Returns the line and the column in which a cell of a row begins, by the text of the row."""
@@ -306,14 +282,38 @@ class Sheet:
 
 
 class TextSheet(Sheet):
-    """A CSV file."""
+    """A CSV file, with the text of its first lines. Its encoding is that of a byte order mark, else the stated one,
+    else UTF-8. If nobody has stated it and the bytes are not UTF-8, it is the likely one, with a fault: so the rest of
+    the file can be checked too."""
 
     def __init__(self, path: Path, name: str, rules: Rules) -> None:
-        self.path, self.state = path, state_of(path)
-        self.encoding, self.text, fault = head_of(path, name, rules)
-        super().__init__(name, self.encoding, rules)
-        self.fault = fault
-        self.delimiter = DELIMITERS[rules.delimiter or ","]
+        """Reads the first lines. Raises Refused, and RefusedFaults for other bytes that can't be decoded, and for NUL
+        characters, as UTF-16 without a byte order mark has."""
+        super().__init__(name, "", rules, path)
+        self.file, self.delimiter = path, DELIMITERS[rules.delimiter or ","]
+        with readable(name), path.open("rb") as file:
+            data = file.read(HEAD_BYTES)
+        self.encoding = next((its for mark, its in MARKS if data.startswith(mark)), rules.encoding or "utf-8")
+        is_all = len(data) < HEAD_BYTES
+        if not is_all and not re.search(b"[\r\n]", data):
+            raise refused(f"the first line has more than {HEAD_BYTES:,} bytes; end each row with a line feed", name, 1)
+        if not is_all and not self.encoding.startswith("utf-16"):
+            data = data[:data.rfind(b"\n") + 1] or data
+        try:
+            self.text = codecs.getincrementaldecoder(self.encoding)(ESCAPES).decode(data, is_all)
+        except UnicodeError:  # UTF-16 without its byte order mark
+            self.text = chr(0xDC00 + data[0])
+        self.fault = byte_fault(name, self.text, self.encoding)
+        if self.fault and (rules.encoding or self.encoding != "utf-8"):
+            raise RefusedFaults([self.fault])
+        if self.fault:
+            self.encoding = likely_encoding(data)
+            self.text = data.decode(self.encoding, "replace")
+        before, zero, _ = self.text.partition("\0")
+        if zero:
+            wide = "utf-16-be" if data[::2].count(0) > data[1::2].count(0) else "utf-16-le"
+            raise refused(f"there is a NUL character, as in UTF-16; say {argument('encoding', wide)}, {EXPORT}", name,
+                          *place_behind(before))
 
     def head(self, wanted: Set[str], role_of: RoleOf) -> list[TextRow]:
         """Returns the first rows, by the delimiter that fits best."""
@@ -324,41 +324,31 @@ class TextSheet(Sheet):
         return sample(self.text, self.delimiter)
 
     def rows(self) -> Iterator[Row]:
-        """Yields the rows with their lines, while `kept` has their text. Nobody may change the file meanwhile. Raises
-        RefusedFaults for bytes or quotes that can't be read."""
+        """Yields the rows with their lines, while `kept` has their text. Raises RefusedFaults for bytes or quotes that
+        can't be read."""
         self.kept, errors = list[str](), "replace" if self.fault else ESCAPES
-        try:
-            with unchanged(self.path, self.name, self.state), self.path.open(encoding=self.encoding, errors=errors,
-                                                                             newline="") as file:
-                for row in rows_of_lines(self.name, self._good_lines(file), self.delimiter):
-                    yield row
-                    self.kept.clear()
-        except OSError as fault:
-            raise Refused(f"{self.name}: {fault.strerror}; check the name of the file") from fault
+        with (readable(self.name), self.unchanged(),
+              self.file.open(encoding=self.encoding, errors=errors, newline="") as lines):
+            for row in rows_of_lines(self.name, self._good_lines(lines), self.delimiter):
+                yield row
+                self.kept.clear()
 
     def _good_lines(self, file: io.TextIOBase) -> Iterator[str]:
         """Yields the lines of a file with their ends. Raises RefusedFaults for one that is too long, or has a byte that
         is not of the encoding."""
-        for number, line in enumerate(iter(functools.partial(file.readline, MOST_LETTERS), ""), 1):
+        for number, line in enumerate(iter(partial(file.readline, MOST_LETTERS), ""), 1):
             if len(line) == MOST_LETTERS:
-                raise RefusedFaults([Fault(f"the line has more than {MOST_LETTERS - 1:,} letters; end each row with a "
-                                           "line feed", self.name, number)])
+                raise refused(f"the line has more than {MOST_LETTERS - 1:,} letters; end each row with a line feed",
+                              self.name, number)
             wrong = None if line.isascii() else byte_fault(self.name, line, self.encoding, number)
             if wrong:
                 raise RefusedFaults([wrong])
             self.kept.append(line)
             yield line
 
-    def texts(self, lines: Iterable[int]) -> dict[int, str]:
-        """Returns the text of each of the rows that begin in these lines, as it stands in the file."""
-        wanted, texts = {*lines}, dict[int, str]()
-        with unchanged(self.path, self.name, self.state):  # Rows that are left early don't look.
-            for line, _ in self.rows() if wanted else ():
-                if line in wanted:
-                    texts[line] = "".join(self.kept).rstrip("\r\n")
-                if len(texts) == len(wanted):
-                    break
-        return texts
+    def text_of(self, cells: Sequence[Cell]) -> str:
+        """Returns the text of the row that was given last, as it stands in the file."""
+        return "".join(self.kept).rstrip("\r\n")
 
     def place(self, text: str, line: int, place: int) -> tuple[int, int]:
         """Returns the line and the column in which a cell begins. One that isn't there begins at the end of its row."""
@@ -381,19 +371,16 @@ def sheet_of_book(path: Path, sheet: str | None, rules: Rules) -> Sheet:
     if sheet is None and len(names) > 1 or sheet is not None and sheet not in names:
         known = ", ".join(names[:MOST_LISTED])
         raise Refused(f"{path}: which sheet is meant is not clear; say {path}!SHEET; the sheets are: {known}")
-    name, state, table = f"{path}{f'!{sheet}' if sheet else ''}", state_of(path), book[sheet or names[0]]
-
-    def rows() -> Iterator[Sequence[Any]]:
-        with unchanged(path, name, state):
-            table.reset_dimensions()
-            yield from table.iter_rows(values_only=True)
-    return Sheet(name, f"sheet {sheet or names[0]}", rules, rows)
+    table: Any = book[sheet or names[0]]
+    table.reset_dimensions()
+    return Sheet(f"{path}{f'!{sheet}' if sheet else ''}", f"sheet {sheet or names[0]}", rules, path,
+                 partial(table.iter_rows, values_only=True))
 
 
 def sheet_of_frame(frame: pd.DataFrame, name: str, rules: Rules) -> Sheet:
     """Returns a DataFrame as a sheet, with its index as columns if that has names. Its heading is line 1."""
     table = frame.reset_index() if any(it is not None for it in frame.index.names) else frame
-    return Sheet(name, "DataFrame", rules, lambda: itertools.chain(
+    return Sheet(name, "DataFrame", rules, None, lambda: itertools.chain(
         [[*map(str, table.columns)]], table.itertuples(index=False, name=None)))
 
 
