@@ -222,7 +222,8 @@ def test_faults_of_all_files_at_once(tmp_path: Path) -> None:
 
 
 def test_unused_words_are_refused(tmp_path: Path) -> None:
-    for words, said in (({"every": "year"}, "every=year is not one of"), ({"far": "drop"}, "far=drop is not keep"),
+    for words, said in (({"every": "year"}, "every=year is not one of"),
+                        ({"far": "drop"}, "far=drop is not one of keep, leave-out"),
                         ({"columns": {"demand": {"amount": "x"}}}, "columns: there is no column demand.amount"),
                         ({"start": "2026-05-01", "end": "2026-01-01"}, "start=2026-05-01 is after end=2026-01-01"),
                         ({"start": "soon"}, "start:"), ({"units": {"items": {"class": "day"}}}, "class has no unit"),

@@ -47,7 +47,6 @@ class Catalogued:
         check_whole(self.base, path)
 
     def fact(self, name: str) -> Any:
-        """Returns a fact."""
         (text,) = self.base.execute("SELECT value FROM facts WHERE name = ?", [name]).fetchone()
         return json.loads(text)
 
@@ -73,11 +72,9 @@ class Catalogued:
         return digest_of(common, self._rows(quoted(PLANNED), name).fetchone())
 
     def names(self) -> Iterator[str]:
-        """Yields the names of the items."""
         yield from (name for (name,) in self._rows("name"))
 
     def items(self) -> Iterator[Item]:
-        """Yields the items."""
         yield from (ITEM.value(row).last(self.window) for row in self._rows("*"))
 
     def item(self, name: str) -> Item | None:
@@ -85,7 +82,6 @@ class Catalogued:
         return next((ITEM.value(row).last(self.window) for row in self._rows("*", name)), None)
 
     def close(self) -> None:
-        """Closes the file."""
         self.base.close()
 
 

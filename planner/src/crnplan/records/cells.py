@@ -66,7 +66,6 @@ MONEY = re.compile(rf"(?P<sign>[{MINUS}+]?) ?(?P<before>{CURRENCY})? ?(?P<number
 
 
 def fault(role: str, cell: Cell, code: str, **facts: Value) -> CellFault:
-    """Returns what is wrong with a cell."""
     return role, cell, Remark(code, facts)
 
 
@@ -78,7 +77,6 @@ class Unreadable(ValueError):
         self.remark = Remark(code, facts if cell is None else {"text": shown(str(cell)), **facts})
 
     def __str__(self) -> str:
-        """Returns why, and what to do."""
         return worded(message(self.remark))
 
 
@@ -331,7 +329,6 @@ def period_of(date: datetime.date, every: str) -> int:
 
 
 def first_day(period: int, every: str) -> datetime.date:
-    """Returns the first day of a period."""
     if every == "month":
         return datetime.date(period // 12, period % 12 + 1, 1)
     return datetime.date.fromordinal(period if every == "day" else 7 * period + 1)

@@ -21,10 +21,7 @@ if TYPE_CHECKING:
     from .items import Words
 
 # The roles of each table in order, and those that each must have. s and S differ by their case.
-ROLES = {"demand": ["item", "date", "quantity", "returned", "measure"],
-         "items": ["item", "description", "setup", "holding", "backlog", "fill", "lead", "s", "S", "stock", "price",
-                   "price_for", "class", "borrow"],
-         "orders": ["item", "ordered", "received"]}
+ROLES = {kind: ["item", *HEADINGS[kind]] for kind in ("demand", "items", "orders")}
 COLUMNS = [f"{kind}.{role}" for kind, roles in ROLES.items() for role in roles]
 NEEDED = {"item", "date", "quantity", "setup", "holding", "s", "S", "ordered", "received"}
 # Letters that are no letter with an accent.
@@ -33,15 +30,10 @@ UNITS: dict[str, str] = {word: unit for unit, words in HEADINGS["units"].items()
 BESIDE = {*HEADINGS["beside"]["words"]}
 IMPLIED = {name: unit for unit, names in HEADINGS["implied"].items() for name in names}
 DAYS = {"day": Fraction(1), "week": Fraction(7), "month": Fraction(487, 16), "year": Fraction(1461, 4)}
-# What the numbers of a role may count. A length is a time, a rate is money for one item and period.
-ROLE_UNITS = {"quantity": "count", "returned": "count", "s": "count", "S": "count", "stock": "count", "lead": "length",
-              "holding": "rate", "backlog": "rate", "setup": "order", "price": "price", "fill": "share"}
-# The words of each, and the units that it is converted from.
-SHARES, NUMBERED = ("share", "percent"), ("count", "price")
-COUNTED = {"count": ("items", ("item",)), "length": ("times", ("period", *DAYS)),
-           "rate": ("money for one item and period", ("period", *DAYS, *SHARES)),
-           "order": ("money for an order", ("order",)), "price": ("money for one item", ("item",)),
-           "share": ("shares", SHARES)}
+# What the numbers of a role may count.
+COUNTED = HEADINGS["counted"]
+ROLE_UNITS = {role: kind for kind, its in COUNTED.items() for role in its["roles"]}
+SHARES = COUNTED["share"]["units"]
 MOST_NAME = 100
 NO_ROW = "there is no row below the heading; export the file again, with its rows"
 
@@ -51,11 +43,11 @@ def unit_fault(role: str, unit: str) -> str | None:
     kind = ROLE_UNITS.get(role)
     if kind is None:
         return f"the {role} has no unit"
-    what, units = COUNTED[kind]
-    if unit in units or kind in NUMBERED and unit.isdecimal() and int(unit):
+    counted = COUNTED[kind]
+    if unit in counted["units"] or counted["may_be_packs"] and unit.isdecimal() and int(unit):
         return None
-    known = ", ".join([*units, *["or a number, as 12 for packs of 12"] * (kind in NUMBERED)])
-    return f"the {role} counts {what}, and {unit!r} is none of its units: {known}"
+    known = ", ".join([*counted["units"], *["or a number, as 12 for packs of 12"] * counted["may_be_packs"]])
+    return f"the {role} counts {counted['what']}, and {unit!r} is none of its units: {known}"
 
 
 def conversion(role: str, unit: str, every: str) -> tuple[Fraction, str]:
@@ -189,7 +181,6 @@ class Finder:
 
 
 def listed(heading: Sequence[str]) -> str:
-    """Returns the columns of a heading as a text."""
     return ", ".join(name[:MOST_NAME] for name in heading if name) or "none"
 
 

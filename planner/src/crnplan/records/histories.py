@@ -199,7 +199,6 @@ class Reading:
         return text_of(self.rows.cell(role, row))
 
     def said(self, what: str | Remark, row: int | None = None, role: str = "") -> Said:
-        """Returns what is said of the file, of a row, or of a cell."""
         line, column = 0 if row is None else int(self.rows.lines[row]), self.sheet.columns.get(role)
         words = what if isinstance(what, str) else message(what)
         return (line, column.place, f"column {column.name!r}: {words}") if column else (line, -1, words)
@@ -230,7 +229,6 @@ class Reading:
         return [self.said(self.text(role, row), row, role) for row in self.used.tolist()]
 
     def read_dates(self, role: str) -> None:
-        """Reads the days of a column."""
         self.numbers[role], self.wrong[role] = self.rows.days(role, lambda cell: self.reader.read(cell)[0])
 
     def read_amounts(self, role: str, kind: str) -> None:
@@ -366,7 +364,6 @@ def _check_undated(given: Mapping[tuple[str, ...], object]) -> None:
 
 
 def _undated(reading: Reading, roles: Sequence[str]) -> History:
-    """Returns the history of a file in which each row is a period."""
     reading.check_count("quantity", "rows")
     for role in roles:
         reading.read_amounts(role, "period")
@@ -391,7 +388,6 @@ def _read_movements(reading: Reading, roles: Sequence[str], net: bool) -> None:
 
 
 def _cut(reading: Reading, start: Day | None, end: Day | None) -> None:
-    """Takes movements before the start or after the end out, with notes."""
     for code, bound, sign in (("before the record", start, 1), ("after the record", end, -1)):
         if bound:
             outside = sign * (reading.numbers["date"][reading.used] - bound.toordinal()) < 0
@@ -474,7 +470,7 @@ def _lead_times(reading: Reading, every: str | None) -> LeadTimes:
 def _orders(reading: Reading, every: str) -> LeadTimes:
     """Returns the lead times between the dates of orders and of their receipts."""
     orders = reading.used
-    reading.used = orders[~reading.rows.having("received", reading.rows.empty("received"))[orders]]
+    reading.used = orders[~reading.rows.empty("received")[orders]]
     received = len(reading.used)
     if len(orders) and not received:
         raise reading.refused("no receipt", orders[0], "received")

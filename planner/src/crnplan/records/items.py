@@ -21,7 +21,7 @@ from ..money import MOST_DECIMALS
 from ..remarks import Remark
 from .cells import (EVERY, TOTAL, UNPRINTABLE, AmountReader, Cell, CellFault, Numbers, Unreadable, fault, named_lines,
                     on_one_line, period_name, periods_of_days, text_of)
-from .columns import COLUMNS, DAYS, ROLES, UNITS, conversion, periods_of, unit_fault
+from .columns import COLUMNS, DAYS, NEEDED, ROLES, UNITS, conversion, periods_of, unit_fault
 from .item import BORROW, Item
 from .observed import Day, ends_of, record_of, summed
 from .rows import Flags, Rows, far_above
@@ -32,7 +32,9 @@ KEEP, LEAVE_OUT = "keep", "leave-out"
 AMOUNTS = {"items": ("setup", "holding", "backlog", "fill", "s", "S", "stock", "price", "price_for"),
            "demand": ("quantity", "returned"), "orders": ()}
 MONEY = ("setup", "holding", "backlog", "price")
-NEEDED = ("setup", "holding", "s", "S")
+# The kinds of numbers in the cells of masters. Others are shares, lead times and texts.
+READ_AS = {"setup": "money", "backlog": "cost", "s": "items", "S": "items", "stock": "number", "price": "money",
+           "price_for": "cost"}
 LEAD = re.compile(r"([0-9]{1,4}(?:[.,][0-9]{1,2})?) *([^\W\d_]*)[ ;|/]*")
 
 
@@ -75,11 +77,10 @@ class Words(Rules):
 
     def __post_init__(self) -> None:
         super().__post_init__()
-        if self.every not in EVERY:
-            raise Refused(f"{argument('every', self.every)} is not one of {', '.join(EVERY)}")
-        for name, value in (("twice", self.twice), ("far", self.far)):
-            if value not in (KEEP, LEAVE_OUT):
-                raise Refused(f"{argument(name, value)} is not {KEEP} or {LEAVE_OUT}")
+        kept = (KEEP, LEAVE_OUT)
+        for name, value, known in (("every", self.every, EVERY), ("twice", self.twice, kept), ("far", self.far, kept)):
+            if value not in known:
+                raise Refused(f"{argument(name, value)} is not one of {', '.join(known)}")
         for name in ("columns", "units", "names"):
             places = [place for kind, roles in getattr(self, name).items()
                       for place in [f"{kind}.{role}" for role in roles] or [kind]]
@@ -122,11 +123,6 @@ class Moves(NamedTuple):
     back: Numbers
 
 
-def decimals_of(number: Fraction) -> int:
-    """Returns how many decimals an amount has."""
-    return next(it for it in range(MOST_DECIMALS + 1) if (number * 10**it).denominator == 1)
-
-
 def borrowed_from(cell: Cell) -> str:
     """Returns from whom an item learns its law. Raises Unreadable."""
     source = str(cell).casefold()
@@ -164,16 +160,12 @@ class Masters:
         self.factors = {role: conversion(role, unit, every)[0] for role, unit in units.items()
                         if role not in ("lead", "fill")}
         self.share = units["holding"] if units.get("holding") in ("share", "percent") else ""
-        number = {role: reader.number for role, reader in amounts.items()}
         self.readers: dict[str, Callable[[Cell], Any]] = {
-            "setup": partial(number["setup"], kind="money"), "holding": partial(self._holding, amounts["holding"]),
+            **{role: partial(amounts[role].number, kind=kind) for role, kind in READ_AS.items()},
+            **dict.fromkeys(("description", "class"), lambda cell: UNPRINTABLE.sub(" ", str(cell))),
+            "holding": partial(self._holding, amounts["holding"]), "borrow": borrowed_from,
             "lead": partial(leads_of, unit=units.get("lead", ""), every=every),
-            "backlog": partial(number["backlog"], kind="cost"),
-            "fill": partial(amounts["fill"].share, in_percent="fill" in units), "s": partial(number["s"], kind="items"),
-            "S": partial(number["S"], kind="items"), "stock": number["stock"],
-            "price": partial(number["price"], kind="money"), "price_for": partial(number["price_for"], kind="cost"),
-            "borrow": borrowed_from,
-            **dict.fromkeys(("description", "class"), lambda cell: UNPRINTABLE.sub(" ", str(cell)))}
+            "fill": partial(amounts["fill"].share, in_percent="fill" in units)}
 
     def _holding(self, reader: AmountReader, cell: Cell) -> Fraction:
         """Returns a holding cost: money, or a share of the price."""
@@ -191,10 +183,10 @@ class Masters:
         are lead times of orders, for a row that says none."""
         read: dict[str, Any] = {}
         faults: list[CellFault] = []
-        for role, reader in self.readers.items():
+        for role in ROLES["items"][1:]:
             cell = cells.get(role, "")
             try:
-                read[role] = None if cell == "" and role not in NEEDED else reader(cell)
+                read[role] = None if cell == "" and role not in NEEDED else self.readers[role](cell)
             except Unreadable as why:
                 faults.append((role, cell, why.remark))
         if "backlog" in read and "fill" in read and read["backlog"] is None and read["fill"] is None:
@@ -209,7 +201,8 @@ class Masters:
 
     def item(self, name: str, line: int, read: dict[str, Any], observed: Sequence[int]) -> tuple[Item, int]:
         """Returns an item without its demand, by the values of its row without units, and the decimals of its money."""
-        decimals = max(decimals_of(read[role]) for role in MONEY if read[role] is not None)
+        decimals = next(digits for digits in range(MOST_DECIMALS + 1) if all(
+            (read[role] * 10**digits).denominator == 1 for role in MONEY if read[role] is not None))
         read["price"] = None if read["price"] is None else read["price"] / (read["price_for"] or 1)
         read |= {role: read[role] * factor for role, factor in self.factors.items() if read[role] is not None}
         holding = read["holding"] * read["price"] if self.share else read["holding"]
@@ -315,7 +308,7 @@ class Reader:
         _, periods, dated = self._dates("demand", "date")
         faults, amounts = {"date": dated}, {"returned": np.broadcast_to(np.int64(0), len(rows))}
         kinds = {"quantity": "whole" if self.words.net else "sales", "returned": "returns"}
-        for role in kinds.keys() & rows.columns:
+        for role in (it for it in kinds if it in rows.columns):
             unit = rows.sheet.columns[role].unit
             amounts[role], faults[role] = rows.amounts(role, self.amounts[role], kinds[role], unit)
         if "measure" in rows.columns and self.words.factors:
@@ -368,7 +361,7 @@ class Reader:
         placed, first, placed_faults = self._dates("orders", "ordered")
         there, last, there_faults = self._dates("orders", "received")
         faults, leads = {"ordered": placed_faults, "received": there_faults}, np.maximum(1, last - first)
-        is_open = rows.having("received", rows.empty("received"))
+        is_open = rows.empty("received")
         bad = rows.good & ~is_open & (rows.faulty(faults) | (there < placed) | (leads > MOST_LEAD))
         for row in np.flatnonzero(bad).tolist():
             ordered, received = rows.cell("ordered", row), rows.cell("received", row)

@@ -80,7 +80,6 @@ class Record:
 
     @property
     def periods(self) -> range:
-        """Returns the numbers of its periods."""
         return range(period_of(self.first, self.every), period_of(self.last, self.every) + 1)
 
     def check(self, day: Day) -> None:

@@ -48,11 +48,6 @@ class Codes(dict[Cell, int]):
         return code
 
 
-def numbers_of(values: array[int]) -> npt.NDArray[Any]:
-    """Returns an array as one of numpy, which shares its memory."""
-    return np.frombuffer(values, values.typecode) if values else np.zeros(0, values.typecode)
-
-
 class Rows:
     """The rows of a table, but for blank ones, whose lines are in `blank`: the line of each and, by role, the code of
     its value. `wide` has how many cells those rows have that have more than the heading, and their texts. `good` says
@@ -68,9 +63,8 @@ class Rows:
         self.blank, self.wide = array("i"), dict[int, tuple[int, str]]()
         codes, lines, hashes = {role: array("i") for role in self.columns}, array("i"), array("q")
         self._fill(codes, lines, hashes)
-        self.codes: dict[str, npt.NDArray[np.int32]] = {role: numbers_of(its) for role, its in codes.items()}
-        self.lines: npt.NDArray[np.int32] = numbers_of(lines)
-        self._hashes: Numbers = numbers_of(hashes)
+        self.codes = {role: np.array(its, np.int32) for role, its in codes.items()}
+        self.lines, self._hashes = np.array(lines, np.int32), np.array(hashes, np.int64)
         self.good: Flags = np.ones(len(self), bool)
         self.good[[*self.wide]] = False
 
@@ -168,9 +162,9 @@ class Rows:
         values, faults = self.values(role, lambda cell: int(reader.number(cell, kind)) * int(packs or 1), 0)
         return np.array(values, np.int64)[self.codes[role]], faults
 
-    def empty(self, role: str) -> list[int]:
-        """Returns the codes of the empty cells of a column."""
-        return [code for code, cell in enumerate(self.columns[role].distinct) if cell == ""]
+    def empty(self, role: str) -> Flags:
+        """Returns which rows have nothing in a column."""
+        return self.having(role, [code for code, cell in enumerate(self.columns[role].distinct) if cell == ""])
 
     def having(self, role: str, codes: Collection[int]) -> Flags:
         """Returns which rows have one of these values in a column."""

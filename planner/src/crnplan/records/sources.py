@@ -247,7 +247,6 @@ class Sheet:
                 yield line, [stored(cell) for cell in cells]
 
     def find_heading(self, wanted: Iterable[str] = (), role_of: RoleOf = lambda cell: None) -> None:
-        """Finds the heading among the first rows, by wanted names or usual ones."""
         rows = self.head({*wanted}, role_of)
         place, _ = heading_of(rows, {*wanted}, role_of)
         self.line, self.heading = rows[place] if rows else (1, [])
@@ -377,20 +376,16 @@ def sheet_of_book(path: Path, sheet: str | None, rules: Rules) -> Sheet:
                  partial(table.iter_rows, values_only=True))
 
 
-def sheet_of_frame(frame: pd.DataFrame, name: str, rules: Rules) -> Sheet:
-    """Returns a DataFrame as a sheet, with its index as columns if that has names. Its heading is line 1."""
-    table = frame.reset_index() if any(it is not None for it in frame.index.names) else frame
-    return Sheet(name, "DataFrame", rules, None, lambda: itertools.chain(
-        [[*map(str, table.columns)]], table.itertuples(index=False, name=None)))
-
-
 @contextlib.contextmanager
 def opened(table: Table, kind: str, rules: Rules, folder: Path | None = None) -> Iterator[Sheet]:
     """Gives a table that can be read several times: a sheet of a workbook is FILE.xlsx!SHEET, the only one FILE.xlsx.
     What a pipe gives once is copied, into a folder, or for the time of the block; `-` is standard input. A DataFrame
-    has the name of its kind. Raises Refused and RefusedFaults for what can't be read."""
+    has the name of its kind, its heading in line 1, and its index as columns if that has names. Raises Refused and
+    RefusedFaults for what can't be read."""
     if not isinstance(table, (str, Path)):
-        yield sheet_of_frame(table, kind, rules)
+        frame = table.reset_index() if any(it is not None for it in table.index.names) else table
+        yield Sheet(kind, "DataFrame", rules, None, lambda: itertools.chain(
+            [[*map(str, frame.columns)]], frame.itertuples(index=False, name=None)))
         return
     name, path = "standard input" if str(table) == "-" else str(table), Path(table)
     book, sign, sheet = name.rpartition("!")
