@@ -10,7 +10,7 @@ from typing import TYPE_CHECKING
 
 from ..errors import Refused
 from ..files import Folder
-from ..records.catalogued import Catalogued
+from ..records.catalogue_reading import Catalogued
 from ..remarks import Remark, Value
 from ..stored import Store
 from .answer import Answer
