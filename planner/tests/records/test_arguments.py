@@ -11,6 +11,7 @@ import pandas as pd
 import pytest
 
 import crnplan as crn
+from crnplan import words
 from crnplan.errors import Refused, argument, as_python
 
 OPTION = re.compile(r"--[a-z]")
@@ -65,3 +66,11 @@ def test_rejects_in_a_call_and_in_a_command(crnplan: Callable[..., Any], tmp_pat
     crnplan("catalogue", tmp_path / "demand.csv", tmp_path / "items.csv", "--check", "--rejects", tmp_path / "out.csv")
     assert [*pd.read_csv(tmp_path / "out.csv").advice] == [
         "wait, or say --least 2", "correct it, or say --net to take it off the sale that it undoes"]
+
+
+def test_no_code_is_said_twice() -> None:
+    """Both tables of words, and the words that functions make, have each code once: none hides another."""
+    tables = [words._templates(file) for file in ("words.toml", "record_words.toml")]
+    made = {code: pair for code, pair in words.WORDS.items() if not any(code in table for table in tables)}
+    assert len(words.WORDS) == len(made) + sum(map(len, tables))
+    assert all(words.WORDS[code] == pair for table in tables for code, pair in table.items())

@@ -15,8 +15,10 @@ from typing import TYPE_CHECKING, Any, cast
 
 from ..errors import Fault, Refused, RefusedFaults, argument, worded
 from ..files import Folder, faults_of, own_folder
+from ..remarks import Remark
 from ..stored import Columns, check_whole, digest_of, quoted
 from ..table import Json
+from ..words import message
 from .cells import NAMES, Unreadable, on_one_line, text_of
 from .columns import ROLES, converted, find_columns
 from .item import PLANNED, Item
@@ -173,13 +175,11 @@ def missing_of(counts: Counts, answered: int) -> list[str]:
     for kind, its in counts["files"].items():
         rest = its["read"] - its["used"] - its["rejected"] - its["with_item"]
         if rest:
-            lines.append(f"{kind}: {its['read']:,} rows were read, and {its['used']:,} used, {its['rejected']:,} "
-                         f"rejected and {its['with_item']:,} left out with their item: {rest:+,} rows are lost")
+            lines.append(message(Remark("lost rows", {"kind": kind, "rest": rest, **cast(Mapping[str, int], its)})))
     items = counts["items"]
     rest = items["named"] - answered - items["left_out"]
     if rest:
-        lines.append(f"items: {items['named']:,} are named, and {answered:,} can be planned and {items['left_out']:,} "
-                     f"are left out: {rest:+,} items are lost")
+        lines.append(message(Remark("lost items", {**items, "answered": answered, "rest": rest})))
     return lines
 
 

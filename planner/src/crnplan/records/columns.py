@@ -13,7 +13,9 @@ from dataclasses import replace
 from fractions import Fraction
 from typing import TYPE_CHECKING
 
-from ..errors import Fault, RefusedFaults, argument
+from ..errors import Fault, RefusedFaults
+from ..remarks import Remark, Value
+from ..words import message
 from .cells import HEADINGS
 from .sources import Column, Sheet
 
@@ -138,18 +140,18 @@ class Finder:
         for role, column in stated.items():
             self._add(role, column)
         for role in (it for it in ROLES[self.kind] if it not in self.stated):
-            names = [heading[place] for place in self._places(role)]
-            say = f"say {self._argument('columns', role)}"
-            if len(names) > 1:
-                self.wrong.append(f"the columns {' and '.join(map(repr, names))} may both be the {role}; {say}")
-            elif names:
-                self._add(role, Column(names[0], self._places(role)[0], True))
+            places = self._places(role)
+            if len(places) > 1:
+                self._refuse("two columns", role, names=" and ".join(repr(heading[place]) for place in places))
+            elif places:
+                self._add(role, Column(heading[places[0]], places[0], True))
             elif role in NEEDED:
-                self.wrong.append(f"no column looks like the {role}; {say}; the columns are: {listed(heading)}")
+                self._refuse("no column", role, columns=listed(heading))
         return self.columns, self.wrong
 
-    def _argument(self, name: str, role: str, value: str = "NAME") -> str:
-        return argument(name, f"{self.kind}.{role}={value}")
+    def _refuse(self, code: str, role: str, **facts: Value) -> None:
+        own = {"role": role, "place": f"{self.kind}.{role}", "every": self.every}
+        self.wrong.append(message(Remark(code, {**own, **facts})))
 
     def _places(self, role: str) -> list[int]:
         """Returns the places of the columns that may have a role: those with its very name, else those with its name
@@ -169,13 +171,10 @@ class Finder:
         unit = stated or ("" if is_plain else self.bare[column.place][1])
         reason = unit_fault(role, unit) if unit else None
         if reason:
-            origin = "is stated" if stated else f"is the unit in the heading {column.name!r}"
-            self.wrong.append(f"{unit!r} {origin}, and {reason}; say {self._argument('units', role, 'UNIT')}, or "
-                              "convert its numbers")
+            self._refuse("wrong unit" if stated else "wrong unit in the heading", role, unit=unit, why=reason,
+                         name=column.name)
         if ROLE_UNITS.get(role) in ("length", "rate") and not unit and self.every != "week":
-            said = " or ".join(self._argument("units", role, word) for word in (self.every, "week"))
-            self.wrong.append(f"the column {column.name!r} names no unit, and may count {self.every}s or weeks; say "
-                              f"{said}")
+            self._refuse("no unit", role, name=column.name)
         own = {"item", "period", "order", self.every, *["share"] * (role == "fill")}
         self.columns[role] = replace(column, unit="" if unit in own else unit)
 
@@ -192,10 +191,8 @@ def stated_columns(heading: Sequence[str], names: Mapping[str, str]) -> tuple[di
         unit, kind = bare_name(plain_name(name))[1], ROLE_UNITS.get(role)
         is_known = unit.isdecimal() if kind == "count" else kind == "length" and unit in DAYS
         columns[role] = Column(name, heading.index(name), unit=unit if is_known else "")
-    wrong = []
-    for role, name in ((role, name) for role, name in names.items() if role not in columns):
-        how_many, advice = ("more than one", "; rename all but one") if name in heading else ("no", "")
-        wrong.append(f"{how_many} column {name!r} (stated as {role}); the columns are: {listed(heading)}{advice}")
+    wrong = [message(Remark("same columns" if name in heading else "no stated column", {
+        "name": name, "role": role, "columns": listed(heading)})) for role, name in names.items() if role not in columns]
     return columns, wrong
 
 
@@ -206,9 +203,7 @@ def find_columns(kind: str, sheet: Sheet, words: Words) -> Sheet:
     sheet.find_heading([*finder.stated.values()], finder.usual_role)
     if sheet.fault:
         raise RefusedFaults([sheet.fault])
-    if not sheet.heading:
-        raise RefusedFaults([Fault(NO_ROW, sheet.name, 1)])
-    sheet.columns, wrong = finder.find(sheet.heading)
+    sheet.columns, wrong = finder.find(sheet.heading) if sheet.heading else ({}, [NO_ROW])
     if wrong:
         raise RefusedFaults([Fault(what, sheet.name, sheet.line) for what in wrong])
     return sheet

@@ -183,8 +183,8 @@ class Reading:
             text, values = self.rules.item[name], list(map(text_of, self.rows.columns[role].distinct))
             if text not in values:
                 others = [repr(shown(it)) for it in values if it]
-                raise Refused(f"{self.sheet.name}: no row has {text!r} in column {name!r}, which has {len(others):,} "
-                              f"others: {', '.join(others[:MOST_NAMED])}" + ", .." * (len(others) > MOST_NAMED))
+                some = ", ".join([*others[:MOST_NAMED], *[".."] * (len(others) > MOST_NAMED)])
+                raise self.refused("no row of the item", text=text, name=name, count=len(others), others=some)
             chosen &= self.rows.having(role, [code for code, value in enumerate(values) if value == text])
         if items:
             wanted = " and ".join(f"{name} = {self.rules.item[name]}" for name in items.values())

@@ -126,7 +126,7 @@ def record_of(counts: Mapping[Day, int], every: str, start: Day | None, end: Day
     latest = end or today
     days = sorted(day for day in counts if day <= latest and (start is None or day >= start))
     if not days:
-        raise Refused(message(Remark("no demand", {"start": str(start or "the beginning"), "end": str(latest)})))
+        raise Refused(message(Remark("no demand in the record", {"start": str(start or "the beginning"), "end": str(latest)})))
     first, last = start or _near(days, counts), end or _near(days[::-1], counts)
     record = Record(every, first, last, "before start" if start else "far before", "after end" if end else "late date")
     if len(record.periods) > MOST_WEIGHT:

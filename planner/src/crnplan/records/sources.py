@@ -26,6 +26,8 @@ from pathlib import Path
 from typing import TYPE_CHECKING, Any, Union
 
 from ..errors import Fault, Refused, RefusedFaults, argument
+from ..remarks import Remark, Value
+from ..words import message
 from .cells import DECIMALS, Cell, check_format, text_of
 
 if TYPE_CHECKING:
@@ -40,7 +42,6 @@ SAMPLE_ROWS, TITLE_ROWS, SHOWN_ROWS, MOST_LISTED = 1_000, 50, 3, 30
 DELIMITERS = {",": ",", ";": ";", "tab": "\t", "\t": "\t"}
 BOOKS = (".xlsx", ".xlsm")
 MARKS = ((codecs.BOM_UTF8, "utf-8-sig"), (codecs.BOM_UTF16_LE, "utf-16"), (codecs.BOM_UTF16_BE, "utf-16"))
-EXPORT = "or export the file as CSV in UTF-8"
 # So bytes are kept in a text that are not of its encoding: as U+DC00 and so on, which no text has.
 ESCAPES, ESCAPED = "crnplan.escapes", re.compile("[\udc00-\udcff]")
 # Bytes beside letters that are letters in cp1250, and signs or rare letters in cp1252; and the reverse.
@@ -121,16 +122,16 @@ def byte_fault(name: str, text: str, encoding: str, line: int = 1) -> Fault | No
     bad = ESCAPED.search(text)
     if bad is None:
         return None
-    is_utf_8 = encoding[:5] == "utf-8"
-    other = (argument("encoding", likely_encoding(text.encode("utf-8", "surrogateescape"))) if is_utf_8 else
-             f"another {argument('encoding')}")
-    return Fault(f"the byte 0x{ord(bad[0]) - 0xDC00:02x} is not {'UTF-8' if is_utf_8 else encoding}; say {other}, "
-                 f"{EXPORT}", name, *place_behind(text[:bad.start()], line))
+    facts: dict[str, Value] = {"byte": ord(bad[0]) - 0xDC00, "encoding": encoding}
+    if encoding[:5] == "utf-8":
+        facts["likely"] = likely_encoding(text.encode("utf-8", "surrogateescape"))
+    what = message(Remark("no byte of UTF-8" if "likely" in facts else "no byte of the encoding", facts))
+    return Fault(what, name, *place_behind(text[:bad.start()], line))
 
 
-def refused(what: str, name: str, *place: int) -> RefusedFaults:
-    """Returns the error of a file with one fault, in a line and perhaps a column."""
-    return RefusedFaults([Fault(what, name, *place)])
+def refused(code: str, name: str, *place: int, **facts: Value) -> RefusedFaults:
+    """Returns the error of a file with one fault, perhaps in a line and a column."""
+    return RefusedFaults([Fault(message(Remark(code, facts)), name, *place)])
 
 
 def state_of(path: Path | None) -> tuple[int, int]:
@@ -145,7 +146,7 @@ def readable(name: str) -> Iterator[None]:
     try:
         yield
     except OSError as fault:
-        raise Refused(f"{name}: {fault.strerror}; check the name of the file") from fault
+        raise refused("no file", name, fault=fault.strerror) from fault
 
 
 def rows_of_lines(name: str, lines: Iterable[str], delimiter: str) -> Iterator[tuple[int, list[str]]]:
@@ -158,8 +159,7 @@ def rows_of_lines(name: str, lines: Iterable[str], delimiter: str) -> Iterator[t
             yield line, texts
             line = reader.line_num + 1
     except csv.Error as fault:
-        raise refused(f"{fault}; check the quotes and the length of the cells in this row, or say "
-                      f"{argument('delimiter')}", name, line) from fault
+        raise refused("quotes", name, line, fault=str(fault)) from fault
 
 
 def sample(text: str, delimiter: str) -> list[TextRow]:
@@ -196,9 +196,8 @@ def delimiter_of(name: str, text: str, wanted: Set[str], role_of: RoleOf) -> str
     best = max(fits.values())
     fitting = [delimiter for delimiter, fit in fits.items() if fit == best]
     if len(fitting) > 1 and best[2]:
-        named = [word for word, sign in DELIMITERS.items() if sign in fitting and word != "\t"]
-        raise refused(f"{' and '.join(named)} may both be the delimiter; say "
-                      + " or ".join(argument("delimiter", sign) for sign in named[:2]), name, 1)
+        first, second, *_ = (word for word, sign in DELIMITERS.items() if sign in fitting and word != "\t")
+        raise refused("two delimiters", name, 1, first=first, second=second)
     return fitting[0]
 
 
@@ -238,7 +237,7 @@ class Sheet:
         """Raises Refused after the block if others have changed the file since it was opened."""
         yield
         if state_of(self.path) != self.state:
-            raise Refused(f"{self.name}: the file was changed while it was read; run again when it is whole")
+            raise refused("changed file", self.name)
 
     def rows(self) -> Iterator[Row]:
         """Yields the line in which each row begins, and its cells."""
@@ -295,7 +294,7 @@ class TextSheet(Sheet):
         self.encoding = next((its for mark, its in MARKS if data.startswith(mark)), rules.encoding or "utf-8")
         is_all = len(data) < HEAD_BYTES
         if not is_all and not re.search(b"[\r\n]", data):
-            raise refused(f"the first line has more than {HEAD_BYTES:,} bytes; end each row with a line feed", name, 1)
+            raise refused("long first line", name, 1, most=HEAD_BYTES)
         if not is_all and not self.encoding.startswith("utf-16"):
             data = data[:data.rfind(b"\n") + 1] or data
         try:
@@ -311,8 +310,7 @@ class TextSheet(Sheet):
         before, zero, _ = self.text.partition("\0")
         if zero:
             wide = "utf-16-be" if data[::2].count(0) > data[1::2].count(0) else "utf-16-le"
-            raise refused(f"there is a NUL character, as in UTF-16; say {argument('encoding', wide)}, {EXPORT}", name,
-                          *place_behind(before))
+            raise refused("NUL", name, *place_behind(before), encoding=wide)
 
     def head(self, wanted: Set[str], role_of: RoleOf) -> list[TextRow]:
         """Returns the first rows, by the delimiter that fits best."""
@@ -337,8 +335,7 @@ class TextSheet(Sheet):
         is not of the encoding."""
         for number, line in enumerate(iter(partial(file.readline, MOST_LETTERS), ""), 1):
             if len(line) == MOST_LETTERS:
-                raise refused(f"the line has more than {MOST_LETTERS - 1:,} letters; end each row with a line feed",
-                              self.name, number)
+                raise refused("long line", self.name, number, most=MOST_LETTERS - 1)
             wrong = None if line.isascii() else byte_fault(self.name, line, self.encoding, number)
             if wrong:
                 raise RefusedFaults([wrong])
@@ -365,11 +362,10 @@ def sheet_of_book(path: Path, sheet: str | None, rules: Rules) -> Sheet:
     try:
         book = openpyxl.load_workbook(path, read_only=True, data_only=True)
     except (OSError, zipfile.BadZipFile, KeyError, ValueError) as fault:
-        raise Refused(f"{path}: this is no workbook that can be read ({fault}); export it again, or as CSV") from fault
+        raise refused("no workbook", str(path), fault=str(fault)) from fault
     names = book.sheetnames
     if sheet is None and len(names) > 1 or sheet is not None and sheet not in names:
-        known = ", ".join(names[:MOST_LISTED])
-        raise Refused(f"{path}: which sheet is meant is not clear; say {path}!SHEET; the sheets are: {known}")
+        raise refused("no clear sheet", str(path), path=str(path), sheets=", ".join(names[:MOST_LISTED]))
     table: Any = book[sheet or names[0]]
     table.reset_dimensions()
     return Sheet(f"{path}{f'!{sheet}' if sheet else ''}", f"sheet {sheet or names[0]}", rules, path,
