@@ -191,8 +191,10 @@ def stated_columns(heading: Sequence[str], names: Mapping[str, str]) -> tuple[di
         unit, kind = bare_name(plain_name(name))[1], ROLE_UNITS.get(role)
         is_known = unit.isdecimal() if kind == "count" else kind == "length" and unit in DAYS
         columns[role] = Column(name, heading.index(name), unit=unit if is_known else "")
-    wrong = [message(Remark("same columns" if name in heading else "no stated column", {
-        "name": name, "role": role, "columns": listed(heading)})) for role, name in names.items() if role not in columns]
+    wrong = []
+    for role in (it for it in names if it not in columns):
+        facts = {"name": names[role], "role": role, "columns": listed(heading)}
+        wrong.append(message(Remark("same columns" if names[role] in heading else "no stated column", facts)))
     return columns, wrong
 
 

@@ -10,7 +10,7 @@ import numpy as np
 
 from ..errors import Fault, Refused, argument
 from ..formats import MOST_WEIGHT
-from ..remarks import Remark
+from ..remarks import Remark, Value
 from ..words import message
 from .cells import DateReader, Numbers, Unreadable, first_day, period_name, period_of
 
@@ -126,12 +126,13 @@ def record_of(counts: Mapping[Day, int], every: str, start: Day | None, end: Day
     latest = end or today
     days = sorted(day for day in counts if day <= latest and (start is None or day >= start))
     if not days:
-        raise Refused(message(Remark("no demand in the record", {"start": str(start or "the beginning"), "end": str(latest)})))
+        ends = {"start": str(start or "the beginning"), "end": str(latest)}
+        raise Refused(message(Remark("no demand in the record", ends)))
     first, last = start or _near(days, counts), end or _near(days[::-1], counts)
     record = Record(every, first, last, "before start" if start else "far before", "after end" if end else "late date")
     if len(record.periods) > MOST_WEIGHT:
-        raise Refused(message(Remark("too many periods", {
-            "count": len(record.periods), "every": every, "most": MOST_WEIGHT})))
+        facts: dict[str, Value] = {"count": len(record.periods), "every": every, "most": MOST_WEIGHT}
+        raise Refused(message(Remark("too many periods", facts)))
     return record
 
 
