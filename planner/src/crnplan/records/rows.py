@@ -39,9 +39,8 @@ class Codes(dict[Cell, int]):
     def __missing__(self, cell: Cell) -> int:
         """Reads a cell that is not known, and returns its code."""
         value = self.read(cell)
-        code = self.places.get(value)
-        if code is None:
-            code = self.places[value] = len(self.distinct)
+        code = self.places.setdefault(value, len(self.distinct))
+        if code == len(self.distinct):
             self.distinct.append(value)
         if len(self) < self.most:
             self[cell] = code
