@@ -17,6 +17,7 @@ from ..errors import Fault, Refused, RefusedFaults, argument, worded
 from ..files import Folder, faults_of, own_folder
 from ..remarks import Remark
 from ..stored import Columns, check_whole, digest_of, quoted
+from ..table import Json
 from ..words import message
 from .cells import NAMES, Unreadable, on_one_line, text_of
 from .columns import ROLES, converted, find_columns
@@ -131,27 +132,27 @@ class Catalogue:
         """Returns what was read, to be closed after use."""
         return contextlib.closing(Catalogued(self.path))
 
-    def _fact(self, name: str) -> Any:
+    def fact(self, name: str) -> Json:
+        """Returns a fact: `counts`, `found`, `said`, `every`, `decimals` or `periods`."""
         with self.opened() as read:
-            return read.fact(name)
+            return cast(Json, read.fact(name))
 
     @property
     def counts(self) -> Counts:
         """Returns how many rows of each file there are, by what became of them, and how many items."""
-        counts: Counts = self._fact("counts")
-        return counts
+        return cast(Counts, self.fact("counts"))
 
     @property
     def found(self) -> str:
         """Returns what was found in the files, as TOML that states it."""
         from ..pages.page import rendered
-        return rendered("found.toml", {**self._fact("found"), "formats": worded(argument("date_formats"))})
+        facts = cast(Mapping[str, Json], self.fact("found"))
+        return rendered("found.toml", {**facts, "formats": worded(argument("date_formats"))})
 
     @property
     def said(self) -> list[str]:
         """Returns what is to be said of the files, as units that were converted."""
-        said: list[str] = self._fact("said")
-        return said
+        return cast(list[str], self.fact("said"))
 
     @property
     def missing(self) -> list[str]:

@@ -97,7 +97,9 @@ def read_history(table: Table, *, demand: str, returns: str | None = None, date:
     rules = Rules(delimiter, encoding, decimal, tuple(date_formats), item or {}, leave_out)
     names = {"quantity": demand} | ({} if returns is None else {"returned": returns})
     if date is None:
-        _check_undated({("every",): every, ("net", "whole"): net or whole, ("start", "end"): start or end})
+        given = {"undated every": every, "undated net": net or whole, "undated ends": start or end}
+        for code in filter(given.get, given):
+            raise Refused(message(Remark(code)))
         with opened(table, "history", rules) as sheet:
             return _undated(Reading(sheet, names, counts_blank=True), [*names])
     if every not in EVERY:
@@ -353,14 +355,6 @@ def rare_signs(texts: Mapping[int, str], decimal: str | None) -> Iterator[tuple[
             DECIMALS[decimal == "."] in text) == is_grouped]
         if 0 < len(rows) <= max(1, len(texts) // RARE):
             yield rows[0], len(rows), others[texts[rows[0]]] or ""
-
-
-def _check_undated(given: Mapping[tuple[str, ...], object]) -> None:
-    """Rejects arguments that say nothing without dates."""
-    for names in (it for it in given if given[it]):
-        verb, more = ("needs", "") if len(names) == 1 else ("need", f", and {argument('every')}")
-        raise Refused(f"{' and '.join(map(argument, names))} {verb} dates: say {argument('date')} with the name of "
-                      f"their column{more}")
 
 
 def _undated(reading: Reading, roles: Sequence[str]) -> History:

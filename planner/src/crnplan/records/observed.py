@@ -139,11 +139,9 @@ def record_of(counts: Mapping[Day, int], every: str, start: Day | None, end: Day
 def _met(counts: list[int], period: int, amount: int) -> bool:
     """Takes an amount off demand by period, which is changed: off its period if that has enough, else off the last
     earlier one that has, else off the last earlier ones together. Returns whether they have enough."""
-    for place in range(period, -1, -1):
-        if counts[place] >= amount:
-            counts[place] -= amount
-            return True
-    for place in range(period, -1, -1):
+    places = range(period, -1, -1)
+    enough = next((place for place in places if counts[place] >= amount), None)
+    for place in places if enough is None else [enough]:
         taken = min(amount, counts[place])
         counts[place] -= taken
         amount -= taken
