@@ -145,7 +145,7 @@ def test_reasons(month: Month) -> None:
     changes = of_frame(month.plan(sales=sales, masters=masters.reset_index()).changes)
     since = sales[sales.date >= pd.Timestamp(day(BEFORE))].groupby("item").quantity
     for name in ("I-000", "I-002", "I-003"):
-        rows, amount = since.count().get(name, 0), since.sum().get(name, 0)
+        rows, amount = int(since.count().get(name, 0)), int(since.sum().get(name, 0))
         assert changes.why[name].startswith(f"8 new periods with {amount} item{'s' * (amount != 1)} in {rows} "
                                             f"row{'s' * (rows != 1)}; mean ")
     assert "holding 0.55 to 0.6; mean lead time 2 to 2.667" in changes.why["I-001"]
