@@ -20,8 +20,10 @@ IDS = [*NAMES[:4], "item of markup", "item in Arabic", "item of a long name"]
 INJECTED = Path(__file__).with_name("injected.js").read_text("utf-8")
 
 
-@pytest.mark.parametrize("form", FORMS, ids=str)
-@pytest.mark.parametrize("name", NAMES, ids=IDS)
+# Colours do not depend on the name of an item.
+@pytest.mark.parametrize("name, form", [
+    pytest.param(name, form, id=f"{said}-{form}") for name, said in zip(NAMES, IDS) for form in FORMS
+    if name not in PLANNED or form.scheme == "light"])
 def test_page_has_no_fault(browser: Browser, pages: Pages, name: str, form: Form) -> None:
     browser.open(pages(name), form)
     assert faults_of(browser) == []

@@ -32,7 +32,7 @@ CURVE_TABLES = (CURVE, POLICIES, LEFT_OUT)
 # What is killed at random: a command with its words, the file with the answers that it keeps, and its tables.
 PLAN = ["catalogue", *WORDS, "--out", "plan"], ANSWERS, TABLES
 DRAW = ["curve", "plan", "--fill", "0.9", "--confirm", "0"], CANDIDATES, CURVE_TABLES
-KILLS, MOST_DELAY = 3, 0.5  # the delay in seconds, from when so many answers are kept
+KILLS, MOST_DELAY = 2, 0.5  # the delay in seconds, from when so many answers are kept
 HOLDING = """echo run >> "{folder}/runs"
 [ "$(wc -l < "{folder}/runs")" -le {passes} ] || until [ -e "{folder}/go_on" ]; do sleep 0.05; done
 exec "{program}"
@@ -161,7 +161,7 @@ def test_killed(folder: Path, whole: Path, crnplan: Command, holding: Path, star
 @pytest.mark.parametrize("seed, command, file, names", [(3, *PLAN), (6, *DRAW)], ids=["plan", "curve"])
 def test_killed_at_random(folder: Path, drawn: Path, crnplan: Command, start: Start, holding: Path, seed: int,
                           command: list[str], file: str, names: Sequence[str]) -> None:
-    """Killed at three random moments, a command loses nothing that was kept, and goes on to the same bytes."""
+    """Killed at random moments, a command loses nothing that was kept, and goes on to the same bytes."""
     source, before = random.Random(seed), set[tuple[str, str, str]]()
     (folder / "go_on").touch()
     if file == CANDIDATES:
