@@ -61,5 +61,5 @@ def test_modules_are_commands() -> None:
     """Each command of the modules of crnplan.commands is in the list, with its module."""
     modules = (TOP / "planner/src/crnplan/commands").glob("[a-z]*.py")
     made = {name: it.stem for it in modules
-            for name in re.findall(r"^@click.command(?:[^\n]|\n(?!\n))*?\ndef (\w+)", it.read_text("utf-8"), re.MULTILINE)}
-    assert made == {name: module for name, (module, _) in COMMANDS.items()}
+            for name in re.findall(r"^@command\((?:[^\n]|\n(?!\n))*?\ndef (\w+)", it.read_text("utf-8"), re.MULTILINE)}
+    assert made == {name: page["module"] for name, page in COMMANDS.items()}
