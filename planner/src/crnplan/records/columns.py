@@ -55,8 +55,6 @@ def unit_fault(role: str, unit: str) -> str | None:
 def conversion(role: str, unit: str, every: str) -> tuple[Fraction, str]:
     """Returns by what the numbers of a role are multiplied, and the words for it. A share is one of a year."""
     kind = ROLE_UNITS.get(role)
-    if not unit:
-        return Fraction(1), ""
     if unit.isdecimal():
         return ((Fraction(unit), f"packs of {unit} to items") if kind == "count" else
                 (1 / Fraction(unit), f"a price for {unit} to items"))
