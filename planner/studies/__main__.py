@@ -16,7 +16,7 @@ from .page import STUDIES
 
 FOLDER = Path(__file__).parent
 WITH_JOBS = ("laws", "laws_leads", "long_run", "fills", "borrowing", "doubt", "walk_forward", "broken",
-             "level_spread_tail")
+             "level_spread_tail", "correction")
 PRINTED = ("long_run",)  # its table is a text
 SEVERAL = ("borrowing", "walk_forward")  # they write more than one file, into a folder
 

@@ -13,7 +13,7 @@ import pandas as pd
 
 PAGE = Path(__file__).with_name("README.md")
 STUDIES = ("laws", "laws_leads", "long_run", "warnings", "dependence", "fills", "search", "borrowing", "doubt",
-           "walk_forward", "broken", "level_spread_tail")
+           "walk_forward", "broken", "level_spread_tail", "correction")
 PLACE = re.compile(r"(?P<start><!-- (?P<name>[a-z-]+) -->\n).*?(?P<end><!-- end -->)", re.DOTALL)
 
 

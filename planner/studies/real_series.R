@@ -40,3 +40,21 @@ if (has("bayesm")) {
   tuna <- load_data("tuna", "bayesm")
   for (name in grep("^MOVE", names(tuna), value = TRUE)) say("tuna", name, tuna[[name]])
 }
+
+# Monthly sales: homes by city, and prescriptions by physician.
+if (has("ggplot2")) {
+  homes <- as.data.frame(load_data("txhousing", "ggplot2"))
+  for (rows in split(homes, homes$city, drop = TRUE)) say("homes", rows$city[1], rows$sales)
+}
+if (has("bayesm")) {
+  scripts <- load_data("detailing", "bayesm")$counts
+  for (rows in split(scripts, scripts$id)) say("prescriptions", paste("physician", rows$id[1]), rows$scripts)
+}
+
+# Weekly rides from stations of a city, in thousands.
+if (has("modeldata")) {
+  rides <- as.data.frame(load_data("Chicago", "modeldata"))
+  week <- as.integer(as.Date(rides$date) - as.Date("2001-01-22")) %/% 7  # the first day is a Monday
+  whole <- week %in% names(which(table(week) == 7))
+  for (station in names(rides)[3:21]) say("rides", station, tapply(rides[whole, station], week[whole], sum))
+}

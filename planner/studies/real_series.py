@@ -1,8 +1,9 @@
-"""Reads real series that packages of R have, where these are installed: weekly sales and weekly counts of cases.
+"""Reads real series that packages of R have, where these are installed: sales, and counts of cases.
 
-On Debian they are r-cran-surveillance (reported cases of diseases by district, state or age) and r-cran-bayesm (orange
-juice by store and brand, cheese by chain and city, tuna by brand). Nothing of them is kept here. A week that a store
-has not reported is left out of its series.
+On Debian they are r-cran-surveillance (weekly cases of diseases by district, state or age), r-cran-bayesm (weekly sales
+of orange juice by store and brand, cheese by chain and city, tuna by brand; monthly prescriptions by physician),
+r-cran-ggplot2 (monthly sales of homes by city) and r-cran-modeldata (weekly rides by station). Nothing of them is kept
+here. A week that a store has not reported is left out of its series.
 """
 from __future__ import annotations
 
@@ -15,7 +16,8 @@ from typing import NamedTuple
 SCRIPT = Path(__file__).with_suffix(".R")
 # The set of a data set; those of no set are `cases`.
 SETS = {"cases fluBYBW": "flu", "cases measlesDE": "measles", "cases measlesWeserEms": "measles",
-        **{name: name for name in ("juice", "cheese", "tuna", "monthly meningo.age", "monthly rotaBB")}}
+        **{name: name for name in ("juice", "cheese", "tuna", "homes", "prescriptions", "rides", "monthly meningo.age",
+                                      "monthly rotaBB")}}
 
 
 class Series(NamedTuple):

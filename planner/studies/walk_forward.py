@@ -47,6 +47,7 @@ GOALS: dict[str, dict[str, float]] = {"95%": {"fill": 0.95}, "98%": {"fill": 0.9
 # The record of a set, what is refitted after, and the window; of all others 52, 13 and 52.
 WALKS = {"cheese": (26, 4, 26), "monthly rotaBB": (52, 12, 52), "monthly meningo.age": (52, 12, 52)}
 MANY, STRIDE = 100, 5
+SETS = ("cases", "flu", "measles", "monthly meningo.age", "monthly rotaBB", "juice", "cheese", "tuna")
 START = datetime.date(2000, 1, 3)  # a Monday
 CATALOGUES = {"steady": 100, "shuffled shift": 100, "shift": 20, "promotions": 20}  # made ones of each kind
 ITEMS, MADE_GOAL = 20, "95%"  # of a made catalogue
@@ -120,7 +121,7 @@ def real_study(jobs: int, only: Sequence[str] = ()) -> tuple[pd.DataFrame, pd.Da
     single: list[dict[str, float | str]] = []
     for name, series in real_series().items():
         taken = series[::STRIDE] if len(series) > MANY else series
-        for goal, words in GOALS.items() if not only or name in only else ():
+        for goal, words in GOALS.items() if name in (only or SETS) else ():
             tests = tested(taken, words, WALKS.get(name, (52, 13, 52)), jobs)
             if tests.tested.sums:
                 rows.append({"set": name, "goal": goal, **row_of(tests.tested.sums[0])})

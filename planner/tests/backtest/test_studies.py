@@ -1,6 +1,7 @@
 """Tests the studies of real series: how they are read, laws are swapped and codes compared; and parts of made ones."""
 from __future__ import annotations
 
+import math
 import shutil
 from pathlib import Path
 from typing import Any
@@ -12,7 +13,7 @@ import pytest
 
 from crnplan.demand.fitting import fit_demand
 from crnplan.plan.backtest.sums import HOLDS, TIME, UNSURE
-from planner.studies import broken, real_series, walk_forward
+from planner.studies import broken, correction, real_series, walk_forward
 from planner.studies.level_spread_tail import Ratios, on_lattice, ratios_of, sets_of, swapped
 from planner.studies.real_series import Series, parse
 from planner.tests.backtest.test_sums import made
@@ -111,3 +112,46 @@ def test_small_part_of_broken_promises(top: Path) -> None:
         own = stored.loc[(row["set"], row["item"])]
         assert [own[name] for name in ("codes", *broken.FILLS)] == [row[name] for name in ("codes", *broken.FILLS)]
     assert {*broken.SETS} < {*stored.index.get_level_values("set")}
+
+
+def test_small_part_of_corrections() -> None:
+    """The figures of a small set are the stored ones."""
+    keys = ["policy", "wanted", "way", "by"]
+    stored = pd.read_csv(correction.STORED).query("set == @correction.SMALL").set_index(keys)
+    catalogue, = correction.catalogues(True)
+    rows = pd.DataFrame(correction.rows_of(catalogue, correction.tests_of(catalogue))).set_index(keys)
+    for figure in ("least", "most", "fill", "error", "stock"):
+        assert rows[figure].to_numpy() == pytest.approx(stored.loc[rows.index, figure].to_numpy(), abs=2e-3), figure
+
+
+def test_passes_by_hand() -> None:
+    """A way plans from periods that come before those on which it is tried."""
+    assert correction.half(26) == [correction.Pass((((0, 13), 13, 26),))]
+    assert [one.stretches for one in correction.walk(16)] == [
+        (((0, start), start, start + 2),) for start in (8, 10, 12, 14)]
+    assert correction.refitted(52, 70).stretches == (((0, 52), 52, 65), ((13, 65), 65, 70))
+
+
+def test_between_two_rates_by_hand() -> None:
+    """Between 97% and 98% the middle is where sqrt(0.03 * 0.02) is unmet."""
+    values = np.array([[9.0, 8.0, 7.0, 5.0, 4.0, 3.0, 2.0, 1.0, 0.0]])
+    assert correction.at(values, 1 - math.sqrt(0.03 * 0.02)) == pytest.approx([6.0])
+    assert correction.at(values, 0.98) == pytest.approx([5.0])
+
+
+def test_judged_by_hand() -> None:
+    """Of two items that weigh alike one meets half of its demand, the other all of it. Their mean stocks are those of
+    two and of six periods."""
+    def tested(asked: float, unmet: float, stock: float) -> correction.Tested:
+        runs = correction.Runs(0, np.full(8, asked), np.full((8, 9), unmet), np.full((8, 9), stock))
+        return correction.Tested((1,), asked, {}, {"kept": runs})
+    done = correction.judged([tested(2.0, 1.0, 4.0), tested(10.0, 0.0, 60.0)], "kept", [0.95, 0.98])
+    assert (done.fill, done.stock) == (0.75, 4.0)
+
+
+def test_runs_by_hand() -> None:
+    """From a stock of 5, with s = 3 and S = 5, demands of 4 leave 3 unmet in the second period. Then all is unmet: of
+    what the order of that period brings two periods later, 7 are owed."""
+    through = correction.Pass((((0, 1), 1, 4),))
+    runs = correction.runs_of((4, 4, 4, 4), through, {(0, 1): [(3, 5)] * 9}, 1.0)
+    assert runs.unmet[:, 0].tolist() == [3.0, 4.0, 4.0] and runs.stock[:, 0].tolist() == [0.0, 0.0, 0.0]

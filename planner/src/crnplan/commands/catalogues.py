@@ -69,7 +69,8 @@ TAKEN = (KEEP, LEAVE_OUT)
 @click.option("--borrow", type=click.Choice(BORROW),
               help="From which items each learns its law of demand; by default all if there are 100. The masters may "
               "have a column borrow.")
-@click.option("--learn-again", "again", is_flag=True, help="Learn laws anew, not as in an earlier run in FOLDER.")
+@click.option("--learn-again", "again", is_flag=True,
+              help="Learn laws, and where plans aim, anew, not as in an earlier run in FOLDER.")
 @click.option("--confidence", type=float, metavar="SHARE",
               help="Keep a wanted fill rate under this share of the laws that the item's history allows.")
 @click.option("--window", type=click.IntRange(1), metavar="N",
@@ -78,6 +79,8 @@ TAKEN = (KEEP, LEAVE_OUT)
               help="Plan again after the plan in FOLDER, with the same records or longer ones: say what moved and why.")
 @click.option("--least-gain", metavar="SHARE", callback=share_of,
               help="With --after, keep levels if a change gains less than this share of their cost, as 2%.")
+@click.option("--correct", is_flag=True, default=None,
+              help="Aim at fill rates at which the catalogue's past has met the wanted ones.")
 @click.option("--level", type=float, metavar="SHARE", help="The level of the intervals; by default 0.95.")
 @click.option("--seed", metavar="TEXT", help="The keys of all items follow from it; by default crnplan.")
 @click.option("--config", metavar="FILE.toml", help="Settings; by default crnplan.toml, if it is here.")

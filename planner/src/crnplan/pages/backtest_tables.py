@@ -24,8 +24,8 @@ WORDS = {"today": "today's policy", "kept": "the plan that is kept", "refitted":
          "shuffled": "the plan that is kept, with all periods in a random order"}
 VERDICTS = {
     HOLDS: "the promise holds", UNSURE: "unsure: the promise was missed, perhaps by chance",
-    TIME: "time breaks it: refit", RARE: "rare large demands break it: aim higher",
-    BOTH: "time and rare large demands break it: refit, and aim higher",
+    TIME: "time breaks it: refit", RARE: "rare large demands break it: aim higher (plan with correct)",
+    BOTH: "time and rare large demands break it: refit, and aim higher (plan with correct)",
     FEW: f"no verdict: fewer than {LEAST_ITEMS} items"}
 SINGLE = ("All of it is of many items, and predicts single ones poorly: many that keep their promise in one half of a "
           "year miss it in the next.")

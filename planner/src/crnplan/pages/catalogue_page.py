@@ -24,7 +24,7 @@ from ..records.item import Item
 from ..remarks import Remark
 from ..table import DataTable
 from .backtest_tables import past_line
-from .catalogue_tables import (DECISION_COLUMNS, DECISIONS, EXACT, REJECTS, catalogue_summary, decision_row,
+from .catalogue_tables import (DECISION_COLUMNS, DECISIONS, EXACT, REJECTS, aims_of, catalogue_summary, decision_row,
                                decisions_of, exact_of, faults_of, planned_of, reasons_of, rejects_of)
 from .change_tables import CHANGES, change_lines, changes_of, moved_rows
 from .item_page import ItemWords, item_page
@@ -93,6 +93,7 @@ def catalogue_page(folder: PlannedFolder, totals: Totals) -> str:
     return rendered("catalogue.html", {
         "every": folder.every, "money": money, "decimals": folder.decimals, "settings": settings, "totals": totals,
         "sources": folder.counts["files"], "named": folder.counts["items"]["named"], "ends": ends,
+        "aims": aims_of(folder, totals),
         "pages": {name: quote(f"{ITEMS}/{file}") for name, file in files.items() if file in there},
         "rows": rows, "lost": missing_of(folder.counts, totals.planned + totals.faults), "meanings": MEANING,
         "plot": plot, "points": points, "is_old": curve is not None, "headings": COLUMNS,

@@ -5,6 +5,7 @@ from collections.abc import Iterable, Iterator, Mapping, Sequence
 from dataclasses import dataclass, field
 from fractions import Fraction
 
+from ..plan.aims import CLASSES
 from ..plan.answer import RUN, THEORY, Answer
 from ..plan.catalogue import PlannedFolder, Totals
 from ..records.items import FileCounts, Reject
@@ -35,9 +36,11 @@ DECISION_COLUMNS = (
     money("run_saving", "the saving by crnsim, less the bias of the start by theory"),
     money("run_low", "the low end of its interval; empty if it has none"), money("run_high", "the high end"),
     number("fill_wanted", "share", "of demand to be met at once", ".4f"),
+    number("fill_aimed", "share", "at which the plan aims by the catalogue's past, if that corrects it", ".4f"),
     number("fill_today", "share", "of demand met at once, by theory", ".4f"),
     number("fill_chosen", "share", "of demand met at once, by theory", ".4f"),
     *(number(f"stock_{it}", "items", "the mean stock, by theory", ".5g") for it in ("today", "chosen")),
+    number("stock_uncorrected", "items", "that of the policy that aims at the wanted fill, if it is corrected", ".5g"),
     *(number(f"value_{it}", "money", "that stock at the price of the masters", MONEY) for it in ("today", "chosen")),
     *(number(f"orders_{it}", "orders a period", "by theory", ".5g") for it in ("today", "chosen")),
     money("cost_confidence", "what the confidence in the wanted fill costs, by theory"),
@@ -61,6 +64,13 @@ EXACT_COLUMNS = (
     *(exact(f"cost_{it}", "money a period", "of the run, with the bias of its start") for it in ("today", "chosen")),
     exact("saving", "money a period", "of the run, with the bias of its start"),
     exact("saving_variance", "money squared", "of that saving"))
+AIM_COLUMNS = (
+    number("wanted", "share", "of demand to be met at once", ".10g", ".2%"),
+    text("class", "items whose mean demand is up to the median of the catalogue, or above"),
+    number("aimed", "share", "at which the plans of the class aim", ".10g", ".2%"),
+    number("met", "share", "that this met of demand on the past", ".10g", ".2%"),
+    whole("items", "items", "whose past was tried"), whole("periods", "periods", "of these items"))
+MOST_WANTED = 3  # fill rates, of which the aims are shown
 REJECT_COLUMNS = (
     text("kind", "`row`, `item`, or `suspicious`: a row that counts all the same"), text("file", "its name"),
     whole("line", "lines", "the line of the file, from 1"), text("item", "the item"),
@@ -71,14 +81,17 @@ REJECT_COLUMNS = (
 
 def decision_row(item: Item, answer: Answer) -> list[Cell]:
     """Returns the row of an item in decisions.csv, unrounded."""
-    today, chosen, alone, run = answer.today, answer.chosen, answer.alone, answer.run
+    today, chosen, alone, run, correction = (
+        answer.today, answer.chosen, answer.alone, answer.run, answer.correction)
     prices = [None if item.price is None else float(item.price) * it.stock for it in (today, chosen)]
     remarks = *item.remarks, *answer.remarks
     codes, words = "; ".join(it.code for it in remarks), "; ".join(map(sentence, remarks))
     return [item.name, item.description, item.group, answer.verdict, *today.levels, *chosen.levels,
             answer.cost_today, answer.cost_chosen, answer.saving, PLANNED_BY[answer.source], run.saving,
-            run.low, run.high, None if item.fill is None else float(item.fill), today.fill, chosen.fill,
-            today.stock, chosen.stock, *prices, today.orders, chosen.orders, answer.confidence_cost,
+            run.low, run.high, None if item.fill is None else float(item.fill),
+            correction.aim if correction else None, today.fill, chosen.fill, today.stock, chosen.stock,
+            correction.plain_stock if correction else None, *prices, today.orders, chosen.orders,
+            answer.confidence_cost,
             *((*alone.levels, alone.cost, alone.fill) if alone else [None] * 4), answer.law.mean, len(item.counts),
             sum(count > 0 for count in item.counts), answer.law.family, answer.law.share, answer.law.log10_bayes, codes,
             words]
@@ -170,6 +183,18 @@ def counted_rows(files: Mapping[str, FileCounts]) -> Iterator[str]:
                + f"; {counts['blank']:,} blank rows" * (counts["blank"] > 0))
 
 
+def aims_of(folder: PlannedFolder, totals: Totals) -> DataTable | None:
+    """Returns where each class of items aims, for the wanted fill rates that most items have; None if these are not
+    corrected."""
+    aims = folder.settings.aims
+    if aims is None:
+        return None
+    wanted = sorted(fill for fill, _ in totals.corrected.most_common(MOST_WANTED))
+    rows = [(fill, name, tried.aim(fill), tried.met(tried.aim(fill)), tried.items, tried.periods)
+            for fill in wanted for name, tried in zip(CLASSES, aims.classes)]
+    return DataTable(AIM_COLUMNS, rows)
+
+
 def catalogue_summary(folder: PlannedFolder, totals: Totals, learned: Sequence[Remark], changes: Iterable[str] = (),
                       missing: Iterable[str] = ()) -> str:
     """Returns as a text what became of all rows and items, what was learned, the totals, lines on what has changed
@@ -178,5 +203,5 @@ def catalogue_summary(folder: PlannedFolder, totals: Totals, learned: Sequence[R
     return rendered("summary.txt", {
         "settings": folder.settings, "every": folder.every, "items": folder.counts["items"], "totals": totals,
         "files": counted_rows(folder.counts["files"]), "rejects": REJECTS, "ends": (saving - half, saving + half),
-        "learned": learned, "changes": changes, "missing": missing,
+        "learned": learned, "changes": changes, "missing": missing, "aims": aims_of(folder, totals),
         "money": lambda amount: f"{amount:z,.{min(folder.decimals, 2)}f}"})

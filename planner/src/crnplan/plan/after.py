@@ -68,12 +68,13 @@ def take_over(answers: Store[Answer], read: Catalogued, planned: Planned, earlie
 def common_changes(earlier: Planned, planned: Planned) -> Iterator[Remark]:
     """Yields what has changed for all items: settings, what was learned, and what computes."""
     before, after = (dataclasses.asdict(plan.settings) for plan in (earlier, planned))
-    moved = [name for name in before if before[name] != after[name] and name != "least_gain"]
+    moved = [name for name in before if before[name] != after[name] and name not in ("least_gain", "aims")]
     facts: dict[str, Value] = {f"{name} {when}": values[name] for name in moved
                                for when, values in (("before", before), ("after", after))}
     if facts:
         yield Remark("other settings", facts)
-    if earlier.prior.text != planned.prior.text:
+    learned = [(plan.prior.text, plan.settings.aims) for plan in (earlier, planned)]
+    if learned[0] != learned[1]:
         yield Remark("other learning")
     if json.loads(earlier.base)[:3] != json.loads(planned.base)[:3]:
         yield Remark("other program")

@@ -36,6 +36,15 @@ class Figures:
 
 
 @dataclass(frozen=True)
+class Correction:
+    """The fill rate at which a plan aims by the past of its catalogue, and the mean stock in items, by theory, of the
+    policy that aims at the wanted one."""
+
+    aim: float
+    plain_stock: float
+
+
+@dataclass(frozen=True)
 class LawFacts:
     """The law of demand: its family, its share beside what was seen, the log10 of the Bayes factor for what it has
     learned from others (None if nothing), and its mean and standard deviation in items a period."""
@@ -85,7 +94,8 @@ class Answer:
     where it is exact, else of the run. `alone` is the policy of the item's own history under the law that it has; None
     if there is none. So is `before`, that of an earlier plan, and `undamped`, which would be chosen if that one did not
     stay because a change gains too little. Theory counts in steps of `step` boxes. `confidence_cost` is what the
-    confidence in a wanted fill costs a period, None without one.
+    confidence in a wanted fill costs a period, None without one. `correction` is None if the wanted fill is not
+    corrected.
     """
 
     verdict: str
@@ -100,6 +110,7 @@ class Answer:
     undamped: Figures | None
     step: int
     confidence_cost: float | None
+    correction: Correction | None
     law: LawFacts
     run: Run
     remarks: tuple[Remark, ...]

@@ -29,8 +29,10 @@ from ..remarks import Remark
 from ..stored import Damaged, Store, digest_of
 from ..words import advice, sentence
 from .after import CHANGES, PLAN, check_records, changes_since, keep_changes, policy_before, take_over
+from .aims import Aims
 from .answer import CHOSEN, OURS, RUN, TODAY, Answer
 from .changes import Change
+from .correction import AIMS, aims_of
 from .one import plan_batch
 from .question import ALL, CLASS, NONE, Question, Settings, question_of
 
@@ -57,11 +59,12 @@ class Totals:
     Sums of money, as `totals["saving"]`: `cost_today`, `cost_chosen` and `saving` of a period; `run_saving`, by runs,
     with its `run_variance`; `value_today` and `value_chosen` of the mean stock; `confidence_cost` of a period; `saving
     VERDICT`; of items with a price, the value of the demand of a period, `demand`, and `met_today` and `met_chosen` of
-    it at once.
+    it at once; of items whose wanted fill is corrected, what it costs a period to hold the mean stock, `held`, and that
+    of the policies that aim at the wanted fill, `held_plain`.
 
     Counts of items: by verdict, those that are not planned (`faults`), those of them by a fault of ours (`broken`),
     those with the run's figures (`by_run`), without an interval of the run, with a confidence in their fill rate
-    (`promised`), and with a price.
+    (`promised`), and with a price; and by the wanted fill, if that is `corrected`.
     """
 
     parts: defaultdict[str, list[float]] = field(default_factory=lambda: defaultdict(list))
@@ -72,6 +75,7 @@ class Totals:
     without_interval: int = 0
     promised: int = 0
     priced: int = 0
+    corrected: Counter[float] = field(default_factory=Counter)
 
     @classmethod
     def of(cls, answers: Iterable[tuple[Item, Answer | Remark]]) -> Totals:
@@ -104,6 +108,10 @@ class Totals:
                   f"saving {answer.verdict}": answer.saving, "run_saving": run.saving,
                   "run_variance": (run.error or 0.0)**2, "confidence_cost": answer.confidence_cost or 0.0,
                   "demand": demand}
+        if answer.correction and item.fill is not None:
+            self.corrected[float(item.fill)] += 1
+            values |= {"held": float(item.holding) * answer.chosen.stock,
+                       "held_plain": float(item.holding) * answer.correction.plain_stock}
         for name, figures in ((TODAY, answer.today), (CHOSEN, answer.chosen)):
             values |= {f"value_{name}": price * figures.stock, f"met_{name}": demand * figures.fill}
         for name, value in values.items():
@@ -148,7 +156,9 @@ class Planned:
         try:
             tree = json.loads(text)
             prior = Prior(NONE) if tree["borrow"] == NONE else Prior.parse(answers.fact(PRIOR) or "", str(answers.path))
-            return cls(Settings(**tree["settings"]), prior, str(tree["common"]), str(tree.get("earlier", "")))
+            aims = tree["settings"].pop("aims", None)
+            settings = Settings(**tree["settings"], aims=None if aims is None else Aims.parse(aims))
+            return cls(settings, prior, str(tree["common"]), str(tree.get("earlier", "")))
         except (ValueError, LookupError, TypeError) as fault:
             raise Damaged(answers.path, f"what was planned is not as it was kept ({fault})") from fault
 
@@ -336,9 +346,9 @@ def learned_now(answers: Store[Any], read: Catalogued, way: str, least: int) -> 
 
 
 def take_prior(answers: Store[Any], earlier: PlannedFolder, again: bool) -> None:
-    """Keeps what the items of an earlier plan have learned, unless it is to be learned again."""
-    facts = {name: earlier.store.fact(name) for name in (PRIOR, PRIOR_WINDOW)}
-    if not again and None not in facts.values():
+    """Keeps what the items of an earlier plan have learned, and where they aim, unless it is to be learned again."""
+    facts = {name: earlier.store.fact(name) for name in (PRIOR, PRIOR_WINDOW, AIMS)}
+    if not again:
         answers.keep_facts({name: fact for name, fact in facts.items() if fact is not None})
 
 
@@ -375,6 +385,9 @@ def plan_into(folder: Folder, settings: Settings, *, after: Path | None = None, 
         if settings.window is not None:
             remarks += (Remark("window", {"periods": settings.window}),)
         settings = dataclasses.replace(settings, borrow=usual, every=read.fact("every"))
+        if settings.correct:
+            settings = dataclasses.replace(settings, aims=aims_of(
+                folder, answers, read, settings, prior, again=again, workers=workers_of(jobs, address), shown=shown))
         planned = Planned(settings, prior, settings.common(program_digest(path, address), prior),
                           earlier.digest if earlier else "")
         planned.keep(answers)

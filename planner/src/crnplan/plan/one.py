@@ -37,7 +37,7 @@ from ..theory.many_laws import Promises
 from ..theory.run_effects import start_bias
 from ..words import advice, sentence
 from .answer import (ALONE, BEFORE, CHEAPER, CHOSEN, DAMPED, DEARER, RUN, SAME, SERVICE, THEORY, TODAY, UNDAMPED,
-                     UNDECIDED, Answer, Figures, LawFacts, Run)
+                     UNDECIDED, Answer, Correction, Figures, LawFacts, Run)
 from .question import NONE, Levels, Question, Settings, question_of
 
 Result = TypeVar("Result")
@@ -98,10 +98,9 @@ def allowed_by(question: Question, laws: int = LAWS) -> tuple[tuple[Law, ...], t
 
 
 def choice_of(theory: LongRun, question: Question) -> Choice:
-    """Returns the best policy, or the cheapest that meets the wanted share: with a confidence, under so many of the
+    """Returns the best policy, or the cheapest that meets the share it aims at: with a confidence, under so many of the
     laws that the history allows. That of an earlier plan may stay: see `damped`. Raises NoPolicy if there is none."""
-    confidence = question.settings.confidence
-    fill = None if question.item.fill is None else float(question.item.fill)
+    confidence, fill = question.settings.confidence, question.aim
     best = theory.best(fill or 0.0)
     plain = best.point, best.level
     if best.cost == math.inf:
@@ -118,12 +117,13 @@ def choice_of(theory: LongRun, question: Question) -> Choice:
 
 def damped(choice: Choice, theory: LongRun, question: Question, promises: Promises | None = None) -> Choice:
     """Returns the choice; or the policy of an earlier plan, if a change gains less than the least share of its cost,
-    and it still keeps the wanted fill rate: by the law of the item, and under enough laws if that is promised."""
-    before, least, fill = question.before, question.settings.least_gain, question.item.fill
+    and it still keeps the fill rate at which plans aim: by the law of the item, and under enough laws if that is
+    promised."""
+    before, least, fill = question.before, question.settings.least_gain, question.aim
     if before is None or least is None or before == choice.levels:
         return choice
     earlier, new = (figures_of(question, theory, levels) for levels in (before, choice.levels))
-    if fill is not None and (earlier.fill < fill or promises and not promises.keeps(*before, float(fill))):
+    if fill is not None and (earlier.fill < fill or promises and not promises.keeps(*before, fill)):
         return choice
     if earlier.cost - new.cost >= least * earlier.cost:
         return choice
@@ -245,7 +245,7 @@ def run_of(question: Question, report: Report, sample: Sample) -> Run:
 
 def verdict_of(question: Question, today: Figures, saving: float, low: float | None, high: float | None) -> str:
     """Returns the verdict on a policy that is not today's, by its saving, which is between both ends."""
-    fill = question.item.fill
+    fill = question.aim
     if low is not None and low > 0:
         return CHEAPER
     if fill is not None and not question.has_backlog and (today.fill < fill or saving < 0):
@@ -268,6 +268,15 @@ def damping_of(figures: Mapping[str, Figures]) -> Iterator[Remark]:
     if before and best:
         gain = before.cost - best.cost
         yield Remark(DAMPED, {"s": best.point, "S": best.level, "gain": gain, "share": gain / before.cost})
+
+
+def correction_of(question: Question, theory: LongRun) -> Correction | None:
+    """Returns where the plan of an item aims by the past of its catalogue; None if nothing is corrected."""
+    aim, wanted = question.aim, question.item.fill
+    if aim is None or wanted is None or question.settings.aims is None:
+        return None
+    plain = theory.best(float(wanted))
+    return Correction(aim, theory.figures(plain.point, plain.level).stock * question.item.box)
 
 
 def remarks_of(question: Question, theory: LongRun, sample: Sample, choice: Choice) -> Iterator[Remark]:
@@ -321,7 +330,7 @@ def plan_one(question: Question, program: str) -> Answer:
         confidence_cost = best.cost - plain.cost
     return Answer(verdict, THEORY if theory.exact else RUN, *costs, saving, today, chosen, figures.get(ALONE),
                   figures.get(BEFORE), figures.get(UNDAMPED), theory.step, confidence_cost,
-                  law_facts(question.demand, item.box), run,
+                  correction_of(question, theory), law_facts(question.demand, item.box), run,
                   (*remarks_of(question, theory, sample, choice), *damping_of(figures)))
 
 

@@ -21,6 +21,7 @@ from ..records.item import BORROW, Item
 from ..scenario import Scenario
 from ..theory.lattice import lattice_of, shape_of, theory_on
 from ..theory.long_run import LongRun
+from .aims import Aims
 
 VERSION = 6  # Answers of others are not used again.
 NONE, CLASS, ALL = BORROW
@@ -36,7 +37,8 @@ class Settings:
     With a `confidence`, wanted fill rates are kept under that share of the laws that a history allows. A period is a
     day, week or month (`every`), or has no dates; `season` is the number of periods of a season that is looked for.
     Laws are fitted, learned and checked on the last `window` periods of each history alone, or on all. The levels of an
-    earlier plan stay if a change gains less than the share `least_gain` of their cost.
+    earlier plan stay if a change gains less than the share `least_gain` of their cost. `correct` has wanted fill rates
+    corrected by the catalogue's past, by which items then have their `aims`.
     """
 
     seed: str = "crnplan"
@@ -51,6 +53,8 @@ class Settings:
     season: int | None = None
     window: int | None = None
     least_gain: float | None = None
+    correct: bool = False
+    aims: Aims | None = field(default=None, repr=False)
 
     def __post_init__(self) -> None:
         for name, word, words in (("fit", self.fit, METHODS), ("lead_fit", self.lead_fit, LEAD_METHODS),
@@ -124,6 +128,15 @@ class Question:
         that."""
         borrowed = self.demand.diagnostics.borrowed
         return borrowed if borrowed and not borrowed.alone else None
+
+    @property
+    def aim(self) -> float | None:
+        """Returns the fill rate at which the plan aims by the law: the wanted one, or what the past of the catalogue
+        makes of it. None if none is wanted."""
+        wanted, aims = self.item.fill, self.settings.aims
+        if wanted is None or aims is None:
+            return None if wanted is None else float(wanted)
+        return aims.aim(self.item.counts, float(wanted))
 
     @property
     def implied_backlog(self) -> int:

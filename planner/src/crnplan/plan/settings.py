@@ -85,7 +85,7 @@ HOMES = {key: name for name, table in reversed(RULES.keys.items()) if isinstance
 CATALOGUE_RULES = Table({"catalogue": Table({
     **READING, "date_formats": Key(texts), "net": Key(flag), "twice": Key(choice(KEEP, LEAVE_OUT)),
     "far": Key(choice(KEEP, LEAVE_OUT)), "borrow": Key(choice(*BORROW)), "least": Key(number(1, MOST_WEIGHT)),
-    "seed": TEXT, "fit": Key(choice(*METHODS)),
+    "seed": TEXT, "fit": Key(choice(*METHODS)), "correct": Key(flag),
     "confidence": Key(share("0.8 for 80% of the laws that a history allows")),
     "level": Key(share("0.95 for 95 of 100 samples")), "window": Key(number(1, MOST_WEIGHT)),
     "periods": Key(number(1, MOST_PERIODS)),

@@ -103,7 +103,8 @@ def backtest_into(folder: Folder, settings: Settings, walk: Walk, *, jobs: int |
           contextlib.closing(Records(folder.path / READ, walk.record, settings.window)) as read,
           contextlib.closing(Store(folder.store(TESTS), Backtest)) as tests):
         prior, usual, learned = learned_of(tests, read, settings, again=True)
-        settings = dataclasses.replace(settings, borrow=usual, every=read.fact("every"))
+        # What a catalogue learned of fill rates is from the periods on which its plans are tested here.
+        settings = dataclasses.replace(settings, borrow=usual, every=read.fact("every"), correct=False, aims=None)
         common = settings.common(repr(walk), prior)
         tests.keep_facts({TESTED: json.dumps([common, dataclasses.asdict(settings)])})
         work = Work(tests, dict(read.digests(common)))
