@@ -13,11 +13,15 @@ import pytest
 
 import crnplan as package
 from crnplan.demand.learning import Prior
+from crnplan.files import own_folder
 from crnplan.pages.backtest_tables import BACKTEST_COLUMNS, SUM_COLUMNS, VERDICTS
-from crnplan.plan.backtest.one import Walk, backtest_one
+from crnplan.plan.backtest.catalogue import TESTS
+from crnplan.plan.backtest.one import Backtest, Walk, backtest_one
 from crnplan.plan.backtest.sums import TIME
 from crnplan.plan.question import NONE, Settings
+from crnplan.records.catalogue_reading import CATALOGUE
 from crnplan.records.item import Item
+from crnplan.stored import Store
 from planner.tests.conftest import Command, rows_of
 from planner.tests.pages.page_reader import Page
 from planner.tests.plan.items import several
@@ -183,6 +187,10 @@ def test_line_on_the_page_of_the_plan(items: Mapping[str, Item], tmp_path: Path,
     plan = "catalogue", *tables, "--out", out, "--jobs", 2, "--program", program
     (tmp_path / "crnplan.toml").write_text("[catalogue]\nperiods = 64\nreplications = 4\n", "utf-8")
     crnplan(*plan, "--config", tmp_path / "crnplan.toml")
+    assert "is said by crnplan backtest FOLDER" in Page(out / name).words
+    with own_folder(out, CATALOGUE) as folder:
+        Store(folder.store(TESTS), Backtest).close()  # a test that was broken off at once
+    crnplan("report", out)
     assert "is said by crnplan backtest FOLDER" in Page(out / name).words
     crnplan("backtest", out, *WORDS, "--jobs", 1)
     crnplan("report", out)

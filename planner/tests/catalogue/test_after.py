@@ -1,11 +1,14 @@
 """Tests plans after an earlier plan: what is taken over, what has moved and why, what stays though another costs less."""
 from __future__ import annotations
 
+import contextlib
 import dataclasses
 import datetime
 import fcntl
 import itertools
+import json
 import math
+import shutil
 from collections.abc import Mapping
 from fractions import Fraction
 from pathlib import Path
@@ -16,13 +19,17 @@ import pytest
 
 import crnplan as crn
 from crnplan.demand.learning import Prior
-from crnplan.plan.after import taken
-from crnplan.plan.changes import rows_of
+from crnplan.files import MARKER
+from crnplan.plan.after import CHANGES, PLAN, common_changes, taken
+from crnplan.plan.aims import Aims
+from crnplan.plan.catalogue import planned_folder
+from crnplan.plan.changes import Change, rows_of
 from crnplan.plan.one import allowed_by, plan_one
 from crnplan.plan.question import Levels, Settings, question_of
 from crnplan.records.item import Item
 from crnplan.remarks import Remark
 from crnplan.scenario import Policy
+from crnplan.stored import Store
 from crnplan.theory.many_laws import figures_of_laws
 from planner.tests.backtest.test_catalogue import START, write
 from planner.tests.conftest import Command
@@ -362,3 +369,40 @@ def test_what_is_refused(month: Month, tmp_path: Path) -> None:
         with pytest.raises(crn.Refused, match="another run of crnplan works in this folder"):
             month.plan()
     assert state(month.before) == before
+
+
+@pytest.mark.parametrize("marker", [None, "crnplan item, version 1\n"])
+def test_folders_that_are_no_plans(marker: str | None, month: Month, tmp_path: Path) -> None:
+    """A folder without the marker of a catalogue is none, whatever files are in it."""
+    other = Path(shutil.copytree(month.before, tmp_path / "other"))
+    (other / MARKER).unlink()
+    if marker:
+        (other / MARKER).write_text(marker, "utf-8")
+    with pytest.raises(crn.Refused, match="this is no folder of crnplan catalogue"):
+        month.plan(after=other)
+
+
+def test_other_periods_are_refused(month: Month) -> None:
+    with pytest.raises(crn.Refused, match="its periods are weeks, and these are months"):
+        month.plan(every="month", least=10, units={"items": dict.fromkeys(("holding", "backlog", "lead"), "month")})
+
+
+def test_changes_of_another_plan(month: Month, tmp_path: Path) -> None:
+    """What is kept of changes is not said of a plan that it is not of."""
+    changed = month.plan(out=tmp_path / "plan")
+    assert len(changed.changes) == ITEMS
+    with contextlib.closing(Store(tmp_path / "plan" / CHANGES, Change)) as store:
+        store.keep_facts({PLAN: "another"})
+    with pytest.raises(crn.Refused, match="what has changed since the earlier plan is not known"):
+        crn.open_plan(tmp_path / "plan").changes
+
+
+def test_what_has_changed_for_all_items(month: Month) -> None:
+    """What was learned and what computes are named apart from settings."""
+    with planned_folder(month.before) as folder:
+        planned = folder.planned
+    assert [*common_changes(planned, planned)] == []
+    learned = dataclasses.replace(planned, settings=dataclasses.replace(planned.settings, aims=Aims(1.0, ())))
+    assert [remark.code for remark in common_changes(planned, learned)] == ["other learning"]
+    program = dataclasses.replace(planned, base=json.dumps(["another", *json.loads(planned.base)[1:]]))
+    assert [remark.code for remark in common_changes(planned, program)] == ["other program"]

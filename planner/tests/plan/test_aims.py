@@ -6,17 +6,20 @@ import json
 import math
 from collections.abc import Sequence
 from fractions import Fraction
+from types import SimpleNamespace
+from typing import Any
 
 import numpy as np
 import pytest
 
 from crnplan.chances import Floats
 from crnplan.demand.learning import Prior
+from crnplan.errors import Refused
 from crnplan.plan.aims import FILLS, Aims, Trial, Tried
 from crnplan.plan.correction import BLOCKS, blocks_of, levels_of, trial_of, without
 from crnplan.plan.question import NONE, Levels, Settings
 from crnplan.records.item import Item
-from crnplan.theory.long_run import LongRun
+from crnplan.theory.long_run import Candidate, LongRun
 from planner.tests.plan.items import item_of
 
 LEAD, WEEKS, ITEMS, LONG = 2, 20, 60, 500
@@ -106,3 +109,12 @@ def test_trials_say_what_comes(monkeypatch: pytest.MonkeyPatch) -> None:
     assert len(plans) == BLOCKS * ITEMS
     off, error = np.mean(rows, axis=0), np.std(rows, axis=0, ddof=1) / math.sqrt(ITEMS)
     assert (abs(off) < 3 * error).all() and error.max() < 0.02
+
+
+def test_what_has_no_trial() -> None:
+    """An item without demand has none, nor one of which no policy meets a tried fill rate."""
+    with pytest.raises(Refused, match="it has no demand"):
+        trial_of(item_of(counts=(0,) * WEEKS), OWN, Prior(NONE))
+    theory: Any = SimpleNamespace(best=lambda fill: Candidate(math.inf, 0, 0), gap_of=lambda point, level: 0)
+    with pytest.raises(Refused, match="no policy meets a tried fill rate"):
+        levels_of(theory)

@@ -159,6 +159,14 @@ def test_no_decision_without_the_largest_of_few_periods(program: Path) -> None:
     assert Depth(question, plan_one(question, str(program)), str(program)).without is None
 
 
+def test_no_decision_without_the_largest_if_no_policy_is_left(program: Path, monkeypatch: pytest.MonkeyPatch) -> None:
+    question = question_of(item_of(), alone())
+    answer = plan_one(question, str(program))
+    assert Depth(question, answer, str(program)).without is not None
+    monkeypatch.setattr(type(question.theory()), "best", lambda *_: Candidate(math.inf, 0, 0))
+    assert Depth(question, answer, str(program)).without is None
+
+
 def test_an_item_without_a_policy(program: Path, monkeypatch: pytest.MonkeyPatch) -> None:
     monkeypatch.setattr(type(question_of(item_of(), alone()).theory()), "best", lambda *_: Candidate(math.inf, 0, 0))
     assert plan_batch([(item_of(), None)], alone(), NONE, str(program)) == [Remark("no policy", {"fill": None})]
