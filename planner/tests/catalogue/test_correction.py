@@ -155,3 +155,6 @@ def test_backtests_do_not_see_what_came(room: Path, crnplan: Command) -> None:
     told = crnplan("backtest", room / "plan", *(f"--{name}={number}" for name, number in walk.items()), "--jobs", "1")
     plain = crn.backtest(room / "demand.csv", room / "items.csv", fit="empirical", borrow=NONE, jobs=1, **walk)
     assert told.output == plain.text
+    crnplan("report", room / "plan")
+    line = told.output.splitlines()[0]
+    assert f"{line} That is without the correction." in Page(room / "plan/report.html").words

@@ -36,7 +36,8 @@ from .words import command, share_of, worker_options
 @click.option("--config", metavar="FILE.toml", help="Settings; by default crnplan.toml, if it is here.")
 @worker_options
 def backtest(tables: Sequence[Path], orders: str | None, out: Path | None, record: int, every: int, window: int | None,
-             least_gain: float | None, config: str | None, jobs: int | None, cluster: str | None, program: str | None) -> int:
+             least_gain: float | None, config: str | None, jobs: int | None, cluster: str | None,
+             program: str | None) -> int:
     def walk_of(settings: Settings) -> Walk:
         return Walk(record, every, window or settings.window or Walk.window, least_gain or settings.least_gain)
     if len(tables) == 1:

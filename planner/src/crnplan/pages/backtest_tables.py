@@ -24,8 +24,8 @@ WORDS = {"today": "today's policy", "kept": "the plan that is kept", "refitted":
          "shuffled": "the plan that is kept, with all periods in a random order"}
 VERDICTS = {
     HOLDS: "the promise holds", UNSURE: "unsure: the promise was missed, perhaps by chance",
-    TIME: "time breaks it: refit", RARE: "rare large demands break it: aim higher (plan with correct)",
-    BOTH: "time and rare large demands break it: refit, and aim higher (plan with correct)",
+    TIME: "time breaks it: refit", RARE: "rare large demands break it: aim higher (crnplan catalogue --correct)",
+    BOTH: "time and rare large demands break it: refit, and aim higher (crnplan catalogue --correct)",
     FEW: f"no verdict: fewer than {LEAST_ITEMS} items"}
 SINGLE = ("All of it is of many items, and predicts single ones poorly: many that keep their promise in one half of a "
           "year miss it in the next.")
@@ -186,9 +186,9 @@ def first_line(sums: Sums | None) -> str:
 def past_line(past: Past | None) -> str:
     """Returns the line of a plan's first screen: what the test in its folder says, or how there comes to be one."""
     if past is None:
-        return ("Whether such promises held on your own past is said by crnplan backtest FOLDER, and then crnplan report "
-                "FOLDER.")
+        return ("Whether such promises held on your own past is said by crnplan backtest FOLDER, and then crnplan "
+                "report FOLDER.")
     if past.is_old:
         return ("The test on your own past is not of this plan. Run crnplan backtest FOLDER again, then crnplan report "
                 "FOLDER.")
-    return first_line(past.sums)
+    return first_line(past.sums) + " That is without the correction." * past.corrects

@@ -210,10 +210,11 @@ class ItemWords:
             return said
         rare, again, every = without.rare, without.again, self.every
         if rare.levels == chosen.levels:
-            return f"{said} Without these {every}s the decision would be the same, at {self.money(rare.cost)} a {every}."
+            return (f"{said} Without these {every}s the decision would be the same, at {self.money(rare.cost)} a "
+                    f"{every}.")
         met = f" and meets {percent(again.fill)} of demand at once" * (self.item.fill is not None)
-        return (f"{said} Without these {every}s the decision would be: below {rare.point:,}, order up to {rare.level:,}, "
-                f"at {self.money(rare.cost)} a {every}. If such {every}s come again, that costs "
+        return (f"{said} Without these {every}s the decision would be: below {rare.point:,}, order up to "
+                f"{rare.level:,}, at {self.money(rare.cost)} a {every}. If such {every}s come again, that costs "
                 f"{self.money(again.cost)}{met}; the chosen policy costs {self.money(chosen.cost)}.")
 
     @property
@@ -221,7 +222,8 @@ class ItemWords:
         """Returns what was decided in sentences: what it saves, what it meets at once, and how sure that is."""
         service = "" if self.item.fill is None else (
             f"A fill rate of {100 * float(self.item.fill):g}% is wanted. By theory the chosen policy meets "
-            f"{percent(self.answer.chosen.fill)} of demand at once, and today's {percent(self.answer.today.fill)}, {PREMISE}.")
+            f"{percent(self.answer.chosen.fill)} of demand at once, and today's {percent(self.answer.today.fill)}, "
+            f"{PREMISE}.")
         return [*filter(None, (self.saving, service, self.promise))]
 
     @property

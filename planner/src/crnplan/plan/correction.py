@@ -22,7 +22,7 @@ import numpy as np
 
 from ..chances import Floats
 from ..demand.learning import Prior
-from ..errors import Refused
+from ..errors import Refused, argument
 from ..files import Folder
 from ..jobs import Work, Workers
 from ..records.catalogue_reading import Catalogued
@@ -121,7 +121,7 @@ def aims_of(folder: Folder, answers: Store[Any], read: Catalogued, settings: Set
         tried = [trial for name, _, trial in trials.answers() if name in names and isinstance(trial, Trial)]
     if len(tried) < LEAST_ITEMS:
         raise Refused(f"{len(tried)} items with a wanted fill rate can be tried on their past, and a correction needs "
-                      f"{LEAST_ITEMS}", "plan without correct")
+                      f"{LEAST_ITEMS}", f"plan without {argument('correct')}")
     aims = Aims.of(tried)
     answers.keep_facts({AIMS: json.dumps({"common": common, "aims": dataclasses.asdict(aims)})})
     return aims

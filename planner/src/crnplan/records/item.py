@@ -60,8 +60,9 @@ class Item:
     def without(self, places: Collection[int]) -> Item:
         """Returns the item without some of its periods, which are counted from 0."""
         kept = [place for place in range(len(self.counts)) if place not in places]
+        counts = tuple(self.counts[place] for place in kept)
         returns = tuple(self.returns[place] for place in kept) if self.returns else ()
-        return replace(self, counts=tuple(self.counts[place] for place in kept), returns=returns if any(returns) else ())
+        return replace(self, counts=counts, returns=returns if any(returns) else ())
 
     def last(self, window: int | None) -> Item:
         """Returns the item as it is known by its last so many periods, or by all if that is None."""

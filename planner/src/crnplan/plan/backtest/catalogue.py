@@ -67,10 +67,17 @@ class Tested:
 @dataclass(frozen=True)
 class Past:
     """What the test in the folder of a plan says of all its items, None if it tests none. `is_old` says whether it is
-    of other rows or settings than the plan."""
+    of other rows or settings than the plan, `corrects` whether the plan corrects fill rates, which no test does."""
 
     sums: Sums | None
     is_old: bool
+    corrects: bool
+
+
+def uncorrected(settings: Settings) -> Settings:
+    """Returns settings by which plans are tested: what a catalogue has learned of fill rates is from all its periods,
+    also from those on which they are tested."""
+    return dataclasses.replace(settings, correct=False, aims=None)
 
 
 def past_of(planned: PlannedFolder) -> Past | None:
@@ -83,12 +90,13 @@ def past_of(planned: PlannedFolder) -> Past | None:
             return None
         common, settings = json.loads(fact)
         digests = tests.digests()
-        if settings != dataclasses.asdict(planned.settings) or any(
+        own = uncorrected(planned.settings)
+        if settings != dataclasses.asdict(own) or any(
                 digests.get(name) != digest for name, digest in planned.read.digests(common)):
-            return Past(None, True)
+            return Past(None, True, False)
         names = {*planned.read.names()}
         kept = (test for name, _, test in tests.answers() if name in names and isinstance(test, Backtest))
-        return Past(whole_of(sums_of(kept)), False)
+        return Past(whole_of(sums_of(kept)), False, planned.settings.correct)
 
 
 def backtest_batch(batch: Sequence[Item], settings: Settings, prior: Prior, walk: Walk) -> list[Backtest | Remark]:
@@ -103,8 +111,7 @@ def backtest_into(folder: Folder, settings: Settings, walk: Walk, *, jobs: int |
           contextlib.closing(Records(folder.path / READ, walk.record, settings.window)) as read,
           contextlib.closing(Store(folder.store(TESTS), Backtest)) as tests):
         prior, usual, learned = learned_of(tests, read, settings, again=True)
-        # What a catalogue learned of fill rates is from the periods on which its plans are tested here.
-        settings = dataclasses.replace(settings, borrow=usual, every=read.fact("every"), correct=False, aims=None)
+        settings = dataclasses.replace(uncorrected(settings), borrow=usual, every=read.fact("every"))
         common = settings.common(repr(walk), prior)
         tests.keep_facts({TESTED: json.dumps([common, dataclasses.asdict(settings)])})
         work = Work(tests, dict(read.digests(common)))
