@@ -18,7 +18,8 @@ from crnplan.records.catalogue_reading import Catalogue, read_catalogue
 from crnplan.records.columns import find_columns
 from crnplan.records.cells import Unreadable
 from crnplan.records.item import Item
-from crnplan.records.items import Words, leads_of
+from crnplan.records.items import Words
+from crnplan.records.masters import leads_of
 from crnplan.records.sources import opened
 from crnplan.remarks import Remark
 

@@ -1,41 +1,32 @@
-"""Makes items of the rows of a catalogue: their demand by period, lead times and masters (costs, a wanted share, lead
-times, today's levels and prices), or why they are left out."""
+"""Makes items of the rows of a catalogue: their demand by period, lead times and masters, or why they are left out."""
 from __future__ import annotations
 
 import contextlib
 import datetime
-import re
 from collections import Counter
 from collections.abc import Callable, Mapping, Sequence
 from dataclasses import dataclass, field, replace
-from fractions import Fraction
-from functools import partial
-from typing import Any, Literal, NamedTuple, TypedDict
+from typing import Literal, NamedTuple, TypedDict
 
 import numpy as np
 import numpy.typing as npt
 
 from ..errors import Refused, argument
 from ..formats import MOST_ITEMS, MOST_LEAD
-from ..money import MOST_DECIMALS
 from ..remarks import Remark
-from .cells import (EVERY, TOTAL, UNPRINTABLE, AmountReader, Cell, CellFault, Numbers, Unreadable, fault, named_lines,
-                    on_one_line, period_name, periods_of_days, text_of)
-from .columns import COLUMNS, DAYS, NEEDED, ROLES, UNITS, conversion, periods_of, unit_fault
-from .item import BORROW, Item
+from .cells import (EVERY, TOTAL, UNPRINTABLE, Cell, CellFault, Numbers, Unreadable, fault, named_lines, on_one_line,
+                    period_name, periods_of_days, text_of)
+from .columns import COLUMNS, ROLES, unit_fault
+from .item import Item
+from .masters import MONEY, Masters
 from .observed import Day, ends_of, record_of, summed
 from .rows import Flags, Rows, far_above
-from .sources import Column, Rules
+from .sources import Rules
 
 KEEP, LEAVE_OUT = "keep", "leave-out"
-# The roles with amounts by table, and those with money, whose decimals say what the smallest unit is.
+# The roles with amounts by table.
 AMOUNTS = {"items": ("setup", "holding", "backlog", "fill", "s", "S", "stock", "price", "price_for"),
            "demand": ("quantity", "returned"), "orders": ()}
-MONEY = ("setup", "holding", "backlog", "price")
-# The kinds of numbers in the cells of masters. Others are shares, lead times and texts.
-READ_AS = {"setup": "money", "backlog": "cost", "s": "items", "S": "items", "stock": "number", "price": "money",
-           "price_for": "cost"}
-LEAD = re.compile(r"([0-9]{1,4}(?:[.,][0-9]{1,2})?) *([^\W\d_]*)[ ;|/]*")
 
 
 @dataclass(frozen=True)
@@ -121,95 +112,6 @@ class Moves(NamedTuple):
     periods: Numbers
     asked: Numbers
     back: Numbers
-
-
-def borrowed_from(cell: Cell) -> str:
-    """Returns from whom an item learns its law. Raises Unreadable."""
-    source = str(cell).casefold()
-    if source not in BORROW:
-        raise Unreadable("no borrow", cell, known=f"{', '.join(BORROW[:-1])} or {BORROW[-1]}")
-    return source
-
-
-def leads_of(cell: Cell, unit: str, every: str) -> list[int]:
-    """Returns the lead times of a cell in periods: one, or several that were observed. `unit` is that of the column,
-    empty for periods; a number may have its own behind it, as 14D. Raises Unreadable."""
-    text, leads = str(cell), list[int]()
-    if not LEAD.match(text) or LEAD.sub("", text):
-        raise Unreadable("no lead time", cell)
-    for digits, word in LEAD.findall(text):
-        own = UNITS.get(word.casefold(), word) or unit
-        if own and own not in DAYS:
-            raise Unreadable("unit of lead", cell, word=word)
-        number, is_periods = Fraction(digits.replace(",", ".")), own in ("", every)
-        if is_periods and number.denominator > 1:
-            raise Unreadable("no lead time", cell)
-        is_whole = is_periods or number == 0
-        leads += [int(number)] if is_whole else periods_of(number * conversion("lead", own, every)[0])
-    for lead in leads:
-        if not 1 <= lead <= MOST_LEAD:
-            raise Unreadable("lead range", lead=lead, most=MOST_LEAD)
-    return leads
-
-
-class Masters:
-    """Reads the rows of masters, with the unit of each column."""
-
-    def __init__(self, amounts: Mapping[str, AmountReader], columns: Mapping[str, Column], every: str) -> None:
-        units = {role: column.unit for role, column in columns.items() if column.unit}
-        self.factors = {role: conversion(role, unit, every)[0] for role, unit in units.items()
-                        if role not in ("lead", "fill")}
-        self.share = units["holding"] if units.get("holding") in ("share", "percent") else ""
-        self.readers: dict[str, Callable[[Cell], Any]] = {
-            **{role: partial(amounts[role].number, kind=kind) for role, kind in READ_AS.items()},
-            **dict.fromkeys(("description", "class"), lambda cell: UNPRINTABLE.sub(" ", str(cell))),
-            "holding": partial(self._holding, amounts["holding"]), "borrow": borrowed_from,
-            "lead": partial(leads_of, unit=units.get("lead", ""), every=every),
-            "fill": partial(amounts["fill"].share, in_percent="fill" in units)}
-
-    def _holding(self, reader: AmountReader, cell: Cell) -> Fraction:
-        """Returns a holding cost: money, or a share of the price."""
-        text = str(cell)
-        is_percent = text.endswith("%")
-        if is_percent and not self.share:
-            raise Unreadable("is share", cell)
-        number = reader.number(text.rstrip("% ") if is_percent else cell, "cost")
-        if self.share == "share" and number >= 1 and not is_percent:
-            raise Unreadable("small percent of holding", cell)
-        return number / 100 if is_percent and self.share == "share" else number
-
-    def read(self, cells: Mapping[str, Cell], observed: Sequence[int]) -> tuple[dict[str, Any], list[CellFault]]:
-        """Returns the values of a row by role, None of an empty cell, and all that is wrong with the row. `observed`
-        are lead times of orders, for a row that says none."""
-        read: dict[str, Any] = {}
-        faults: list[CellFault] = []
-        for role in ROLES["items"][1:]:
-            cell = cells.get(role, "")
-            try:
-                read[role] = None if cell == "" and role not in NEEDED else self.readers[role](cell)
-            except Unreadable as why:
-                faults.append((role, cell, why.remark))
-        if "backlog" in read and "fill" in read and read["backlog"] is None and read["fill"] is None:
-            faults.append(fault("backlog", "", "no goal"))
-        if "lead" in read and read["lead"] is None and not observed:
-            faults.append(fault("lead", "", "nothing of leads"))
-        if "s" in read and "S" in read and read["s"] > read["S"]:
-            faults.append(fault("s", cells["s"], "s above S", s=int(read["s"]), S=int(read["S"])))
-        if self.share and "price" in read and not read["price"]:
-            faults.append(fault("holding", cells["holding"], "no price for share"))
-        return read, faults
-
-    def item(self, name: str, line: int, read: dict[str, Any], observed: Sequence[int]) -> tuple[Item, int]:
-        """Returns an item without its demand, by the values of its row without units, and the decimals of its money."""
-        decimals = next(digits for digits in range(MOST_DECIMALS + 1) if all(
-            (read[role] * 10**digits).denominator == 1 for role in MONEY if read[role] is not None))
-        read["price"] = None if read["price"] is None else read["price"] / (read["price_for"] or 1)
-        read |= {role: read[role] * factor for role, factor in self.factors.items() if read[role] is not None}
-        holding = read["holding"] * read["price"] if self.share else read["holding"]
-        item = Item(name, (), tuple(read["lead"] or observed), (int(read["s"]), int(read["S"])), read["setup"], holding,
-                    read["backlog"], read["fill"], group=read["class"] or "", borrow=read["borrow"] or "",
-                    stock=read["stock"], price=read["price"], description=read["description"] or "", line=line)
-        return item, decimals
 
 
 def joined(remarks: Sequence[Remark]) -> Remark:
