@@ -216,9 +216,9 @@ def plan(sales: str | Path | pd.DataFrame | Catalogue, masters: str | Path | pd.
     **What goes in.** Tables are data frames, CSV files, or sheets of workbooks (FILE.xlsx!SHEET). `sales` has a row for
     each movement: item, date, quantity, and perhaps returned. `masters` has a row for each item: item, setup (money an
     order), holding and backlog (money an item and period) or fill (the wanted share of demand met at once), lead
-    (periods), today's s and S (items), and perhaps description, stock, price, class and borrow. `orders` has dates of
-    orders: item, ordered, received. Or `sales` is a Catalogue that `read_catalogue` has read, and the other tables and
-    words of reading are left out.
+    (periods), today's s and S (items), and perhaps description, stock, price, class, borrow, order_min, pack, s_min,
+    coverage and shelf_life. `orders` has dates of orders: item, ordered, received. Or `sales` is a Catalogue that
+    `read_catalogue` has read, and the other tables and words of reading are left out.
 
     **How it is read.** `read_catalogue` says what tables may be, how they are read, and what its words mean: those here
     from `every` to `date_formats`. Nothing is lost: each row and item that is left out is in `rejects`, with its place,

@@ -16,6 +16,7 @@ from typing import Any
 import pytest
 
 from crnplan.commands import catalogues
+from crnplan.records.bounds import Bounds
 from crnplan.records.catalogue_reading import Catalogue
 from crnplan.records.item import Item
 
@@ -115,6 +116,22 @@ def test_units_of_masters(heading: str, cells: str, role: str, value: Any, check
     assert list(its) == value if isinstance(value, list) else its == Fraction(value)
     is_plain = "lead" in heading.split(",") and role == "leads" or "tygodnie" in heading or "Preiseinheit" in heading
     assert ("converted from" in answer.errors) != is_plain
+
+
+@pytest.mark.parametrize("heading, words, cells, expected", CASES["bounds"])
+def test_bounds_of_masters(heading: str, words: str, cells: str, expected: list[Any], check: Checked) -> None:
+    """The bounds of orders and levels are read with their units. None is stated by an empty cell."""
+    answer, rejects = check(demand_of(["2", "3"]), *words.split(), masters=f"{MASTERS},{heading}\nA,45,1,10,2,3,9,{cells}\n")
+    pack, order_min, s_min, *spans = (None if value == "" else value for value in expected)
+    assert answer.status == 0 and not rejects and "not used" not in answer.errors
+    assert check.items["A"].bounds == Bounds(pack, order_min, s_min, *(span and Fraction(span) for span in spans))
+
+
+@pytest.mark.parametrize("heading, words, cell, said", CASES["bad_bounds"])
+def test_bounds_that_cannot_be_read(heading: str, words: str, cell: str, said: str, check: Checked) -> None:
+    _, rejects = check(demand_of(["2", "3"]), *words.split(), masters=f"{MASTERS},{heading}\nA,45,1,10,2,3,9,{cell}\n")
+    assert [row["kind"] for row in rejects] == ["item"]
+    assert said in f"{rejects[0]['reason']}; {rejects[0]['advice']}"
 
 
 @pytest.mark.parametrize("heading, words, said", CASES["refused"])

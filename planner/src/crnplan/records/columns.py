@@ -36,6 +36,7 @@ DAYS = {"day": Fraction(1), "week": Fraction(7), "month": Fraction(487, 16), "ye
 COUNTED = HEADINGS["counted"]
 ROLE_UNITS = {role: kind for kind, its in COUNTED.items() for role in its["roles"]}
 SHARES = COUNTED["share"]["units"]
+TIMES = ("length", "span")  # the kinds of roles that count times
 MOST_NAME = 100
 NO_ROW = "there is no row below the heading; export the file again, with its rows"
 
@@ -56,12 +57,15 @@ def conversion(role: str, unit: str, every: str) -> tuple[Fraction, str]:
     """Returns by what the numbers of a role are multiplied, and the words for it. A share is one of a year."""
     kind = ROLE_UNITS.get(role)
     if unit.isdecimal():
-        return ((Fraction(unit), f"packs of {unit} to items") if kind == "count" else
-                (1 / Fraction(unit), f"a price for {unit} to items"))
+        return ((1 / Fraction(unit), f"a price for {unit} to items") if kind == "price" else
+                (Fraction(unit), f"packs of {unit} to items"))
     if unit in DAYS:
         periods = DAYS[unit] / DAYS[every]
-        return ((periods, f"{unit}s to {every}s, for orders that are placed on any day") if kind == "length" else
-                (1 / periods, f"money a {unit} to money a {every}"))
+        if kind not in TIMES:
+            return 1 / periods, f"money a {unit} to money a {every}"
+        return periods, f"{unit}s to {every}s" + ", for orders that are placed on any day" * (kind == "length")
+    if kind == "size":
+        return Fraction(1), "money to items, by their price"
     share = Fraction(1, 100) if unit == "percent" else Fraction(1)
     return ((share * DAYS[every] / DAYS["year"], f"{unit} of the price and year to money an item and {every}")
             if kind == "rate" else (share, f"{unit} to shares"))
@@ -171,7 +175,7 @@ class Finder:
         if reason:
             self._refuse("wrong unit" if stated else "wrong unit in the heading", role, unit=unit, why=reason,
                          name=column.name)
-        if ROLE_UNITS.get(role) in ("length", "rate") and not unit and self.every != "week":
+        if ROLE_UNITS.get(role) in (*TIMES, "rate") and not unit and self.every != "week":
             self._refuse("no unit", role, name=column.name)
         own = {"item", "period", "order", self.every, *["share"] * (role == "fill")}
         self.columns[role] = replace(column, unit="" if unit in own else unit)
@@ -187,7 +191,7 @@ def stated_columns(heading: Sequence[str], names: Mapping[str, str]) -> tuple[di
     columns = {}
     for role, name in ((role, name) for role, name in names.items() if heading.count(name) == 1):
         unit, kind = bare_name(plain_name(name))[1], ROLE_UNITS.get(role)
-        is_known = unit.isdecimal() if kind == "count" else kind == "length" and unit in DAYS
+        is_known = unit.isdecimal() if kind in ("count", "size") else kind in TIMES and unit in DAYS
         columns[role] = Column(name, heading.index(name), unit=unit if is_known else "")
     wrong = []
     for role in (it for it in names if it not in columns):

@@ -2,11 +2,13 @@
 from __future__ import annotations
 
 from collections.abc import Collection
-from dataclasses import dataclass, fields, replace
+from dataclasses import dataclass, replace
 from fractions import Fraction
 
 from ..formats import MOST_DEMAND
 from ..remarks import Remark
+from ..stored import Columns
+from .bounds import Bounds
 
 # From whom an item may learn its law of demand: from no other, from those of its class, or from all.
 BORROW = ("none", "class", "all")
@@ -20,7 +22,7 @@ class Item:
     seen, in periods, and `levels` today's s and S. `setup` is money an order, `holding` and `backlog` money an item and
     period, `unit` money for each item ordered, which only counts over coming periods. `fill` is the share of demand
     that is wanted at once; an item has a `backlog`, a `fill`, or both. `group` is its class, `borrow` from whom it
-    learns its law, perhaps empty.
+    learns its law, perhaps empty. `bounds` are those of its orders and levels.
 
     What follows is no part of the plan: `stock` is today's, `price` the money that an item of stock is worth, `first`
     the number of the first period, `line` and `rows` are the line of the master and the rows of demand.
@@ -38,6 +40,7 @@ class Item:
     returns: tuple[int, ...] = ()
     group: str = ""
     borrow: str = ""
+    bounds: Bounds = Bounds()
     stock: Fraction | None = None
     price: Fraction | None = None
     description: str = ""
@@ -70,5 +73,5 @@ class Item:
         return self if window is None or window >= periods else self.part(periods - window, periods)
 
 
-# The facts that a plan depends on.
-PLANNED = tuple(it.name for it in fields(Item))[:[it.name for it in fields(Item)].index("stock")]
+# The columns of the facts that a plan depends on.
+PLANNED = Columns(Item).names[:Columns(Item).names.index("stock")]

@@ -25,7 +25,8 @@ from .sources import Rules
 
 KEEP, LEAVE_OUT = "keep", "leave-out"
 # The roles with amounts by table.
-AMOUNTS = {"items": ("setup", "holding", "backlog", "fill", "s", "S", "stock", "price", "price_for"),
+AMOUNTS = {"items": ("setup", "holding", "backlog", "fill", "s", "S", "stock", "price", "price_for", "order_min", "pack",
+                     "s_min"),
            "demand": ("quantity", "returned"), "orders": ()}
 
 

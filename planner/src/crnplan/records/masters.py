@@ -1,6 +1,7 @@
 """Reads the rows of masters: costs, a wanted share, lead times, today's levels and prices."""
 from __future__ import annotations
 
+import math
 import re
 from collections.abc import Callable, Mapping, Sequence
 from fractions import Fraction
@@ -9,6 +10,7 @@ from typing import Any
 
 from ..formats import MOST_LEAD
 from ..money import MOST_DECIMALS
+from .bounds import Bounds
 from .cells import UNPRINTABLE, AmountReader, Cell, CellFault, Unreadable, fault
 from .columns import DAYS, NEEDED, ROLES, UNITS, conversion, periods_of
 from .item import BORROW, Item
@@ -18,7 +20,8 @@ from .sources import Column
 MONEY = ("setup", "holding", "backlog", "price")
 # The kinds of numbers in the cells of masters. Others are shares, lead times and texts.
 READ_AS = {"setup": "money", "backlog": "cost", "s": "items", "S": "items", "stock": "number", "price": "money",
-           "price_for": "cost"}
+           "price_for": "cost", "order_min": "money", "pack": "items", "s_min": "items"}
+SPAN = re.compile(r"([0-9]{1,5}(?:[.,][0-9]{1,2})?) *([^\W\d_]*)")
 LEAD = re.compile(r"([0-9]{1,4}(?:[.,][0-9]{1,2})?) *([^\W\d_]*)[ ;|/]*")
 
 
@@ -51,19 +54,33 @@ def leads_of(cell: Cell, unit: str, every: str) -> list[int]:
     return leads
 
 
+def span_of(cell: Cell, unit: str, every: str) -> Fraction:
+    """Returns a time in periods. `unit` is that of the column, empty for periods; the number may have its own behind
+    it, as 90D. Raises Unreadable."""
+    parts = SPAN.fullmatch(str(cell))
+    if parts is None:
+        raise Unreadable("no span", cell)
+    own = UNITS.get(parts[2].casefold(), parts[2]) or unit or every
+    if own not in DAYS:
+        raise Unreadable("unit of span", cell, word=parts[2])
+    return Fraction(parts[1].replace(",", ".")) * conversion("coverage", own, every)[0]
+
+
 class Masters:
     """Reads the rows of masters, with the unit of each column."""
 
     def __init__(self, amounts: Mapping[str, AmountReader], columns: Mapping[str, Column], every: str) -> None:
         units = {role: column.unit for role, column in columns.items() if column.unit}
         self.factors = {role: conversion(role, unit, every)[0] for role, unit in units.items()
-                        if role not in ("lead", "fill")}
+                        if role not in ("lead", "fill", "coverage", "shelf_life")}
+        self.is_money = units.get("order_min") == "money"
         self.share = units["holding"] if units.get("holding") in ("share", "percent") else ""
         self.readers: dict[str, Callable[[Cell], Any]] = {
             **{role: partial(amounts[role].number, kind=kind) for role, kind in READ_AS.items()},
             **dict.fromkeys(("description", "class"), lambda cell: UNPRINTABLE.sub(" ", str(cell))),
             "holding": partial(self._holding, amounts["holding"]), "borrow": borrowed_from,
             "lead": partial(leads_of, unit=units.get("lead", ""), every=every),
+            **{role: partial(span_of, unit=units.get(role, ""), every=every) for role in ("coverage", "shelf_life")},
             "fill": partial(amounts["fill"].share, in_percent="fill" in units)}
 
     def _holding(self, reader: AmountReader, cell: Cell) -> Fraction:
@@ -96,6 +113,8 @@ class Masters:
             faults.append(fault("s", cells["s"], "s above S", s=int(read["s"]), S=int(read["S"])))
         if self.share and "price" in read and not read["price"]:
             faults.append(fault("holding", cells["holding"], "no price for share"))
+        if self.is_money and read.get("order_min") and "price" in read and not read["price"]:
+            faults.append(fault("order_min", cells["order_min"], "no price for order"))
         return read, faults
 
     def item(self, name: str, line: int, read: dict[str, Any], observed: Sequence[int]) -> tuple[Item, int]:
@@ -107,5 +126,16 @@ class Masters:
         holding = read["holding"] * read["price"] if self.share else read["holding"]
         item = Item(name, (), tuple(read["lead"] or observed), (int(read["s"]), int(read["S"])), read["setup"], holding,
                     read["backlog"], read["fill"], group=read["class"] or "", borrow=read["borrow"] or "",
+                    bounds=self._bounds(read),
                     stock=read["stock"], price=read["price"], description=read["description"] or "", line=line)
         return item, decimals
+
+    def _bounds(self, read: Mapping[str, Any]) -> Bounds:
+        """Returns the bounds of an item, by the values of its row without units. A 0 of a system states none but for s.
+        """
+        least = read["order_min"] or None
+        if least and self.is_money:
+            least /= read["price"]
+        return Bounds(int(read["pack"] or 1), least and math.ceil(least),
+                      None if read["s_min"] is None else int(read["s_min"]), read["coverage"] or None,
+                      read["shelf_life"] or None)

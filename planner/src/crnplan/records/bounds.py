@@ -1,0 +1,20 @@
+"""The bounds of the orders and the levels of an item, as its masters or its settings state them."""
+from __future__ import annotations
+
+from dataclasses import dataclass
+from fractions import Fraction
+
+
+@dataclass(frozen=True)
+class Bounds:
+    """What a buyer can order and keep of an item; None where nothing is stated.
+
+    Orders come in multiples of `pack` items, and have at least `order_min` items. s is at least `s_min` items. S is at
+    most the mean demand of `coverage` periods, and of `shelf_life` periods, in which items must be used.
+    """
+
+    pack: int = 1
+    order_min: int | None = None
+    s_min: int | None = None
+    coverage: Fraction | None = None
+    shelf_life: Fraction | None = None
