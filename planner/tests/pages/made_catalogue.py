@@ -14,8 +14,9 @@ from crnplan.curve.exchange import Point
 from crnplan.curve.exchange_curve import keep_curve
 from crnplan.demand.learning import Prior
 from crnplan.files import own_folder
+from crnplan.law import Law
 from crnplan.pages.catalogue_page import CATALOGUE_FILES, write_catalogue
-from crnplan.plan.answer import CHEAPER, RUN, SAME, SERVICE, THEORY, UNDECIDED, Answer, Figures, LawFacts, Run
+from crnplan.plan.answer import CHEAPER, RUN, SAME, SERVICE, THEORY, UNDECIDED, Answer, Figures, LawFacts, Laws, Run
 from crnplan.plan.catalogue import ANSWERS, Planned, PlannedFolder, Totals
 from crnplan.plan.question import Settings
 from crnplan.records.catalogue_reading import CATALOGUE, READ, Catalogued, Writer
@@ -31,6 +32,7 @@ NOUNS = ("bearing", "gasket", "pump", "filter", "valve", "belt", "sensor", "fuse
 REMARKS = ((), (), (), (), (Remark("few demands", {"demands": 3, "learned": 0}),), (Remark("unlike the catalogue"),))
 REASONS = (("the lead time 0 is not from 1 to 32 periods", "correct it"), ("the cell is empty", "give it a value"),
            ("there is no row of demand in the record", "plan it by hand"))
+LAWS = Laws(1, Law((0, 3), (2, 1)), Law((2,), (1,)), None)
 Pair = tuple[Item, Answer]
 
 
@@ -77,7 +79,7 @@ def made_pair(source: random.Random, name: str) -> Pair:
                 rows=90, group=source.choice(("X", "Y", "Z", "")), price=price if source.random() > 0.05 else None,
                 description=f"{source.choice(NOUNS)} {source.randrange(100)}")
     answer = Answer(CHEAPER if saving > 0 else SERVICE, THEORY, cost, cost - saving, saving, today, chosen,
-                    None, None, None, 1, None, None, LawFacts("poisson", 0.5, None, demand, 2.0), run,
+                    None, None, None, 1, None, None, LawFacts("poisson", 0.5, None, demand, 2.0), LAWS, run,
                     source.choice(REMARKS))
     return item, with_verdict(source, answer)
 

@@ -4,6 +4,7 @@ from __future__ import annotations
 import csv
 import datetime
 import math
+from collections import Counter
 from collections.abc import Mapping
 from fractions import Fraction
 from pathlib import Path
@@ -47,6 +48,15 @@ def test_costs_are_those_of_theory(program: Path, changed: dict[str, Any]) -> No
                   for its in (it.today, it.chosen)]
         assert [it.cost_today, it.cost_chosen] == pytest.approx(wanted, rel=1e-7)
         assert (it.source, it.verdict) == (THEORY, CHEAPER) and it.saving == it.cost_today - it.cost_chosen > 0
+
+
+def test_laws_are_kept(program: Path) -> None:
+    """An answer has the laws by which it was planned: as they were seen, if they are fitted so."""
+    item = item_of(4, leads=(1, 3, 3), returns=tuple(count // 2 for count in item_of(4).counts))
+    laws = answer_of(item, alone(fit="empirical", lead_fit="empirical"), program).laws
+    assert laws.box == 1 and laws.lead.chances == {1: 1 / 3, 3: 2 / 3} and laws.returns
+    for law, seen in ((laws.demand, item.counts), (laws.returns, item.returns)):
+        assert law.chances == {value: count / WEEKS for value, count in Counter(seen).items()}
 
 
 def test_costs_are_those_of_the_run_where_theory_is_rounded(program: Path, monkeypatch: pytest.MonkeyPatch) -> None:

@@ -4,6 +4,7 @@ from __future__ import annotations
 from dataclasses import dataclass
 from fractions import Fraction
 
+from ..law import Law
 from ..remarks import Remark
 
 # Policies: today's, the chosen one, the one that the item would get by its own history alone, that of an earlier plan,
@@ -54,6 +55,17 @@ class LawFacts:
     log10_bayes: float | None
     mean: float
     spread: float
+
+
+@dataclass(frozen=True)
+class Laws:
+    """The laws of a plan: of a period's demand and of what comes back, in boxes of `box` items, and of lead times, in
+    periods. `returns` is None if nothing comes back."""
+
+    box: int
+    demand: Law
+    lead: Law
+    returns: Law | None
 
 
 @dataclass(frozen=True)
@@ -112,5 +124,6 @@ class Answer:
     confidence_cost: float | None
     correction: Correction | None
     law: LawFacts
+    laws: Laws
     run: Run
     remarks: tuple[Remark, ...]

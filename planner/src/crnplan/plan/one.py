@@ -37,7 +37,7 @@ from ..theory.many_laws import Promises
 from ..theory.run_effects import start_bias
 from ..words import advice, sentence
 from .answer import (ALONE, BEFORE, CHEAPER, CHOSEN, DAMPED, DEARER, RUN, SAME, SERVICE, THEORY, TODAY, UNDAMPED,
-                     UNDECIDED, Answer, Correction, Figures, LawFacts, Run)
+                     UNDECIDED, Answer, Correction, Figures, LawFacts, Laws, Run)
 from .question import NONE, Levels, Question, Settings, question_of
 
 Result = TypeVar("Result")
@@ -262,6 +262,12 @@ def law_facts(law: FittedLaw, box: int) -> LawFacts:
                     math.sqrt(law.figures.variance or 0) * box)
 
 
+def laws_of(question: Question) -> Laws:
+    """Returns the laws of a question."""
+    returns = question.returns and question.returns.table
+    return Laws(question.item.box, question.demand.table, question.lead.table, returns)
+
+
 def damping_of(figures: Mapping[str, Figures]) -> Iterator[Remark]:
     """Yields that the policy of an earlier plan stays, with what the change would gain, if that is so."""
     before, best = figures.get(BEFORE), figures.get(UNDAMPED)
@@ -330,7 +336,7 @@ def plan_one(question: Question, program: str) -> Answer:
         confidence_cost = best.cost - plain.cost
     return Answer(verdict, THEORY if theory.exact else RUN, *costs, saving, today, chosen, figures.get(ALONE),
                   figures.get(BEFORE), figures.get(UNDAMPED), theory.step, confidence_cost,
-                  correction_of(question, theory), law_facts(question.demand, item.box), run,
+                  correction_of(question, theory), law_facts(question.demand, item.box), laws_of(question), run,
                   (*remarks_of(question, theory, sample, choice), *damping_of(figures)))
 
 

@@ -23,7 +23,7 @@ from ..theory.lattice import lattice_of, shape_of, theory_on
 from ..theory.long_run import LongRun
 from .aims import Aims
 
-VERSION = 6  # Answers of others are not used again.
+VERSION = 7  # Answers of others are not used again.
 NONE, CLASS, ALL = BORROW
 MOST_GAPS = 4_000  # of a lattice: with 150 times as many, a search takes half a minute
 Levels = tuple[int, int]
