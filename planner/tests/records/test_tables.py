@@ -141,7 +141,7 @@ def test_longest_lead_time_of_orders(tmp_path: Path) -> None:
 
 
 @pytest.mark.parametrize("encoding, heading, unit", [
-    ("gb18030", "物料编码,出库日期,数量,备注", "中文备注说明"),
+    ("gb18030", "物料编码,出库日期,数量,备注", "中文备注说明"), ("gb18030", "物料编码,出库日期,数量,备注", "¥10.50"),
     ("cp1250", "indeks,data,Ilość,uwagi", "Łódź, zażółć gęślą".replace(",", "")),
     ("cp1252", "item,date,quantité,note", "qualité “supérieure” à l’été"),
     ("utf-16-le", "item,date,quantity,note", "x"),

@@ -226,6 +226,9 @@ YEAR = "(?P<year>[0-9]{4}|[0-9]{2})"
 SLASHED = re.compile(f"(?P<day>[0-9]{{1,2}})/(?P<month>[0-9]{{1,2}})/{YEAR}")
 # The forms, each as a date of its kind is written. One with slashes may have the month first.
 DATE_FORMS = {re.compile("(?P<year>[0-9]{4})-(?P<month>[0-9]{1,2})-(?P<day>[0-9]{1,2})"): "2026-03-31",
+              re.compile("(?P<year>[0-9]{4})/(?P<month>[0-9]{1,2})/(?P<day>[0-9]{1,2})"): "2026/03/31",
+              # Eight digits have one reading at most: no month is 19 or 20, as a year behind day and month begins.
+              re.compile("(?P<year>[0-9]{4})(?P<month>[0-9]{2})(?P<day>[0-9]{2})"): "20260331",
               re.compile(rf"(?P<day>[0-9]{{1,2}})\.(?P<month>[0-9]{{1,2}})\.{YEAR}"): "31.03.2026",
               SLASHED: "31/03/2026"}
 TIME = re.compile(r"(?:T| +)(?:[01]?[0-9]|2[0-3]):[0-5][0-9](?::[0-5][0-9](?:[.,][0-9]+)?)?(?: ?[AaPp][Mm])?"

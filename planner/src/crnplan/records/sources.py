@@ -44,6 +44,8 @@ BOOKS = (".xlsx", ".xlsm")
 MARKS = ((codecs.BOM_UTF8, "utf-8-sig"), (codecs.BOM_UTF16_LE, "utf-16"), (codecs.BOM_UTF16_BE, "utf-16"))
 # So bytes are kept in a text that are not of its encoding: as U+DC00 and so on, which no text has.
 ESCAPES, ESCAPED = "crnplan.escapes", re.compile("[\udc00-\udcff]")
+# The bytes of a letter beyond the two-byte ones of GB18030, as the sign of the yuan.
+RARE_CHINESE = re.compile(b"[\x81-\xfe][0-9][\x81-\xfe][0-9]")
 # Bytes beside letters that are letters in cp1250, and signs or rare letters in cp1252; and the reverse.
 CENTRAL = b"\x8c\x8d\x8f\x9c\x9d\x9f\xa3\xa5\xaf\xb3\xb9\xbe\xbf\xe6\xec"
 WESTERN = b"\xe0\xe2\xe5\xe8\xea\xf1\xf2\xf8\xfb"
@@ -98,7 +100,7 @@ codecs.register_error(ESCAPES, escape)
 
 def likely_encoding(data: bytes) -> str:
     """Returns the encoding that bytes which are not UTF-8 are likely in: gb18030, cp1250, cp1252 or latin-1."""
-    runs = re.findall(b"[\x81-\xfe]+", data)
+    runs = re.findall(b"[\x81-\xfe]+", RARE_CHINESE.sub(b"", data))
     paired = sum(len(run) for run in runs if len(run) % 2 == 0 and min(run) >= 0xA1)
     within_words = len(re.findall(b"(?<=[a-z])[\x81-\xfe]+|[\x81-\xfe]+(?=[a-z])", data))
     if paired >= 0.9 * sum(map(len, runs)) and within_words <= 0.1 * len(runs):
