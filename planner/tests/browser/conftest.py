@@ -49,7 +49,7 @@ def pages(tmp_path_factory: pytest.TempPathFactory, request: pytest.FixtureReque
     makers: dict[str, tuple[str, Callable[[Path], object]]] = {
         "catalogue": ("report.html", lambda folder: report(made_folder(folder, 40, HOSTILE))),
         "catalogue without a curve": ("report.html", lambda folder: report(made_folder(folder, 12, has_curve=False))),
-        "catalogue of hundreds": ("report.html", lambda folder: report(made_folder(folder, 230, HOSTILE))),
+        "catalogue of hundreds": ("report.html", lambda folder: report(made_folder(folder, 300, HOSTILE))),
         "catalogue of a thousand": ("report.html", lambda folder: report(made_folder(folder, 1_000, HOSTILE))),
         "catalogue of thousands": ("report.html", lambda folder: report(made_folder(folder, 3_000, HOSTILE))),
         "planned catalogue": ("plan/report.html",

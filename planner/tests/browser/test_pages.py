@@ -9,6 +9,7 @@ from selenium.webdriver.common.action_chains import ActionChains
 from selenium.webdriver.common.by import By
 from selenium.webdriver.common.keys import Keys
 
+from crnplan.pages.catalogue_page import ROWS_A_GROUP
 from planner.tests.browser.browser import FORMS, TALL, WIDE, Browser, Form
 from planner.tests.browser.conftest import PLANNED, Pages
 from planner.tests.browser.items import PLAIN, Items, in_order, is_number
@@ -34,6 +35,24 @@ def test_page_of_thousands_has_no_fault(browser: Browser, pages: Pages, form: Fo
     """Thousands of items print nothing on the console, ask for nothing and stay within the page."""
     browser.open(pages("catalogue of a thousand"), form)
     assert faults_of(browser, "console", "requests", "overflow") == []
+
+
+def test_first_screen(browser: Browser, pages: Pages) -> None:
+    """What a board reads stands on the first screen as a whole, with its picture. On a phone none of it scrolls."""
+    browser.open(pages("catalogue of hundreds"), Form(1440, height=900))
+    assert browser.run("return document.getElementById('board').getBoundingClientRect().bottom;") <= 900
+    assert browser.run("return document.querySelectorAll('#board .pairs circle').length;") > 4
+    browser.show(Form(390))
+    assert faults_of(browser, "overflow") == []
+    assert browser.run("return document.querySelectorAll('#board .scroll').length;") == 0
+
+
+def test_sheets(browser: Browser, pages: Pages) -> None:
+    """The first screen is the first sheet. 300 items have five sheets at most, each of which says something."""
+    browser.open(pages("catalogue of hundreds"))
+    first, *others = browser.printed(landscape=True)
+    assert "saved a year" in first and "What was left out" in first and "Service that the stock can give" in others[0]
+    assert len(others) <= 4 and min(len(sheet.split()) for sheet in others) > 60
 
 
 @pytest.mark.parametrize("name", NAMES, ids=IDS)
@@ -134,13 +153,14 @@ def test_lists_show_the_rows_of_a_choice(items: Items, decisions: list[Row]) -> 
 
 
 def test_print_has_the_rows_that_are_shown(items: Items, decisions: list[Row]) -> None:
-    """Print has the rows of the choice alone, below headings that each sheet repeats, and nothing to press."""
+    """Print has the first rows of the choice alone, below headings that each sheet repeats, and nothing to press."""
     items.choose("verdict", "cheaper")
+    shown = {row["item"] for row in items.shown()[:ROWS_A_GROUP]}
     sheets = items.browser.printed(landscape=True)
     table = "\f".join(sheets).rpartition("All items")[2]
     for row in decisions:
         if row["item"].startswith("P"):
-            assert (row["item"] in table) == (row["verdict"] == "cheaper"), row["item"]
+            assert (row["item"] in table) == (row["item"] in shown), row["item"]
     assert all("verdict" in sheet for sheet in table.split("\f") if "P0" in sheet)
     assert "item, description, class or warning" not in table and "second click" not in table
 

@@ -37,7 +37,7 @@ Pair = tuple[Item, Answer]
 
 
 def made_folder(path: Path, items: int, names: Sequence[str] = (), has_curve: bool = True,
-                change: Pair | None = None) -> Path:
+                change: tuple[Item, Answer | Remark] | None = None) -> Path:
     """Makes a folder with so many planned items, with its tables and its page, and returns it.
 
     The first items are called as `names` say, the others P00000 and so on. One item in twelve more is left out. Figures
@@ -45,7 +45,8 @@ def made_folder(path: Path, items: int, names: Sequence[str] = (), has_curve: bo
     """
     source = random.Random(items)
     called = [*names, *(f"P{number:05}" for number in range(len(names), items))]
-    pairs = [made_pair(source, name) for name in called[:items]] + ([change] if change else [])
+    pairs: list[tuple[Item, Answer | Remark]] = [made_pair(source, name) for name in called[:items]]
+    pairs += [change] if change else []
     with own_folder(path, CATALOGUE, CATALOGUE_FILES) as folder:
         writer = Writer(folder)
         rejects = made_rejects(source, items)
@@ -58,7 +59,7 @@ def made_folder(path: Path, items: int, names: Sequence[str] = (), has_curve: bo
             digests = dict(read.digests(planned.common))
             answers.keep((item.name, digests[item.name], answer) for item, answer in pairs)
             if has_curve:
-                keep_curve(answers, made_curve(pairs))
+                keep_curve(answers, made_curve((item, answer) for item, answer in pairs if isinstance(answer, Answer)))
             its = PlannedFolder(path, read, answers, planned)
             write_catalogue(folder, its, Totals.of(its.answers()), (), ())
     return path

@@ -23,7 +23,7 @@ def rows_of(path: Path) -> list[Row]:
 class Page(HTMLParser):
     """A page that is read.
 
-    `tables` has the rows of each table by the label of the region that scrolls it, the heading first; `pictures` the
+    `tables` has the rows of each table by its label, or that of the region that scrolls it, the heading first; `pictures` the
     title or label of each picture with its description; `policy` the sources of its security policy by directive;
     `links` the address of each link by its text, `addresses` all that the page names; `parts` the texts of elements by
     their identity or tag.
@@ -60,7 +60,7 @@ class Page(HTMLParser):
             self._labels = its["aria-labelledby"].split() if "aria-labelledby" in its else []
             if "aria-label" in its:
                 self.pictures[its["aria-label"]] = its["aria-label"]
-        if its.get("role") == "region":
+        if its.get("role") == "region" or tag == "table" and "aria-label" in its:
             self._rows = self.tables[its["aria-label"]] = []
         if tag == "tr":
             self._rows.append([])

@@ -21,8 +21,9 @@ from hypothesis import HealthCheck, given, settings, strategies as st
 import crnplan as crn
 from crnplan.files import own_folder
 from crnplan.pages import catalogue_page
-from crnplan.pages.catalogue_page import COLUMNS, LARGE, MEANING, clipped, file_of
+from crnplan.pages.catalogue_page import COLUMNS, MEANING, clipped, file_of
 from crnplan.pages.catalogue_tables import reasons_of
+from crnplan.pages.page import LARGE
 from crnplan.plan.answer import CHEAPER, DEARER, RUN, SAME, SERVICE, UNDECIDED, Answer
 from crnplan.plan.catalogue import ANSWERS, Totals
 from crnplan.records.catalogue_reading import CATALOGUE, READ, Writer
@@ -35,8 +36,10 @@ from planner.tests.conftest import Command, shared
 from planner.tests.pages.made_catalogue import QUANTILE, made_folder, made_pair
 from planner.tests.pages.page_reader import Page, rows_of
 
+YEAR = 365.25 / 7  # weeks
 HOSTILE = ("<img src=x onerror=alert(1)>", "<script>alert(1)</script>", "=1+1", "\"quoted\" & 'single'", "  leading",
            "قطعة ٣", "x" * 300, "&lt;", "{{ 7 * 7 }}", "A/B\\C", "..", "%41")
+CURVE = "Exchange curve: demand met at once against the value of the stock"
 NAMES = st.text(st.characters(blacklist_categories=("Cc", "Cs")), min_size=1, max_size=20)
 
 
@@ -117,8 +120,7 @@ def test_totals(large: Path, large_page: Page) -> None:
     assert half == pytest.approx(1.959964 * math.sqrt(sum(it**2 for it in errors)), rel=0.001)
     assert min(saving, run, today, chosen) > LARGE
     assert f"The difference is {saving:,.0f}, if the coming year is like the last one, by the laws" in page.words
-    ends = f"from {run - half:,.0f} to {run + half:,.0f} (95% interval)"
-    assert f"By crnsim's runs it is {run:,.0f}, {ends}" in page.words
+    assert f"By these the difference is {run:,.0f}, from {run - half:,.0f} to {run + half:,.0f} (95% interval" in page.words
     assert f"cost {today:,.0f} a week with today's policies, and {chosen:,.0f} with the chosen ones" in page.words
     assert f"{today:,.2f} today, {chosen:,.2f} chosen" in summary
     assert f"saved: {saving:,.2f} a week; by crnsim's runs " in summary
@@ -126,7 +128,7 @@ def test_totals(large: Path, large_page: Page) -> None:
     without = sum(it.run.error is None for it in answers)
     assert without and f"\n{without} items have no interval, since" in summary
     more = [it.saving for it in answers if it.verdict == SERVICE]
-    assert more and f"of {len(more)} items. Keeping it costs {-math.fsum(more):,.2f} a week" in page.words
+    assert more and f"of {len(more)} items; keeping it costs {-YEAR * math.fsum(more):,.0f} a year." in page.words
     best = sorted((it.saving for it in answers), reverse=True)[:15]
     assert [row[1] for row in page.tables["The greatest savings"][1:]] == [f"{it:,.2f}" for it in best]
     assert f"together these are {math.fsum(best):,.0f}." in page.words or math.fsum(best) < LARGE
@@ -134,8 +136,8 @@ def test_totals(large: Path, large_page: Page) -> None:
     assert verdicts == Counter(it.verdict for it in answers)
 
 
-@pytest.mark.parametrize("error, said", [(0.6, "the runs cannot tell the chosen policies from today's"),
-                                         (0.5, "The chosen policies save 1.00 a week, 10.0% of today's cost")])
+@pytest.mark.parametrize("error, said", [(0.6, "The new reorder levels cost as much as today's, as far as can be told"),
+                                         (0.5, "The new reorder levels save 52.18 a year, 10.0% of today's cost")])
 def test_headline_of_runs(tmp_path: Path, error: float, said: str) -> None:
     """By runs, the chosen policies are better only if the interval, 1.96 errors around 1, is above 0."""
     item, answer = made_pair(random.Random(1), "it")
@@ -163,7 +165,7 @@ def test_left_out_and_curve(large: Path, large_page: Page) -> None:
     assert [[row[0].strip(), row[3]] for row in points] == [[it["name"], f"{it['orders']:g}"] for it in named]
     figures = [[f"{it['value']:,.0f}", f"{it['fill']:.2%}"] for it in named]
     assert [row[1:3] for row in points] == figures and len(named) == 4
-    said = page.pictures["Exchange curve: demand met at once against the value of the stock"]
+    said = page.pictures[CURVE]
     assert all(f"{fill} met at once with a stock of {value}" in said for value, fill in figures)
     assert 'y="0.0%">100</text>' in page.source
     (path,) = re.findall(r'class="line of-chosen" d="M([^"]+)"', page.source)
@@ -238,7 +240,7 @@ def test_no_curve(kept: dict[str, str] | None, said: str, tmp_path: Path) -> Non
         with contextlib.closing(Store(folder / ANSWERS, Answer)) as store:
             store.keep_facts({"curve": json.dumps(json.loads(store.fact("curve") or "") | kept)})
     page = Page(crn.report(folder))
-    assert said in page.words and not page.pictures
+    assert said in page.words and CURVE not in page.pictures
 
 
 def test_links_and_command(folder: Path, tmp_path: Path, crnplan: Command) -> None:
@@ -290,7 +292,7 @@ def test_page_of_a_plan(tmp_path: Path, program: Path, crnplan: Command) -> None
     page, summary = Page(tmp_path / "plan/report.html"), (tmp_path / "plan/summary.txt").read_text("utf-8")
     saving, run, low, high = re.search(r"saved: (\S+) a week; .* (\S+), \S+ interval (\S+) to (\S+)", summary).groups()
     assert f"The difference is {saving}, if" in page.words.replace("\u2212", "-")
-    assert f"it is {run}, from {low} to {high} (" in page.words.replace("\u2212", "-")
+    assert f"the difference is {run}, from {low} to {high} (" in page.words.replace("\u2212", "-")
     assert len(page.items) == 6 and not (tmp_path / "plan/curve.csv").exists() and ", seed crnplan" in page.words
     name, plan = next(iter(page.items)), tmp_path / "plan"
     status, output, errors = crnplan("report", plan, "--item", name, "--program", program)

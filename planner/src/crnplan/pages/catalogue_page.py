@@ -6,7 +6,7 @@ import hashlib
 import heapq
 import math
 from collections import Counter
-from collections.abc import Callable, Iterable, Mapping, Sequence
+from collections.abc import Iterable, Mapping, Sequence
 from pathlib import Path
 from typing import NamedTuple
 from urllib.parse import quote
@@ -24,18 +24,19 @@ from ..records.item import Item
 from ..remarks import Remark
 from ..table import DataTable
 from .backtest_tables import past_line
+from .board import board_of
 from .catalogue_tables import (DECISION_COLUMNS, DECISIONS, EXACT, REJECTS, aims_of, catalogue_summary, decision_row,
                                decisions_of, exact_of, faults_of, planned_of, reasons_of, rejects_of)
 from .change_tables import CHANGES, change_lines, changes_of, moved_rows
 from .item_page import ItemWords, item_page
-from .page import OF_CHOSEN, ROOM, UNITS, Line, Plot, Scale, curve_ends, number, percent, rendered
+from .page import OF_CHOSEN, UNITS, Line, Money, Plot, Scale, curve_ends, percent, rendered
 
 SUMMARY, PAGE, FOUND = "summary.txt", "report.html", "found.toml"
 CATALOGUE_FILES = (DECISIONS, EXACT, REJECTS, SUMMARY, PAGE, FOUND)
 MOST_ROWS = 5_000  # items in the table
+ROWS_A_GROUP = 60  # which are laid out together; the first group is printed
 MOST_SAVINGS = 15
 MOST_REASONS = 12  # of each kind
-LARGE = 1_000  # Totals of so much money are rounded to whole numbers.
 # Forms that differ without colour, in pixels around their point, for the named points in their order.
 FORMS = ("M-6 0a6 6 0 1 0 12 0a6 6 0 1 0-12 0z", "M0-8 8 0 0 8-8 0z", "M0-8 7.5 6-7.5 6z", "M-6-6H6V6H-6z",
          "M0-9 2.5-3 9-3 4 1.5 6 8 0 4-6 8-4 1.5-9-3-2.5-3z")
@@ -53,6 +54,9 @@ COLUMNS = {
     "run_saving": "saving by crnsim", "run_low": "crnsim from", "run_high": "crnsim to",
     "fill_today": "met at once today", "fill_chosen": "met at once chosen", "value_today": "stock value today",
     "value_chosen": "stock value chosen", "warnings": "warnings"}
+# Those that are printed.
+PRINTED = ("item", "description", "class", "verdict", "s_today", "S_today", "s_chosen", "S_chosen", "cost_today",
+           "cost_chosen", "saving", "fill_today", "fill_chosen", "value_today", "value_chosen")
 OPTIONAL = ("s_alone", "S_alone")  # They are left out if no item has a figure in them.
 # The most characters of a line: of texts by their columns, and of numbers.
 TEXTS, MOST_DIGITS = {"item": 22, "description": 26, "class": 12, "verdict": 14, "by": 8, "warnings": 60}, 16
@@ -85,21 +89,21 @@ def catalogue_page(folder: PlannedFolder, totals: Totals) -> str:
     files = {row.item.name: file_name(row.item.name) for row in rows} if there else {}
     columns = [name for name in COLUMNS if name not in OPTIONAL or any(row.cells[name] for row in rows)]
 
-    def money(amount: float) -> str:
-        return number(amount, 0 if abs(amount) >= LARGE else min(folder.decimals, 2))
+    reasons, money = reasons_of(folder.read.rejects(faults_of(folder))), Money("", folder.decimals)
     plot, points = exchange_plot(curve, money) if curve else (None, [])
     codes = Counter(code for row in rows for code in {remark.code for remark in (
         *row.item.remarks, *row.answer.remarks)})
     return rendered("catalogue.html", {
-        "every": folder.every, "money": money, "decimals": folder.decimals, "settings": settings, "totals": totals,
-        "sources": folder.counts["files"], "named": folder.counts["items"]["named"], "ends": ends,
+        "every": folder.every, "money": money.exact, "decimals": folder.decimals, "settings": settings,
+        "totals": totals, "sources": folder.counts["files"], "named": folder.counts["items"]["named"], "ends": ends,
         "aims": aims_of(folder, totals),
         "pages": {name: quote(f"{ITEMS}/{file}") for name, file in files.items() if file in there},
         "rows": rows, "lost": missing_of(folder.counts, totals.planned + totals.faults), "meanings": MEANING,
         "plot": plot, "points": points, "is_old": curve is not None, "headings": COLUMNS,
         "savings": savings(rows), "styles": VERDICT_STYLES, "most_reasons": MOST_REASONS,
-        "reasons": reasons_of(folder.read.rejects(faults_of(folder))), "columns": columns,
-        "texts": TEXTS, "parts": [width(name, rows) for name in columns], "codes": sorted(codes.items()),
+        "reasons": reasons, "board": board_of(folder, totals, reasons, money), "columns": columns,
+        "printed": PRINTED, "rows_a_group": ROWS_A_GROUP, "texts": TEXTS,
+        "parts": [width(name, rows) for name in columns], "codes": sorted(codes.items()),
         "choices": sorted(Counter(row.answer.verdict for row in rows).items()), "changes": change_lines(folder),
         "moved": moved_rows(folder), "past": past_line(past_of(folder)),
         "warned": sum(row.cells["warnings"] != "" for row in rows)})
@@ -122,24 +126,22 @@ def clipped(points: Sequence[tuple[float, float]], right: float, bottom: float) 
     return [*zip(places.tolist(), np.interp(places, values, shares).tolist())]
 
 
-def exchange_plot(curve: Sequence[tuple[str, Point]],
-                  money: Callable[[float], str]) -> tuple[Plot, list[dict[str, object]]]:
+def exchange_plot(curve: Sequence[tuple[str, Point]], money: Money) -> tuple[Plot, list[dict[str, object]]]:
     """Returns the exchange curve as a line, and its named points."""
     named = {name: point for name, point in curve if name}
     most, bottom = curve_ends(named.values())
-    unit, unit_name = next(((unit, name) for unit, name in ((1e6, ", millions"), (1e3, ", thousands"))
-                            if most >= 2 * ROOM * unit), (1.0, ""))
-    across, up = Scale.of([most / unit or 1.0]), Scale.between(bottom, 100.0)
-    line = clipped([(point.value / unit, 100 * point.fill) for name, point in curve if not name], across.high, bottom)
+    unit = money.unit([most])
+    across, up = Scale.of([most / unit.size or 1.0]), Scale.between(bottom, 100.0)
+    line = clipped([(point.value / unit.size, 100 * point.fill) for name, point in curve if not name], across.high, bottom)
     path = "L".join(f"{across.at(x):g} {UNITS - up.at(y):g}" for x, y in line)
     points: list[dict[str, object]] = [
         {"name": name, "css": f"point-{place}", "form": FORMS[place], "figures": point,
-         "x": round(across.at(point.value / unit) / 10, 2), "y": round(100 - up.at(100 * point.fill) / 10, 2)}
+         "x": round(across.at(point.value / unit.size) / 10, 2), "y": round(100 - up.at(100 * point.fill) / 10, 2)}
         for place, (name, point) in enumerate(named.items())]
-    said = "; ".join(f"{name}: {percent(point.fill, 2)} met at once with a stock of {money(point.value)}"
+    said = "; ".join(f"{name}: {percent(point.fill, 2)} met at once with a stock of {money.exact(point.value)}"
                      for name, point in named.items())
     return Plot("Exchange curve: demand met at once against the value of the stock", f"{said}.", up, across.marks,
-                f"value of the mean stock{unit_name}", [Line("", OF_CHOSEN, f"M{path}")]), points
+                money.heading("value of the mean stock", unit), [Line("", OF_CHOSEN, f"M{path}")]), points
 
 
 def savings(rows: Sequence[Shown]) -> dict[str, object]:

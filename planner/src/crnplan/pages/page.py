@@ -26,6 +26,10 @@ MOST_TICKS = 5
 MOST_SIGNS = 12  # of texts at an axis that have room on a narrow page
 MARKS = 4
 ROOM, BELOW = 1.35, 4.0  # times the greatest stock of a named point, and percent below the least service of one
+# From which amount on, how much of it is one, and its word: of amounts of money.
+WORDS = ((1e9, 1e9, "billion"), (1e6, 1e6, "million"), (1e5, 1e3, "thousand"))
+FIGURES = 3  # of an amount that is rounded for a reader
+LARGE = 1_000  # Sums of so much money are shown in whole numbers.
 # The classes of lines: of today's policy or what was seen, and of the chosen policy or its law.
 OF_TODAY, OF_CHOSEN = "of-today", "of-chosen"
 Mark = tuple[float, str, str]  # its place, its text and its class
@@ -39,6 +43,52 @@ def number(value: float, digits: int = 0) -> str:
 def percent(share: str | float | None, digits: int = 1) -> str:
     """Returns a share in percent: not -0.0%, if rounding has made it less than none; - if there is no share."""
     return "-" if share is None else f"{max(float(share), 0.0):.{digits}%}"
+
+
+class Unit(NamedTuple):
+    """In what an amount of money is shown: so much of it is one, in a word, with so many digits."""
+
+    size: float
+    word: str
+    digits: int
+
+    @classmethod
+    def of(cls, most: float, decimals: int) -> Unit:
+        """Returns the unit of amounts of which `most` is the largest. Below 100 of money it has its decimals."""
+        size, word = next(((size, word) for least, size, word in WORDS if most >= least), (1.0, ""))
+        if size == 1:
+            return cls(size, word, 0 if most >= 10**(FIGURES - 1) else min(decimals, 2))
+        return cls(size, word, max(0, FIGURES - len(f"{most / size:.0f}")))
+
+    def cell(self, amount: float) -> str:
+        """Returns an amount in a column of this unit."""
+        return number(amount / self.size, self.digits)
+
+
+class Money(NamedTuple):
+    """How money is shown: its currency, empty if that is not known, and the decimals of its smallest unit."""
+
+    currency: str
+    decimals: int
+
+    def exact(self, amount: float) -> str:
+        """Returns a sum with all digits of its whole number, or if it is small with decimals."""
+        return number(amount, 0 if abs(amount) >= LARGE else min(self.decimals, 2))
+
+    def rounded(self, amount: float) -> str:
+        """Returns an amount as people say it: by three figures, and large ones in thousands, millions or billions."""
+        known = float(f"{amount:.{FIGURES}g}") if abs(amount) >= 10**(FIGURES - 1) else amount
+        unit = Unit.of(abs(known), self.decimals)
+        return " ".join(filter(None, (self.currency, unit.cell(known), unit.word)))
+
+    def unit(self, amounts: Iterable[float]) -> Unit:
+        """Returns the unit of a column, or of an axis, of these amounts."""
+        return Unit.of(max((abs(amount) for amount in amounts), default=0.0), self.decimals)
+
+    def heading(self, words: str, unit: Unit) -> str:
+        """Returns the heading of a column, or the name of an axis, of this unit."""
+        name = f"{self.currency} {unit.word}".strip() if self.currency else f"{unit.word}s" * bool(unit.word)
+        return f"{words}, {name}" if name else words
 
 
 def capital(text: str) -> str:

@@ -56,11 +56,12 @@ def add_exactly(parts: list[float], value: float) -> None:
 class Totals:
     """What adds up over items. Sums are without rounding but at the end.
 
-    Sums of money, as `totals["saving"]`: `cost_today`, `cost_chosen` and `saving` of a period; `run_saving`, by runs,
+    Sums, as `totals["saving"]`, of money but for the last: `cost_today`, `cost_chosen` and `saving` of a period; `run_saving`, by runs,
     with its `run_variance`; `value_today` and `value_chosen` of the mean stock; `confidence_cost` of a period; `saving
     VERDICT`; of items with a price, the value of the demand of a period, `demand`, and `met_today` and `met_chosen` of
     it at once; of items whose wanted fill is corrected, what it costs a period to hold the mean stock, `held`, and that
-    of the policies that aim at the wanted fill, `held_plain`.
+    of the policies that aim at the wanted fill, `held_plain`; of shares of demand met at once, `fill_today` and
+    `fill_chosen`, and of orders a period, `orders_today` and `orders_chosen`.
 
     Counts of items: by verdict, those that are not planned (`faults`), those of them by a fault of ours (`broken`),
     those with the run's figures (`by_run`), without an interval of the run, with a confidence in their fill rate
@@ -113,7 +114,8 @@ class Totals:
             values |= {"held": float(item.holding) * answer.chosen.stock,
                        "held_plain": float(item.holding) * answer.correction.plain_stock}
         for name, figures in ((TODAY, answer.today), (CHOSEN, answer.chosen)):
-            values |= {f"value_{name}": price * figures.stock, f"met_{name}": demand * figures.fill}
+            values |= {f"value_{name}": price * figures.stock, f"met_{name}": demand * figures.fill,
+                       f"fill_{name}": figures.fill, f"orders_{name}": figures.orders}
         for name, value in values.items():
             add_exactly(self.parts[name], value)
 

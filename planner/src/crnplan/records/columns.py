@@ -53,6 +53,11 @@ def unit_fault(role: str, unit: str) -> str | None:
     return f"the {role} counts {counted['what']}, and {unit!r} is none of its units: {known}"
 
 
+def periods_a_year(every: str) -> Fraction:
+    """Returns how many days, weeks or months a year has."""
+    return DAYS["year"] / DAYS[every]
+
+
 def conversion(role: str, unit: str, every: str) -> tuple[Fraction, str]:
     """Returns by what the numbers of a role are multiplied, and the words for it. A share is one of a year."""
     kind = ROLE_UNITS.get(role)
@@ -67,7 +72,7 @@ def conversion(role: str, unit: str, every: str) -> tuple[Fraction, str]:
     if kind == "size":
         return Fraction(1), "money to items, by their price"
     share = Fraction(1, 100) if unit == "percent" else Fraction(1)
-    return ((share * DAYS[every] / DAYS["year"], f"{unit} of the price and year to money an item and {every}")
+    return ((share / periods_a_year(every), f"{unit} of the price and year to money an item and {every}")
             if kind == "rate" else (share, f"{unit} to shares"))
 
 

@@ -1,0 +1,141 @@
+"""Computes the first screen of a catalogue's page, for those who decide: what the plan saves a year, service and stock
+before and after, in all and by class, and what was left out."""
+from __future__ import annotations
+
+import math
+from collections import defaultdict
+from collections.abc import Iterable, Sequence
+from typing import NamedTuple
+
+from ..plan.answer import CHOSEN, SAME, TODAY, Answer
+from ..plan.catalogue import PlannedFolder, Totals
+from ..records.columns import periods_a_year
+from ..records.item import Item
+from ..remarks import Remark
+from .catalogue_tables import Reason
+from .page import Mark, Money, Scale, Unit
+
+MOST_CLASSES = 6
+MOST_REASONS = 3
+ALL, NO_CLASS = "all", "no class"
+BEFORE_AND_AFTER = TODAY, CHOSEN
+LEAST_SERVICE = 5.0  # percent, by which the axis of service begins below the least one
+
+
+class Row(NamedTuple):
+    """A class: its items, what a year saves, and with today's levels and the new ones the share of demand met at once,
+    None if it is not known, and the value of the mean stock."""
+
+    name: str
+    items: int
+    saving: float
+    fills: tuple[float | None, ...]
+    values: tuple[float, ...]
+
+
+class Picture(NamedTuple):
+    """Service in percent and stock before and after: the scales of both, and of each row its places, in percent of the
+    width of the picture."""
+
+    service: Scale
+    stock: Scale
+    places: Sequence[tuple[Row, tuple[float | None, ...], tuple[float, ...]]]
+
+
+class LeftOut(NamedTuple):
+    """The items that are left out: how many, in how many rows of demand, how many of them have a known value, what
+    their stock is worth, and a year's demand for them."""
+
+    items: int
+    rows: int
+    valued: int
+    stock: float
+    demand: float
+
+
+class Board(NamedTuple):
+    """The figures of the first screen. Money is that of a year, `periods` of the plan's. Service is `by_value`, or the
+    mean over items if none has a price."""
+
+    money: Money
+    periods: float
+    by_value: bool
+    all: Row
+    rows: Sequence[Row]
+    unit: Unit
+    value_unit: Unit
+    changed: int
+    left_out: LeftOut
+    reasons: Sequence[Reason]
+
+    @property
+    def others(self) -> int:
+        """Returns how many items are left out for other reasons."""
+        return self.left_out.items - sum(reason.count for reason in self.reasons)
+
+    @property
+    def shown(self) -> Sequence[Row]:
+        """Returns the rows of the table: all items, and their classes if there are several."""
+        return [self.all, *self.rows] if len(self.rows) > 1 else [self.all]
+
+    @property
+    def picture(self) -> Picture | None:
+        """Returns service and stock before and after; None if nothing has a price."""
+        fills = [100 * fill for row in self.shown for fill in row.fills if fill is not None]
+        if not self.by_value or not fills:
+            return None
+        service = Scale.between(max(0.0, min(fills) - LEAST_SERVICE), 100.0)
+        stock = Scale.of([value / self.value_unit.size for row in self.shown for value in row.values])
+        places = [(row, tuple(None if fill is None else service.at(100 * fill) / 10 for fill in row.fills),
+                   tuple(stock.at(value / self.value_unit.size) / 10 for value in row.values)) for row in self.shown]
+        return Picture(service, stock, places)
+
+
+def row_of(name: str, sums: Sequence[Totals], periods: float, by_value: bool) -> Row:
+    """Returns the row of one class, or of several together."""
+    def added(part: str) -> float:
+        return math.fsum(totals[part] for totals in sums)
+    items = sum(totals.planned for totals in sums)
+    part, weight = ("met", added("demand")) if by_value else ("fill", float(items))
+    return Row(name, items, periods * added("saving"),
+               tuple(added(f"{part}_{policy}") / weight if weight else None for policy in BEFORE_AND_AFTER),
+               tuple(added(f"value_{policy}") for policy in BEFORE_AND_AFTER))
+
+
+def by_class(pairs: Iterable[tuple[Item, Answer | Remark]]) -> dict[str, Totals]:
+    """Returns the sums of each class of planned items."""
+    sums: defaultdict[str, Totals] = defaultdict(Totals)
+    for item, answer in pairs:
+        if isinstance(answer, Answer):
+            sums[item.group or NO_CLASS].add(item, answer)
+    return sums
+
+
+def rows_of(sums: dict[str, Totals], periods: float, by_value: bool) -> list[Row]:
+    """Returns the classes that save or lose most, the greatest saving first, and all others as one row."""
+    names = sorted(sums, key=lambda name: (-abs(sums[name]["saving"]), name))
+    most = MOST_CLASSES if len(names) <= MOST_CLASSES else MOST_CLASSES - 1
+    shown = [row_of(name, [sums[name]], periods, by_value) for name in names[:most]]
+    shown.sort(key=lambda row: (-row.saving, row.name))
+    others = [sums[name] for name in names[most:]]
+    return [*shown, *[row_of(f"{len(others)} other classes", others, periods, by_value)] * bool(others)]
+
+
+def left_out_of(folder: PlannedFolder, periods: float, reasons: Iterable[Reason]) -> LeftOut:
+    """Returns what the items are worth that are left out, as far as their prices are known."""
+    left = [reason for reason in reasons if reason.kind == "item"]
+    known = [item for item, answer in folder.answers() if isinstance(answer, Remark) and item.price is not None]
+    stock = math.fsum(float((item.stock or 0) * (item.price or 0)) for item in known)
+    demand = math.fsum(periods * float(item.price or 0) * sum(item.counts) / len(item.counts) for item in known)
+    return LeftOut(sum(reason.count for reason in left), sum(reason.rows for reason in left), len(known), stock, demand)
+
+
+def board_of(folder: PlannedFolder, totals: Totals, reasons: Sequence[Reason], money: Money) -> Board:
+    """Returns the first screen of a plan, whose items are left out for some reasons."""
+    periods, by_value = float(periods_a_year(folder.every)), totals["demand"] > 0
+    rows = rows_of(by_class(folder.answers()), periods, by_value)
+    everything = row_of(ALL, [totals], periods, by_value)
+    return Board(money, periods, by_value, everything, rows, money.unit([row.saving for row in (everything, *rows)]),
+                 money.unit(everything.values), totals.planned - totals.verdicts[SAME],
+                 left_out_of(folder, periods, reasons),
+                 [reason for reason in reasons if reason.kind == "item"][:MOST_REASONS])
