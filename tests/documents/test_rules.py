@@ -18,11 +18,10 @@ from tests.stored import CUTS
 CHECKPOINT_RULES = ("Number", "Name", "The text is refused since", "For example")
 LINE = r"`([A-Za-z]+ = [^`]+)`"
 # An example: one line or two, what stands before it and after it.
-EXAMPLE = re.compile(r"(no line |for |write |(?:a table `\w+`|`\[\w+\]`) with )?"
+EXAMPLE = re.compile(r"(no line |a table `\w+` with )?"
                      rf"{LINE}(?: with {LINE})?( with nothing after it)?")
-# The tables of rules, each with the scenario in which its examples are tested.
-SCENARIO_TABLES = {FORMATS: (RULES, "examples/two_policies.toml"),
-                   "a guide": (("What it says", "What it usually comes from"), "examples/spare_part.toml")}
+# The scenario in which the examples of rules are tested.
+SCENARIO = "examples/two_policies.toml"
 # What is done with the checkpoint that FORMATS shows, by the number with which it is then refused; 0 if it is accepted.
 EDITS: list[tuple[int, str, list[tuple[str, str]]]] = [
     (1, "resume", [("costs,7,2,1,4", "costs,07,2,1,4")]), (1, "resume", [("\n", "\r\n")]),
@@ -44,11 +43,9 @@ def with_line(text: str, line: str) -> str:
 
 
 def examples_of(text: str, cell: str) -> Iterator[tuple[str, str]]:
-    """Yields the examples of a cell, and each done to a scenario. Lines after `for` and `write` are right ones."""
+    """Yields the examples of a cell, and each done to a scenario."""
     for found in EXAMPLE.finditer(cell):
         before, first, second, behind = found.groups()
-        if before in ("for ", "write "):
-            continue
         changed = with_line(with_line(text, first), second) if second else with_line(text, first)
         if before == "no line ":
             changed = text.replace(f"{first}\n", "")
@@ -59,20 +56,17 @@ def examples_of(text: str, cell: str) -> Iterator[tuple[str, str]]:
 
 def rules_on(page: str, headings: tuple[str, ...]) -> dict[int, str]:
     """Returns the examples of each rule on a page, by its number."""
-    rows = [row for row in rows_of(page, *headings) if "command line" not in row[0]]
-    return {int(re.findall("[0-9]+", row[0])[-1]): row[-1] for row in rows}
+    return {int(row[0]): row[-1] for row in rows_of(page, *headings)}
 
 
-@pytest.mark.parametrize("table", SCENARIO_TABLES)
-def test_examples_of_scenario_rules(judge: Judge, check_all: Any, table: str) -> None:
+def test_examples_of_scenario_rules(judge: Judge, check_all: Any) -> None:
     """Each rule has an example, and it is refused with the rule's number."""
-    headings, scenario = SCENARIO_TABLES[table]
-    found = [rules for page in PAGES if (rules := rules_on(page, headings))]
+    found = [rules for page in PAGES if (rules := rules_on(page, RULES))]
     assert [list(it) for it in found] == [sorted(formats.RULES.values())]
 
     def cases() -> Iterator[tuple[str, object]]:
         for number, cell in found[0].items():
-            examples = list(examples_of(text_of(scenario), cell))
+            examples = list(examples_of(text_of(SCENARIO), cell))
             yield f"rule {number} has an example", bool(examples)
             yield from ((f"rule {number}: {name}", judge(changed, number)) for name, changed in examples)
 
