@@ -7,7 +7,7 @@ from pathlib import Path
 from crnplan.crnsim import long_run as exact_long_run, report, trajectory
 from crnplan.curve import exchange_curve
 from crnplan.decide import doubt, sensitivity, verdicts
-from crnplan.pages import backtest_tables, catalogue_tables, change_tables, item_page
+from crnplan.pages import backtest_tables, catalogue_tables, change_tables, item_page, today_tables
 from crnplan.table import Column
 from crnplan.theory import suggestions
 
@@ -19,10 +19,18 @@ UTF-8 with commas. A text that a spreadsheet would run as a formula stands behin
 columns, unrounded. Money is that of the masters or settings, in files with as many decimals as its smallest unit has. `-` or an empty
 cell stands for no figure.
 """
+AS_ORDERS = "Other columns are as in `today_orders.csv`."
+
+
+def more(columns: Sequence[Column]) -> list[Column]:
+    """Returns the columns that no table of orders has."""
+    return [column for column in columns if column not in today_tables.ORDER_COLUMNS]
+
+
 TABLES: Mapping[str, tuple[str, Sequence[Column]]] = {
     "decisions.csv": ("A planned catalogue: a row for each item, by name.", catalogue_tables.DECISION_COLUMNS),
     "exact.csv": ("The run of each item, exactly: fractions stand as `3/4`.", catalogue_tables.EXACT_COLUMNS),
-    "rejects.csv": ("What was left out of a catalogue, or only named.", catalogue_tables.REJECT_COLUMNS),
+    "rejects.csv, today_left_out.csv": ("What was left out of tables, or only named.", catalogue_tables.REJECT_COLUMNS),
     "changes.csv": ("What has changed since an earlier plan: a row for each item of either plan.",
                     change_tables.CHANGE_COLUMNS),
     "backtest.csv": ("The test of a catalogue on its own past: a row for each item.",
@@ -31,6 +39,14 @@ TABLES: Mapping[str, tuple[str, Sequence[Column]]] = {
     "curve.csv": ("The exchange curve: named points, then the curve by rising price.", exchange_curve.COLUMNS),
     "curve_policies.csv": ("The policies of one point of the curve.", exchange_curve.POLICY_COLUMNS),
     "curve_left_out.csv": ("Items that are not on the curve.", exchange_curve.LEFT_OUT_COLUMNS),
+    "today_orders.csv": ("What to order on a day, the most urgent first; then items of which nothing is known.",
+                         today_tables.ORDER_COLUMNS),
+    "today_above.csv": (f"Items above S. {AS_ORDERS}", more(today_tables.ABOVE_COLUMNS)),
+    "today_dead.csv": (f"Stock that nobody has asked for. {AS_ORDERS}", more(today_tables.DEAD_COLUMNS)),
+    "today_owed.csv": (f"Items that are owed. {AS_ORDERS}", more(today_tables.OWED_COLUMNS)),
+    "today_classes.csv, today_suppliers.csv": ("What these come to by class, and by supplier.",
+                                               today_tables.SUPPLIER_COLUMNS),
+    "today_added.csv": (f"What fills up orders of suppliers. {AS_ORDERS}", more(today_tables.ADDED_COLUMNS)),
     "policies.csv": ("The policies of an item that is planned alone, the cheapest first.", item_page.POLICY_COLUMNS),
     "coming.csv": ("The same over the coming periods, with `[run] horizon`.", item_page.COMING_COLUMNS),
     "doubt.csv, crnplan doubt": ("Policies under the laws that a history allows. A column stands if there is a figure.",

@@ -14,9 +14,11 @@ from .crnsim.program import find_program
 from .decide.sensitivity import Moves
 from .errors import Refused, argument
 from .files import Folder, own_folder
+from .money import Amount
 from .pages.catalogue_page import CATALOGUE_FILES, report
 from .pages.catalogue_tables import catalogue_summary, decisions_of, faults_of, rejects_of
 from .pages.change_tables import change_lines, changes_of
+from .pages.today_tables import OrdersToday, orders_today
 from .pages.item_page import ItemWords, item_page, item_summary, plan_item as plan_one_item, policies_of
 from .plan.catalogue import Lost, Totals, check_earlier, plan_into, planned_folder
 from .plan.item import Depth
@@ -173,6 +175,24 @@ class Plan(Result):
         from .curve.exchange_curve import exchange_curve
         return exchange_curve(self.path, stock_value=stock_value, fill=fill, orders=orders, jobs=jobs, cluster=cluster,
                               program=self.program, confirm=confirm)
+
+    def orders_today(self, stock: Table | None = None, on_order: Table | None = None,
+                     date: datetime.date | str | None = None, *, columns: Roles | None = None,
+                     units: Roles | None = None, supplier_min: Mapping[str, Amount] | None = None,
+                     delimiter: str | None = None, encoding: str | None = None, decimal: str | None = None,
+                     date_formats: Sequence[str] = ()) -> OrdersToday:
+        """Returns what to order on a date, by default today, what lies too long, and what is owed. Nothing is planned
+        again.
+
+        `stock` has a row for each item, or for each of its places: item, stock, perhaps owed (items), which add up; a
+        stock below 0 is owed. Without it that of the masters counts. `on_order` has what is to come: item, quantity,
+        perhaps due. `supplier_min` has the least value of an order by supplier, beside those of the masters. Tables are
+        read as by `plan`. Raises Refused for what can't be read or meant, and if the plan is not as the rows that were
+        read last.
+        """
+        words = Words(columns=columns or {}, units=units or {}, delimiter=delimiter, encoding=encoding, decimal=decimal,
+                      date_formats=tuple(date_formats))
+        return orders_today(self.path, {"stock": stock, "on_order": on_order}, words, date, supplier_min or {})
 
     def report(self, items: Iterable[str] = ()) -> Path:
         """Writes report.html, and pages of `items`, into the folder of the plan, and returns the path."""

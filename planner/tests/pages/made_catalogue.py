@@ -51,7 +51,8 @@ def made_folder(path: Path, items: int, names: Sequence[str] = (), has_curve: bo
         writer = Writer(folder)
         rejects = made_rejects(source, items)
         writer.add(*(item for item, _ in pairs), *rejects)
-        writer.finish({"counts": made_counts(len(pairs), rejects), "every": "week", "decimals": DECIMALS})
+        writer.finish({"counts": made_counts(len(pairs), rejects), "every": "week", "decimals": DECIMALS,
+                       "periods": [1000, 1003]})
         planned = Planned(Settings(), Prior("none"), "made")
         with (contextlib.closing(Catalogued(path / READ)) as read,
               contextlib.closing(Store(folder.store(ANSWERS), Answer)) as answers):

@@ -24,12 +24,24 @@ from ..records.item import BORROW
 from ..records.items import KEEP, LEAVE_OUT, Words
 from . import note
 from .histories import writing_options
-from .words import command, pairs_of, share_of, worker_options
+from .words import command, pairs_of, share_of, together, worker_options
 
 # So many reasons are named on the terminal.
 MOST_REASONS = 10
 KINDS = {"row": "rows left out", "item": "items left out", "suspicious": "named, and kept"}
 TAKEN = (KEEP, LEAVE_OUT)
+
+# The columns of tables and what they count.
+column_options = together(
+    click.option("--column", "columns", metavar="FILE.ROLE=NAME", multiple=True,
+                 callback=pairs_of(r"([^=]*\.[^=]*)=(.*\S.*)", "demand.quantity=Menge"),
+                 help="A column, as demand.quantity=Menge. May be given several times."),
+    click.option("--unit", "units", metavar="FILE.ROLE=UNIT", multiple=True,
+                 callback=pairs_of(r"([^=]*\.[^=]*)=(.*\S.*)", "items.lead=day"),
+                 help="What a column counts, as items.lead=day, items.holding=percent (of the price a year), "
+                 "items.price=100, demand.quantity=12. May be given several times."))
+decimal_option = click.option("--decimal", type=click.Choice(DECIMALS),
+                              help="The decimal sign; without it each column must decide it.")
 
 
 @command()
@@ -44,13 +56,7 @@ TAKEN = (KEEP, LEAVE_OUT)
 @click.option("--anyway", is_flag=True,
               help="End with status 0 even if no item can be planned, or more than half of a file's rows were "
               "rejected.")
-@click.option("--column", "columns", metavar="FILE.ROLE=NAME", multiple=True,
-              callback=pairs_of(r"([^=]*\.[^=]*)=(.*\S.*)", "demand.quantity=Menge"),
-              help="A column, as demand.quantity=Menge. May be given several times.")
-@click.option("--unit", "units", metavar="FILE.ROLE=UNIT", multiple=True,
-              callback=pairs_of(r"([^=]*\.[^=]*)=(.*\S.*)", "items.lead=day"),
-              help="What a column counts, as items.lead=day, items.holding=percent (of the price a year), "
-              "items.price=100, demand.quantity=12. May be given several times.")
+@column_options
 @click.option("--factor", "factors", metavar="MEASURE=NUMBER", multiple=True,
               callback=pairs_of(r"(.*\S.*)=(0*[1-9][0-9]*)", "KAR=12"),
               help="How many items one of a unit of measure is, as KAR=12. May be given several times.")
@@ -63,7 +69,7 @@ TAKEN = (KEEP, LEAVE_OUT)
               help="Items with an amount far above all others; by default they are left out.")
 @click.option("--least", type=click.IntRange(1), metavar="N", help="The periods that a history needs; by default 13.")
 @writing_options
-@click.option("--decimal", type=click.Choice(DECIMALS), help="The decimal sign; without it each column must decide it.")
+@decimal_option
 @click.option("--fit", type=click.Choice(METHODS), metavar="METHOD",
               help="How demand is fitted, as in crnplan history; by default auto.")
 @click.option("--borrow", type=click.Choice(BORROW),

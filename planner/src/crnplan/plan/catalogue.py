@@ -198,10 +198,11 @@ class PlannedFolder:
                 raise Refused(f"{self.path}: what has changed since the earlier plan is not known", AGAIN)
             yield from (change for _, _, change in store.answers() if isinstance(change, Change))
 
-    def answers(self) -> Iterator[tuple[Item, Answer | Remark]]:
-        """Yields the items in order of their names, each with its answer, or with the fault for which it has none."""
+    def answers(self, is_whole: bool = False) -> Iterator[tuple[Item, Answer | Remark]]:
+        """Yields the items in order of their names, each with its answer, or with the fault for which it has none; with
+        the periods by which they were planned, or with all of the record."""
         kept = self.store.answers()
-        for item in self.read.items():
+        for item in self.read.whole_items() if is_whole else self.read.items():
             yield item, next(answer for name, _, answer in kept if name == item.name)
 
     def item(self, name: str) -> tuple[Item, Answer]:
@@ -245,20 +246,27 @@ def check_earlier(after: Path | None, out: Path | None, settings: Settings) -> N
 
 
 @contextlib.contextmanager
+def copied_folder(path: Path, room: Path) -> Iterator[PlannedFolder]:
+    """Opens copies of the plan in a folder, made in a room, so that nothing is written into the folder. Raises Refused
+    if no finished plan is in it, or if a run works there."""
+    with read_folder(path, CATALOGUE), faults_of(path):
+        for name in (READ, ANSWERS, f"{ANSWERS}-wal"):
+            if (path / name).is_file():
+                shutil.copyfile(path / name, room / name)
+    with planned_folder(room, path) as planned:
+        planned.check()
+        yield planned
+
+
+@contextlib.contextmanager
 def earlier_folder(path: Path | None, folder: Folder) -> Iterator[PlannedFolder | None]:
-    """Opens copies of the plan in another folder, in which nothing is written; None if no folder is named. Raises
-    Refused if no finished plan is in it, or if a run works there."""
+    """Opens copies of the plan in another folder; None if no folder is named. Raises as `copied_folder` does."""
     if path is None:
         yield None
         return
     copied = folder.room() / "earlier"
     copied.mkdir(exist_ok=True)
-    with read_folder(path, CATALOGUE):
-        for name in (READ, ANSWERS, f"{ANSWERS}-wal"):
-            if (path / name).is_file():
-                shutil.copyfile(path / name, copied / name)
-    with planned_folder(copied, path) as planned:
-        planned.check()
+    with copied_folder(path, copied) as planned:
         yield planned
 
 

@@ -92,7 +92,7 @@ CATALOGUE_RULES = Table({"catalogue": Table({
     "replications": Key(number(2, MOST_REPLICATIONS)),
     **{kind: Table(dict.fromkeys(roles, TEXT)) for kind, roles in ROLES.items()},
     "units": Table(dict.fromkeys(COLUMNS, Key(unit))), "names": Table(dict.fromkeys(COLUMNS, Key(texts))),
-    "factors": Table({}, other=Key(number(1, MOST_WEIGHT)))})},
+    "factors": Table({}, other=Key(number(1, MOST_WEIGHT))), "supplier_min": Table({}, other=Key(money))})},
     other=Key(lambda path, value: []))
 
 

@@ -76,8 +76,12 @@ class Catalogued:
     def names(self) -> Iterator[str]:
         yield from (name for (name,) in self._rows("name"))
 
+    def whole_items(self) -> Iterator[Item]:
+        """Yields the items by all their periods."""
+        yield from map(ITEM.value, self._rows("*"))
+
     def items(self) -> Iterator[Item]:
-        yield from (ITEM.value(row).last(self.window) for row in self._rows("*"))
+        yield from (item.last(self.window) for item in self.whole_items())
 
     def item(self, name: str) -> Item | None:
         """Returns the item of a name; None if there is none."""

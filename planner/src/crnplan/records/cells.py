@@ -58,7 +58,7 @@ KINDS = {
     "whole": ("no quantity", "not whole"), "sales": ("no quantity", "not whole", "negative"),
     "period": ("no quantity", "not whole", "negative period"),
     "movement": ("no quantity", "not whole", "negative movement"), "returns": ("", "not whole", "negative"),
-    "lead": ("no lead", "not whole", "below 1")}
+    "lead": ("no lead", "not whole", "below 1"), "owed": ("", "below 0"), "on order": ("no amount", "below 0")}
 # Signs and codes of money stand before or behind an amount. A sign may stand for a code.
 SIGNS: dict[str, str] = dict(HEADINGS["money"]["signs"])
 CURRENCY = "|".join(map(re.escape, [*SIGNS, *HEADINGS["money"]["codes"]]))

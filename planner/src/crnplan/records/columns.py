@@ -23,9 +23,12 @@ if TYPE_CHECKING:
     from .items import Words
 
 # The roles of each table in order, and those that each must have. s and S differ by their case.
-ROLES = {kind: ["item", *HEADINGS[kind]] for kind in ("demand", "items", "orders")}
+ROLES = {kind: ["item", *HEADINGS[kind]] for kind in ("demand", "items", "orders", "stock", "on_order")}
 COLUMNS = [f"{kind}.{role}" for kind, roles in ROLES.items() for role in roles]
-NEEDED = {"item", "date", "quantity", "setup", "holding", "s", "S", "ordered", "received"}
+NEEDED = {"demand": {"item", "date", "quantity"}, "items": {"item", "setup", "holding", "s", "S"},
+          "orders": {"item", "ordered", "received"}, "stock": {"item", "stock"}, "on_order": {"item", "quantity"}}
+# Roles that a column has by its whole name alone: others that begin so say something else, as a supplier's lead time.
+WHOLE_NAMES = {"supplier"}
 # Letters that are no letter with an accent.
 LETTERS = str.maketrans({"ł": "l", "ø": "o", "æ": "ae"})
 UNITS: dict[str, str] = {word: unit for unit, words in HEADINGS["units"].items() for word in words}
@@ -127,8 +130,8 @@ class Finder:
         self.kind, self.every = kind, words.every
         self.stated, self.units = words.columns.get(kind, {}), words.units.get(kind, {})
         more = words.names.get(kind, {})
-        self.names = {role: {*HEADINGS["all" if role == "item" else kind][role], *map(plain_name, more.get(role, ()))}
-                      for role in ROLES[kind]}
+        self.names = {role: {*HEADINGS["all"].get(role, ()), *HEADINGS[kind].get(role, ()),
+                             *map(plain_name, more.get(role, ()))} for role in ROLES[kind]}
         self.role_of = {name: role for role, names in self.names.items() for name in names}
         self.columns: dict[str, Column] = {}
         self.wrong: list[str] = []
@@ -152,7 +155,7 @@ class Finder:
                 self._refuse("two columns", role, names=" and ".join(repr(heading[place]) for place in places))
             elif places:
                 self._add(role, Column(heading[places[0]], places[0], True))
-            elif role in NEEDED:
+            elif role in NEEDED[self.kind]:
                 self._refuse("no column", role, columns=listed(heading))
         return self.columns, self.wrong
 
@@ -167,6 +170,8 @@ class Finder:
         others = self.role_of.keys() - mine
         free = [place for place, name in enumerate(self.plain) if place not in taken and name not in others]
         exact = [place for place in free if self.plain[place] in mine]
+        if role in WHOLE_NAMES:
+            return exact
         bare = [place for place in free if role in ROLE_UNITS and self.bare[place][0] in mine]
         return exact or bare or [place for place in free if self.bare[place][0] not in others and any(
             len(name) > 1 and self.plain[place].startswith(f"{name} ") for name in mine)]

@@ -24,8 +24,9 @@ class Item:
     that is wanted at once; an item has a `backlog`, a `fill`, or both. `group` is its class, `borrow` from whom it
     learns its law, perhaps empty. `bounds` are those of its orders and levels.
 
-    What follows is no part of the plan: `stock` is today's, `price` the money that an item of stock is worth, `first`
-    the number of the first period, `line` and `rows` are the line of the master and the rows of demand.
+    What follows is no part of the plan: `stock` is today's, `price` the money that an item of stock is worth,
+    `supplier_min` the money that an order of all items of the `supplier` comes to at least, `first` the number of the
+    first period, `line` and `rows` are the line of the master and the rows of demand.
     """
 
     name: str
@@ -44,6 +45,8 @@ class Item:
     stock: Fraction | None = None
     price: Fraction | None = None
     description: str = ""
+    supplier: str = ""
+    supplier_min: Fraction | None = None
     first: int = 0
     line: int = 0
     rows: int = 0

@@ -21,12 +21,12 @@ from .item import Item
 from .masters import MONEY, Masters
 from .observed import Day, ends_of, record_of, summed
 from .rows import Flags, Rows, far_above
-from .sources import Rules
+from .sources import Rules, Sheet
 
 KEEP, LEAVE_OUT = "keep", "leave-out"
 # The roles with amounts by table.
 AMOUNTS = {"items": ("setup", "holding", "backlog", "fill", "s", "S", "stock", "price", "price_for", "order_min", "pack",
-                     "s_min"),
+                     "s_min", "supplier_min"),
            "demand": ("quantity", "returned"), "orders": ()}
 
 
@@ -121,6 +121,14 @@ def joined(remarks: Sequence[Remark]) -> Remark:
                                        for name, value in it.facts.items()})
 
 
+def reject_of(what: str, sheet: Sheet, line: int, name: str, faults: Sequence[CellFault], rows: int = 0) -> Reject:
+    """Returns what is left out or suspicious, with columns (by their roles if the table has none) and texts."""
+    cells = [on_one_line(text_of(cell)) for _, cell, _ in faults]
+    columns = [sheet.columns[role].name if role in sheet.columns else role for role, _, _ in faults]
+    return Reject(what, sheet.file_name, line, name, ", ".join(columns), ", ".join(cells),
+                  joined([remark for _, _, remark in faults]), rows)
+
+
 class Reader:
     """Makes the items of a catalogue, and hands them on with what is left out."""
 
@@ -134,7 +142,8 @@ class Reader:
             "items": dict.fromkeys(("open_orders", "twice", "named", "ready", "left_out", "late"), 0)}
         self.names = [str(name) for name in rows["items"].columns["item"].distinct]
         for kind in rows:
-            self._reject_nameless(kind)
+            for row, wrong in rows[kind].nameless():
+                self._reject_row(kind, row, [wrong], is_named=False)
         self.dates = {kind: its.date_reader() for kind, its in rows.items()}
         currencies: dict[str, str] = {}
         self.amounts = {role: rows[kind].amount_reader(role, currencies if role in MONEY else None)
@@ -150,29 +159,13 @@ class Reader:
         self.named = rows["demand"].by_item(rows["demand"].good)
 
     def _reject(self, what: str, kind: str, line: int, name: str, faults: Sequence[CellFault], rows: int) -> None:
-        """Names what is left out or suspicious, with columns (by their roles if the table has none) and texts."""
-        sheet, cells = self.rows[kind].sheet, [on_one_line(text_of(cell)) for _, cell, _ in faults]
-        columns = [sheet.columns[role].name if role in sheet.columns else role for role, _, _ in faults]
-        self.add(Reject(what, sheet.file_name, line, name, ", ".join(columns), ", ".join(cells),
-                        joined([remark for _, _, remark in faults]), rows))
+        self.add(reject_of(what, self.rows[kind].sheet, line, name, faults, rows))
 
     def _reject_row(self, kind: str, row: int, faults: Sequence[CellFault], is_named: bool = True) -> None:
         rows = self.rows[kind]
         self.counts["files"][kind]["rejected"] += 1
         self._reject("row", kind, int(rows.lines[row]), str(rows.cell("item", row)) * is_named, faults,
                      int(kind == "demand"))
-
-    def _reject_nameless(self, kind: str) -> None:
-        """Rejects the rows of a table that name no item, and those with too many cells."""
-        rows = self.rows[kind]
-        rows.good &= ~rows.having("item", [code for code, name in enumerate(self.names)
-                                           if not name or UNPRINTABLE.search(name)])
-        for row in np.flatnonzero(~rows.good).tolist():
-            name = rows.cell("item", row)
-            wrong = fault("item", name, "unprintable name" if name else "no item")
-            if row in rows.wide:
-                wrong = "", rows.wide[row][1], rows.long(row)
-            self._reject_row(kind, row, [wrong], is_named=False)
 
     def read(self) -> None:
         """Reads all items. Those of totals alone are none."""

@@ -17,10 +17,11 @@ from .item import BORROW, Item
 from .sources import Column
 
 # The roles with money, whose decimals say what the smallest unit is.
-MONEY = ("setup", "holding", "backlog", "price")
+MONEY = ("setup", "holding", "backlog", "price", "supplier_min")
 # The kinds of numbers in the cells of masters. Others are shares, lead times and texts.
 READ_AS = {"setup": "money", "backlog": "cost", "s": "items", "S": "items", "stock": "number", "price": "money",
-           "price_for": "cost", "order_min": "money", "pack": "items", "s_min": "items"}
+           "price_for": "cost", "order_min": "money", "pack": "items", "s_min": "items",
+           "supplier_min": "money"}
 SPAN = re.compile(r"([0-9]{1,5}(?:[.,][0-9]{1,2})?) *([^\W\d_]*)")
 LEAD = re.compile(r"([0-9]{1,4}(?:[.,][0-9]{1,2})?) *([^\W\d_]*)[ ;|/]*")
 
@@ -77,7 +78,7 @@ class Masters:
         self.share = units["holding"] if units.get("holding") in ("share", "percent") else ""
         self.readers: dict[str, Callable[[Cell], Any]] = {
             **{role: partial(amounts[role].number, kind=kind) for role, kind in READ_AS.items()},
-            **dict.fromkeys(("description", "class"), lambda cell: UNPRINTABLE.sub(" ", str(cell))),
+            **dict.fromkeys(("description", "class", "supplier"), lambda cell: UNPRINTABLE.sub(" ", str(cell))),
             "holding": partial(self._holding, amounts["holding"]), "borrow": borrowed_from,
             "lead": partial(leads_of, unit=units.get("lead", ""), every=every),
             **{role: partial(span_of, unit=units.get(role, ""), every=every) for role in ("coverage", "shelf_life")},
@@ -102,7 +103,7 @@ class Masters:
         for role in ROLES["items"][1:]:
             cell = cells.get(role, "")
             try:
-                read[role] = None if cell == "" and role not in NEEDED else self.readers[role](cell)
+                read[role] = None if cell == "" and role not in NEEDED["items"] else self.readers[role](cell)
             except Unreadable as why:
                 faults.append((role, cell, why.remark))
         if "backlog" in read and "fill" in read and read["backlog"] is None and read["fill"] is None:
@@ -127,7 +128,8 @@ class Masters:
         item = Item(name, (), tuple(read["lead"] or observed), (int(read["s"]), int(read["S"])), read["setup"], holding,
                     read["backlog"], read["fill"], group=read["class"] or "", borrow=read["borrow"] or "",
                     bounds=self._bounds(read),
-                    stock=read["stock"], price=read["price"], description=read["description"] or "", line=line)
+                    stock=read["stock"], price=read["price"], description=read["description"] or "",
+                    supplier=read["supplier"] or "", supplier_min=read["supplier_min"], line=line)
         return item, decimals
 
     def _bounds(self, read: Mapping[str, Any]) -> Bounds:

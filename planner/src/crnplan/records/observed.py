@@ -22,6 +22,7 @@ Day = datetime.date
 FAR_DAYS, RARE = 366, 1_000
 # An item that is first seen after so many periods begins at its first movement.
 HALF_YEAR = {"day": 183, "week": 26, "month": 6}
+YEAR = {"day": 365, "week": 52, "month": 12}  # in periods
 
 
 @dataclass(frozen=True)
@@ -92,15 +93,17 @@ class Record:
         return self.periods[0] if period <= self.periods[0] + HALF_YEAR[self.every] else period
 
 
+def stated_day(name: str, day: Day | str | None) -> Day | None:
+    """Returns a day that an argument states. Raises Refused."""
+    try:
+        return DateReader([day]).read(day)[0] if isinstance(day, str) else day
+    except Unreadable as fault:
+        raise Refused(f"{argument(name)}: {fault}") from fault
+
+
 def ends_of(start: Day | str | None, end: Day | str | None) -> tuple[Day | None, Day | None]:
     """Returns the stated ends of a record. Raises Refused."""
-    ends: list[Day | None] = []
-    for name, day in (("start", start), ("end", end)):
-        try:
-            ends.append(DateReader([day]).read(day)[0] if isinstance(day, str) else day)
-        except Unreadable as fault:
-            raise Refused(f"{argument(name)}: {fault}") from fault
-    first, last = ends
+    first, last = stated_day("start", start), stated_day("end", end)
     if first and last and first > last:
         raise Refused(f"{argument('start', str(first))} is after {argument('end', str(last))}; change one of them")
     return first, last

@@ -15,13 +15,14 @@ import numpy as np
 import numpy.typing as npt
 
 from ..remarks import Remark
-from .cells import AmountReader, Cell, CellFault, DateReader, Numbers, Unreadable, bare_cell, dated_cell, text_of
+from .cells import (UNPRINTABLE, AmountReader, Cell, CellFault, DateReader, Numbers, Unreadable, bare_cell, dated_cell,
+                    fault, text_of)
 from .sources import Sheet
 
 Flags = npt.NDArray[np.bool_]
 Value = TypeVar("Value")
 MOST_KEPT = 100_000  # cells whose value is remembered
-DATES = ("date", "ordered", "received")
+DATES = ("date", "ordered", "received", "due")
 # An amount is far above all others if it is so many times the next largest; TIMES_OF_FEW times if it has fewer others
 # than LEAST_OTHERS. At most MOST_FAR are.
 TIMES_NEXT, TIMES_OF_FEW, LEAST_OTHERS, MOST_FAR = 30, 300, 4, 3
@@ -129,6 +130,17 @@ class Rows:
         order = rows[np.argsort(codes, kind="stable")]
         ends = np.cumsum(np.bincount(codes, minlength=len(self.columns["item"].distinct)))
         return lambda item: order[ends[item - 1] if item else 0:ends[item]]
+
+    def nameless(self) -> Iterator[tuple[int, CellFault]]:
+        """Yields the rows that name no item, and those with too many cells, with what is wrong, and takes them out of
+        the good ones."""
+        names = self.columns["item"].distinct
+        self.good &= ~self.having("item", [code for code, name in enumerate(names)
+                                           if not name or UNPRINTABLE.search(str(name))])
+        for row in np.flatnonzero(~self.good).tolist():
+            name = self.cell("item", row)
+            yield row, ("", self.wide[row][1], self.long(row)) if row in self.wide else fault(
+                "item", name, "unprintable name" if name else "no item")
 
     def date_reader(self) -> DateReader:
         """Returns what reads the dates of the table, after a look at all of them."""

@@ -73,6 +73,10 @@ class LatticeLaw:
         """Returns the chances of the cells from low to high, among which all of the law are."""
         return np.pad(self.chances, (self.low - low, high - self.high))
 
+    def above(self, cell: int) -> float:
+        """Returns the chance of the cells above one."""
+        return float(self.chances[max(cell + 1 - self.low, 0):].sum())
+
     @property
     def reflected(self) -> LatticeLaw:
         """Returns the law of the number with the other sign."""

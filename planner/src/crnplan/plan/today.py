@@ -1,0 +1,344 @@
+"""Says what to order today by the chosen policies of a plan, what lies too long, and what is owed to customers.
+
+The position of an item is its stock, less what is owed, plus all that is on order. If it is below s, the item is
+ordered up to S. The chance of a shortage before delivery is that of the net demand of a lead time and one more period
+exceeding what is there by then. It assumes the laws of the plan, independent periods, and that what is on order comes
+when it is due; what has no date, or is overdue, comes in time.
+"""
+from __future__ import annotations
+
+import datetime
+import math
+from collections import defaultdict
+from collections.abc import Iterable, Iterator, Mapping, Sequence
+from dataclasses import dataclass
+from difflib import get_close_matches
+from fractions import Fraction
+from functools import cached_property
+
+from ..errors import Refused, argument
+from ..records.cells import first_day
+from ..records.columns import DAYS
+from ..records.item import Item
+from ..records.items import FileCounts, Reject, Words
+from ..records.observed import YEAR, Day
+from ..records.sources import Table
+from ..records.stock import NONE, ON_ORDER, Arrival, Holdings, OnHand, read_holdings
+from ..remarks import Remark
+from ..theory.walk import NOTHING, LatticeLaw, power_of, sum_of
+from ..words import message
+from .answer import Answer, Laws
+from .catalogue import PlannedFolder
+
+OLD_DAYS = 56  # after its record, from which on the age of a plan is said
+MOST_DAYS = 36_525  # from today to a latest date
+Money = Fraction | None  # None if an item has no price
+
+
+def net_demand(laws: Laws) -> LatticeLaw:
+    """Returns the law of a period's demand less what comes back, in boxes."""
+    demand = LatticeLaw.of(laws.demand, 1)
+    return sum_of(demand, LatticeLaw.of(laws.returns, 1).reflected) if laws.returns else demand
+
+
+@dataclass(frozen=True)
+class Standing:
+    """An item of a plan on a day, of a catalogue whose period is `every`. Amounts are in items."""
+
+    item: Item
+    answer: Answer
+    hand: OnHand
+    arrivals: Sequence[Arrival]
+    day: Day
+    every: str
+
+    @cached_property
+    def on_order(self) -> Fraction:
+        return sum((arrival.items for arrival in self.arrivals), NONE)
+
+    @cached_property
+    def position(self) -> Fraction:
+        return self.hand.stock - self.hand.owed + self.on_order
+
+    @property
+    def is_due(self) -> bool:
+        """Returns whether the policy orders: the position is below s."""
+        return self.position < self.answer.chosen.point
+
+    @property
+    def to_level(self) -> Fraction:
+        """Returns what lacks up to S; below 0 if the position is above it."""
+        return self.answer.chosen.level - self.position
+
+    @property
+    def packs(self) -> int:
+        """Returns the packs of an order up to S."""
+        return math.ceil(self.to_level / self.item.bounds.pack)
+
+    @property
+    def placed(self) -> int:
+        """Returns an order up to S in whole packs."""
+        return self.packs * self.item.bounds.pack
+
+    def worth(self, items: Fraction | int) -> Money:
+        """Returns what so many items are worth."""
+        return None if self.item.price is None else items * self.item.price
+
+    @cached_property
+    def mean(self) -> float:
+        """Returns the mean net demand of a period by the laws of the plan."""
+        laws = self.answer.laws
+        return float((laws.demand.mean - (laws.returns.mean if laws.returns else 0)) * laws.box)
+
+    def weeks_of(self, items: Fraction) -> float | None:
+        """Returns the weeks of mean demand that so many items are; 0 for less than none, None if nothing is used."""
+        return None if self.mean <= 0 else max(0.0, float(items) / self.mean) * float(DAYS[self.every] / DAYS["week"])
+
+    @cached_property
+    def weeks(self) -> float | None:
+        """Returns the weeks until a shortage at mean demand if nothing arrived: of the stock less what is owed."""
+        return self.weeks_of(self.hand.stock - self.hand.owed)
+
+    @property
+    def weeks_above(self) -> float | None:
+        """Returns the weeks of mean demand that the position is above s."""
+        return self.weeks_of(self.position - self.answer.chosen.point)
+
+    @property
+    def latest(self) -> Day:
+        """Returns the day on which an order has to leave so that it arrives, at mean demand and after the mean lead
+        time, before the position is used up; the day itself if that is past."""
+        left = float(self.position) / self.mean - float(self.answer.laws.lead.mean) if self.mean > 0 else 0.0
+        return self.day + datetime.timedelta(min(max(0, math.floor(left * float(DAYS[self.every]))), MOST_DAYS))
+
+    def there_within(self, periods: int) -> Fraction:
+        """Returns the stock less what is owed, and what arrives within so many periods from the day on."""
+        end = DAYS[self.every] * periods
+        return self.hand.stock - self.hand.owed + sum((arrival.items for arrival in self.arrivals if arrival.due is None
+                                                       or (arrival.due - self.day).days < end), NONE)
+
+    @cached_property
+    def chance(self) -> float:
+        """Returns the chance of a shortage before delivery: see the module."""
+        laws, total, periods, chance = self.answer.laws, NOTHING, 0, 0.0
+        net = net_demand(laws)
+        for lead, share in laws.lead.chances.items():
+            total, periods = sum_of(total, power_of(net, lead + 1 - periods)), lead + 1
+            chance += share * total.above(math.floor(self.there_within(periods) / laws.box))
+        return chance
+
+    @property
+    def urgency(self) -> tuple[float, float, str]:
+        """Returns what sorts the most urgent item first."""
+        return (math.inf if self.weeks is None else self.weeks), -self.chance, self.item.name
+
+    @property
+    def reason(self) -> Remark:
+        """Returns why the item is ordered."""
+        if self.hand.owed:
+            return Remark("items owed", {"owed": float(self.hand.owed)})
+        if not self.hand.stock:
+            return Remark("no stock left")
+        return Remark("below s", {"position": float(self.position), "s": self.answer.chosen.point})
+
+
+@dataclass(frozen=True)
+class Lying:
+    """An item with stock that nobody has asked for during a year of the record, or longer: for so many periods."""
+
+    item: Item
+    stock: Fraction
+    periods: int
+
+    @property
+    def value(self) -> Money:
+        return None if self.item.price is None else self.stock * self.item.price
+
+
+@dataclass(frozen=True)
+class Addition:
+    """An item that fills up the order of its supplier by its own order up to S, and what the whole order then comes
+    to."""
+
+    standing: Standing
+    total: Fraction
+
+
+@dataclass(frozen=True)
+class Group:
+    """The items of a class or a supplier. `minimum` is the least order value of a supplier; None if there is none."""
+
+    name: str
+    standings: Sequence[Standing]
+    dead: Sequence[Lying]
+    minimum: Money = None
+
+    @property
+    def due(self) -> list[Standing]:
+        return [standing for standing in self.standings if standing.is_due]
+
+    @property
+    def value(self) -> Fraction:
+        """Returns what all orders are worth, but for those of items without a price."""
+        return sum_of_money(standing.worth(standing.placed) for standing in self.due)
+
+    @property
+    def excess(self) -> Fraction:
+        return sum_of_money(standing.worth(max(-standing.to_level, NONE)) for standing in self.standings)
+
+    @property
+    def dead_value(self) -> Fraction:
+        return sum_of_money(lying.value for lying in self.dead)
+
+    @property
+    def owed(self) -> Fraction:
+        return sum((standing.hand.owed for standing in self.standings), NONE)
+
+    @property
+    def short(self) -> Fraction:
+        """Returns by how much an order of the supplier lacks its minimum; 0 if nothing is ordered."""
+        return max(self.minimum - self.value, NONE) if self.due and self.minimum is not None else NONE
+
+    def additions(self) -> Iterator[Addition]:
+        """Yields what to add next, the item nearest above s in weeks first, until the minimum is met."""
+        total = self.value
+        waiting = [it for it in self.standings if not it.is_due and it.to_level > 0 and it.weeks_above is not None]
+        for standing in sorted(waiting, key=lambda it: (it.weeks_above, it.item.name)):
+            worth = standing.worth(standing.placed)
+            if self.minimum is None or total >= self.minimum:
+                return
+            if worth:
+                total += worth
+                yield Addition(standing, total)
+
+
+def sum_of_money(parts: Iterable[Money]) -> Fraction:
+    return sum((part for part in parts if part is not None), NONE)
+
+
+@dataclass(frozen=True)
+class Today:
+    """What a plan says on a day: the items whose stock is known, the most urgent order first, those that are `unknown`,
+    with the reason, and those that lie too long. `end` is the last day of the record. `counts` and `rejects` say what
+    became of the rows of tables."""
+
+    day: Day
+    end: Day
+    standings: Sequence[Standing]
+    unknown: Sequence[tuple[Item, Remark]]
+    dead: Sequence[Lying]
+    minimums: Mapping[str, Fraction]
+    has_orders: bool
+    counts: Mapping[str, FileCounts]
+    rejects: Sequence[Reject]
+
+    @cached_property
+    def whole(self) -> Group:
+        """Returns all items."""
+        return Group("", self.standings, self.dead)
+
+    @property
+    def above(self) -> list[Standing]:
+        """Returns the items above S, those that last longest first."""
+        return sorted((it for it in self.standings if it.to_level < 0),
+                      key=lambda it: (-(it.weeks_of(-it.to_level) or math.inf), it.item.name))
+
+    @property
+    def owed(self) -> list[Standing]:
+        """Returns the items that are owed to customers."""
+        return [standing for standing in self.standings if standing.hand.owed]
+
+    @cached_property
+    def classes(self) -> list[Group]:
+        return self._groups("group")
+
+    @cached_property
+    def suppliers(self) -> list[Group]:
+        return self._groups("supplier")
+
+    def _groups(self, role: str) -> list[Group]:
+        """Returns the items by what their masters say, if any of them says it."""
+        standings, dead = defaultdict[str, list[Standing]](list), defaultdict[str, list[Lying]](list)
+        for standing in self.standings:
+            standings[getattr(standing.item, role)].append(standing)
+        for lying in self.dead:
+            dead[getattr(lying.item, role)].append(lying)
+        names = sorted({*standings, *dead})
+        minimums = self.minimums if role == "supplier" else {}
+        return [Group(name, standings[name], dead[name], minimums.get(name)) for name in names if names != [""]]
+
+    @property
+    def overdue(self) -> int:
+        """Returns how many orders were due before the day."""
+        return sum(arrival.due is not None and arrival.due < self.day
+                   for standing in self.standings for arrival in standing.arrivals)
+
+    @property
+    def weeks_old(self) -> int | None:
+        """Returns the weeks from the end of the record to the day; None if they are few."""
+        days = (self.day - self.end).days
+        return days // 7 if days > OLD_DAYS else None
+
+
+def quiet_periods(item: Item, every: str) -> int | None:
+    """Returns for how many of its last periods nobody has asked for an item; None if that is no year."""
+    quiet = next((place for place, count in enumerate(reversed(item.counts)) if count), len(item.counts))
+    return quiet if quiet >= YEAR[every] else None
+
+
+def minimums_of(items: Iterable[Item], stated: Mapping[str, Fraction]) -> dict[str, Fraction]:
+    """Returns the least order value of each supplier that has one: as stated, and as the masters say. Raises Refused
+    for a supplier with two, and for one that is stated and that no item has."""
+    minimums, places = dict(stated), dict.fromkeys(stated, argument("supplier_min"))
+    suppliers = set[str]()
+    for item in items:
+        suppliers.add(item.supplier)
+        if item.supplier and item.supplier_min is not None:
+            known = minimums.setdefault(item.supplier, item.supplier_min)
+            place = places.setdefault(item.supplier, item.name)
+            if known != item.supplier_min:
+                raise Refused(message(Remark("two minimums", {
+                    "supplier": item.supplier, "first": float(known), "place": place,
+                    "second": float(item.supplier_min), "item": item.name})))
+    strange = next((name for name in stated if name not in suppliers), None)
+    if strange is not None:
+        close = get_close_matches(strange, suppliers, 1)
+        raise Refused(f"{argument('supplier_min', strange)}: no item has this supplier",
+                      f"did you mean {close[0]!r}?" if close else "the masters have the column supplier")
+    return minimums
+
+
+def hand_of(item: Item, holdings: Holdings) -> OnHand | None:
+    """Returns what an item has by the table of stock, else by its master; None if that is not known."""
+    if item.name in holdings.unread:
+        return None
+    if holdings.on_hand is not None:
+        return holdings.on_hand.get(item.name)
+    return None if item.stock is None else OnHand.of(item.stock)
+
+
+def today_of(folder: PlannedFolder, tables: Mapping[str, Table | None], words: Words, day: Day,
+             stated: Mapping[str, Fraction]) -> Today:
+    """Returns what a planned folder says on a day, with tables of stock and of what is on order by kind. Without one of
+    stock, that of the masters counts. Raises Refused if no stock is known, and as `read_holdings` does."""
+    holdings = read_holdings(tables, words, {*folder.read.names()})
+    standings, unknown, dead, items = list[Standing](), list[tuple[Item, Remark]](), list[Lying](), list[Item]()
+    for item, answer in folder.answers(is_whole=True):
+        hand = hand_of(item, holdings)
+        items.append(item)
+        if hand is None:
+            unknown.append((item, Remark("unread stock" if item.name in holdings.unread else "no stock")))
+            continue
+        if isinstance(answer, Remark):
+            unknown.append((item, answer))
+        else:
+            standings.append(Standing(item, answer, hand, holdings.arrivals.get(item.name, ()), day, folder.every))
+        quiet = quiet_periods(item, folder.every)
+        if quiet and hand.stock:
+            dead.append(Lying(item, hand.stock, quiet))
+    if not standings and holdings.on_hand is None:
+        raise Refused(f"{folder.path}: no item has a stock in its masters", f"name a table by {argument('stock')}")
+    end = first_day(folder.read.fact("periods")[1], folder.every) - datetime.timedelta(1)
+    return Today(day, end, sorted(standings, key=lambda it: it.urgency if it.is_due else (math.inf, 0.0, it.item.name)),
+                 unknown, dead, minimums_of(items, stated), tables.get(ON_ORDER) is not None, holdings.counts,
+                 holdings.rejects)

@@ -1,0 +1,141 @@
+"""Reads today's tables: the stock of items, what is owed to customers, and what is on order."""
+from __future__ import annotations
+
+from collections.abc import Callable, Collection, Iterator, Mapping, Sequence
+from dataclasses import dataclass
+from fractions import Fraction
+from functools import partial
+from typing import Any
+
+import numpy as np
+
+from .catalogue_reading import open_sources
+from .cells import Cell, CellFault, DateReader, Unreadable, fault
+from .columns import conversion
+from .items import FileCounts, Reject, Words, reject_of
+from .observed import Day
+from .rows import Rows, read_rows
+from .sources import Table
+
+STOCK, ON_ORDER = "stock", "on_order"  # the kinds of the tables
+NONE = Fraction(0)
+# The amounts of each table, with the kinds of their numbers.
+AMOUNTS = {STOCK: {"stock": "number", "owed": "owed"}, ON_ORDER: {"quantity": "on order"}}
+
+
+@dataclass(frozen=True)
+class OnHand:
+    """What an item has today, in items: its stock, and what is owed to customers. None of both is below 0."""
+
+    stock: Fraction
+    owed: Fraction = NONE
+
+    @classmethod
+    def of(cls, stock: Fraction, owed: Fraction = NONE) -> OnHand:
+        """Returns what a stock says, of which what is below 0 is owed, with more that is."""
+        return cls(max(stock, NONE), owed + max(-stock, NONE))
+
+
+@dataclass(frozen=True)
+class Arrival:
+    """Items on order, and the day on which they are due; None if no table says that."""
+
+    items: Fraction
+    due: Day | None = None
+
+
+@dataclass(frozen=True)
+class Holdings:
+    """What tables say of today, by item. `on_hand` is None without a table of stock. `unread` are items with a row that
+    can't be read: what they have is not known. `counts` say what became of the rows of each table."""
+
+    on_hand: Mapping[str, OnHand] | None
+    arrivals: Mapping[str, Sequence[Arrival]]
+    unread: frozenset[str]
+    counts: Mapping[str, FileCounts]
+    rejects: tuple[Reject, ...]
+
+
+def day_of(reader: DateReader, cell: Cell) -> Day | None:
+    """Returns the day of a cell; None of an empty one. Raises Unreadable."""
+    return None if cell == "" else reader.read(cell)[0]
+
+
+class _Reader:
+    """Reads the rows of a table for the items of a plan, and names those that it leaves out."""
+
+    def __init__(self, kind: str, rows: Rows, known: Collection[str], every: str) -> None:
+        self.rows, self.known = rows, known
+        self.unread, self.rejects = set[str](), list[Reject]()
+        self.counts: FileCounts = {"name": rows.sheet.file_name, "read": len(rows), "blank": len(rows.blank), "used": 0,
+                                   "rejected": 0, "with_item": 0}
+        for row, wrong in rows.nameless():
+            self._reject("row", row, "", [wrong])
+        self.firsts = rows.twins()
+        self.readers: dict[str, Callable[[Cell], Any]] = {
+            role: partial(rows.amount_reader(role).number, kind=number) for role, number in AMOUNTS[kind].items()}
+        if "due" in rows.columns:
+            self.readers["due"] = partial(day_of, rows.date_reader())
+        self.factors = {role: conversion(role, column.unit, every)[0] for role, column in rows.sheet.columns.items()
+                        if column.unit}
+
+    def _reject(self, what: str, row: int, name: str, faults: Sequence[CellFault]) -> None:
+        self.counts["rejected"] += what == "row"
+        self.rejects.append(reject_of(what, self.rows.sheet, int(self.rows.lines[row]), name, faults))
+
+    def _read(self, row: int) -> tuple[dict[str, Any], list[CellFault]]:
+        """Returns the values of a row by role, and what is wrong with its cells."""
+        values, faults = dict[str, Any](), list[CellFault]()
+        for role, read in self.readers.items():
+            cell = self.rows.cell(role, row)
+            try:
+                values[role] = read(cell) * self.factors[role] if role in self.factors else read(cell)
+            except Unreadable as why:
+                faults.append((role, cell, why.remark))
+        stock, owed = values.get("stock", NONE), values.get("owed", NONE)
+        if stock < 0 < owed:
+            faults.append(fault("owed", self.rows.cell("owed", row), "owed twice", stock=f"{float(stock):g}",
+                                least=f"{float(max(-stock, owed)):g}", most=f"{float(owed - stock):g}"))
+        return values, faults
+
+    def items(self) -> Iterator[tuple[str, list[dict[str, Any]]]]:
+        """Yields the items of the plan with the values of their rows, but for those with a row that can't be read."""
+        rows, rows_of = self.rows, self.rows.by_item(self.rows.good)
+        for code in np.unique(rows.codes["item"][rows.good]).tolist():
+            mine, name = rows_of(code).tolist(), str(rows.columns["item"].distinct[code])
+            read = [self._read(row) for row in mine]
+            wrong = [(row, faults) for row, (_, faults) in zip(mine, read) if faults]
+            for row, faults in wrong:
+                self._reject("row", row, name, faults)
+            for row in (row for row in mine if self.firsts[row] != row):
+                first = int(rows.lines[self.firsts[row]])
+                self._reject("suspicious", row, name, [fault("item", name, "equal rows", first=first)])
+            if wrong:
+                self.unread.add(name)
+            elif name not in self.known:
+                self._reject("item", mine[0], name, [fault("item", name, "not in the plan")])
+            else:
+                self.counts["used"] += len(mine)
+                yield name, [values for values, _ in read]
+                continue
+            self.counts["with_item"] += len(mine) - len(wrong)
+
+
+def read_holdings(tables: Mapping[str, Table | None], words: Words, known: Collection[str]) -> Holdings:
+    """Reads the tables of today, by kind, for the known items of a plan. Rows of one item add up.
+
+    Raises Refused and RefusedFaults for tables that can't be read. Rows with faults are in `rejects`.
+    """
+    with open_sources(tables, words) as sheets:
+        readers = {kind: _Reader(kind, rows, known, words.every) for kind, rows in read_rows(sheets).items()}
+    on_hand, arrivals = dict[str, OnHand](), dict[str, Sequence[Arrival]]()
+    for name, rows in readers[STOCK].items() if STOCK in readers else ():
+        parts = [OnHand.of(row["stock"], row["owed"]) for row in rows]
+        on_hand[name] = OnHand(sum((it.stock for it in parts), NONE), sum((it.owed for it in parts), NONE))
+    for name, rows in readers[ON_ORDER].items() if ON_ORDER in readers else ():
+        arrivals[name] = [Arrival(row["quantity"], row.get("due")) for row in rows]
+    rejects = [reject for reader in readers.values() for reject in reader.rejects]
+    return Holdings(on_hand if STOCK in readers else None, arrivals,
+                    frozenset[str]().union(*(reader.unread for reader in readers.values())),
+                    {kind: reader.counts for kind, reader in readers.items()},
+                    tuple(sorted(rejects, key=lambda reject: (reject.file, reject.line))))
