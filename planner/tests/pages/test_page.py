@@ -15,12 +15,13 @@ from typing import Any
 import numpy as np
 import pytest
 from hypothesis import example, given, strategies as st
+from matplotlib.backends.backend_agg import FigureCanvasAgg
 
 from crnplan.crnsim.trajectory import Period
 from crnplan.curve.exchange import Point
 from crnplan.demand.fitting import fit_demand
 from crnplan.pages.item_page import history_plot
-from crnplan.pages.page import UNITS, Scale, curve_ends, number, percent, rendered, source, tick
+from crnplan.pages.page import UNITS, Money, Scale, curve_ends, number, percent, rendered, source, tick
 from crnplan.scenario import Policy
 from planner.tests.conftest import Command
 from planner.tests.pages.page_reader import Page
@@ -176,3 +177,39 @@ def test_position_goes_over_the_periods() -> None:
     figure = trajectories_picture([Policy("it", 5, 15)], [[Period(0, 15, 5, 5), Period(10, 5, 0, 10)]], 20)
     line, = (it for it in figure.axes[0].lines if it.get_label() == "inventory position")
     assert np.asarray(line.get_xydata()).tolist() == [[0, 20], [0, 20], [1, 5], [1, 15], [2, 10]]
+
+
+def texts_in(figure: Any) -> list[Any]:
+    """Returns the texts that a picture shows: of two axes with their ticks in view, of its legend and its title."""
+    (axes,) = figure.axes
+    ticks = [tick.label1 for axis in (axes.xaxis, axes.yaxis) for tick in axis.get_major_ticks()
+             if axis.get_view_interval()[0] <= tick.get_loc() <= axis.get_view_interval()[1]]
+    return [*ticks, axes.xaxis.label, axes.yaxis.label, *axes.texts, *axes.get_legend().get_texts(), *figure.texts]
+
+
+def meeting(figure: Any) -> list[tuple[str, str]]:
+    """Returns the texts of a picture that meet, and those that end beyond its edge."""
+    FigureCanvasAgg(figure).draw()
+    boxes = [(text.get_text(), text.get_window_extent().padded(-1)) for text in texts_in(figure)]
+    beyond = [(text, "edge") for text, box in boxes
+              if box.x0 < 0 or box.y0 < 0 or box.x1 > figure.bbox.x1 or box.y1 > figure.bbox.y1]
+    return beyond + [(one, other) for (one, box), (other, beside) in itertools.combinations(boxes, 2)
+                     if box.overlaps(beside)]
+
+
+@pytest.mark.parametrize("value, axis", [(12_345.0, "EUR"), (1_234_567.0, "EUR million"), (9e10, "EUR billion")])
+def test_texts_of_a_curve_stand_apart(value: float, axis: str) -> None:
+    """No text of the picture meets another one or ends beyond the edge, whatever the amounts; two texts that do are
+    found."""
+    from crnplan.pages.pictures import exchange_picture
+    curve = [(float(step), Point(value * step, 1 - 0.3 * math.exp(-step), 1.0, 1.0)) for step in range(12)]
+    names = ("today", "chosen item by item", "today's stock, best service (more orders)",
+             "today's service, least stock (fewer orders)", "your budget (more orders) (fewer orders)")
+    named = {name: Point(value * (1 + place), 0.9, 1.0, 1.0) for place, name in enumerate(names)}
+    figure = exchange_picture(curve, named, Money("EUR", 2))
+    assert meeting(figure) == [] and figure.axes[0].get_xlabel() == f"value of the mean stock, {axis}"
+    figure.axes[0].text(0.5, 0.5, "one", transform=figure.axes[0].transAxes)
+    figure.axes[0].text(0.5, 0.5, "other", transform=figure.axes[0].transAxes)
+    assert meeting(figure) == [("one", "other")]
+    figure.text(0.99, 0.5, "beyond the edge")
+    assert ("beyond the edge", "edge") in meeting(figure)

@@ -40,8 +40,9 @@ def item(history: str, settings: str, out: str, program: str | None) -> None:
 def curve(folder: Path, plot: Path | None, is_csv: bool, **options: Any) -> None:
     drawn = crn.exchange_curve(folder, progress=True, **options)
     if plot:
+        from ..pages.page import Money
         from ..pages.pictures import exchange_picture, save
-        save(exchange_picture(drawn.curve, drawn.named), plot)
+        save(exchange_picture(drawn.curve, drawn.named, Money("", drawn.gathered.folder.decimals)), plot)
     click.echo(drawn.table.csv if is_csv else drawn.text, nl=False)
 
 

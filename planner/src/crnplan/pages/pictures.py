@@ -20,7 +20,7 @@ from ..decide.doubt import MOST, Doubt
 from ..decide.verdicts import Compared, Decision
 from ..errors import Refused
 from ..scenario import Policy
-from .page import curve_ends
+from .page import Money, curve_ends
 
 try:
     import matplotlib
@@ -47,6 +47,7 @@ BLUE, ORANGE, GREY = "#08458c", "#e8862e", "#777777"
 VERDICTS = {"better": (BLUE, "o", True), "undecided": (GREY, "D", False), "worse": (ORANGE, "s", True),
             "base": ("black", "|", True)}
 POINTS = ((ORANGE, "o", True), (GREY, "D", False), (BLUE, "^", True), (BLUE, "s", True), ("black", "*", True))
+LEGEND_LINE = 0.22  # inches
 NARROW_CELLS = 14  # More cells in a row have no room for figures.
 NEAR, OWED = "#e6ecf4", "#dcdcdc"  # the grounds of policies near the best, and of periods with items owed
 SPREAD = 0.28  # of the dots of a row, up and down
@@ -183,25 +184,27 @@ def map_picture(decision: Decision) -> Figure:
 
 
 @STYLED
-def exchange_picture(curve: Sequence[tuple[float, Point]], named: Mapping[str, Point]) -> Figure:
+def exchange_picture(curve: Sequence[tuple[float, Point]], named: Mapping[str, Point], money: Money) -> Figure:
     """Returns a picture of an exchange curve, the value of the stock against the share of demand met at once: its line,
     by price and point, with named points."""
-    figure, (axes,) = blank(8, 5.5)
-    axes.plot([point.value for _, point in curve], [100 * point.fill for _, point in curve], color=BLUE, linewidth=2,
-              label="one price for all items", zorder=2)
-    for (name, point), style in zip(named.items(), POINTS):
-        axes.plot([point.value], [100 * point.fill], markersize=13 if style[1] == "*" else 9, zorder=4,
-                  label=f"{name}: {point.value:,.0f}, {point.fill:.2%}", **marker_of(*style))
     right, bottom = curve_ends(named.values())
-    axes.set_xlim(0, right)
+    unit = money.unit([right])
+    figure, (axes,) = blank(8, 5.2 + LEGEND_LINE * (len(named) + 1))
+    axes.plot([point.value / unit.size for _, point in curve], [100 * point.fill for _, point in curve], color=BLUE,
+              linewidth=2, label="one price for all items", zorder=2)
+    for (name, point), style in zip(named.items(), POINTS):
+        axes.plot([point.value / unit.size], [100 * point.fill], markersize=13 if style[1] == "*" else 9, zorder=4,
+                  label=f"{name}: {money.exact(point.value)}, {point.fill:.2%}", **marker_of(*style))
+    axes.set_xlim(0, right / unit.size)
     axes.set_ylim(bottom, 100 + 0.06 * (100 - bottom))
+    axes.xaxis.set_major_locator(ticker.MaxNLocator(7))
     axes.xaxis.set_major_formatter(NUMBER)
     axes.yaxis.set_major_formatter("{x:g}%")
-    axes.set_xlabel("value of the mean stock, by theory")
+    axes.set_xlabel(money.heading("value of the mean stock", unit))
     axes.set_ylabel("demand met at once, by value")
     axes.grid(alpha=0.3)
     axes.set_axisbelow(True)
-    axes.legend(ncol=2, **ABOVE)
+    axes.legend(**ABOVE)
     figure.suptitle("How much service the stock can give for its value", **TITLE)
     return figure
 
