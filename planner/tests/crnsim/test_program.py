@@ -1,6 +1,7 @@
 """Tests how the program is found, what is said if it fails, and reports: read, refused, counted and pooled."""
 from __future__ import annotations
 
+import hashlib
 import re
 from fractions import Fraction
 from pathlib import Path
@@ -8,6 +9,7 @@ from pathlib import Path
 import pytest
 from hypothesis import given, strategies as st
 
+from crnplan import __version__
 from crnplan.crnsim import program as module
 from crnplan.crnsim.program import find_program, program_and_reason, run_all, run_program
 from crnplan.crnsim.report import Report, Row, counting, pooled, read_rows, table_of
@@ -21,12 +23,12 @@ from planner.tests.decide.answers import rows_of_costs
 @pytest.fixture
 def places(tmp_path: Path, monkeypatch: pytest.MonkeyPatch) -> dict[str, Path]:
     """Makes a program in each place where one is looked for, and returns their paths, the first to be taken first."""
-    build = tmp_path / "top/crates/crnsim/out/crnsim"
-    monkeypatch.setattr(module, "__file__", str(tmp_path / "top/planner/src/crnplan/crnsim/program.py"))
+    build, package = tmp_path / "top/crates/crnsim/out/crnsim", tmp_path / "top/planner/src/crnplan/crnsim"
+    monkeypatch.setattr(module, "__file__", str(package / "program.py"))
     monkeypatch.setenv("PATH", str(tmp_path / "path"))
     monkeypatch.setenv("CRNSIM", str(tmp_path / "variable"))
     found = {"named": tmp_path / "named", "the variable CRNSIM": tmp_path / "variable",
-             "the build of the repository": build, "PATH": tmp_path / "path/crnsim"}
+             "the one inside crnplan": package / "bin/crnsim", "the build of the repository": build, "PATH": tmp_path / "path/crnsim"}
     return {reason: script(path, "cat") for reason, path in found.items()}
 
 
@@ -41,6 +43,10 @@ def test_order_and_names(places: dict[str, Path], monkeypatch: pytest.MonkeyPatc
         find_program("./named")
     for reason, path in list(places.items())[1:]:
         assert program_and_reason() == (path, reason)
+        if reason == "the one inside crnplan":
+            path.chmod(0o644)
+            with pytest.raises(ProgramError, match=f"crnplan: {path} can't be run"):
+                find_program()
         path.unlink()
         if reason == "the variable CRNSIM":
             with pytest.raises(ProgramError, match=f"CRNSIM: there is no program {path}"):
@@ -76,8 +82,10 @@ def test_outputs_in_order(tmp_path: Path) -> None:
 
 
 def test_where(program: Path, crnplan: Command, tmp_path: Path, top: Path) -> None:
+    digest = hashlib.sha256(program.read_bytes()).hexdigest()
     answer = crnplan("where", "--program", program)
-    assert answer.status == 0 and f"{program} (named)\nits report on a small scenario is right\n" in answer.output
+    assert answer == (0, f"crnplan {__version__}, in a checkout\n{program} (named)\nsha256 {digest}\n"
+                      "its report on a small scenario is right\n", "")
     answer = crnplan("where", "--program", script(tmp_path / "other", "cat"))
     assert answer.status == 1 and answer.output.endswith("its report on a small scenario differs from the known one\n")
     failing = script(tmp_path / "failing", "exit 5")
@@ -85,6 +93,21 @@ def test_where(program: Path, crnplan: Command, tmp_path: Path, top: Path) -> No
     for end in ("toml", "csv"):
         kept = Path(module.__file__).with_name(f"example.{end}")
         assert kept.read_bytes() == (top / f"examples/two_policies.{end}").read_bytes()
+
+
+def test_where_in_a_package(tmp_path: Path, crnplan: Command, monkeypatch: pytest.MonkeyPatch) -> None:
+    """An installed package says of which commit it is, and whether a program is the one that was built with it."""
+    inside, other = script(tmp_path / "bin/crnsim", 'cat "$(dirname "$0")/../example.csv"'), script(tmp_path / "x", "cat")
+    monkeypatch.setattr(module, "__file__", str(tmp_path / "program.py"))
+    monkeypatch.delenv("CRNSIM", raising=False)
+    digests = [hashlib.sha256(path.read_bytes()).hexdigest() for path in (inside, other)]
+    for name, text in {"toml": "", "csv": TEXT}.items():
+        (tmp_path / f"example.{name}").write_text(text, "utf-8")
+    (tmp_path / "built.toml").write_text(f'commit = "1f0c"\nprogram = "{digests[0]}"\n', "utf-8")
+    assert crnplan("where").output.splitlines()[:3] == [
+        f"crnplan {__version__}, built from commit 1f0c", f"{inside} (the one inside crnplan)",
+        f"sha256 {digests[0]} (built with this crnplan)"]
+    assert f"\nsha256 {digests[1]} (not built with this crnplan)\n" in crnplan("where", "--program", other).output
 
 
 HEADER = "policy,s,S,total,per_period,diff_total,diff_mean,diff_var,cov"

@@ -10,8 +10,9 @@ import click
 
 import crnplan as crn
 from .. import formats
-from ..crnsim.program import program_and_reason, writes_known_report
+from ..crnsim.program import build_of_package, program_and_reason, writes_known_report
 from ..crnsim.trajectory import MOST_DRAWN, chosen, shown_periods, table_of
+from ..files import bytes_digest
 from ..scenario import read_policies
 from ..toml.documents import read_bytes
 from ..toml.scenarios import read_scenario
@@ -184,7 +185,10 @@ def sweep(base: str, points: tuple[int, int, int], levels: tuple[int, int, int],
 @program_option
 def where(program: str | None) -> int:
     path, reason = program_and_reason(program)
-    print(f"crnplan {crn.__version__}\n{path} ({reason})")
+    digest, build = bytes_digest(path.read_bytes()), build_of_package()
+    origin = f"built from commit {build.commit}" if build else "in a checkout"
+    match = f" ({'built' if build.program == digest else 'not built'} with this crnplan)" if build else ""
+    print(f"crnplan {crn.__version__}, {origin}\n{path} ({reason})\nsha256 {digest}{match}")
     right = writes_known_report(path)
     print(f"its report on a small scenario {'is right' if right else 'differs from the known one'}")
     return 0 if right else 1

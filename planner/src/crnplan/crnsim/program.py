@@ -9,6 +9,7 @@ import os
 import shutil
 import subprocess
 import tempfile
+import tomllib
 from collections.abc import Iterable, Mapping, Sequence
 from concurrent.futures import ThreadPoolExecutor
 from dataclasses import dataclass, field
@@ -42,13 +43,16 @@ def _named(path: str | Path, how: str) -> Path:
 def program_and_reason(named: str | Path | None = None) -> tuple[Path, str]:
     """Returns the absolute path of the program, and how it was found.
 
-    It is the first of these that there is: the named one; that of the variable CRNSIM; the repository's build, if the
-    package stands in the repository; crnsim on PATH. Raises ProgramError.
+    It is the first of these that there is: the named one; that of the variable CRNSIM; the one inside an installed
+    package; the repository's build, if the package stands in the repository; crnsim on PATH. Raises ProgramError.
     """
     if named is not None:
         return _named(named, argument("program")), "named"
     if os.environ.get(VARIABLE):
         return _named(os.environ[VARIABLE], VARIABLE), f"the variable {VARIABLE}"
+    inside = Path(__file__).with_name("bin") / "crnsim"
+    if inside.exists():
+        return _named(inside, "crnplan"), "the one inside crnplan"
     for folder in Path(__file__).resolve().parents:
         build = folder / "crates/crnsim/out/crnsim"
         if os.access(build, os.X_OK):
@@ -57,6 +61,21 @@ def program_and_reason(named: str | Path | None = None) -> tuple[Path, str]:
         return _named("crnsim", "PATH"), "PATH"
     raise ProgramError(f"crnsim was not found; build it, put it on PATH, or name it with {argument('program')} or the "
                        f"variable {VARIABLE}")
+
+
+@dataclass(frozen=True)
+class Build:
+    """What an installed package is built of: the commit of the repository, and the digest of the program inside, by
+    SHA-256."""
+
+    commit: str
+    program: str
+
+
+def build_of_package() -> Build | None:
+    """Returns what the package is built of; None in a checkout of the repository."""
+    path = Path(__file__).with_name("built.toml")
+    return Build(**tomllib.loads(path.read_text("utf-8"))) if path.exists() else None
 
 
 def find_program(named: str | Path | None = None) -> Path:
