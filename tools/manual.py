@@ -11,6 +11,7 @@ import re
 import subprocess
 import sys
 import textwrap
+import time
 
 SECONDS = 60
 # The first line of a block of help that has a heading, and a sentence of it that goes on.
@@ -121,9 +122,15 @@ def page(name, about, text, others, day):
     return "\n".join(lines) + "\n"
 
 
+def today():
+    """Returns the date in UTC, or that of SOURCE_DATE_EPOCH if it is set, in seconds since 1970."""
+    seconds = int(os.environ.get("SOURCE_DATE_EPOCH", time.time()))
+    return datetime.datetime.fromtimestamp(seconds, datetime.timezone.utc).date().isoformat()
+
+
 def pages_of(program, name):
     """Returns the manual pages of a program with a name, by the names of their files."""
-    text, day = help_of(program), datetime.date.today().isoformat()
+    text, day = help_of(program), today()
     about = next(said for section, kind, said in blocks_of(text) if (section, kind) == ("DESCRIPTION", "text"))
     commands = commands_of(text)
     pages = {f"{name}.1": page(name, re.split(r"[.:] ", about)[0], text, [f"{name}-{it}" for it in commands], day)}

@@ -27,7 +27,8 @@ RUN = [*FOR_PLANNERS, "docs/PROVING.md"]
 # Commands that are never run, and why. The last pattern is for those that have no reason yet: there must be none.
 NOT_RUN = {
     r"\.ci/run": "it is the gate, of which this is a part",
-    r"tools/(setup|install)\b.*": "tests/tools runs them, in folders of their own",
+    r"tools/(setup|install|package)\b.*": "tests/tools runs them, in folders of their own",
+    r"(apt-get|pip) install \./.*": "tests/tools/test_package.py unpacks what they install",
     r"(\(cd crates/crn_pair && )?rt (check|fmt|lemma)\b.*": "they need the sources of a crate, which the page changes",
     r"tools/(measure|rounds)\.py .*": "they prove for minutes",
     r"dask-(scheduler|worker) .* &": "they do not end",

@@ -21,7 +21,7 @@ printf '%s\\n' "${COMPREPLY[@]}"
 def with_install(folder: Path, top: Path) -> Machine:
     """Returns a machine with what tools/install reads, and whose tools/setup does nothing."""
     machine = Machine(folder)
-    machine.copy(top, "tools/install", "tools/manual.py", "planner")
+    machine.copy(top, "tools/install", "tools/installing.py", "tools/manual.py", "planner")
     write_script(machine.top / "tools" / "setup", "echo 'tools/setup: all is there'")
     write_script(machine.folder / "built", PROGRAM)
     (machine.top / ".venv").symlink_to(sys.prefix)

@@ -24,7 +24,8 @@ OPTIONS = "apt-get -q -y -o DPkg::Lock::Timeout=900 -o APT::Update::Error-Mode=a
 UPDATE = f"{OPTIONS} update"
 INSTALL = f"{OPTIONS} install --no-install-recommends"
 # The commands of the list of packages, and those that any system has.
-COMMANDS = ["python3", "chromium", "chromedriver", "pdftotext", "cc", "nm", "valgrind", "mandoc"]
+COMMANDS = ["python3", "chromium", "chromedriver", "pdftotext", "cc", "nm", "valgrind", "mandoc", "git",
+            "dpkg-deb"]
 BASICS = ["awk", "bash", "cat", "dirname", "flock", "id", "mktemp", "paste", "rm", "sed", "wc"]
 # Prints all packages as installed, but those of the file `missing`.
 DPKG_QUERY = r"""
@@ -165,7 +166,7 @@ def test_without_debian_missing_commands_are_named(machine: Machine) -> None:
     assert (ran.returncode, ran.stdout) == (1, "")
     assert ran.stderr == ("tools/setup: these commands are missing (with Debian's packages that bring them): "
                           "chromium (chromium), chromedriver (chromium-driver), pdftotext (poppler-utils), nm "
-                          "(binutils), valgrind (valgrind)\n"
+                          "(binutils), valgrind (valgrind), git (git), dpkg-deb (dpkg)\n"
                           f"tools/setup: .venv has to be made, since there is none: {PIP}\n")
     assert not (machine.top / ".venv").exists()
 
