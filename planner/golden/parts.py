@@ -20,7 +20,8 @@ from planner.golden.house import Figures
 TOP = Path(__file__).parents[2]
 EXAMPLES = TOP / "examples"
 SCENARIOS = ("two_policies", "spare_part", "mail_order")
-ITEMS, CANDIDATES, ALONE, FEW = 300, 60, 50, 40
+ITEMS, CANDIDATES, ALONE = 300, 60, 50
+FEW, PLANNED = 40, 15  # of a small catalogue: items that teach, and those of them that are planned
 # Keys of a long run of a scenario.
 KEYS = 6
 
@@ -103,12 +104,20 @@ def with_boxes(folder: Path) -> None:
     masters.to_csv(folder / "items.csv", index=False)
 
 
+def plan_first(folder: Path, count: int) -> None:
+    """Changes a made catalogue: later items only teach others, since their costs are too far apart for a plan."""
+    masters = pd.read_csv(folder / "items.csv", dtype=str, keep_default_na=False)
+    masters.loc[masters.index[count:], ["holding", "backlog", "fill"]] = "0.0001", "500", ""
+    masters.to_csv(folder / "items.csv", index=False)
+
+
 def few(program: str, jobs: int) -> Figures:
     """Returns the figures of a small catalogue with boxes, returns, and a confidence in fill rates, by short runs."""
     with tempfile.TemporaryDirectory() as room:
         made = make(Path(room), FEW)
         with_boxes(made.folder)
-        return planned(made.paths, program, jobs, FEW // 2, borrow="all", confidence=0.8, periods=64, replications=8)
+        plan_first(made.folder, PLANNED)
+        return planned(made.paths, program, jobs, PLANNED, borrow="all", confidence=0.8, periods=64, replications=8)
 
 
 def alone_of(program: str, item: Item) -> tuple[str, Figures]:
