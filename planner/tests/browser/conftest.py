@@ -10,7 +10,7 @@ import pandas as pd
 import pytest
 
 from crnplan import plan
-from crnplan.pages.catalogue_page import file_of, report
+from crnplan.pages.catalogue_page import ROWS_A_GROUP, file_of, report
 from crnplan.pages.item_page import plan_item
 from planner.tests.browser.browser import Browser
 from planner.tests.catalogue.conftest import SETTINGS
@@ -49,9 +49,12 @@ def pages(tmp_path_factory: pytest.TempPathFactory, request: pytest.FixtureReque
     makers: dict[str, tuple[str, Callable[[Path], object]]] = {
         "catalogue": ("report.html", lambda folder: report(made_folder(folder, 40, HOSTILE))),
         "catalogue without a curve": ("report.html", lambda folder: report(made_folder(folder, 12, has_curve=False))),
+        "catalogue of two groups": ("report.html",
+                                    lambda folder: report(made_folder(folder, ROWS_A_GROUP + 30, HOSTILE))),
         "catalogue of hundreds": ("report.html", lambda folder: report(made_folder(folder, 300, HOSTILE))),
         "catalogue of a thousand": ("report.html", lambda folder: report(made_folder(folder, 1_000, HOSTILE))),
-        "catalogue of thousands": ("report.html", lambda folder: report(made_folder(folder, 3_000, HOSTILE))),
+        "catalogue of thousands": ("report.html",
+                                   lambda folder: repeat_rows(page("catalogue of a thousand"), folder, 3)),
         "planned catalogue": ("plan/report.html",
                               lambda folder: report(planned(folder, program()), PLANNED, program=program())),
         "item": ("plan/summary.html", lambda folder: planned_item(furnished(folder, top, program())))}
@@ -66,6 +69,14 @@ def pages(tmp_path_factory: pytest.TempPathFactory, request: pytest.FixtureReque
             made[name] = shared(tmp_path_factory, name, make) / place
         return made[name]
     return page
+
+
+def repeat_rows(page: Path, folder: Path, times: int) -> None:
+    """Writes a page of a catalogue that has each group of its rows so many times."""
+    head, groups = page.read_text("utf-8").split('<table id="items">')
+    first, last = groups.index("<tbody>"), groups.rindex("</tbody>") + len("</tbody>")
+    text = f'{head}<table id="items">{groups[:first]}{times * groups[first:last]}{groups[last:]}'
+    (folder / page.name).write_text(text, "utf-8")
 
 
 def planned_item(folder: Path) -> None:

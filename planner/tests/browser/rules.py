@@ -6,7 +6,7 @@ from collections.abc import Callable, Iterable
 from selenium.webdriver.common.action_chains import ActionChains
 from selenium.webdriver.common.keys import Keys
 
-from planner.tests.browser.browser import Browser
+from planner.tests.browser.browser import Browser, Form
 
 # Of equal elements, such as the links of thousands of rows, so many are judged one by one.
 MOST = 80
@@ -60,6 +60,11 @@ RULES: dict[str, Rule] = {
     "console": console, "requests": requests, "names": names, "roles": roles, "keyboard": keyboard,
     **{it: by_script(it) for it in ("overflow", "clipped", "overlaps", "contrast", "tables", "headings", "page",
                                     "policy", "regions")}}
+
+
+def rules_of(form: Form) -> list[str]:
+    """Returns the names of the rules whose verdict may differ in a form: a name and a role have no colour."""
+    return [name for name in RULES if form.scheme == "light" or name not in ("names", "roles")]
 
 
 def faults_of(browser: Browser, *names: str) -> list[str]:

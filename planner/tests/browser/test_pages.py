@@ -2,6 +2,7 @@
 from __future__ import annotations
 
 import statistics
+from collections.abc import Callable, Iterable
 from pathlib import Path
 
 import pytest
@@ -13,7 +14,7 @@ from crnplan.pages.catalogue_page import ROWS_A_GROUP
 from planner.tests.browser.browser import FORMS, TALL, WIDE, Browser, Form
 from planner.tests.browser.conftest import PLANNED, Pages
 from planner.tests.browser.items import PLAIN, Items, in_order, is_number
-from planner.tests.browser.rules import faults_of
+from planner.tests.browser.rules import faults_of, rules_of
 from planner.tests.pages.page_reader import Row, rows_of
 
 NAMES = ("catalogue", "catalogue without a curve", "planned catalogue", "item", *PLANNED)
@@ -27,7 +28,7 @@ INJECTED = Path(__file__).with_name("injected.js").read_text("utf-8")
     if name not in PLANNED or form.scheme == "light"])
 def test_page_has_no_fault(browser: Browser, pages: Pages, name: str, form: Form) -> None:
     browser.open(pages(name), form)
-    assert faults_of(browser) == []
+    assert faults_of(browser, *rules_of(form)) == []
 
 
 @pytest.mark.parametrize("form", [WIDE, Form(390)], ids=str)
@@ -71,19 +72,22 @@ COLUMNS = ("item", "description", "class", "verdict", "s_today", "S_today", "s_c
 # Seconds in which thousands of items are sorted on a quiet machine.
 LONGEST_SORT = 0.3
 MOST_LAYOUTS = 100
+# A height that all rows of a page have room in, in CSS pixels.
+ALL_ROWS = 6_400
+Check = Callable[[Iterable[tuple[str, object]]], None]
 
 
 @pytest.fixture
 def items(browser: Browser, pages: Pages) -> Items:
     """Returns the table of a page that has just been loaded."""
-    browser.open(pages("catalogue of hundreds"), Form(1280, height=TALL))
+    browser.open(pages("catalogue of two groups"), Form(1280, height=ALL_ROWS))
     return Items(browser)
 
 
 @pytest.fixture
 def decisions(pages: Pages) -> list[Row]:
     """Returns the rows of the file that the page shows."""
-    return rows_of(pages("catalogue of hundreds").with_name("decisions.csv"))
+    return rows_of(pages("catalogue of two groups").with_name("decisions.csv"))
 
 
 def by_item(rows: list[Row]) -> dict[str, Row]:
@@ -100,20 +104,23 @@ def test_cells_are_those_of_the_file(items: Items, decisions: list[Row]) -> None
     assert items.orders() == {"saving": "descending"}
 
 
-@pytest.mark.parametrize("column", COLUMNS)
-def test_click_on_a_heading_sorts(items: Items, decisions: list[Row], column: str) -> None:
-    """A click sorts by the column, and the next one the other way. Each row keeps its cells."""
+def sorts(items: Items, decisions: list[Row], column: str) -> bool:
+    """Returns whether a click sorts by a column, and the next one the other way. Each row keeps its cells."""
     cells = [row[column] for row in decisions]
     numbers = all(map(is_number, filter(None, cells)))
     button = items.button(column)
-    for _ in range(2):
+    for order in ("ascending", "descending"):
         button.click()
-        shown, said = items.shown(), items.orders()
-        found = [row[column] for row in shown]
-        judged = [it for it in found if numbers or it == "" or PLAIN.fullmatch(it)]
-        assert judged == in_order(cells, descends=said[column] == "descending")
-        assert by_item(shown) == by_item(decisions) and list(said) == [column]
-    assert said == {column: "descending"}
+        shown = items.shown()
+        judged = [it for it in (row[column] for row in shown) if numbers or it == "" or PLAIN.fullmatch(it)]
+        if not (items.orders() == {column: order} and judged == in_order(cells, descends=order == "descending")
+                and by_item(shown) == by_item(decisions)):
+            return False
+    return True
+
+
+def test_click_on_a_heading_sorts(items: Items, decisions: list[Row], check_all: Check) -> None:
+    check_all((column, sorts(items, decisions, column)) for column in COLUMNS)
 
 
 @pytest.mark.parametrize("key", [Keys.ENTER, Keys.SPACE], ids=["enter", "space"])
@@ -126,13 +133,13 @@ def test_heading_is_pressed_by_keyboard(items: Items, key: str) -> None:
         assert items.driver.switch_to.active_element == button
 
 
-@pytest.mark.parametrize("text", ["bearing", "P0001", "UNLIKE the", "<img", "\"quoted\"", "قطعة", "=1+1", "  lead",
-                                  "x y z"])
-def test_search_shows_the_rows_that_have_a_text(items: Items, decisions: list[Row], text: str) -> None:
-    wanted = [row for row in decisions if any(text.lower() in row[name].lower() for name in SEARCHED)]
-    items.search(text)
-    assert by_item(items.shown()) == by_item(wanted)
-    assert items.count() == f"{len(wanted)} of {len(decisions)}"
+def test_search_shows_the_rows_that_have_a_text(items: Items, decisions: list[Row], check_all: Check) -> None:
+    def shows(text: str) -> bool:
+        wanted = [row for row in decisions if any(text.lower() in row[name].lower() for name in SEARCHED)]
+        items.search(text)
+        return by_item(items.shown()) == by_item(wanted) and items.count() == f"{len(wanted)} of {len(decisions)}"
+    check_all((text, shows(text)) for text in ("bearing", "P0001", "UNLIKE the", "<img", "\"quoted\"", "قطعة", "=1+1",
+                                               "  lead", "x y z"))
 
 
 def test_lists_show_the_rows_of_a_choice(items: Items, decisions: list[Row]) -> None:
