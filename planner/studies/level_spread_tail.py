@@ -54,7 +54,7 @@ KINDS = ("steady", "promotions")  # of `MADE`
 AUTO, RULES = "auto", ("rule, held", "rule")
 LAWS = (AUTO, "level", "spread", "level, spread", "normal", "all")
 ITEMS, MADE_ITEMS, MADE_PERIODS = 20, 8, 104
-SMALL: dict[str, Any] = {"sets": (), "kinds": ("steady",), "made": 4}  # of `study`
+SMALL: dict[str, Any] = {"sets": (), "kinds": ("steady",), "made": 2}  # of `study`
 FIGURES = ["cost", "fill"]
 
 

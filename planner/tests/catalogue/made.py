@@ -30,6 +30,7 @@ BAD_MASTERS: list[dict[str, str]] = [
 
 # An item that can be read, but not planned: its costs are too far apart.
 NO_PLAN = "A-042"
+NO_COSTS = {"Lagerkosten": "0,0001", "Fehlmengenkosten": "500", "Servicegrad": ""}
 
 
 @dataclass
@@ -141,6 +142,5 @@ def _plant_masters(its: Made) -> None:
     its.bad_items["missing master"].add("A-033")
     its.masters = [it for it in its.masters if it["Artikel"] != "A-033"]
     its.masters[34 - 1]["Bestand"] = "-4"
-    next(it for it in its.masters if it["Artikel"] == NO_PLAN).update(
-        Lagerkosten="0,0001", Fehlmengenkosten="500", Servicegrad="")
+    next(it for it in its.masters if it["Artikel"] == NO_PLAN).update(NO_COSTS)
     its.bad_items["short"].add("A-008")

@@ -17,7 +17,7 @@ from crnplan.errors import CrnplanError, Refused
 from crnplan.pages.catalogue_page import file_name, file_of, report
 from crnplan.records.catalogue_reading import read_catalogue
 from planner.tests.catalogue.conftest import FILES
-from planner.tests.catalogue.made import NO_PLAN, TODAY, made
+from planner.tests.catalogue.made import NO_COSTS, NO_PLAN, TODAY, made
 from planner.tests.conftest import rows_of, script, shared
 from planner.tests.pages.page_reader import Page
 
@@ -64,8 +64,9 @@ def folder(planned: Path, tmp_path_factory: pytest.TempPathFactory) -> Path:
 def names(folder: Path) -> list[str]:
     """Returns an item of each verdict, with and without a backlog cost, with returns, and with several lead times."""
     rows = rows_of(folder / "decisions.csv")
-    kinds = {(row["verdict"], bool(row["fill_wanted"])): name for name, row in rows.items()}
-    return sorted({*kinds.values(), *{"A-000", "A-005", "A-006"} & rows.keys()})
+    special = [name for name in ("A-000", "A-005", "A-006") if name in rows]
+    kinds = {(rows[name]["verdict"], bool(rows[name]["fill_wanted"])): name for name in [*rows, *special]}
+    return sorted({*kinds.values(), *special})
 
 
 @pytest.fixture(scope="module")
@@ -135,13 +136,16 @@ def test_other_program(folder: Path, names: list[str], tmp_path: Path, program: 
         item_page(folder, names[0], other)
 
 
+LEARNERS = ("A-034", "A-035", "A-036", "A-038")
+
+
 @pytest.fixture(scope="module")
 def learned(tmp_path_factory: pytest.TempPathFactory, program: Path) -> Path:
-    """Returns a planned folder whose items learn from one another: hardly more than the 30 that are needed."""
+    """Returns a planned folder whose items learn from one another. Most have costs by which they teach alone."""
     def make(place: Path) -> None:
-        masters = (made().write(place) / FILES[1]).read_text("utf-8").splitlines()
-        (place / FILES[1]).write_text("\n".join(it for it in masters if not "A-000" <= it < "A-015"), "utf-8")
-        read = read_catalogue(*(place / it for it in FILES), today=TODAY)
+        source = made()
+        source.masters = [row if row["Artikel"] in LEARNERS else row | NO_COSTS for row in source.masters]
+        read = read_catalogue(*(source.write(place) / it for it in FILES), today=TODAY)
         words = {"borrow": "all", "periods": 16, "replications": 2, "confidence": 0.8}
         plan(read, out=place / "plan", jobs=1, program=program, **words)
     return shared(tmp_path_factory, "learned", make) / "plan"

@@ -16,7 +16,7 @@ import pytest
 from hypothesis import given, settings, strategies as st
 
 from crnplan.crnsim import trajectory
-from crnplan.crnsim.trajectory import trajectories
+from crnplan.crnsim.trajectory import net_demands, trajectories
 from crnplan.scenario import Scenario
 from planner.tests.conftest import Command
 from planner.tests.crnsim.slow import History, draws_of, simulate
@@ -113,10 +113,12 @@ def test_packed_up_to_the_greatest_cost(level: int, runs: int, program: Path, to
 
 
 def test_longest_run(program: Path, top: Path) -> None:
-    """The most periods of a scenario take the most replications that the net demand can need."""
+    """The net demand of the most periods of a scenario takes the most replications that it can need."""
     tree = tomllib.loads((top / "examples/two_policies.toml").read_text())
     demand = {"values": [9997, 9998, 9999, 10000], "weights": [1, 2, 2, 1]}
-    check(program, Scenario.of_tree(tree | {"periods": 1024, "policy": tree["policy"][:1], "demand": demand}))
+    scenario = Scenario.of_tree(tree | {"periods": 1024, "policy": tree["policy"][:1], "demand": demand})
+    drawn = [asked - back for asked, _, back in draws_of(scenario, scenario.key, 1024)]
+    assert net_demands(scenario, 1024, program) == drawn
 
 
 def test_pictures(crnplan: Command, program: Path, top: Path, tmp_path: Path) -> None:

@@ -8,11 +8,9 @@ import csv
 import dataclasses
 import json
 import math
-import os
+import shlex
 import shutil
 import statistics
-import subprocess
-import sys
 import tomllib
 from collections.abc import Callable, Mapping, Sequence
 from fractions import Fraction
@@ -255,33 +253,41 @@ def test_figures_that_contradict_each_other_are_rejected(fields: dict[str, objec
 
 STORED = ["scenario.toml", "notes.txt", "report.csv", "decision.txt", "sweep.csv", "why.txt", "suggested.toml",
           "suggested.txt", "long_run.txt", "check.txt", "doubt.txt"]
-# The page whose blocks of `sh` are run, if it is not the one in place.
-PAGE = "CASE_README"
+# How a file is opened for a redirection, and which stream of a command goes there.
+REDIRECTIONS = {">": ("w", "output"), ">>": ("a", "output"), "2>": ("w", "errors")}
 
 
-@pytest.fixture
-def environment(tmp_path: Path, program: Path) -> dict[str, str]:
-    """Returns the environment of a shell that finds the tested program and this Python's crnplan."""
-    (tmp_path / "bin").mkdir()
-    (tmp_path / "bin/crnsim").symlink_to(program)
-    path = os.pathsep.join([str(tmp_path / "bin"), str(Path(sys.executable).parent), os.environ["PATH"]])
-    return {**os.environ, "PATH": path, "CRNSIM": str(program)}
+def run_line(line: str, crnplan: Command) -> int:
+    """Runs a line of the page in this process as a shell does, and returns its status."""
+    command, *words = shlex.split(line)
+    if command == "cp":
+        shutil.copy(*words)
+        return 0
+    assert command == "crnplan"
+    first = next((place for place, word in enumerate(words) if word in REDIRECTIONS), len(words))
+    told = crnplan(*words[:first])
+    for sign, name in zip(words[first::2], words[first + 1::2], strict=True):
+        mode, stream = REDIRECTIONS[sign]
+        with Path(name).open(mode, encoding="utf-8") as file:
+            file.write(getattr(told, stream))
+    return told.status
 
 
-def test_the_case_is_as_its_page_says(top: Path, tmp_path: Path, environment: dict[str, str]) -> None:
+def test_the_case_is_as_its_page_says(top: Path, tmp_path: Path, crnplan: Command,
+                                      monkeypatch: pytest.MonkeyPatch) -> None:
     """Each command writes each file byte for byte. Each example has a report."""
-    shutil.copytree(top / "examples/case", tmp_path / "examples/case")
+    shutil.copytree(top / "examples/case", tmp_path / "own/examples/case")
+    monkeypatch.chdir(tmp_path / "own")
     for name in STORED:
-        (tmp_path / "examples/case" / name).unlink()
-    page = Path(os.environ.get(PAGE, top / "examples/case/README.md")).read_text("utf-8")
+        (tmp_path / "own/examples/case" / name).unlink()
+    page = (top / "examples/case/README.md").read_text("utf-8")
     blocks = [block.split("```")[0].splitlines() for block in page.split("```sh\n")[1:]]
     commands = [line for block in blocks for line in block]
     assert len(commands) == 11
     for command in commands:
-        ran = subprocess.run(["sh", "-c", command], cwd=tmp_path, env=environment, capture_output=True, text=True)
         # `why` answers no: the scenario has faults.
-        assert ran.returncode == int("broken" in command), f"{command}: {ran.stderr}"
+        assert run_line(command, crnplan) == int("broken" in command), command
     for name in STORED:
         stored = (top / "examples/case" / name).read_bytes()
-        assert (tmp_path / "examples/case" / name).read_bytes() == stored != b"", name
+        assert (tmp_path / "own/examples/case" / name).read_bytes() == stored != b"", name
     assert {it.stem for it in (top / "examples").glob("*.toml")} == {"mail_order", "spare_part", "two_policies"}

@@ -200,8 +200,8 @@ def test_half_a_letter_of_utf_16_far_down(tmp_path: Path) -> None:
 @pytest.mark.serial
 def test_many_rows_of_one_item(tmp_path: Path) -> None:
     """Rows of one item take no longer than rows of many."""
-    count, seconds = 300_000, []
-    for items in (1, 3_000):
+    count, seconds = 60_000, []
+    for items in (1, 600):
         rows = "".join(f"A{row % items},{MONDAY + datetime.timedelta(days=row % 180)},{1 + row // 7 % 5}\n"
                        for row in range(count))
         masters = MASTERS + "".join(f"A{item},45,1,10,2,3,9\n" for item in range(items))

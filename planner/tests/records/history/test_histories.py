@@ -7,7 +7,6 @@ import datetime
 import io
 import json
 import os
-import random
 import subprocess
 import sys
 import tomllib
@@ -15,15 +14,17 @@ from collections.abc import Callable, Iterator, Sequence
 from pathlib import Path
 from typing import Any
 
+import numpy as np
 import pandas as pd
 import pytest
 
+from crnplan.demand.fitting import fit_demand
 from crnplan.errors import Refused, RefusedFaults
 from crnplan.records import read_history, read_lead_times
 
 Files, Answers = Callable[..., Path], Callable[..., Any]
 CASES = tomllib.loads(Path(__file__).with_name("histories.toml").read_text("utf-8"))
-ROWS, MOST_SECONDS, MOST_KILOBYTES = 400_000, 10, 400_000
+ROWS, MOST_SECONDS, MOST_KILOBYTES = 200_000, 5, 400_000
 DATED = ["--demand", "n", "--date", "at", "--every", "day"]
 
 
@@ -191,6 +192,13 @@ def test_series(file: Files) -> None:
     assert plain.counts == (4, 2) and dict(plain.series()) == {1: 4, 2: 2} and plain.periods == ("1", "2")
 
 
+def test_the_most_periods(file: Files) -> None:
+    """65,536 days have a law; histories.toml counts them, and refuses one more."""
+    history = read_history(file("at,n\n1980-01-01,1\n2159-06-06,2\n"), demand="n", date="at", every="day")
+    law = fit_demand(history, method="empirical")
+    assert (len(history.counts), law.values, law.weights) == (65_536, (0, 1, 2), (65_534, 1, 1))
+
+
 def test_rules_of_the_interface(file: Files) -> None:
     """Faults are values, with their places. Words that can't be meant are refused."""
     path = file("at,n\n2026-03-03,4\n2026-02-30,4\n")
@@ -220,17 +228,14 @@ def test_line_without_end(tmp_path: Path) -> None:
 @pytest.mark.serial
 @pytest.mark.parametrize("time", ["", " {:02}:{:02}:{:02}"], ids=["dates", "times"])
 def test_large_history(tmp_path: Path, time: str) -> None:
-    """400,000 rows of three years take at most 10 processor seconds and 400 MB, with a fault and even if all dates
+    """200,000 rows of three years take at most 5 processor seconds and 400 MB, with a fault and even if all dates
     differ."""
-    source, path, total = random.Random(1), tmp_path / "large.csv", 0
-    with path.open("w", encoding="utf-8") as file:
-        file.write("document,item,at,amount\n")
-        for number in range(ROWS):
-            day = f"202{source.randrange(4, 7)}-{source.randrange(1, 13):02}-{source.randrange(1, 29):02}"
-            clock = time.format(source.randrange(24), source.randrange(60), source.randrange(60))
-            amount = source.randrange(1, 30)
-            total += amount if number else 0
-            file.write(f"D{number:07},P{source.randrange(3000):05},{day}{clock},{amount if number else 'x'}\n")
+    random, path = np.random.default_rng(1), tmp_path / "large.csv"
+    days, seconds, items, amounts = random.integers(0, [[3 * 365], [86_400], [3_000], [30]], (4, ROWS)).tolist()
+    names = [f"{datetime.date(2024, 1, 1) + datetime.timedelta(day)}" for day in range(3 * 365)]
+    rows = [f"D{number:07},P{item:05},{names[day]}{time.format(second // 3600, second // 60 % 60, second % 60)},{amount}"
+            for number, (day, second, item, amount) in enumerate(zip(days, seconds, items, amounts))]
+    path.write_text("\n".join(["document,item,at,amount", "D,P,2024-01-01,x", *rows, ""]), "utf-8")
     words = ["history", path, "--demand", "amount", "--date", "at", "--every", "day", "--leave-out", "--fit",
              "empirical"]
     with (tmp_path / "out").open("wb") as output:
@@ -240,6 +245,6 @@ def test_large_history(tmp_path: Path, time: str) -> None:
     text = (tmp_path / "out").read_text("utf-8")
     assert process.returncode == 0, text
     values, weights = (json.loads(line.split(" = ")[1]) for line in text.splitlines() if " = " in line)
-    assert sum(value * weight for value, weight in zip(values, weights)) == total
+    assert sum(value * weight for value, weight in zip(values, weights)) == sum(amounts)
     assert usage.ru_utime + usage.ru_stime <= MOST_SECONDS
     assert usage.ru_maxrss <= MOST_KILOBYTES
