@@ -79,7 +79,7 @@ class PlannedItem(Result):
 
     def compare(self) -> Figures:
         """Returns all policies of the item: cost by theory and by crnsim, service, stock, orders, and the difference
-        from today's with its interval."""
+        from today's, or else from the chosen one's, with its interval."""
         return Figures(policies_of(self.words), "\n".join(self.words.said))
 
     def doubt(self) -> Figures:
@@ -125,9 +125,9 @@ class Plan(Result):
 
     @property
     def decisions(self) -> pd.DataFrame:
-        """Returns a typed row for each planned item: today's and the chosen policy, costs and saving of a period in
-        money, by theory or by crnsim (`by`), the run beside with its interval, service, stock, orders and warnings.
-        docs/TABLES.md has all columns."""
+        """Returns a typed row for each planned item: today's (empty if there is none) and the chosen policy, costs and
+        saving of a period in money, by theory or by crnsim (`by`), the run beside with its interval, service, stock,
+        orders and warnings. docs/TABLES.md has all columns."""
         return self.frame
 
     @cached_property
@@ -236,7 +236,7 @@ def plan(sales: str | Path | pd.DataFrame | Catalogue, masters: str | Path | pd.
     **What goes in.** Tables are data frames, CSV files, or sheets of workbooks (FILE.xlsx!SHEET). `sales` has a row for
     each movement: item, date, quantity, and perhaps returned. `masters` has a row for each item: item, setup (money an
     order), holding and backlog (money an item and period) or fill (the wanted share of demand met at once), lead
-    (periods), today's s and S (items), and perhaps description, stock, price, class, borrow, order_min, pack, s_min,
+    (periods), and perhaps today's s and S (items), description, stock, price, class, borrow, order_min, pack, s_min,
     coverage and shelf_life. `orders` has dates of orders: item, ordered, received. Or `sales` is a Catalogue that
     `read_catalogue` has read, and the other tables and words of reading are left out.
 

@@ -189,7 +189,8 @@ WORDS: dict[str, tuple[Say, Say]] = {
                  + (f" in {counted(it['rows'], 'row')}" if it["rows"] is not None else ""), ""),
     "other master": (_moved, ""),
     "other settings": (lambda it: f"settings: {_moved(it)}", ""),
-    "other policy today": (lambda it: f"today's policy is ({it['s']}, {it['S']})"
+    "other policy today": (lambda it: "no policy is in use today" if it["s"] is None else
+                           f"today's policy is ({it['s']}, {it['S']})"
                            + ", that of the earlier plan" * bool(it["earlier"]), ""),
     # Of a history (demand/checks.py).
     **{f"found {name}": (found, "") for name, found in FOUND.items()},

@@ -55,6 +55,12 @@ def test_plan_is_that_of_its_record(place: int, program: Path) -> None:
         assert outcome.promised_fill == pytest.approx(policy.fill, rel=1e-12)
 
 
+def test_no_policy_today() -> None:
+    """Without today's levels the test is the same but for today's policy, which it lacks."""
+    item = item_of()
+    assert past_of(dataclasses.replace(item, levels=None)) == dataclasses.replace(past_of(item), today=None)
+
+
 def test_refits_are_plans_of_their_windows(program: Path) -> None:
     """The promise of refitted plans is the mean of theirs over the periods of each."""
     item = item_of(3)

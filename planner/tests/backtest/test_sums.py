@@ -54,6 +54,16 @@ def test_figures_by_hand() -> None:
     assert (sums.items, sums.broken, sums.above) == (12, 12, 12)
 
 
+def test_sums_of_todays_policies_are_of_the_items_that_have_one() -> None:
+    """Of two items, one without a policy today costs twice as much by the kept plan, and counts beside it alone."""
+    unmet = [1] * PERIODS
+    tests = [made(unmet, unmet, 0), made([2] * PERIODS, unmet, 1, today=None, kept=outcome([2] * PERIODS, 10.0))]
+    sums = Sums.of("", tests)
+    assert (sums.unmet["today"].value, sums.unmet["kept"].value) == pytest.approx((0, 0.15))
+    assert sums.beside["today"].value == pytest.approx(0.5) and sums.beside["smoothed"].value == pytest.approx(-1 / 3)
+    assert "today" not in Sums.of("", tests[1:]).unmet
+
+
 def test_demand_counts_in_units_of_the_item() -> None:
     """An item of a hundred times the demand weighs no more than another one."""
     small, large = made([1] * PERIODS, [0] * PERIODS, 0), made([3] * PERIODS, [0] * PERIODS, 1)

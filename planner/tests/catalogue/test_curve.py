@@ -29,12 +29,13 @@ from planner.tests.conftest import Command, shared
 
 TABLES = (CURVE, POLICIES, LEFT_OUT)
 ITEMS = 20
-NO_PRICE = ("A-036", "A-040")
+NO_PRICE, NO_TODAY = ("A-036", "A-040"), "A-039"
 
 
 @pytest.fixture(scope="module")
 def twenty(planted: Made, tmp_path_factory: pytest.TempPathFactory, program: Path) -> Path:
-    """Returns a folder with the plan of 20 items, of which two have no price, and the candidates of the others."""
+    """Returns a folder with the plan of 20 items, of which two have no price and one has no policy today, and the
+    candidates of the others."""
     def make(files: Path) -> None:
         leave_few(planted.write(files), ITEMS)
         path = files / FILES[1]
@@ -42,6 +43,8 @@ def twenty(planted: Made, tmp_path_factory: pytest.TempPathFactory, program: Pat
         column = rows[0].index("Preis")
         for row in rows:
             row[column] = {NO_PRICE[0]: "", NO_PRICE[1]: "0"}.get(row[0], row[column])
+            if row[0] == NO_TODAY:
+                row[rows[0].index("Bestellpunkt")] = row[rows[0].index("Höchstbestand")] = ""
         path.write_text("\r\n".join([";".join(row) for row in rows] + [""]), "utf-8")
         read = crn.read_catalogue(*(files / it for it in FILES), today=TODAY)
         crn.plan(read, out=files / "plan", jobs=1, program=program, **SETTINGS)
@@ -64,9 +67,15 @@ def tables_of(plan: Path) -> dict[str, bytes]:
 
 
 def test_named_points(twenty: Path) -> None:
-    """Has today's point of decisions.csv, and points that are as good with less stock, or better with the same."""
+    """Has today's point of decisions.csv, and points that are as good with less stock, or better with the same. An item
+    without a policy today counts there with the chosen one."""
     table = pd.read_csv(twenty / "decisions.csv").set_index("item").drop(list(NO_PRICE))
-    prices = table.value_today / table.stock_today
+    assert [*table.index[table.s_today.isna()]] == [NO_TODAY]
+    prices = table.value_chosen / table.stock_chosen
+    for name in ("value", "fill", "orders"):
+        table[f"{name}_today"] = table[f"{name}_today"].fillna(table[f"{name}_chosen"])
+    assert pd.read_csv(twenty / POLICIES).set_index("item").s_today.isna().sum() == 1
+    assert "\nToday counts the chosen policy of 1 items that have none today.\n" in drawn(twenty).text
     curve = pd.read_csv(twenty / CURVE).set_index("point")
     for name in ("today", "chosen"):
         asked = prices * table.demand

@@ -201,7 +201,9 @@ def read_text(folder: Path, demand: str = DEMAND, masters: str = master(), least
     ("item,date,quantity,Menge\n" + ROWS, master(), "the columns 'quantity' and 'Menge' may both be the quantity; say"),
     ("item,date,quantity\n", master(), "no row of demand has a date"), ("", master(), "there is no row below"),
     ("item,date,quantity\nA,soon,3\n", master(), "no row of demand has a date"),
-    (DEMAND, "item,setup,holding\nA,1,1\n", "no column looks like the s;")])
+    (DEMAND, "item,setup,s\nA,1,1\n", "no column looks like the holding;"),
+    (DEMAND, "item,setup,holding,s\nA,1,1,1\n", "no column looks like the S;"),
+    (DEMAND, "item,setup,holding,max stock\nA,1,1,1\n", "no column looks like the s;")])
 def test_refused_files(tmp_path: Path, demand: str, masters: str, said: str) -> None:
     with pytest.raises(Refused) as fault:
         read_text(tmp_path, demand, masters)
@@ -212,7 +214,7 @@ def test_faults_of_all_files_at_once(tmp_path: Path) -> None:
     """Says what is wrong with both files in one pass, and where a byte is not UTF-8, also far down."""
     with pytest.raises(RefusedFaults) as fault:
         read_text(tmp_path, "item,when,how much\nA,2026-01-01,1\n", "item,setup\nA,3\n")
-    assert [it.file.endswith("demand.csv") for it in fault.value.faults] == [True, True, False, False, False]
+    assert [it.file.endswith("demand.csv") for it in fault.value.faults] == [True, True, False]
     path = tmp_path / "demand.csv"
     lines = ["item,date,quantity", *(f"A,2026-03-{1 + it % 28:02},{it % 7}" for it in range(80_000))]
     path.write_bytes("\n".join(lines).encode() + b"\nB\xfcrste,2026-03-02,1\n")
@@ -275,6 +277,12 @@ def test_masters_at_the_borders(tmp_path: Path, changes: dict[str, str], least: 
     """Takes the largest and least value of each cell, and a record of just 40 weeks, 15 January to 15 October."""
     read = read_text(tmp_path, masters=master(**changes), least=least)
     assert read.counts["items"]["ready"] == 1 and not len(read.rejects)
+
+
+def test_items_without_levels(tmp_path: Path) -> None:
+    """Empty s and S, or no column of either, are no policy."""
+    for masters in (master(s="", S=""), "item,setup,holding,backlog,lead\nA,10,0.5,5,2\n"):
+        assert items_of(read_text(tmp_path, masters=masters))["A"].levels is None
 
 
 @pytest.mark.parametrize("every, half", [("day", 183), ("week", 26), ("month", 6)])

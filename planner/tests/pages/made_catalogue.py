@@ -75,8 +75,8 @@ def made_pair(source: random.Random, name: str) -> Pair:
     chosen = Figures(s + 2, s + 20, cost - saving, source.uniform(0.93, 1), 0.05, demand * source.uniform(2, 12),
                      demand / 14)
     near = saving + error * source.uniform(-1, 1)
-    run = Run("0 0 0 0", 1024, 24, 9, Fraction(100), 900, 60, 900, 1_000_000, 900_000, Fraction(-near),
-              Fraction(error)**2, cost, cost - near, near, error, near - QUANTILE * error, near + QUANTILE * error)
+    run = Run("0 0 0 0", 1024, 24, 9, Fraction(100), 900, 60, 900, 900_000, cost - near, 1_000_000, Fraction(-near),
+              Fraction(error)**2, cost, near, error, near - QUANTILE * error, near + QUANTILE * error)
     item = Item(name, (0, 3, 1), (2,), (s, s + 9), Fraction(9), Fraction(3, 5), Fraction(9), first=1000, line=7,
                 rows=90, group=source.choice(("X", "Y", "Z", "")), price=price if source.random() > 0.05 else None,
                 description=f"{source.choice(NOUNS)} {source.randrange(100)}")

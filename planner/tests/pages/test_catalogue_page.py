@@ -24,7 +24,7 @@ from crnplan.pages import catalogue_page
 from crnplan.pages.catalogue_page import COLUMNS, MEANING, clipped, file_of
 from crnplan.pages.catalogue_tables import reasons_of
 from crnplan.pages.page import LARGE
-from crnplan.plan.answer import CHEAPER, DEARER, RUN, SAME, SERVICE, UNDECIDED, Answer
+from crnplan.plan.answer import CHEAPER, DEARER, RUN, SAME, SERVICE, UNCOMPARED, UNDECIDED, Answer
 from crnplan.plan.catalogue import ANSWERS, Totals
 from crnplan.records.catalogue_reading import CATALOGUE, READ, Writer
 from crnplan.records.items import Reject
@@ -136,6 +136,34 @@ def test_totals(large: Path, large_page: Page) -> None:
     assert verdicts == Counter(it.verdict for it in answers)
 
 
+def without_today(answer: Answer) -> Answer:
+    """Returns an answer to an item that has no policy today."""
+    beside = ("total_today", "difference", "variance", "cost_today", "saving", "error", "low", "high")
+    return replace(answer, verdict=UNCOMPARED, today=None, cost_today=None, saving=None,
+                   run=replace(answer.run, **dict.fromkeys(beside)))
+
+
+def test_an_item_without_a_policy_today(tmp_path: Path) -> None:
+    """It comes last, with empty cells, and in no sum but those of such items, which page and summary name."""
+    item, answer = made_pair(random.Random(1), "it")
+    item, answer = replace(item, levels=None, price=Fraction(3)), without_today(answer)
+    pages = [Page(crn.report(made_folder(tmp_path / name, 12, has_curve=False, change=change)))
+             for name, change in (("plain", None), ("more", (item, answer)))]
+    row, summary = [*pages[1].items.values()][-1], (tmp_path / "more/summary.txt").read_text("utf-8")
+    assert (row["item"], row["verdict"], row["s_chosen"]) == ("it", "no policy today", str(answer.chosen.point))
+    assert {row[name] for name in ("s_today", "S_today", "cost_today", "saving", "run_saving", "fill_today")} == {""}
+    exact, = (its for its in rows_of(tmp_path / "more/exact.csv") if its["item"] == "it")
+    assert {exact[name] for name in ("s_today", "total_today", "cost_today", "saving", "saving_variance")} == {""}
+    costs = [re.findall("deliveries cost (.*?) a year with today's levels, (.*?) with", page.words) for page in pages]
+    assert costs[0] == costs[1] and len(costs[0]) == 1
+    cost, value = f"{answer.cost_chosen:,.2f}", f"{3 * answer.chosen.stock:,.2f}"
+    assert "1 planned items have no levels today to compare with, and are in no other sum." in pages[1].words
+    assert f"1 items, in no sum above; chosen: {cost} a week, stock value {value}\n" in summary
+    assert ["no policy today", "1", ""] == pages[1].tables["Verdicts"][-1][:3]
+    alone = Page(crn.report(made_folder(tmp_path / "alone", 0, has_curve=False, change=(item, answer))))
+    assert "No planned item has levels today to compare with" in alone.words
+
+
 @pytest.mark.parametrize("error, said", [(0.6, "The new reorder levels cost as much as today's, as far as can be told"),
                                          (0.5, "The new reorder levels save 52.18 a year, 10.0% of today's cost")])
 def test_headline_of_runs(tmp_path: Path, error: float, said: str) -> None:
@@ -183,7 +211,7 @@ def test_reasons_verdicts_and_service() -> None:
         ("theory counts in steps of \u2026 items", "day", 2, 2, {"A"}),
         ("theory counts in steps of \u2026 items", "amount", 1, 3, {"B"}),
         ("each item has the law of its own history", "day", 1, 4, {"B"})]
-    assert set(MEANING) == {CHEAPER, DEARER, SERVICE, SAME, UNDECIDED}
+    assert set(MEANING) == {CHEAPER, DEARER, SERVICE, SAME, UNDECIDED, UNCOMPARED}
     totals = Totals()
     for price, demand, fill in ((30, 3, 1.0), (2, 5, 0.5)):
         item, answer = made_pair(random.Random(1), "it")

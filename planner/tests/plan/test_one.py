@@ -17,7 +17,8 @@ import pytest
 import crnplan as crn
 from crnplan.demand.learning import Prior
 from crnplan.plan import one, question as questions
-from crnplan.plan.answer import CHEAPER, RUN, SAME, SERVICE, THEORY, UNDECIDED, Answer
+from crnplan.pages.item_page import ItemWords, item_summary
+from crnplan.plan.answer import CHEAPER, RUN, SAME, SERVICE, THEORY, UNCOMPARED, UNDECIDED, Answer
 from crnplan.plan.catalogue import planned_folder
 from crnplan.plan.item import Depth, planned, read_item
 from crnplan.plan.one import Disagreement, plan_batch, plan_one
@@ -110,6 +111,30 @@ def test_a_run_that_disagrees_is_a_fault(program: Path, monkeypatch: pytest.Monk
     fault, = plan_batch([(item_of(), None)], settings, NONE, str(program))
     assert isinstance(fault, Remark) and fault.code == "disagrees"
     assert fault.facts["theory"] > 1.02 * float(fault.facts["run"])  # type: ignore[operator]
+    with pytest.raises(Disagreement, match="cost of chosen is"):
+        answer_of(item_of(levels=None), settings, program)
+
+
+@pytest.mark.parametrize("changed", [{}, {"backlog": None, "fill": Fraction(19, 20)}], ids=str)
+def test_an_item_without_a_policy_today(program: Path, changed: dict[str, Any]) -> None:
+    """It has the plan that it has beside a policy: the chosen one, its figures and its run. What is beside today's is
+    empty, and its page compares with the chosen policy."""
+    item, settings = item_of(levels=None, **changed), alone(periods=1_024, replications=24)
+    answer, beside = answer_of(item, settings, program), answer_of(item_of(**changed), settings, program)
+    assert (answer.verdict, answer.today, answer.cost_today, answer.saving) == (UNCOMPARED, None, None, None)
+    assert (answer.chosen, answer.cost_chosen, answer.remarks) == (beside.chosen, beside.cost_chosen, beside.remarks)
+    alike = ("key", "initial", "scale", "total_chosen")
+    assert [getattr(answer.run, it) for it in alike] == [getattr(beside.run, it) for it in alike]
+    # The bias of a start is summed up on a lattice that depends on all policies of a run.
+    assert answer.run.cost_chosen == pytest.approx(beside.run.cost_chosen, rel=1e-9)
+    assert {getattr(answer.run, it) for it in ("total_today", "difference", "variance", "cost_today", "saving", "low")
+            } == {None}
+    depth = Depth(question_of(item, settings), answer, str(program))
+    policies = {row.name: row for row in depth.compared}
+    assert "today" not in policies and policies["chosen"].verdict == "base" and not policies["chosen"].difference
+    assert all(row.difference == row.figures.cost - answer.chosen.cost for row in policies.values())
+    words = item_summary(ItemWords(depth, "week", 2)).splitlines()
+    assert words[0].endswith(": no policy today") and not any("today's" in line for line in words)
 
 
 def test_a_run_without_rare_events_is_no_fault(program: Path, monkeypatch: pytest.MonkeyPatch) -> None:

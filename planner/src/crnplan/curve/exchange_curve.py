@@ -80,14 +80,15 @@ NOTES = (
 class Gathered:
     """The candidates of all items with a price and a plan, and what is known of them.
 
-    `points` has today's policies and those chosen item by item, `shown` by item the description and today's s and S.
+    `points` has today's policies, or the chosen one of an item that has none, and those chosen item by item. `shown`
+    has by item the description and today's s and S.
     `left_out` has the other items, each with a remark. `new` counts the items whose candidates were computed now.
     """
 
     folder: PlannedFolder
     items: Items
     points: dict[str, Point]
-    shown: list[tuple[str, int, int]]
+    shown: list[tuple[str, int | None, int | None]]
     left_out: list[tuple[str, Remark]]
     new: int
 
@@ -114,7 +115,7 @@ def added_up(folder: PlannedFolder, kept: Store[Candidates], names: Iterable[str
     """Returns what is kept of some items beside those that are left out. Raises Refused if no item can be on the
     curve."""
     # Of today's and of the chosen policies: the value of the stock, the demand that is not met, orders and costs.
-    sums, shown = np.zeros((2, 4)), list[tuple[str, int, int]]()
+    sums, shown = np.zeros((2, 4)), list[tuple[str, int | None, int | None]]()
 
     def on_curve() -> Iterator[tuple[str, float, Candidates]]:
         for name in names:
@@ -125,8 +126,10 @@ def added_up(folder: PlannedFolder, kept: Store[Candidates], names: Iterable[str
             assert item is not None and item.price is not None and isinstance(answer, Answer)
             price, setup, holding = float(item.price), candidates.setup, candidates.holding
             sums[...] += [(price * policy.stock, price * candidates.demand * (1 - policy.fill), policy.orders,
-                           setup * policy.orders + holding * policy.stock) for policy in (answer.today, answer.chosen)]
-            shown.append((item.description, *item.levels))
+                           setup * policy.orders + holding * policy.stock)
+                          for policy in (answer.today or answer.chosen, answer.chosen)]
+            s, S = item.levels or (None, None)
+            shown.append((item.description, s, S))
             yield name, price, candidates
     first = next(rest := on_curve(), None)
     if first is None:
@@ -166,7 +169,7 @@ def confirmed(gathered: Gathered, choices: Mapping[str, Choice], said: Mapping[s
         item, answer = gathered.folder.item(items.names[place])
         price = float(item.price or 0)
         stocks = {name: (figures.levels, price * figures.stock)
-                  for name, figures in ((TODAY, answer.today), (CHOSEN, answer.chosen))}
+                  for name, figures in ((TODAY, answer.today or answer.chosen), (CHOSEN, answer.chosen))}
         for name, choice in choices.items():
             row = choice.rows[place]
             stocks[name] = (int(items.point[row]), int(items.level[row])), float(items.value[row])
@@ -222,7 +225,9 @@ class Drawn(Result):
         lines = [f"{len(self.gathered.items.names):,} items are on the curve"]
         if left:
             lines[0] += f"; {len(left):,} are left out, as {left[0][0]}: {sentence(left[0][1])} ({LEFT_OUT} names all)"
+        without = sum(s is None for _, s, _ in self.gathered.shown)
         lines += ["", aligned(rows)]
+        lines += [f"Today counts the chosen policy of {without:,} items that have none today."] * bool(without)
         lines += [f"{SAID[name]}: there is no such point: {why}" for name, why in self.missing.items()]
         policies = SAID.get(self.written, "the least stock")
         lines += [*NOTES, f'{CURVE} has the curve; {POLICIES} has the policies of "{policies}", in {folder.path}.']

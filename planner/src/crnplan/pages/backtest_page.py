@@ -1,7 +1,7 @@
 """Draws the test of a catalogue on its past as one HTML page: what was promised and what came, by item and in time."""
 from __future__ import annotations
 
-from collections.abc import Sequence
+from collections.abc import Iterable, Sequence
 from typing import NamedTuple
 
 from ..plan.backtest.catalogue import Tested
@@ -83,20 +83,21 @@ def worst_of(tested: Sequence[tuple[Item, Backtest]]) -> list[Worst]:
     return rows
 
 
-def sum_cells(sums: Sums) -> list[str]:
-    """Returns the cells of all items, or of a class, below `SUM_HEADINGS` and the policies."""
+def sum_cells(sums: Sums, policies: Iterable[str]) -> list[str]:
+    """Returns the cells of all items, or of a class, below `SUM_HEADINGS` and policies."""
     fills = fills_of(sums)
     return [sums.group or "all", VERDICTS[sums.verdict], f"{sums.items:,}", f"{sums.broken:,}", percent(sums.promised),
-            *fills.values()]
+            *(fills.get(policy, "-") for policy in policies)]
 
 
 def backtest_page(tested: Tested) -> str:
     """Returns the page of a catalogue's test on its past."""
     found = [(item, test) for item, test in tested.items if isinstance(test, Backtest) and summed(test)]
     tests, sums = [test for _, test in found], tested.whole
+    policies = [*(sums.unmet if sums else ())]
     return rendered("backtest.html", {
         "headline": first_line(sums), "sums": sums, "verdict": VERDICTS[sums.verdict] if sums else "",
         "every": tested.every, "decimals": tested.decimals, "lines": backtest_summary(tested).splitlines(),
         "promises": promise_plot(tests) if tests else None, "single": SINGLE,
         "times": time_plot(tests, sums.promised, tested.every) if sums else None, "worst": worst_of(found),
-        "heading": [*SUM_HEADINGS, *(sums.unmet if sums else ())], "rows": [sum_cells(it) for it in tested.sums]})
+        "heading": [*SUM_HEADINGS, *policies], "rows": [sum_cells(it, policies) for it in tested.sums]})

@@ -18,6 +18,7 @@ from .catalogue_tables import money
 BACKTEST, SUMS, SUMMARY, PAGE = "backtest.csv", "backtest_sums.csv", "backtest.txt", "backtest.html"
 PROMISING = (*POLICIES[:4], "shuffled")
 CHANGING = REFITTED, DAMPED, SMOOTHED
+LISTED = {policy: policy for policy in CHANGING} | {"today": "today's"}
 WORDS = {"today": "today's policy", "kept": "the plan that is kept", "refitted": "plans that are refitted",
          "damped": "refitted plans whose levels stay if others gain too little",
          "smoothed": "exponential smoothing with a normal safety stock",
@@ -130,9 +131,9 @@ def fills_of(sums: Sums) -> dict[str, str]:
             sums.unmet.items()}
 
 
-def _listed(figures: Mapping[str, str], policies: Sequence[str]) -> str:
-    """Returns the figures of policies, each with its name."""
-    return ", ".join(f"{figures[policy]} {policy}" for policy in policies)
+def _listed(figures: Mapping[str, str]) -> str:
+    """Returns the figures of policies, but for the kept plan, each with its name."""
+    return ", ".join(f"{figures[policy]} {name}" for policy, name in LISTED.items() if policy in figures)
 
 
 def _points(estimate: Estimate) -> str:
@@ -143,16 +144,14 @@ def _sum_lines(sums: Sums) -> Iterator[str]:
     """Yields lines on all items, or on a class."""
     fills = fills_of(sums)
     yield f"{sums.group or 'all'}: {VERDICTS[sums.verdict]} ({counted(sums.items, 'item')})"
-    others = [policy for policy in CHANGING if policy in fills]
     yield (f"  met at once: {100 * sums.promised:.1f}% promised; {fills['kept']} by the kept plan, "
-           f"{_listed(fills, others)}, {fills['today']} today's")
+           f"{_listed(fills)}")
     yield (f"  missed: {_points(sums.missed)} points, of which {_points(sums.chance)} in a random order too, and "
            f"{_points(sums.time)} by time")
     beside = {policy: f"{100 * cost.value:+z.1f} ± {100 * cost.error:.1f}%" for policy, cost in sums.beside.items()}
-    yield (f"  cost: {_points(sums.dearer)}% above the promise; beside the kept plan {_listed(beside, others)}, "
-           f"{beside['today']} today's")
+    yield f"  cost: {_points(sums.dearer)}% above the promise; beside the kept plan {_listed(beside)}"
     rates = {policy: f"{rate:.3f}" for policy, rate in sums.changes.items()}
-    yield f"  levels of an item change {_listed(rates, others)} times a period"
+    yield f"  levels of an item change {_listed(rates)} times a period"
     yield (f"  {sums.broken:,} of {counted(sums.items, 'item')} missed the promised fill by more than a point; "
            f"{sums.above:,} had a demand above the largest of the record")
 

@@ -7,7 +7,7 @@ from collections import defaultdict
 from collections.abc import Iterable, Sequence
 from typing import NamedTuple
 
-from ..plan.answer import CHOSEN, SAME, TODAY, Answer
+from ..plan.answer import CHOSEN, COMPARED, SAME, TODAY, Answer
 from ..plan.catalogue import PlannedFolder, Totals
 from ..records.columns import periods_a_year
 from ..records.item import Item
@@ -23,7 +23,7 @@ LEAST_SERVICE = 5.0  # percent, by which the axis of service begins below the le
 
 
 class Row(NamedTuple):
-    """A class: its items, what a year saves, and with today's levels and the new ones the share of demand met at once,
+    """A class: its items with a policy today, what a year saves, and with today's levels and the new ones the share of demand met at once,
     None if it is not known, and the value of the mean stock."""
 
     name: str
@@ -95,7 +95,7 @@ def row_of(name: str, sums: Sequence[Totals], periods: float, by_value: bool) ->
     """Returns the row of one class, or of several together."""
     def added(part: str) -> float:
         return math.fsum(totals[part] for totals in sums)
-    items = sum(totals.planned for totals in sums)
+    items = sum(totals.compared for totals in sums)
     part, weight = ("met", added("demand")) if by_value else ("fill", float(items))
     return Row(name, items, periods * added("saving"),
                tuple(added(f"{part}_{policy}") / weight if weight else None for policy in BEFORE_AND_AFTER),
@@ -103,10 +103,10 @@ def row_of(name: str, sums: Sequence[Totals], periods: float, by_value: bool) ->
 
 
 def by_class(pairs: Iterable[tuple[Item, Answer | Remark]]) -> dict[str, Totals]:
-    """Returns the sums of each class of planned items."""
+    """Returns the sums of each class of planned items with a policy today."""
     sums: defaultdict[str, Totals] = defaultdict(Totals)
     for item, answer in pairs:
-        if isinstance(answer, Answer):
+        if isinstance(answer, Answer) and answer.verdict in COMPARED:
             sums[item.group or NO_CLASS].add(item, answer)
     return sums
 

@@ -15,7 +15,7 @@ from ..crnsim.program import find_program
 from ..curve.exchange import Point
 from ..curve.exchange_curve import kept_curve
 from ..files import Folder, own_folder
-from ..plan.answer import CHEAPER, DEARER, SAME, SERVICE, UNDECIDED, Answer
+from ..plan.answer import CHEAPER, COMPARED, DEARER, SAME, SERVICE, UNCOMPARED, UNDECIDED, Answer
 from ..plan.backtest.catalogue import past_of
 from ..plan.catalogue import PlannedFolder, Totals, planned_folder
 from ..plan.item import Depth
@@ -69,7 +69,8 @@ MEANING = {
     SERVICE: "Today's policy misses the wanted share of demand met at once. The chosen one keeps it and may cost more.",
     UNDECIDED: "Theory is rounded here, and the runs cannot tell which policy costs less.",
     SAME: "Today's policy is the best one already.",
-    DEARER: "The chosen policy costs more, though it is the best by theory. Look at these items."}
+    DEARER: "The chosen policy costs more, though it is the best by theory. Look at these items.",
+    UNCOMPARED: "The masters have no s and S, so nothing is compared. No sum of costs, savings or stock has these items."}
 
 
 class Shown(NamedTuple):
@@ -99,6 +100,7 @@ def catalogue_page(folder: PlannedFolder, totals: Totals) -> str:
         "aims": aims_of(folder, totals),
         "pages": {name: quote(f"{ITEMS}/{file}") for name, file in files.items() if file in there},
         "rows": rows, "lost": missing_of(folder.counts, totals.planned + totals.faults), "meanings": MEANING,
+        "compared": COMPARED,
         "plot": plot, "points": points, "is_old": curve is not None, "headings": COLUMNS,
         "savings": savings(rows), "styles": VERDICT_STYLES, "most_reasons": MOST_REASONS,
         "reasons": reasons, "board": board_of(folder, totals, reasons, money), "columns": columns,
@@ -110,9 +112,10 @@ def catalogue_page(folder: PlannedFolder, totals: Totals) -> str:
 
 
 def shown_items(folder: PlannedFolder) -> list[Shown]:
-    """Returns the items of the table, those with the greatest saving or loss if they are many, by falling saving."""
-    kept = heapq.nlargest(MOST_ROWS, planned_of(folder), key=lambda pair: abs(pair[1].saving))
-    kept.sort(key=lambda pair: (-pair[1].saving, pair[0].name))
+    """Returns the items of the table, those with the greatest saving or loss if they are many, by falling saving; those
+    without one come last."""
+    kept = heapq.nlargest(MOST_ROWS, planned_of(folder), key=lambda pair: abs(pair[1].saving or 0.0))
+    kept.sort(key=lambda pair: (pair[1].saving is None, -(pair[1].saving or 0.0), pair[0].name))
     table = DataTable(DECISION_COLUMNS, [decision_row(*pair) for pair in kept], folder.decimals, "")
     return [Shown(*pair, cells) for pair, cells in zip(kept, table.cells(is_shown=True))]
 
@@ -146,12 +149,12 @@ def exchange_plot(curve: Sequence[tuple[str, Point]], money: Money) -> tuple[Plo
 
 def savings(rows: Sequence[Shown]) -> dict[str, object]:
     """Returns the items with the greatest savings, each with the interval of its run, and the scale of their bars."""
-    bars = []
-    for row in [row for row in rows if row.answer.saving > 0][:MOST_SAVINGS]:
-        saving, run = row.answer.saving, row.answer.run
-        bars.append((row, saving if run.low is None else run.low, saving if run.high is None else run.high))
-    ends = [end for row, *interval in bars for end in (row.answer.saving, *interval)]
-    return {"bars": bars, "scale": Scale.of([0.0, *ends]), "together": math.fsum(row.answer.saving for row, *_ in bars)}
+    bars, known = [], [(row, row.answer.saving) for row in rows if row.answer.saving is not None]
+    for row, saving in [(row, saving) for row, saving in known if saving > 0][:MOST_SAVINGS]:
+        run = row.answer.run
+        bars.append((row, saving, saving if run.low is None else run.low, saving if run.high is None else run.high))
+    ends = [end for _, *ends in bars for end in ends]
+    return {"bars": bars, "scale": Scale.of([0.0, *ends]), "together": math.fsum(saving for _, saving, *_ in bars)}
 
 
 def width(name: str, rows: Sequence[Shown]) -> int:

@@ -6,7 +6,7 @@ from dataclasses import dataclass, field
 from fractions import Fraction
 
 from ..plan.aims import CLASSES
-from ..plan.answer import RUN, THEORY, Answer
+from ..plan.answer import RUN, THEORY, Answer, Figures
 from ..plan.catalogue import PlannedFolder, Totals
 from ..records.items import FileCounts, Reject
 from ..records.item import Item
@@ -26,7 +26,7 @@ def money(name: str, meaning: str) -> Column:
 
 DECISION_COLUMNS = (
     text("item", "the item"), text("description", "of the masters"), text("class", "of the masters"),
-    text("verdict", "cheaper, more service, undecided, same, or dearer"),
+    text("verdict", "cheaper, more service, undecided, same, dearer, or no policy today, beside which cells are empty"),
     *(whole(f"{letter}_{policy}", "items", f"{letter} of {words}") for policy, words in (
         ("today", "today's policy"), ("chosen", "the chosen policy")) for letter in "sS"),
     money("cost_today", "what today's policy costs: by theory, or by crnsim (column by)"),
@@ -79,20 +79,26 @@ REJECT_COLUMNS = (
     whole("rows", "rows", "rows of demand that are left out"))
 
 
+def level_cells(*policies: Figures | None) -> list[Cell]:
+    """Returns s and S of policies, empty cells for one that there is not."""
+    return [level for policy in policies for level in (policy.levels if policy else (None, None))]
+
+
 def decision_row(item: Item, answer: Answer) -> list[Cell]:
     """Returns the row of an item in decisions.csv, unrounded."""
     today, chosen, alone, run, correction = (
         answer.today, answer.chosen, answer.alone, answer.run, answer.correction)
-    prices = [None if item.price is None else float(item.price) * it.stock for it in (today, chosen)]
+    fills, stocks, orders = ([getattr(policy, name) if policy else None for policy in (today, chosen)]
+                             for name in ("fill", "stock", "orders"))
+    values = [None if item.price is None or stock is None else float(item.price) * stock for stock in stocks]
     remarks = *item.remarks, *answer.remarks
     codes, words = "; ".join(it.code for it in remarks), "; ".join(map(sentence, remarks))
-    return [item.name, item.description, item.group, answer.verdict, *today.levels, *chosen.levels,
-            answer.cost_today, answer.cost_chosen, answer.saving, PLANNED_BY[answer.source], run.saving,
+    return [item.name, item.description, item.group, answer.verdict, *level_cells(today, chosen), answer.cost_today,
+            answer.cost_chosen, answer.saving, PLANNED_BY[answer.source], run.saving,
             run.low, run.high, None if item.fill is None else float(item.fill),
-            correction.aim if correction else None, today.fill, chosen.fill, today.stock, chosen.stock,
-            correction.plain_stock if correction else None, *prices, today.orders, chosen.orders,
-            answer.confidence_cost,
-            *((*alone.levels, alone.cost, alone.fill) if alone else [None] * 4), answer.law.mean, len(item.counts),
+            correction.aim if correction else None, *fills, *stocks, correction.plain_stock if correction else None,
+            *values, *orders, answer.confidence_cost, *level_cells(alone), alone.cost if alone else None,
+            alone.fill if alone else None, answer.law.mean, len(item.counts),
             sum(count > 0 for count in item.counts), answer.law.family, answer.law.share, answer.law.log10_bayes, codes,
             words]
 
@@ -101,10 +107,14 @@ def exact_row(item: Item, answer: Answer) -> list[Cell]:
     """Returns the row of an item in exact.csv: crnsim's own figures of the run, as fractions of a period's money."""
     run, box = answer.run, item.box
     unit = run.periods * run.scale
-    costs = [Fraction(total, run.replications) / unit for total in (run.total_today, run.total_chosen)]
-    levels = [round(it / box) for it in (*item.levels, answer.chosen.point, answer.chosen.level)]
+    costs = [None if total is None else Fraction(total, run.replications) / unit
+             for total in (run.total_today, run.total_chosen)]
+    levels = [None if level is None else round(level / box)
+              for level in (*(item.levels or (None, None)), *answer.chosen.levels)]
+    saving = None if run.difference is None else -run.difference / unit
+    variance = None if run.variance is None else run.variance / unit**2
     return [item.name, *levels, run.periods, run.replications, run.initial, run.key, run.scale, run.setup, run.holding,
-            run.backlog, run.total_today, run.total_chosen, *costs, -run.difference / unit, run.variance / unit**2]
+            run.backlog, run.total_today, run.total_chosen, *costs, saving, variance]
 
 
 def planned_of(folder: PlannedFolder) -> Iterator[tuple[Item, Answer]]:

@@ -8,7 +8,7 @@ from ..plan.catalogue import PlannedFolder
 from ..plan.changes import DAMPED, KINDS, MOVED, Change, ChangeSums, Since, SinceSums
 from ..table import MONEY, Cell, Column, DataTable, number, text, whole
 from ..words import counted, sentence
-from .catalogue_tables import money
+from .catalogue_tables import level_cells, money
 
 CHANGES = "changes.csv"
 MOST_MOVED = 15
@@ -57,8 +57,7 @@ def _since_cells(since: Since | None) -> list[Cell]:
 
 def _row(change: Change) -> list[Cell]:
     earlier, before, after, gain = change.earlier, change.before, change.after, change.gain
-    shown = (earlier, after, change.undamped)
-    levels = [level for policy in shown for level in (policy.levels if policy else (None, None))]
+    levels = level_cells(earlier, after, change.undamped)
     share = gain / before.cost if before and before.cost and gain is not None else None
     policies, laws = (before, after), (change.law_before, change.law_after)
     return [change.name, change.description, change.group, change.kind, *levels, gain, share,

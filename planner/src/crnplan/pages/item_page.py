@@ -20,7 +20,7 @@ from ..demand.checks import check_history, largest_periods
 from ..demand.fitted import QUANTILES, FittedLaw, fit_words
 from ..errors import Fault, spelt, worded
 from ..files import own_folder
-from ..plan.answer import CHEAPER, CHOSEN, DEARER, SAME, SERVICE, THEORY, TODAY, UNDECIDED, Figures
+from ..plan.answer import CHEAPER, CHOSEN, DEARER, SAME, SERVICE, THEORY, UNCOMPARED, UNDECIDED, Figures
 from ..plan.item import Coming, Depth, Facts, planned, read_item
 from ..plan.question import Question
 from ..plan.settings import as_setting
@@ -34,11 +34,11 @@ from .page import (OF_CHOSEN, OF_TODAY, UNITS, Line, Plot, Scale, capital, marks
 
 VERDICTS = {CHEAPER: "cheaper than today's policy ({})", DEARER: "dearer than today's policy ({})",
             UNDECIDED: "not told apart from today's policy ({})", SAME: "keep today's policy",
-            SERVICE: "for the fill rate that today's policy ({}) misses"}
+            SERVICE: "for the fill rate that today's policy ({}) misses", UNCOMPARED: UNCOMPARED}
 COMING = 64  # replications of the coming periods
 MOST_DECIMALS = 6
 ALONE = "the law of this item alone"
-VERDICT = text("verdict", f"beside {TODAY}: base, better, worse or undecided")
+VERDICT = text("verdict", "beside today's policy, or else the chosen one: base, better, worse or undecided")
 POLICY_COLUMNS = (
     *POLICY, numbers("cost", "money a period", "cost in the long run: by theory if exact, else by crnsim", MONEY),
     numbers("difference", "money a period", "that cost less today's", MONEY), VERDICT,
@@ -169,7 +169,7 @@ class ItemWords:
     @property
     def headline(self) -> str:
         today, chosen = self.answer.today, self.answer.chosen
-        verdict = VERDICTS[self.answer.verdict].format(f"{today.point:,}, {today.level:,}")
+        verdict = VERDICTS[self.answer.verdict].format(f"{today.point:,}, {today.level:,}" if today else "")
         return f"Below {chosen.point:,}, order up to {chosen.level:,}: {verdict}"
 
     @property
@@ -179,6 +179,10 @@ class ItemWords:
         if answer.verdict == SAME:
             return (f"The policy costs {self.money(answer.cost_chosen)} a {self.every} in the long run, by theory, "
                     f"{self.exactness}. Theory finds no better one.")
+        if answer.saving is None or run.saving is None:
+            by = "theory" if answer.source == THEORY else "crnsim"
+            return (f"The policy costs {self.money(answer.cost_chosen)} a {self.every} in the long run, by {by}. Theory "
+                    f"is {self.exactness}. No policy of today is known, so no saving is.")
         sample = f"{self.settings.replications:,} replications of {self.settings.periods:,} {self.every}s"
         ends = "without an interval" if run.low is None or run.high is None else (
             f"from {self.spoken(run.low)} to {self.spoken(run.high)} at {self.level}")
@@ -222,8 +226,8 @@ class ItemWords:
         """Returns what was decided in sentences: what it saves, what it meets at once, and how sure that is."""
         service = "" if self.item.fill is None else (
             f"A fill rate of {100 * float(self.item.fill):g}% is wanted. By theory the chosen policy meets "
-            f"{percent(self.answer.chosen.fill)} of demand at once, and today's {percent(self.answer.today.fill)}, "
-            f"{PREMISE}.")
+            f"{percent(self.answer.chosen.fill)} of demand at once, "
+            + (f"and today's {percent(self.answer.today.fill)}, " if self.answer.today else "") + f"{PREMISE}.")
         return [*filter(None, (self.saving, service, self.promise))]
 
     @property
@@ -255,12 +259,12 @@ class ItemWords:
         """Returns what the coming periods say of the policies; nothing if they were not asked for."""
         if self.coming is None:
             return ""
-        scenario, chosen = self.coming.scenario, self.depth.chosen
+        scenario, chosen, base = self.coming.scenario, self.depth.chosen, self.depth.base
         verdict = next(row.verdict for row in self.coming.rows if row.policy == chosen)
         better = [row.policy for row in self.coming.rows if row.verdict == "better"]
-        said = f"{chosen} is {verdict} than {TODAY}" if verdict in ("better", "worse") else (
-            f"{chosen} can't be told apart from {TODAY}" if chosen != TODAY else
-            f"{', '.join(better)} better than {TODAY}" if better else f"no policy is better than {TODAY}")
+        said = f"{chosen} is {verdict} than {base}" if verdict in ("better", "worse") else (
+            f"{chosen} can't be told apart from {base}" if chosen != base else
+            f"{', '.join(better)} better than {base}" if better else f"no policy is better than {base}")
         return (f"Over the coming {scenario.periods:,} {self.every}s ({scenario.replications:,} replications, "
                 f"summary.html): {said}.")
 
@@ -312,9 +316,9 @@ def laws_of(question: Question, single: FittedLaw | None) -> DataTable:
 
 
 def screen_table(words: ItemWords, most: int) -> str:
-    """Returns the cheapest policies, so many with today's and the chosen one, with as many columns as fit the screen.
+    """Returns the cheapest policies, so many with the base and the chosen one, with as many columns as fit the screen.
     """
-    must, costs = {TODAY, words.depth.chosen}, {policy.name: policy.cost for policy in words.depth.compared}
+    must, costs = {words.depth.base, words.depth.chosen}, {policy.name: policy.cost for policy in words.depth.compared}
     kept = must.union([name for name in costs if name not in must][:max(most - len(must), 0)])
     money = f",.{0 if any(abs(costs[name]) >= LARGE for name in kept) else min(words.decimals, 2)}f"
     table = policies_of(words)

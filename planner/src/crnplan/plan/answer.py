@@ -12,6 +12,8 @@ from ..remarks import Remark
 TODAY, CHOSEN, ALONE, BEFORE, UNDAMPED = "today", "chosen", "alone", "before", "undamped"
 # Verdicts. `more service`: today's policy misses the wanted fill, and keeping it costs more.
 CHEAPER, DEARER, UNDECIDED, SAME, SERVICE = "cheaper", "dearer", "undecided", "same", "more service"
+COMPARED = CHEAPER, DEARER, UNDECIDED, SAME, SERVICE
+UNCOMPARED = "no policy today"  # the verdict on an item without one, beside which nothing is compared
 # Whose figures costs and savings are: those of theory where it is exact, else those of the run.
 THEORY, RUN = "theory", "run"
 OURS = "disagrees", "failed"  # codes of faults of ours
@@ -76,6 +78,7 @@ class Run:
     stock in boxes; the difference of both costs (chosen less today) in a replication on average, and the variance of
     that mean. With the bias of the start taken out, in money of a period of the long run: both costs, what the chosen
     policy saves, and the standard error of that with the ends of its interval, which are None if the run has none.
+    Without a policy today all that is beside that one is None.
     """
 
     key: str
@@ -86,16 +89,16 @@ class Run:
     setup: int
     holding: int
     backlog: int
-    total_today: int
     total_chosen: int
-    difference: Fraction
-    variance: Fraction
-    cost_today: float
     cost_chosen: float
-    saving: float
-    error: float | None
-    low: float | None
-    high: float | None
+    total_today: int | None = None
+    difference: Fraction | None = None
+    variance: Fraction | None = None
+    cost_today: float | None = None
+    saving: float | None = None
+    error: float | None = None
+    low: float | None = None
+    high: float | None = None
 
 
 @dataclass(frozen=True)
@@ -103,7 +106,7 @@ class Answer:
     """The plan of an item.
 
     `saving`, and `cost_today` and `cost_chosen`, in money of a period of the long run, are those of `source`: of theory
-    where it is exact, else of the run. `alone` is the policy of the item's own history under the law that it has; None
+    where it is exact, else of the run. What is beside today's policy, and that, are None if there is none. `alone` is the policy of the item's own history under the law that it has; None
     if there is none. So is `before`, that of an earlier plan, and `undamped`, which would be chosen if that one did not
     stay because a change gains too little. Theory counts in steps of `step` boxes. `confidence_cost` is what the
     confidence in a wanted fill costs a period, None without one. `correction` is None if the wanted fill is not
@@ -112,10 +115,10 @@ class Answer:
 
     verdict: str
     source: str
-    cost_today: float
+    cost_today: float | None
     cost_chosen: float
-    saving: float
-    today: Figures
+    saving: float | None
+    today: Figures | None
     chosen: Figures
     alone: Figures | None
     before: Figures | None

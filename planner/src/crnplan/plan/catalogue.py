@@ -30,7 +30,7 @@ from ..stored import Damaged, Store, digest_of
 from ..words import advice, sentence
 from .after import CHANGES, PLAN, check_records, changes_since, keep_changes, policy_before, take_over
 from .aims import Aims
-from .answer import CHOSEN, OURS, RUN, TODAY, Answer
+from .answer import CHOSEN, COMPARED, OURS, RUN, TODAY, Answer
 from .changes import Change
 from .correction import AIMS, aims_of
 from .one import plan_batch
@@ -56,16 +56,18 @@ def add_exactly(parts: list[float], value: float) -> None:
 class Totals:
     """What adds up over items. Sums are without rounding but at the end.
 
-    Sums, as `totals["saving"]`, of money but for the last: `cost_today`, `cost_chosen` and `saving` of a period; `run_saving`, by runs,
-    with its `run_variance`; `value_today` and `value_chosen` of the mean stock; `confidence_cost` of a period; `saving
-    VERDICT`; of items with a price, the value of the demand of a period, `demand`, and `met_today` and `met_chosen` of
-    it at once; of items whose wanted fill is corrected, what it costs a period to hold the mean stock, `held`, and that
-    of the policies that aim at the wanted fill, `held_plain`; of shares of demand met at once, `fill_today` and
-    `fill_chosen`, and of orders a period, `orders_today` and `orders_chosen`.
+    Sums of the items that are compared with a policy of today, as `totals["saving"]`, of money but for the last:
+    `cost_today`, `cost_chosen` and `saving` of a period; `run_saving`, by runs, with its `run_variance`; `value_today`
+    and `value_chosen` of the mean stock; `saving VERDICT`; of those with a price, the value of the demand of a period,
+    `demand`, and `met_today` and `met_chosen` of it at once; of shares of demand met at once, `fill_today` and
+    `fill_chosen`, and of orders a period, `orders_today` and `orders_chosen`. Of the other planned items
+    `cost_uncompared` and `value_uncompared`, by the chosen policies. Of both `confidence_cost` of a period, and of
+    items whose wanted fill is corrected, what it costs a period to hold the mean stock, `held`, and that of the
+    policies that aim at the wanted fill, `held_plain`.
 
     Counts of items: by verdict, those that are not planned (`faults`), those of them by a fault of ours (`broken`),
-    those with the run's figures (`by_run`), without an interval of the run, with a confidence in their fill rate
-    (`promised`), and with a price; and by the wanted fill, if that is `corrected`.
+    with a confidence in their fill rate (`promised`), and by the wanted fill, if that is `corrected`; of those that are
+    compared, those with the run's figures (`by_run`), without an interval of the run, and with a price.
     """
 
     parts: defaultdict[str, list[float]] = field(default_factory=lambda: defaultdict(list))
@@ -94,30 +96,42 @@ class Totals:
     def planned(self) -> int:
         return self.verdicts.total()
 
+    @property
+    def compared(self) -> int:
+        """Returns how many planned items are compared with a policy of today."""
+        return sum(self.verdicts[verdict] for verdict in COMPARED)
+
     def __getitem__(self, name: str) -> float:
         return math.fsum(self.parts.get(name, ()))
 
     def add(self, item: Item, answer: Answer) -> None:
-        run, price = answer.run, float(item.price or 0)
-        demand = price * answer.law.mean
+        price = float(item.price or 0)
         self.verdicts[answer.verdict] += 1
-        self.by_run += answer.source == RUN
         self.promised += answer.confidence_cost is not None
-        self.without_interval += run.error is None
-        self.priced += bool(price)
-        values = {"cost_today": answer.cost_today, "cost_chosen": answer.cost_chosen, "saving": answer.saving,
-                  f"saving {answer.verdict}": answer.saving, "run_saving": run.saving,
-                  "run_variance": (run.error or 0.0)**2, "confidence_cost": answer.confidence_cost or 0.0,
-                  "demand": demand}
+        values = {"confidence_cost": answer.confidence_cost or 0.0}
         if answer.correction and item.fill is not None:
             self.corrected[float(item.fill)] += 1
             values |= {"held": float(item.holding) * answer.chosen.stock,
                        "held_plain": float(item.holding) * answer.correction.plain_stock}
-        for name, figures in ((TODAY, answer.today), (CHOSEN, answer.chosen)):
-            values |= {f"value_{name}": price * figures.stock, f"met_{name}": demand * figures.fill,
-                       f"fill_{name}": figures.fill, f"orders_{name}": figures.orders}
+        values |= self._compared(answer, price) if answer.verdict in COMPARED else {
+            "cost_uncompared": answer.cost_chosen, "value_uncompared": price * answer.chosen.stock}
         for name, value in values.items():
             add_exactly(self.parts[name], value)
+
+    def _compared(self, answer: Answer, price: float) -> dict[str, float]:
+        """Counts an item that is compared with a policy of today, and returns what it adds to sums."""
+        run, demand, saving = answer.run, price * answer.law.mean, answer.saving or 0.0
+        self.by_run += answer.source == RUN
+        self.without_interval += run.error is None
+        self.priced += bool(price)
+        values = {"cost_today": answer.cost_today or 0.0, "cost_chosen": answer.cost_chosen, "saving": saving,
+                  f"saving {answer.verdict}": saving, "run_saving": run.saving or 0.0,
+                  "run_variance": (run.error or 0.0)**2, "demand": demand}
+        for name, figures in ((TODAY, answer.today), (CHOSEN, answer.chosen)):
+            if figures:
+                values |= {f"value_{name}": price * figures.stock, f"met_{name}": demand * figures.fill,
+                           f"fill_{name}": figures.fill, f"orders_{name}": figures.orders}
+        return values
 
     def fill(self, policy: str) -> float | None:
         """Returns the share of demand by value that is met at once; None if no item has a price."""

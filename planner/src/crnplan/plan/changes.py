@@ -108,8 +108,8 @@ def masters_of(old: Item, new: Item, earlier: tuple[int, int]) -> Iterator[Remar
         means = [sum(item.leads) / len(item.leads) for item in (old, new)]
         yield Remark("other lead times", {"before": means[0], "after": means[1], "seen": len(new.leads)})
     if old.levels != new.levels:
-        yield Remark("other policy today", {"s": new.levels[0], "S": new.levels[1],
-                                            "earlier": int(new.levels == earlier)})
+        s, S = new.levels or (None, None)
+        yield Remark("other policy today", {"s": s, "S": S, "earlier": int(new.levels == earlier)})
 
 
 def reasons_of(old: Planned, new: Planned, stop: int, common: Sequence[Remark]) -> Iterator[Remark]:

@@ -42,9 +42,9 @@ RULES = ("delimiter", "encoding", "decimal", "item", "leave_out")
 
 
 class Compared(NamedTuple):
-    """A policy beside today's in the long run, in money of a period.
+    """A policy beside the base in the long run, in money of a period: today's policy, or else the chosen one.
 
-    `cost` and `difference`, which is the cost less today's, are theory's where that is exact, else the run's. `run` has
+    `cost` and `difference`, which is the cost less the base's, are theory's where that is exact, else the run's. `run` has
     the run's figures, `own_ends` the interval of its cost and `ends` that of its difference, each by itself. `verdict`
     is base, better, worse or undecided. `reasons` say why the policy is looked at.
     """
@@ -90,16 +90,21 @@ class Depth:
 
     @cached_property
     def levels(self) -> dict[str, Levels]:
-        """Returns s and S of the answer's policies in boxes."""
+        """Returns s and S of the answer's policies in boxes, the base first."""
         item, today = self.question.item, self.question.levels
         figures = {TODAY: self.answer.today, CHOSEN: self.answer.chosen, ALONE: self.answer.alone}
-        return {name: today if policy.levels == item.levels else (policy.point // item.box, policy.level // item.box)
-                for name, policy in figures.items() if policy is not None}
+        return {name: today if today and policy.levels == item.levels else (
+            policy.point // item.box, policy.level // item.box) for name, policy in figures.items() if policy}
+
+    @property
+    def base(self) -> str:
+        """Returns the name of the policy with which others are compared: today's, or the chosen one without that."""
+        return next(iter(self.levels))
 
     @property
     def chosen(self) -> str:
         """Returns the name under which the chosen policy is shown: today's if it is that."""
-        return TODAY if self.levels[CHOSEN] == self.levels[TODAY] else CHOSEN
+        return TODAY if self.levels[CHOSEN] == self.levels.get(TODAY) else CHOSEN
 
     @cached_property
     def single(self) -> FittedLaw | None:
@@ -143,7 +148,7 @@ class Depth:
         run = self.answer.run
         report = report_of(self.scenario, self.program)
         totals = {row.policy: row.total for row in report.rows}
-        if (totals[TODAY], totals[self.chosen]) != (run.total_today, run.total_chosen):
+        if (totals.get(TODAY), totals[self.chosen]) != (run.total_today, run.total_chosen):
             raise Refused(f"item {self.question.item.name!r}: {self.program} gives other totals than the plan has",
                           "plan it again with this program")
         return sample_of(self.question, report)
@@ -157,25 +162,25 @@ class Depth:
         """Returns a policy of the run. The answer's own policies are as there: theory counts the start on a coarser
         lattice if another policy has a wide gap."""
         run = self.answer.run
-        if sampled.policy == TODAY:
+        if sampled.policy == TODAY and run.cost_today is not None:
             return sampled._replace(cost=run.cost_today)
         if sampled.policy == CHOSEN:
-            return sampled._replace(cost=run.cost_chosen, difference=-run.saving, error=run.error)
+            return sampled._replace(cost=run.cost_chosen, difference=-(run.saving or 0.0), error=run.error)
         return sampled
 
     @cached_property
     def compared(self) -> list[Compared]:
         """Returns all policies, the cheapest first."""
         settings, is_exact, rows = self.question.settings, self.answer.source == THEORY, list[Compared]()
-        errors = t_quantile(1 - settings.level, settings.replications - 1)
+        errors, base = t_quantile(1 - settings.level, settings.replications - 1), self.answer.today or self.answer.chosen
         for (policy, reasons), run in zip(self.policies.items(), map(self._sampled, self.sample.policies)):
             figures = figures_of(self.question, self.theory, (policy.s, policy.S))
             own, ends = ends_of(run.cost, run.own_error, errors), ends_of(run.difference, run.error, errors)
             cost, difference = run.cost, run.difference
             if is_exact:
-                cost, difference = figures.cost, figures.cost - self.answer.today.cost
+                cost, difference = figures.cost, figures.cost - base.cost
             known = (difference, difference) if is_exact else ends
-            verdict = "base" if policy.name == TODAY else verdict_of(*known)
+            verdict = "base" if policy.name == self.base else verdict_of(*known)
             rows.append(Compared(policy.name, figures, cost, difference, run, own, ends, verdict, reasons))
         return sorted(rows, key=lambda row: row.difference)
 

@@ -37,7 +37,7 @@ from ..theory.many_laws import Promises
 from ..theory.run_effects import start_bias
 from ..words import advice, sentence
 from .answer import (ALONE, BEFORE, CHEAPER, CHOSEN, DAMPED, DEARER, RUN, SAME, SERVICE, THEORY, TODAY, UNDAMPED,
-                     UNDECIDED, Answer, Correction, Figures, LawFacts, Laws, Run)
+                     UNCOMPARED, UNDECIDED, Answer, Correction, Figures, LawFacts, Laws, Run)
 from .question import NONE, Levels, Question, Settings, question_of
 
 Result = TypeVar("Result")
@@ -131,9 +131,11 @@ def damped(choice: Choice, theory: LongRun, question: Question, promises: Promis
 
 
 def levels_of(question: Question, choice: Choice) -> dict[str, Levels]:
-    """Returns s and S of each policy, in boxes. There is none of the item alone if its own law has no best policy."""
-    levels = {TODAY: question.levels, CHOSEN: choice.levels, ALONE: choice.best}
-    levels |= {name: policy for name, policy in ((BEFORE, question.before), (UNDAMPED, choice.undamped)) if policy}
+    """Returns s and S of each policy that there is, in boxes. There is none of the item alone if its own law has no
+    best policy."""
+    levels = {CHOSEN: choice.levels, ALONE: choice.best}
+    others = ((TODAY, question.levels), (BEFORE, question.before), (UNDAMPED, choice.undamped))
+    levels |= {name: policy for name, policy in others if policy}
     if question.learned:
         try:
             single = question.alone()
@@ -148,16 +150,17 @@ def figures_of(question: Question, theory: LongRun, levels: Levels) -> Figures:
     cost something."""
     known, box, rates = theory.figures(*levels), question.item.box, question.rates
     cost = known.cost if question.has_backlog else rates["setup"] * known.orders + rates["holding"] * known.stock
-    point, level = question.item.levels if levels == question.levels else (levels[0] * box, levels[1] * box)
+    today = question.item.levels if levels == question.levels else None
+    point, level = today or (levels[0] * box, levels[1] * box)
     return Figures(point, level, question.money(cost), known.fill, known.short, known.stock * box, known.orders)
 
 
 def scenario_of(question: Question, theory: LongRun, levels: Levels) -> Scenario:
-    """Returns the scenario of a run of today's policy, the base, and of the chosen one with some levels, unless it is
-    the same. The run starts from the mean position of the chosen one."""
+    """Returns the scenario of a run of today's policy, the base, if there is one, and of the chosen one with some
+    levels, unless it is the same. The run starts from the mean position of the chosen one."""
     initial = min(max(round(theory.mean_position(*levels)), 0), MOST_ITEMS)
-    policies = [Policy(TODAY, *question.levels), Policy(CHOSEN, *levels)][:1 + (levels != question.levels)]
-    return question.scenario(question.rates.get("backlog", 0), initial).with_policies(policies)
+    scenario, chosen = question.scenario(question.rates.get("backlog", 0), initial), Policy(CHOSEN, *levels)
+    return scenario if levels == question.levels else scenario.with_policies([*scenario.policies, chosen])
 
 
 class Sample(NamedTuple):
@@ -231,16 +234,19 @@ def check_run(question: Question, theory: LongRun, report: Report, sample: Sampl
 
 
 def run_of(question: Question, report: Report, sample: Sample) -> Run:
-    """Returns the run of today's policy and of the last one of a report, which may be the same."""
-    rows, scenario = report.rows, report.scenario
+    """Returns the run of today's policy, if there is one, and of the last one of a report, which may be the same."""
+    rows, scenario, costs = report.rows, report.scenario, report.scenario.costs
     base, chosen = sample.policies[0], sample.policies[-1]
+    run = Run(" ".join(scenario.key), scenario.periods, scenario.replications, scenario.initial, question.scale,
+              costs.setup, costs.holding, costs.backlog, rows[-1].total, chosen.cost)
+    if question.levels is None:
+        return run
     saving = 0.0 - chosen.difference  # which is never -0.0
     error = 0.0 if len(rows) == 1 else chosen.error
-    errors = t_quantile(1 - question.settings.level, scenario.replications - 1)
-    return Run(" ".join(scenario.key), scenario.periods, scenario.replications, scenario.initial, question.scale,
-               scenario.costs.setup, scenario.costs.holding, scenario.costs.backlog, rows[0].total, rows[-1].total,
-               rows[-1].diff_mean, rows[-1].diff_var or rows[0].diff_mean, base.cost, chosen.cost, saving, error,
-               *ends_of(saving, error, errors))
+    low, high = ends_of(saving, error, t_quantile(1 - question.settings.level, scenario.replications - 1))
+    return dataclasses.replace(run, total_today=rows[0].total, difference=rows[-1].diff_mean,
+                               variance=rows[-1].diff_var or rows[0].diff_mean, cost_today=base.cost, saving=saving,
+                               error=error, low=low, high=high)
 
 
 def verdict_of(question: Question, today: Figures, saving: float, low: float | None, high: float | None) -> str:
@@ -251,6 +257,20 @@ def verdict_of(question: Question, today: Figures, saving: float, low: float | N
     if fill is not None and not question.has_backlog and (today.fill < fill or saving < 0):
         return SERVICE
     return DEARER if high is not None and high < 0 else UNDECIDED
+
+
+def beside_today(question: Question, theory: LongRun, figures: Mapping[str, Figures],
+                 run: Run) -> tuple[str, float | None, float | None]:
+    """Returns the verdict on the chosen policy, what today's costs, and the saving: by theory if that is exact, else by
+    the run. Both are None without a policy today."""
+    today, chosen = figures.get(TODAY), figures[CHOSEN]
+    if today is None:
+        return UNCOMPARED, None, None
+    saving, near = today.cost - chosen.cost, CLOSE * today.cost
+    cost, known, low, high = (today.cost, saving, saving - near, saving + near) if theory.exact else (
+        run.cost_today, run.saving, run.low, run.high)
+    is_same = chosen.levels == today.levels
+    return SAME if is_same else verdict_of(question, today, known or 0.0, low, high), cost, known
 
 
 def law_facts(law: FittedLaw, box: int) -> LawFacts:
@@ -305,7 +325,7 @@ def remarks_of(question: Question, theory: LongRun, sample: Sample, choice: Choi
         yield Remark("rounded costs", {"error": question.rate_error})
     if not choice.is_promised:
         yield Remark("no promise", {"confidence": settings.confidence})
-    if choice.levels != question.levels and sample.policies[-1].error is None:
+    if question.levels not in (None, choice.levels) and sample.policies[-1].error is None:
         yield Remark("no interval", {"orders": min(estimate.orders for estimate in sample.policies)})
 
 
@@ -324,17 +344,14 @@ def plan_one(question: Question, program: str) -> Answer:
     sample = sample_of(question, report)
     figures = {name: figures_of(question, theory, levels) for name, levels in levels_of(question, choice).items()}
     check_run(question, theory, report, sample, figures, program)
-    run, today, chosen = run_of(question, report, sample), figures[TODAY], figures[CHOSEN]
-    costs, saving, near = (today.cost, chosen.cost), today.cost - chosen.cost, CLOSE * today.cost
-    ends: tuple[float | None, float | None] = saving - near, saving + near
-    if not theory.exact:
-        costs, saving, ends = (run.cost_today, run.cost_chosen), run.saving, (run.low, run.high)
-    verdict = SAME if choice.levels == question.levels else verdict_of(question, today, saving, *ends)
+    run, chosen = run_of(question, report, sample), figures[CHOSEN]
+    verdict, cost_today, saving = beside_today(question, theory, figures, run)
     confidence_cost = None
     if question.settings.confidence is not None and item.fill is not None:
         best, plain = (figures_of(question, theory, levels) for levels in (choice.best, choice.plain))
         confidence_cost = best.cost - plain.cost
-    return Answer(verdict, THEORY if theory.exact else RUN, *costs, saving, today, chosen, figures.get(ALONE),
+    source, cost = (THEORY, chosen.cost) if theory.exact else (RUN, run.cost_chosen)
+    return Answer(verdict, source, cost_today, cost, saving, figures.get(TODAY), chosen, figures.get(ALONE),
                   figures.get(BEFORE), figures.get(UNDAMPED), theory.step, confidence_cost,
                   correction_of(question, theory), law_facts(question.demand, item.box), laws_of(question), run,
                   (*remarks_of(question, theory, sample, choice), *damping_of(figures)))

@@ -110,8 +110,10 @@ class Question:
     before: Levels | None = None
 
     @property
-    def levels(self) -> Levels:
-        return round(self.item.levels[0] / self.item.box), round(self.item.levels[1] / self.item.box)
+    def levels(self) -> Levels | None:
+        """Returns today's policy in boxes; None if there is none."""
+        levels, box = self.item.levels, self.item.box
+        return None if levels is None else (round(levels[0] / box), round(levels[1] / box))
 
     @property
     def group(self) -> str | None:
@@ -154,13 +156,15 @@ class Question:
         return self.settings.seed_of(purpose, self.item.name)
 
     def scenario(self, backlog: int | None = None, initial: int = 0) -> Scenario:
-        """Returns the scenario of today's policy with a backlog rate, by default that of the rates or else 1, without
-        which theory finds no best policy. Its key follows from the item's name and the seed."""
+        """Returns the scenario of today's policy, or of none, with a backlog rate, by default that of the rates or else
+        1, without which theory finds no best policy. Its key follows from the item's name and the seed."""
         settings, rates = self.settings, {name: self.rates[name] for name in ("setup", "holding")}
         backlog = self.rates.get("backlog", 1) if backlog is None else backlog
-        return Scenario.of(self.demand, self.lead, **rates, backlog=backlog, returns=self.returns, today=self.levels,
-                           initial=initial, periods=settings.periods, replications=settings.replications,
-                           key=f"{settings.seed}\n{self.item.name}")
+        scenario = Scenario.of(
+            self.demand, self.lead, **rates, backlog=backlog, returns=self.returns, today=self.levels or (0, 0),
+            initial=initial, periods=settings.periods, replications=settings.replications,
+            key=f"{settings.seed}\n{self.item.name}")
+        return scenario if self.levels else scenario.with_policies(())
 
     def alone(self) -> Question:
         """Returns the question of an item that learns its law from no other."""
@@ -174,8 +178,8 @@ class Question:
         """
         scenario = self.scenario()
         costs = dataclasses.replace(scenario.costs, backlog=self.implied_backlog)
-        shape = shape_of(dataclasses.replace(scenario, costs=costs))
-        return theory_on(scenario, shape, *lattice_of(scenario, shape, self.levels[1] - self.levels[0], MOST_GAPS))
+        shape, (point, level) = shape_of(dataclasses.replace(scenario, costs=costs)), self.levels or (0, 0)
+        return theory_on(scenario, shape, *lattice_of(scenario, shape, level - point, MOST_GAPS))
 
 
 def finest(rates: Mapping[str, int], scale: Fraction) -> tuple[dict[str, int], Fraction]:

@@ -198,7 +198,7 @@ def read_catalogue(demand: Table, items: Table, orders: Table | None = None, *,
     """Reads a catalogue from CSV files of any size, sheets of workbooks (FILE.xlsx!SHEET) or DataFrames.
 
     `demand` has a row for each movement (item, date, quantity, perhaps returned), `items` one for each item (item,
-    setup, holding, backlog or fill, lead, s, S, perhaps description, stock, price, class, and bounds), `orders` the
+    setup, holding, backlog or fill, lead, perhaps s, S, description, stock, price, class, and bounds), `orders` the
     dates of orders (item, ordered, received). `columns` names columns by file and role, as {"demand": {"quantity": "Menge"}};
     others are found by usual names, to which `names` adds. `units` states what a column counts, as {"items": {"lead":
     "day"}}; else its heading does. Periods are `every` day, week (ISO) or month. The record is that of the whole file,

@@ -25,8 +25,9 @@ if TYPE_CHECKING:
 # The roles of each table in order, and those that each must have. s and S differ by their case.
 ROLES = {kind: ["item", *HEADINGS[kind]] for kind in ("demand", "items", "orders", "stock", "on_order")}
 COLUMNS = [f"{kind}.{role}" for kind, roles in ROLES.items() for role in roles]
-NEEDED = {"demand": {"item", "date", "quantity"}, "items": {"item", "setup", "holding", "s", "S"},
+NEEDED = {"demand": {"item", "date", "quantity"}, "items": {"item", "setup", "holding"},
           "orders": {"item", "ordered", "received"}, "stock": {"item", "stock"}, "on_order": {"item", "quantity"}}
+LEVELS = {"s": "S", "S": "s"}  # Each needs the other one.
 # Roles that a column has by its whole name alone: others that begin so say something else, as a supplier's lead time.
 WHOLE_NAMES = {"supplier"}
 # Letters that are no letter with an accent.
@@ -155,9 +156,14 @@ class Finder:
                 self._refuse("two columns", role, names=" and ".join(repr(heading[place]) for place in places))
             elif places:
                 self._add(role, Column(heading[places[0]], places[0], True))
-            elif role in NEEDED[self.kind]:
+            elif role in NEEDED[self.kind] or self._has_other(role):
                 self._refuse("no column", role, columns=listed(heading))
         return self.columns, self.wrong
+
+    def _has_other(self, role: str) -> bool:
+        """Returns whether a role is s or S, and there is a column of the other one."""
+        other = LEVELS.get(role, "")
+        return other in self.stated or other in self.columns or bool(other and self._places(other))
 
     def _refuse(self, code: str, role: str, **facts: Value) -> None:
         own = {"role": role, "place": f"{self.kind}.{role}", "every": self.every}

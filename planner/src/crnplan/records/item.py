@@ -19,10 +19,10 @@ class Item:
     """The facts of an item, the same for one item and for a million. All amounts are of items, and money is exact.
 
     `counts` is the demand by period, `returns` what came back by period, empty if nothing did, `leads` the lead times
-    seen, in periods, and `levels` today's s and S. `setup` is money an order, `holding` and `backlog` money an item and
-    period, `unit` money for each item ordered, which only counts over coming periods. `fill` is the share of demand
-    that is wanted at once; an item has a `backlog`, a `fill`, or both. `group` is its class, `borrow` from whom it
-    learns its law, perhaps empty. `bounds` are those of its orders and levels.
+    seen, in periods, and `levels` today's s and S, None if no policy is in use. `setup` is money an order, `holding`
+    and `backlog` money an item and period, `unit` money for each item ordered, which only counts over coming periods.
+    `fill` is the share of demand that is wanted at once; an item has a `backlog`, a `fill`, or both. `group` is its
+    class, `borrow` from whom it learns its law, perhaps empty. `bounds` are those of its orders and levels.
 
     What follows is no part of the plan: `stock` is today's, `price` the money that an item of stock is worth,
     `supplier_min` the money that an order of all items of the `supplier` comes to at least, `first` the number of the
@@ -32,7 +32,7 @@ class Item:
     name: str
     counts: tuple[int, ...]
     leads: tuple[int, ...]
-    levels: tuple[int, int]
+    levels: tuple[int, int] | None
     setup: Fraction
     holding: Fraction
     backlog: Fraction | None = None

@@ -284,7 +284,7 @@ class Reader:
         self._check_counts(asked, back)
         its = replace(master, counts=tuple(asked), returns=tuple(back) if any(back) else (), first=first,
                       rows=len(moves.lines))
-        if round(its.levels[1] / its.box) > MOST_ITEMS:
+        if its.levels and round(its.levels[1] / its.box) > MOST_ITEMS:
             raise Left("items", its.line, fault("S", its.levels[1], "S too large", most=MOST_ITEMS))
         self.counts["items"]["late"] += first > start
         self.decimals = max(self.decimals, decimals)

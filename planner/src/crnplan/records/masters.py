@@ -12,7 +12,7 @@ from ..formats import MOST_LEAD
 from ..money import MOST_DECIMALS
 from .bounds import Bounds
 from .cells import UNPRINTABLE, AmountReader, Cell, CellFault, Unreadable, fault
-from .columns import DAYS, NEEDED, ROLES, UNITS, conversion, periods_of
+from .columns import DAYS, LEVELS, NEEDED, ROLES, UNITS, conversion, periods_of
 from .item import BORROW, Item
 from .sources import Column
 
@@ -67,6 +67,14 @@ def span_of(cell: Cell, unit: str, every: str) -> Fraction:
     return Fraction(parts[1].replace(",", ".")) * conversion("coverage", own, every)[0]
 
 
+def level_faults(cells: Mapping[str, Cell], s: Fraction | None, S: Fraction | None) -> list[CellFault]:
+    """Returns what is wrong with the levels of a row: one of them alone, or s above S."""
+    if s is None or S is None:
+        missing = "s" if s is None else "S"
+        return [] if s is S else [fault(missing, "", "one level", missing=missing, other=LEVELS[missing])]
+    return [fault("s", cells["s"], "s above S", s=int(s), S=int(S))] if s > S else []
+
+
 class Masters:
     """Reads the rows of masters, with the unit of each column."""
 
@@ -110,8 +118,8 @@ class Masters:
             faults.append(fault("backlog", "", "no goal"))
         if "lead" in read and read["lead"] is None and not observed:
             faults.append(fault("lead", "", "nothing of leads"))
-        if "s" in read and "S" in read and read["s"] > read["S"]:
-            faults.append(fault("s", cells["s"], "s above S", s=int(read["s"]), S=int(read["S"])))
+        if "s" in read and "S" in read:
+            faults += level_faults(cells, read["s"], read["S"])
         if self.share and "price" in read and not read["price"]:
             faults.append(fault("holding", cells["holding"], "no price for share"))
         if self.is_money and read.get("order_min") and "price" in read and not read["price"]:
@@ -125,7 +133,8 @@ class Masters:
         read["price"] = None if read["price"] is None else read["price"] / (read["price_for"] or 1)
         read |= {role: read[role] * factor for role, factor in self.factors.items() if read[role] is not None}
         holding = read["holding"] * read["price"] if self.share else read["holding"]
-        item = Item(name, (), tuple(read["lead"] or observed), (int(read["s"]), int(read["S"])), read["setup"], holding,
+        levels = None if read["s"] is None else (int(read["s"]), int(read["S"]))
+        item = Item(name, (), tuple(read["lead"] or observed), levels, read["setup"], holding,
                     read["backlog"], read["fill"], group=read["class"] or "", borrow=read["borrow"] or "",
                     bounds=self._bounds(read),
                     stock=read["stock"], price=read["price"], description=read["description"] or "",

@@ -80,9 +80,10 @@ class Chosen:
     """Policies in order with the reasons for each, by behaviour. `left_out` are names without a place."""
 
     def __init__(self, scenario: Scenario) -> None:
-        """Starts with today's policy."""
-        self.depths, today = Depths(scenario), scenario.policies[0]
-        self.policies = {self.depths.behaviour(today.s, today.S): (today, [Remark("today's policy")])}
+        """Starts with today's policy, the first of the scenario, if there is one."""
+        self.depths = Depths(scenario)
+        self.policies = {self.depths.behaviour(today.s, today.S): (today, [Remark("today's policy")])
+                         for today in scenario.policies[:1]}
         self.left_out: list[str] = []
 
     def add(self, name: str, policy: Candidate, reason: Remark) -> None:
@@ -114,10 +115,11 @@ def add_fills(chosen: Chosen, theory: LongRun, promises: Promises | None) -> Non
 
 def chosen_policies(scenario: Scenario, theory: LongRun, best: Candidate, promises: Promises | None) -> Chosen:
     """Returns the suggested policies of a scenario, of which the best is known."""
-    chosen, today = Chosen(scenario), scenario.policies[0]
+    chosen = Chosen(scenario)
     chosen.add("best", best, Remark("the best"))
-    chosen.add("same_s", theory.best_with_point(today.s), Remark("today's s"))
-    chosen.add("same_S", theory.best_with_level(today.S), Remark("today's S"))
+    for today in scenario.policies[:1]:
+        chosen.add("same_s", theory.best_with_point(today.s), Remark("today's s"))
+        chosen.add("same_S", theory.best_with_level(today.S), Remark("today's S"))
     add_fills(chosen, theory, promises)
     gap = theory.gap_of(best.point, best.level)
     for name, factor in ORDERS.items():

@@ -54,7 +54,7 @@ class Walk:
 @dataclass(frozen=True)
 class Backtest:
     """An item's test on its past. `first` is the number of the first later period, `demands` what was asked in these,
-    and `mean` the mean demand of all its periods. `kept` and `refitted` are the plan, and `damped` is the refitted one
+    and `mean` the mean demand of all its periods. `today` is None without a policy today. `kept` and `refitted` are the plan, and `damped` is the refitted one
     with a least gain, None without. `smoothed` is the rule of thumb, and `shuffled` the plan that is kept with all
     periods in a random order; None if that has none. `above` is the largest later demand over the largest before, with
     nothing before None."""
@@ -66,7 +66,7 @@ class Backtest:
     mean: float
     demands: tuple[int, ...]
     above: float | None
-    today: Outcome
+    today: Outcome | None
     kept: Outcome
     refitted: Outcome
     damped: Outcome | None
@@ -108,8 +108,10 @@ class Walked:
         """Returns what the plan comes to if it is kept."""
         return self.happened.of_figures([self.plan] * self.happened.later)
 
-    def today(self) -> Outcome:
-        """Returns what today's policy comes to, with what the plan said of it."""
+    def today(self) -> Outcome | None:
+        """Returns what today's policy comes to, with what the plan said of it; None if there is none."""
+        if self.question.levels is None:
+            return None
         today = figures_of(self.question, self.theory, self.question.levels)
         return self.happened.of_figures([today] * self.happened.later)
 

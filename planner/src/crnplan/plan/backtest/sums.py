@@ -193,7 +193,8 @@ class Group:
 
 @dataclass(frozen=True)
 class Sums:
-    """What the tests of the items of a class, or of all, add up to. Without a least gain no policy is damped.
+    """What the tests of the items of a class, or of all, add up to. Without a least gain no policy is damped, and
+    figures of today's policies are those of the items that have one.
 
     `promised` is the fill that the kept plan promised, `unmet` the share of demand by policy that was not met at once,
     `dearer` what the kept plan cost over its promise, `beside` by policy what it cost over the kept plan. `missed` is
@@ -222,12 +223,13 @@ class Sums:
         missed, chance = parts.missed(), parts.by_chance(tests)
         broken = sum(test.kept.fill is not None and (test.kept.promised_fill or 0) - test.kept.fill > SLACK
                      for test in tests)
-        policies = [policy for policy in POLICIES if policy != DAMPED or all(test.damped for test in tests)]
+        groups = groups_of(tests)
         return cls(group, len(tests), 1 - parts.promised().value,
-                   {policy: parts.unmet(policy).estimate for policy in policies}, parts.dearer().estimate,
-                   {policy: parts.beside(policy).estimate for policy in policies if policy != KEPT}, missed.estimate,
-                   chance.estimate, missed.less(chance), broken, sum((test.above or math.inf) > 1 for test in tests),
-                   {policy: parts.changes(policy) for policy in policies if policy not in (TODAY, KEPT)})
+                   {policy: own.unmet(policy).estimate for policy, own in groups.items()}, parts.dearer().estimate,
+                   {policy: own.beside(policy).estimate for policy, own in groups.items() if policy != KEPT},
+                   missed.estimate, chance.estimate, missed.less(chance), broken,
+                   sum((test.above or math.inf) > 1 for test in tests),
+                   {policy: own.changes(policy) for policy, own in groups.items() if policy not in (TODAY, KEPT)})
 
     @property
     def verdict(self) -> str:
@@ -253,6 +255,12 @@ def summed(test: Backtest) -> bool:
 def is_asked(tests: Sequence[Backtest]) -> bool:
     """Returns whether anything is asked for in the later periods, in time and in a random order."""
     return any(any(test.demands) for test in tests) and any(any(test.shuffled_demands) for test in tests)
+
+
+def groups_of(tests: Sequence[Backtest]) -> dict[str, Group]:
+    """Returns by policy the tests of the items that have it, if anything is asked for in these."""
+    ran = {policy: [test for test in tests if getattr(test, policy)] for policy in POLICIES}
+    return {policy: Group(own) for policy, own in ran.items() if own and is_asked(own)}
 
 
 def sums_of(tests: Iterable[Backtest]) -> list[Sums]:
