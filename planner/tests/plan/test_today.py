@@ -1,8 +1,10 @@
 """Tests what a plan says on a day: orders by hand, chances by all demands one by one, and sums by pandas."""
 from __future__ import annotations
 
+import contextlib
 import datetime
 import random
+import sqlite3
 from collections.abc import Sequence
 from dataclasses import replace
 from fractions import Fraction
@@ -16,10 +18,16 @@ from hypothesis import given, strategies as some
 import crnplan as crn
 from crnplan.files import MARKER
 from crnplan.law import Law
-from crnplan.plan.answer import Laws
-from crnplan.plan.today import Group, Standing, minimums_of, quiet_periods
+from crnplan.pages.today_tables import OrdersToday, orders_today
+from crnplan.plan.answer import Answer, Laws
+from crnplan.plan.catalogue import ANSWERS, PLANNED
+from crnplan.plan.today import Group, Lying, Standing, Today, minimums_of, quiet_periods
 from crnplan.records.bounds import Bounds
+from crnplan.records.catalogue_reading import READ
+from crnplan.records.items import Words
 from crnplan.records.stock import Arrival, OnHand
+from crnplan.remarks import Remark
+from crnplan.stored import Store
 from planner.tests.conftest import Command
 from planner.tests.pages.made_catalogue import made_folder, made_pair
 from planner.tests.plan.items import item_of
@@ -122,6 +130,14 @@ def test_additions_for_a_supplier() -> None:
     assert added == [("near", 10, 65), ("fast", 6, 83)]
     assert [len([*replace(group, minimum=Fraction(least)).additions()]) for least in (45, 46, 84, 999)] == [0, 1, 3, 3]
     assert replace(group, standings=[near]).short == 0  # which orders nothing
+    items = [replace(it, item=replace(it.item, supplier="Bosch")) for it in (due, fast, near)]
+    dead = [Lying(item_of(name="dead", supplier="ABB", price=Fraction(7, 2)), Fraction(4), 60)]
+    today = OrdersToday(Today(FRIDAY, FRIDAY, items, [], dead, {"Bosch": Fraction(83)}, False, {}, []))
+    assert today.added.set_index("item")[["placed", "value", "total"]].T.to_dict("list") == {
+        "near": [10, 20, 65], "fast": [6, 18, 83]}
+    assert today.suppliers.set_index("supplier")[["dead", "short"]].T.to_dict("list") == {"ABB": [14, 0], "Bosch": [0, 38]}
+    assert "Bosch: 45.00 is 38.00 short of 83.00; add 10 near, 6 fast\n" in today.text and today.text in today.notes
+    assert list(today.dead.periods) == [60] and "1 items, with stock worth 14.00" in today.text
 
 
 def test_least_order_values_of_suppliers() -> None:
@@ -133,6 +149,8 @@ def test_least_order_values_of_suppliers() -> None:
         minimums_of(items, {"Bosch": Fraction(400)})
     with pytest.raises(crn.Refused, match="two least order values"):
         minimums_of([*items, item_of(name="4", supplier="Bosch", supplier_min=Fraction(4))], {})
+    with pytest.raises(crn.Refused, match="supplier_min=ABB: 'much' is no amount of money"):
+        orders_today(Path(), {}, Words(), None, {"ABB": "much"})
     with pytest.raises(crn.Refused, match="no item has this supplier; did you mean 'Bosch'?"):
         minimums_of(items, {"Boschh": Fraction(400)})
 
@@ -187,6 +205,32 @@ def test_sums_by_pandas(folder: Path, stock: pd.DataFrame, on_order: pd.DataFram
     assert today.left_out.set_index("item").reason.to_dict()["X-1"] == "no item of the plan has this name"
 
 
+def test_stock_of_the_masters_and_dead_stock(tmp_path: Path, crnplan: Command, monkeypatch: pytest.MonkeyPatch) -> None:
+    """The masters' stock counts without a table. What nobody has asked for during a year lies dead, also if it has no
+    plan, or if fewer periods count for its plan. A plan is old if its record ended long before the day."""
+    monkeypatch.chdir(tmp_path)
+    quiet, answer = made_pair(random.Random(3), "Q-1")
+    quiet = replace(quiet, counts=(7, *[0] * 53), stock=Fraction(-4), price=Fraction(3, 2), supplier="Bosch",
+                    supplier_min=Fraction(10**6))
+    for name, its, stock, orders in (("planned", answer, Fraction(-4), 1), ("left", Remark("no demand"), Fraction(6), 0)):
+        item: Any = replace(quiet, stock=stock), its
+        made_folder(tmp_path / name, 12, has_curve=False, change=item)
+        with contextlib.closing(Store(tmp_path / name / ANSWERS, Answer)) as store:
+            store.keep_facts({PLANNED: (store.fact(PLANNED) or "").replace('"window": null', '"window": 5')})
+        today = crn.open_plan(tmp_path / name).orders_today(date="2026-11-27")
+        assert today.frame[today.frame.item == "Q-1"].placed.notna().sum() == orders
+        assert list(today.dead.value) == [6 * 1.5] * (orders == 0) and "The plan is old" in today.text
+        if orders:
+            assert list(today.suppliers.short) == [10**6 - today.frame.value[0]] and "add nothing" in today.text
+    old = replace(crn.open_plan(tmp_path / "left").orders_today().today, day=FRIDAY)
+    assert [replace(old, end=days(-it)).weeks_old for it in (56, 57, 70)] == [None, 8, 10]
+    with contextlib.closing(sqlite3.connect(tmp_path / "left" / READ)) as base, base:
+        base.execute("UPDATE items SET setup = '99'")
+    answered = crnplan("today", "left")
+    assert answered.status == 2 and "its plan is not as the rows that were read last; run crnplan catalogue again" in (
+        answered.errors)
+
+
 def test_command(folder: Path, stock: pd.DataFrame, tmp_path: Path, monkeypatch: pytest.MonkeyPatch,
                  crnplan: Command) -> None:
     """The command changes nothing in the folder, has the rows of files, names what it leaves out, and writes tables."""
@@ -216,10 +260,12 @@ def test_command(folder: Path, stock: pd.DataFrame, tmp_path: Path, monkeypatch:
 
 
 @pytest.mark.parametrize("words, wanted", [
-    (("--date", "soon"), "--date: 'soon' is no date"), (("--supplier-min", "Bosch=5"), "--supplier-min Bosch: no item"),
+    (("--config", "words.toml"), "--supplier-min ABB: no item"), (("--date", "soon"), "--date: 'soon' is no date"), (("--supplier-min", "Bosch=5"), "--supplier-min Bosch: no item"),
     (("--column", "stock.stock=Menge"), "Menge")])
 def test_refused_words(folder: Path, stock: pd.DataFrame, tmp_path: Path, crnplan: Command, words: Sequence[str],
-                       wanted: str) -> None:
-    stock.to_csv(tmp_path / "stock.csv", index=False)
-    answer = crnplan("today", folder, "--stock", tmp_path / "stock.csv", *words)
+                       wanted: str, monkeypatch: pytest.MonkeyPatch) -> None:
+    monkeypatch.chdir(tmp_path)
+    Path("words.toml").write_text("[catalogue.supplier_min]\nABB = 9.5\n", "utf-8")
+    stock.to_csv("stock.csv", index=False)
+    answer = crnplan("today", folder, "--stock", "stock.csv", *words)
     assert answer.status == 2 and wanted in answer.errors

@@ -322,23 +322,22 @@ def today_of(folder: PlannedFolder, tables: Mapping[str, Table | None], words: W
     """Returns what a planned folder says on a day, with tables of stock and of what is on order by kind. Without one of
     stock, that of the masters counts. Raises Refused if no stock is known, and as `read_holdings` does."""
     holdings = read_holdings(tables, words, {*folder.read.names()})
-    standings, unknown, dead, items = list[Standing](), list[tuple[Item, Remark]](), list[Lying](), list[Item]()
-    for item, answer in folder.answers(is_whole=True):
-        hand = hand_of(item, holdings)
-        items.append(item)
+    standings, unknown, dead = list[Standing](), list[tuple[Item, Remark]](), list[Lying]()
+    known = [(item, answer, hand_of(item, holdings)) for item, answer in folder.answers(is_whole=True)]
+    if holdings.on_hand is None and all(hand is None for _, _, hand in known):
+        raise Refused(f"{folder.path}: no item has a stock in its masters", f"name a table by {argument('stock')}")
+    for item, answer, hand in known:
         if hand is None:
             unknown.append((item, Remark("unread stock" if item.name in holdings.unread else "no stock")))
-            continue
-        if isinstance(answer, Remark):
+        elif isinstance(answer, Remark):
             unknown.append((item, answer))
         else:
             standings.append(Standing(item, answer, hand, holdings.arrivals.get(item.name, ()), day, folder.every))
         quiet = quiet_periods(item, folder.every)
-        if quiet and hand.stock:
+        if quiet and hand and hand.stock:
             dead.append(Lying(item, hand.stock, quiet))
-    if not standings and holdings.on_hand is None:
-        raise Refused(f"{folder.path}: no item has a stock in its masters", f"name a table by {argument('stock')}")
+    standings.sort(key=lambda it: it.urgency if it.is_due else (math.inf, 0.0, it.item.name))
     end = first_day(folder.read.fact("periods")[1], folder.every) - datetime.timedelta(1)
-    return Today(day, end, sorted(standings, key=lambda it: it.urgency if it.is_due else (math.inf, 0.0, it.item.name)),
-                 unknown, dead, minimums_of(items, stated), tables.get(ON_ORDER) is not None, holdings.counts,
+    minimums = minimums_of((item for item, _, _ in known), stated)
+    return Today(day, end, standings, unknown, dead, minimums, tables.get(ON_ORDER) is not None, holdings.counts,
                  holdings.rejects)
