@@ -7,7 +7,8 @@ from __future__ import annotations
 import datetime
 import random
 from collections import defaultdict
-from dataclasses import dataclass, field
+from collections.abc import Collection
+from dataclasses import dataclass, field, replace
 from pathlib import Path
 
 ITEMS, WEEKS = 60, 104
@@ -82,6 +83,12 @@ def master(source: random.Random, number: int) -> dict[str, str]:
         "" if number % 2 else source.choice(["95%", "0,9", "97,5%"]), {0: "", 5: "2 3 3 4"}.get(
             number % 12, source.choice("123")), str(s), str(s + source.randint(4, 30)), str(source.randint(0, 20)),
         f"{source.randint(1, 90)},{source.randint(10, 99)}", "XYZ"[number % 3]]))
+
+
+def teaching(its: Made, planned: Collection[str]) -> Made:
+    """Returns a catalogue of which only some items can be planned. The others teach, by costs that are too far apart for
+    a plan."""
+    return replace(its, masters=[row if row["Artikel"] in planned else row | NO_COSTS for row in its.masters])
 
 
 def made(seed: int = 1) -> Made:

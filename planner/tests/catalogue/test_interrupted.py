@@ -263,14 +263,16 @@ def test_no_room_to_read(folder: Path, crnplan: Command, holding: Path, start: S
 
 @pytest.mark.timeout(2 * SECONDS)
 def test_a_cluster_that_loses_a_worker(folder: Path, drawn: Path, holding: Path, session_cluster: Cluster) -> None:
-    """Works on a Dask cluster, one worker of which is killed in the middle: the same bytes, of a plan and its curve."""
+    """Works on a Dask cluster, one worker of which is killed in the middle of a plan: the same bytes, of the plan and of
+    its curve, which the other worker draws."""
+    session_cluster.restore(folder)
     for command, file, names in (PLAN, DRAW):
-        session_cluster.restore(folder)
         session_cluster.start("driver", "-m", "crnplan", *command, "--program", str(holding), "--cluster",
                               session_cluster.address)
         session_cluster.wait_until("the first batch", lambda: kept(folder, file) >= 1, "driver")
         session_cluster.end("leaves")
-        assert kept(folder, file) < FEW and children(session_cluster.processes["driver"]) == []
+        assert kept(folder, PLAN[1]) < FEW or file == CANDIDATES
+        assert children(session_cluster.processes["driver"]) == []
         (folder / "go_on").touch()
         assert session_cluster.wait_for_end("driver") == 0, session_cluster.last_words("driver")
         assert tables(folder / "plan", names) == tables(drawn, names)

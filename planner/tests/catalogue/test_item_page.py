@@ -17,7 +17,7 @@ from crnplan.errors import CrnplanError, Refused
 from crnplan.pages.catalogue_page import file_name, file_of, report
 from crnplan.records.catalogue_reading import read_catalogue
 from planner.tests.catalogue.conftest import FILES
-from planner.tests.catalogue.made import NO_COSTS, NO_PLAN, TODAY, made
+from planner.tests.catalogue.made import NO_PLAN, TODAY, made, teaching
 from planner.tests.conftest import rows_of, script, shared
 from planner.tests.pages.page_reader import Page
 
@@ -136,15 +136,11 @@ def test_other_program(folder: Path, names: list[str], tmp_path: Path, program: 
         item_page(folder, names[0], other)
 
 
-LEARNERS = ("A-034", "A-035", "A-036", "A-038")
-
-
 @pytest.fixture(scope="module")
 def learned(tmp_path_factory: pytest.TempPathFactory, program: Path) -> Path:
-    """Returns a planned folder whose items learn from one another. Most have costs by which they teach alone."""
+    """Returns a planned folder whose items learn from one another. Few of them have a plan."""
     def make(place: Path) -> None:
-        source = made()
-        source.masters = [row if row["Artikel"] in LEARNERS else row | NO_COSTS for row in source.masters]
+        source = teaching(made(), ("A-034", "A-035", "A-036", "A-038"))
         read = read_catalogue(*(source.write(place) / it for it in FILES), today=TODAY)
         words = {"borrow": "all", "periods": 16, "replications": 2, "confidence": 0.8}
         plan(read, out=place / "plan", jobs=1, program=program, **words)

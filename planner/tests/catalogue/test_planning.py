@@ -20,7 +20,7 @@ import crnplan as crn
 from crnplan.plan.question import Question, Settings
 from planner.tests.catalogue.audit import audit
 from planner.tests.catalogue.conftest import FILES, REFUSED, SETTINGS, TABLES, WORDS, leave_few
-from planner.tests.catalogue.made import NO_PLAN, START, TITLES, WEEKS, Made
+from planner.tests.catalogue.made import NO_PLAN, START, TITLES, WEEKS, Made, teaching
 from planner.tests.conftest import Command, rows_of
 
 ALONE = ("s_alone", "S_alone")
@@ -182,15 +182,17 @@ def test_the_command_says_what_it_found(folder: Path, crnplan: Command, program:
     assert told.status == 1 and " rows = 0 used + " in told.output
 
 
-def test_learning_from_others(begun: Path, files: Path, crnplan: Command, program: Path) -> None:
+def test_learning_from_others(begun: Path, planted: Made, crnplan: Command, program: Path) -> None:
     """Learns once, so that a changed row plans only its item; again if asked. Fewer than 100 items learn on request."""
     (begun / "crnplan.toml").write_text("[catalogue]\nperiods = 64\nreplications = 8\n", "utf-8")
     words = ["catalogue", *WORDS, "--out", "plan", "--jobs", "1", "--program", program, "--borrow", "all"]
     leave_few(begun, 0)
     assert "there are 0 items to learn from" in crnplan(*words).errors
-    shutil.copy(files / FILES[1], begun / FILES[1])
+    teaching(planted, ("A-001", "A-034", "A-035", "A-036", "A-037")).write(begun)
     first = crnplan(*words)
-    assert planned_now(first) == len(rows_of(begun / "plan/decisions.csv")) + 1  # and the item without a plan
+    rejects = rows_of(begun / "plan/rejects.csv", kind="item")
+    without = sum("too far apart" in row["reason"] for row in rejects.values())
+    assert without > 30 and planned_now(first) == len(rows_of(begun / "plan/decisions.csv")) + without
     assert "laws of demand were learned from" in first.output
     laws = Counter(row["law"] for row in rows_of(begun / "plan/decisions.csv").values())
     assert laws["borrowed"] > laws.total() / 2
