@@ -7,6 +7,7 @@ import io
 import json
 import math
 import re
+from dataclasses import replace
 from fractions import Fraction
 
 import pytest
@@ -48,7 +49,11 @@ def test_data_is_not_rounded() -> None:
     page = DataTable(COLUMNS, [["<b>&", 1, 2.0, 0.5, 1]]).html
     cells = [html.unescape(it) for it in re.findall(r"<td[^>]*>(.*?)</td>", page)]
     assert cells == ["<b>&", "1", "2.0", "50.0%", "1"] and "<b>" not in page
-    assert re.findall(r'title="(.*?)"', page) == [it.meaning for it in COLUMNS]
+    assert re.findall(r'title="(.*?)"', page) == [it.meaning if it.is_text else f"{it.unit}: {it.meaning}"
+                                                  for it in COLUMNS]
+    costs = DataTable([number("cost", "money a period", "its cost")], [], currency="EUR", every="week")
+    assert costs.frame.attrs["units"] == {"cost": "EUR a week"} and replace(costs, currency="", every="").units == {
+        "cost": "money a period"}
     table = DataTable(COLUMNS, [["A", None, math.nan, 0.0, None]]).without_empty(("count", "cost", "share"))
     assert table.names == ["name", "share", "mean"] and table.rows == [["A", 0.0, None]]
 

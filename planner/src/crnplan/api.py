@@ -5,7 +5,7 @@ import datetime
 import shutil
 import tempfile
 from collections.abc import Iterable, Mapping, Sequence
-from dataclasses import dataclass, field
+from dataclasses import dataclass, field, replace
 from functools import cached_property
 from pathlib import Path
 from typing import TYPE_CHECKING
@@ -14,7 +14,7 @@ from .crnsim.program import find_program
 from .decide.sensitivity import Moves
 from .errors import Refused, argument
 from .files import Folder, own_folder
-from .money import Amount
+from .money import Amount, Number
 from .pages.catalogue_page import CATALOGUE_FILES, report
 from .pages.catalogue_tables import catalogue_summary, decisions_of, faults_of, rejects_of
 from .pages.change_tables import change_lines, changes_of
@@ -24,6 +24,7 @@ from .plan.catalogue import Lost, Totals, check_earlier, plan_into, planned_fold
 from .plan.item import Depth
 from .plan.question import Settings
 from .records.catalogue_reading import CATALOGUE, READ, Catalogue, read_into
+from .records.defaults import Defaults
 from .records.items import KEEP, LEAVE_OUT, Words
 from .records.sources import Table
 from .remarks import Remark
@@ -121,7 +122,7 @@ class Plan(Result):
         """Returns the decisions, by item."""
         with planned_folder(self.path) as folder:
             table = decisions_of(folder)
-            return DataTable(table.columns, [*table.rows], table.decimals, table.missing)
+            return replace(table, rows=[*table.rows])
 
     @property
     def decisions(self) -> pd.DataFrame:
@@ -166,7 +167,7 @@ class Plan(Result):
         with planned_folder(self.path) as folder:
             item, answer = folder.item(name)
             depth = Depth(folder.question(item), answer, str(find_program(self.program)))
-            return PlannedItem(ItemWords(depth, folder.every, folder.decimals))
+            return PlannedItem(ItemWords(depth, folder.every, folder.currency))
 
     def curve(self, *, stock_value: float | None = None, fill: float | None = None, orders: float | None = None,
               confirm: int = 0, jobs: int | None = None, cluster: str | None = None) -> Drawn:
@@ -220,13 +221,17 @@ def plan(sales: str | Path | pd.DataFrame | Catalogue, masters: str | Path | pd.
          orders: str | Path | pd.DataFrame | None = None, *, out: str | Path | None = None, every: str = "week",
          columns: Roles | None = None, units: Roles | None = None, start: datetime.date | str | None = None,
          end: datetime.date | str | None = None, today: datetime.date | None = None, net: bool = False,
-         twice: str = KEEP, far: str = LEAVE_OUT, least: int = 13, factors: Mapping[str, int] | None = None,
-         delimiter: str | None = None, encoding: str | None = None, decimal: str | None = None,
-         date_formats: Sequence[str] = (), after: str | Path | None = None, least_gain: float | None = None,
-         fit: str = "auto", borrow: str | None = None, confidence: float | None = None, correct: bool = False,
-         window: int | None = None, level: float = 0.95, seed: str | int = "crnplan", periods: int = 1024,
-         replications: int = 24, jobs: int | None = None, cluster: str | None = None,
-         program: str | Path | None = None, learn_again: bool = False, progress: bool = False) -> Plan:
+         negate: bool = False, twice: str = KEEP, far: str = LEAVE_OUT, least: int = 13,
+         factors: Mapping[str, int] | None = None, delimiter: str | None = None, encoding: str | None = None,
+         decimal: str | None = None, date_formats: Sequence[str] = (), after: str | Path | None = None,
+         least_gain: float | None = None,
+         setup: Amount | None = None, holding_rate: Amount | None = None, fill: Amount | None = None,
+         service: Mapping[str, Amount] | None = None, currency: str | None = None,
+         abc: str | Sequence[Number] | None = None, fit: str = "auto", borrow: str | None = None,
+         confidence: float | None = None, correct: bool = False, window: int | None = None, level: float = 0.95,
+         seed: str | int = "crnplan", periods: int = 1024, replications: int = 24, jobs: int | None = None,
+         cluster: str | None = None, program: str | Path | None = None, learn_again: bool = False,
+         progress: bool = False) -> Plan:
     """Plans all items of a catalogue, and returns the plan. Nothing is written unless `out` names a folder.
 
         plan = crn.plan(sales, masters)
@@ -243,6 +248,11 @@ def plan(sales: str | Path | pd.DataFrame | Catalogue, masters: str | Path | pd.
     **How it is read.** `read_catalogue` says what tables may be, how they are read, and what its words mean: those here
     from `every` to `date_formats`. Nothing is lost: each row and item that is left out is in `rejects`, with its place,
     the reason and advice.
+
+    **What masters need not say.** For items whose rows say none, `setup` is the cost of an order, and a `holding_rate`,
+    such as "20%", what holding costs a year as a share of the price. `fill` is the wanted share of demand met at once,
+    and `service` that of a class, as {"A": 0.98}. If no row has a class, it is A, B or C by the value of demand, cut at
+    the shares `abc` in percent, by default (80, 95). `currency` is that of all money, as "EUR", if no row says it.
 
     **How it is planned.** `fit` is how laws of demand are fitted (auto, predictive, empirical, or a family). Items
     `borrow` laws from one another (all, class, none; by default all if there are 100). With a `window`, laws are
@@ -266,9 +276,10 @@ def plan(sales: str | Path | pd.DataFrame | Catalogue, masters: str | Path | pd.
     settings = Settings(str(seed), fit, borrow, confidence, level, periods, replications, window=window,
                         least_gain=least_gain, correct=correct)
     words = Words(every=every, columns=columns or {}, units=units or {}, start=start, end=end,
-                  today=today or datetime.date.today(), net=net, twice=twice, far=far, least=least,
+                  today=today or datetime.date.today(), net=net, negate=negate, twice=twice, far=far, least=least,
                   factors=factors or {}, delimiter=delimiter, encoding=encoding, decimal=decimal,
-                  date_formats=tuple(date_formats))
+                  date_formats=tuple(date_formats), defaults=Defaults.of(
+                      setup=setup, holding_rate=holding_rate, fill=fill, service=service, currency=currency, abc=abc))
     earlier = None if after is None else Path(after)
     check_masters(sales, masters)
     check_earlier(earlier, None if out is None else Path(out), settings)

@@ -2,6 +2,7 @@
 from __future__ import annotations
 
 from collections.abc import Mapping
+from dataclasses import dataclass
 from fractions import Fraction
 from typing import Any, SupportsFloat
 
@@ -15,6 +16,35 @@ Amount = SupportsFloat | str
 # Costs are scaled by a power of ten from -8 to 8, the nearest to 0 that can be.
 MOST_DECIMALS = 8
 SCALES = [Fraction(10)**power for power in sorted(range(-MOST_DECIMALS, MOST_DECIMALS + 1), key=abs)]
+# The decimals of currencies that don't have two. Source: ISO 4217, table A.1, minor units.
+PLACES = {**dict.fromkeys(("CLP", "ISK", "JPY", "KRW", "PYG", "UGX", "VND", "XAF", "XOF", "XPF"), 0),
+          **dict.fromkeys(("BHD", "IQD", "JOD", "KWD", "LYD", "OMR", "TND"), 3)}
+
+
+@dataclass(frozen=True)
+class Currency:
+    """The currency of amounts, as EUR, empty if it is not known, and how many decimals the finest of them has."""
+
+    code: str = ""
+    decimals: int = 2
+
+    @property
+    def places(self) -> int:
+        """Returns the decimals for a reader: those of the currency; without one, those of the amounts, at most 2."""
+        return PLACES.get(self.code, 2) if self.code else min(self.decimals, 2)
+
+    @property
+    def digits(self) -> int:
+        """Returns the decimals of single amounts for a reader: those of the currency; without one, all."""
+        return self.places if self.code else self.decimals
+
+    def named(self, amount: str) -> str:
+        """Returns the text of an amount with the currency before it."""
+        return f"{self.code} {amount}" if self.code else amount
+
+    def text(self, amount: float, sign: str = "") -> str:
+        """Returns an amount for a reader, with a sign "+" also if it is above 0."""
+        return self.named(f"{amount:{sign}z,.{self.places}f}")
 
 
 def exact(value: Any) -> Fraction | None:
@@ -25,6 +55,28 @@ def exact(value: Any) -> Fraction | None:
         return Fraction(str(value))
     except (ValueError, ZeroDivisionError):
         return None
+
+
+def amount_of(value: Any) -> Fraction:
+    """Returns an amount of money from 0, exactly. Raises Refused for anything else."""
+    amount = exact(getattr(value, "spelt", value))
+    if amount is None or amount < 0 or (amount * 10**MOST_DECIMALS).denominator != 1:
+        raise Refused(f"{shown(value)} is no cost", f"write 0 or more, as 12.50, with at most {MOST_DECIMALS} decimals")
+    return amount
+
+
+def share_of(value: Any) -> Fraction:
+    """Returns a share between 0 and 1, such as "20%", "0.2" or 0.2, exactly. Raises Refused for anything else; a number
+    from 1 on, which may be in percent, with both readings."""
+    text = str(getattr(value, "spelt", value)).strip()
+    number = exact(text.removesuffix("%"))
+    if number is not None and number >= 1 and not text.endswith("%"):
+        raise Refused(f"{shown(value)} may be {text}% or {text} as a share",
+                      f"write {text}% or {float(number / 100):g}")
+    share = None if number is None else number / 100 if text.endswith("%") else number
+    if share is None or not 0 < share < 1:
+        raise Refused(f"{shown(value)} is no share", "write 2% or 0.02")
+    return share
 
 
 def whole(value: Any, name: str) -> int:

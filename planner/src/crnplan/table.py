@@ -22,6 +22,10 @@ Kind = Literal["text", "name", "whole", "number", "exact", "fraction"]
 # The spelling of money: with as many decimals as its smallest unit has.
 MONEY = "money"
 TYPES = {"whole": "Int64", "number": float}
+# Units that name money or a period, with a currency and the name of a period in their place.
+NAMED_UNITS = {"money": "{money}", "periods": "{period}s",
+               **{f"{what} a period": f"{what} a {{period}}" for what in ("items", "orders")},
+               "money a period": "{money} a {period}"}
 # How a text begins that a spreadsheet would run, unless it is a number or a mark for no figure.
 RUN = re.compile(r"[=@\t\r]|[+-](?![0-9.,]*$)")
 
@@ -44,6 +48,10 @@ class Column:
     @property
     def is_text(self) -> bool:
         return self.kind in ("text", "name")
+
+    def unit_in(self, currency: str, every: str) -> str:
+        """Returns the unit in a currency and for periods, each of which may be empty: EUR a week."""
+        return NAMED_UNITS.get(self.unit, self.unit).format(money=currency or "money", period=every or "period")
 
     def speller(self, decimals: int, missing: str, is_shown: bool = False) -> Callable[[Cell], str]:
         """Returns the function that spells a cell. Money has so many decimals; `missing` stands for no figure."""
@@ -95,13 +103,15 @@ def unrun(cell: str) -> str:
 @dataclass(frozen=True)
 class DataTable:
     """Rows under declared columns. Money has `decimals`, `missing` stands for no figure, and `index` names the column
-    by which a frame is indexed."""
+    by which a frame is indexed. Units are in a `currency` and for periods of `every`, if these are known."""
 
     columns: Sequence[Column]
     rows: Iterable[Sequence[Cell]]
     decimals: int = 2
     missing: str = "-"
     index: str = ""
+    currency: str = ""
+    every: str = ""
 
     @property
     def names(self) -> list[str]:
@@ -148,13 +158,20 @@ class DataTable:
         return [dict(zip(self.names, map(plain, row), strict=True)) for row in self.rows]
 
     @property
+    def units(self) -> dict[str, str]:
+        """Returns the unit of each column that has one."""
+        return {it.name: it.unit_in(self.currency, self.every) for it in self.columns if it.unit}
+
+    @property
     def frame(self) -> pd.DataFrame:
-        """Returns the rows unrounded, as typed columns: texts, whole numbers, floats and fractions."""
+        """Returns the rows unrounded, as typed columns: texts, whole numbers, floats and fractions. Its `attrs` have
+        the units of columns."""
         import pandas as pd
         rows = list(self.rows)
         cells = {column.name: pd.Series([row[place] for row in rows], dtype=TYPES.get(column.kind, object))
                  for place, column in enumerate(self.columns)}
         frame = pd.DataFrame(cells)
+        frame.attrs["units"] = self.units
         return frame.set_index(self.index) if self.index else frame
 
     @property
@@ -164,11 +181,12 @@ class DataTable:
 
     @property
     def html(self) -> str:
-        """Returns the table as HTML. Each heading has the meaning of its column as its title."""
+        """Returns the table as HTML. Each heading has the meaning of its column, and its unit, as its title."""
         heading, *rows = self.spelt(True)
+        titles = [f"{self.units[it.name]}: {it.meaning}" if it.unit else it.meaning for it in self.columns]
         styles = ["left" if column.is_text else "right" for column in self.columns]
-        head = "".join(f'<th scope="col" style="text-align: {style}" title="{html.escape(column.meaning)}">'
-                       f"{html.escape(name)}</th>" for name, style, column in zip(heading, styles, self.columns))
+        head = "".join(f'<th scope="col" style="text-align: {style}" title="{html.escape(title)}">'
+                       f"{html.escape(name)}</th>" for name, style, title in zip(heading, styles, titles))
         body = "".join("<tr>" + "".join(f'<td style="text-align: {style}">{html.escape(cell)}</td>'
                                         for cell, style in zip(row, styles)) + "</tr>\n" for row in rows)
         return f"<table>\n<thead><tr>{head}</tr></thead>\n<tbody>\n{body}</tbody>\n</table>\n"

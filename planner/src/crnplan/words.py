@@ -179,6 +179,10 @@ WORDS: dict[str, tuple[Say, Say]] = {
     "no policy": (lambda it: "no policy " + (
         "is best" if it["fill"] is None else f"meets {it['fill']:g} of demand at once") + (
         f" within s and S up to {MOST_ITEMS:,}"), "count in larger units"),
+    # Of what masters need not say (records/defaults.py).
+    "taken from": (lambda it: f"{it['role']}: " + ", ".join(
+        f"{counted(it[source], 'item')} by {words}" for source, words in (
+            ("masters", "the masters"), ("class", "the class"), ("default", "the default")) if it[source]), ""),
     # Of what a catalogue has learned (plan/catalogue.py).
     "own laws": (lambda it: "each item has the law of its own history" + f" ({it['reason']})" * bool(it["reason"]), ""),
     "learned": (lambda it: f"laws of demand were learned from {counted(it['items'], 'item')}"

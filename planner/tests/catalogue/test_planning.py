@@ -77,7 +77,8 @@ def test_decisions(planned: Path, planted: Made) -> None:
     assert "too far apart" in rejects[NO_PLAN]["reason"] and int(rejects[NO_PLAN]["rows"]) > 0
     for name, row in table.items():
         its = {column: float(value) for column, value in row.items()
-               if value and column not in ("item", "description", "class", "verdict", "by", "law", "codes", "warnings")}
+               if value and column not in ("item", "description", "class", "verdict", "by", "law", "abc", "xyz", "codes",
+                                           "warnings")}
         if "fill_wanted" in its:
             assert its["fill_chosen"] >= its["fill_wanted"] - 1e-4
             assert row["verdict"] != "more service" or its["fill_today"] < its["fill_wanted"]

@@ -37,11 +37,12 @@ Pair = tuple[Item, Answer]
 
 
 def made_folder(path: Path, items: int, names: Sequence[str] = (), has_curve: bool = True,
-                change: tuple[Item, Answer | Remark] | None = None) -> Path:
+                change: tuple[Item, Answer | Remark] | None = None, currency: str = "") -> Path:
     """Makes a folder with so many planned items, with its tables and its page, and returns it.
 
     The first items are called as `names` say, the others P00000 and so on. One item in twelve more is left out. Figures
-    follow from the number of items alone. `has_curve` adds an exchange curve, `change` one more item.
+    follow from the number of items alone. `has_curve` adds an exchange curve, `change` one more item, and money may be
+    in a currency.
     """
     source = random.Random(items)
     called = [*names, *(f"P{number:05}" for number in range(len(names), items))]
@@ -52,7 +53,7 @@ def made_folder(path: Path, items: int, names: Sequence[str] = (), has_curve: bo
         rejects = made_rejects(source, items)
         writer.add(*(item for item, _ in pairs), *rejects)
         writer.finish({"counts": made_counts(len(pairs), rejects), "every": "week", "decimals": DECIMALS,
-                       "periods": [1000, 1003]})
+                       "periods": [1000, 1003], "currency": currency, "abc": [80, 95], "sources": {}})
         planned = Planned(Settings(), Prior("none"), "made")
         with (contextlib.closing(Catalogued(path / READ)) as read,
               contextlib.closing(Store(folder.store(ANSWERS), Answer)) as answers):
@@ -77,8 +78,9 @@ def made_pair(source: random.Random, name: str) -> Pair:
     near = saving + error * source.uniform(-1, 1)
     run = Run("0 0 0 0", 1024, 24, 9, Fraction(100), 900, 60, 900, 900_000, cost - near, 1_000_000, Fraction(-near),
               Fraction(error)**2, cost, near, error, near - QUANTILE * error, near + QUANTILE * error)
+    group = source.choice(("X", "Y", "Z", ""))
     item = Item(name, (0, 3, 1), (2,), (s, s + 9), Fraction(9), Fraction(3, 5), Fraction(9), first=1000, line=7,
-                rows=90, group=source.choice(("X", "Y", "Z", "")), price=price if source.random() > 0.05 else None,
+                rows=90, group=group, category=group, price=price if source.random() > 0.05 else None,
                 description=f"{source.choice(NOUNS)} {source.randrange(100)}")
     answer = Answer(CHEAPER if saving > 0 else SERVICE, THEORY, cost, cost - saving, saving, today, chosen,
                     None, None, None, 1, None, None, LawFacts("poisson", 0.5, None, demand, 2.0), LAWS, run,

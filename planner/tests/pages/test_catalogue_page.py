@@ -99,10 +99,10 @@ def test_columns_and_texts(tmp_path: Path) -> None:
     assert {"s_alone", "S_alone"} < set(page.columns)
     assert {name: its["S_alone"] for name, its in page.items.items() if its["S_alone"]} == {"alone": "19"}
     item, answer = made_pair(random.Random(1), "texts")
-    item = replace(item, description="  <b>two</b>  blanks ", group="&amp;",
+    item = replace(item, description="  <b>two</b>  blanks ", category="&amp;",
                    remarks=(Remark("refused", {"what": "'a' \"b\" < c", "advice": ""}),))
     its = Page(crn.report(made_folder(tmp_path / "plan", 5, change=(item, replace(answer, remarks=()))))).items["texts"]
-    assert [its[name] for name in ("description", "class", "warnings")] == [item.description, item.group,
+    assert [its[name] for name in ("description", "class", "warnings")] == [item.description, item.category,
                                                                             "'a' \"b\" < c"]
 
 
@@ -162,6 +162,20 @@ def test_an_item_without_a_policy_today(tmp_path: Path) -> None:
     assert ["no policy today", "1", ""] == pages[1].tables["Verdicts"][-1][:3]
     alone = Page(crn.report(made_folder(tmp_path / "alone", 0, has_curve=False, change=(item, answer))))
     assert "No planned item has levels today to compare with" in alone.words
+
+
+def test_money_in_its_currency(tmp_path: Path) -> None:
+    """Page, summary and the axis of the curve name the currency; amounts have its decimals, which are 3 here."""
+    folder = made_folder(tmp_path / "plan", 12, currency="KWD")
+    page, summary = Page(crn.report(folder)), (folder / "summary.txt").read_text("utf-8")
+    saving = math.fsum(float(row["saving"]) for row in rows_of(folder / "decisions.csv"))
+    shown = re.search(r"saved: KWD ([0-9,]+\.[0-9]{3}) a week", summary)
+    assert shown and float(shown[1].replace(",", "")) == pytest.approx(saving, abs=0.1)
+    assert "The difference is KWD " in page.words and "value of the mean stock, KWD" in page.words
+    assert all(re.fullmatch(r"[+\u2212-]?[0-9]+\.[0-9]{3}", row["saving"]) for row in page.items.values())
+    plan = crn.Plan(folder)
+    assert plan.frame.attrs["units"]["saving"] == "KWD a week"
+    assert crn.Plan(made_folder(tmp_path / "none", 12)).frame.attrs["units"]["saving"] == "money a week"
 
 
 @pytest.mark.parametrize("error, said", [(0.6, "The new reorder levels cost as much as today's, as far as can be told"),
@@ -306,7 +320,7 @@ def test_lost_items_and_other_rows(folder: Path) -> None:
     with own_folder(folder, CATALOGUE) as own:
         writer = Writer(own)
         writer.add(replace(made_pair(random.Random(1), "P00020")[0], counts=(1,)))
-        writer.finish({"counts": {}, "every": "week", "decimals": 2})
+        writer.finish({"counts": {}, "every": "week", "decimals": 2, "currency": ""})
     with pytest.raises(crn.Refused, match="its plan is not as the rows that were read last; run crnplan catalogue"):
         crn.report(folder)
 

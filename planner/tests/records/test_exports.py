@@ -44,6 +44,7 @@ class Checked:
         """Takes the command, and listens to what it reads."""
         self.crnplan, self.folder = crnplan, folder
         self.items: dict[str, Item] = {}
+        self.facts: dict[str, Any] = {}
         own = catalogues.read_into
 
         def heard(*given: Any) -> Path:
@@ -51,6 +52,7 @@ class Checked:
             path = own(*given)
             with Catalogue(path).opened() as read:
                 self.items = {item.name: item for item in read.items()}
+                self.facts = {name: read.fact(name) for name in ("currency", "decimals")}
             return path
         monkeypatch.setattr(catalogues, "read_into", heard)
 
@@ -289,3 +291,76 @@ def test_status_if_little_is_left(quantities: list[str], status: int, said: str,
     answer, _ = check(demand_of(quantities))
     assert answer.status == status and said in answer.errors
     assert check(demand_of(quantities), "--anyway")[0].status == 0
+
+
+@pytest.mark.parametrize("case", CASES["defaults"])
+def test_defaults_of_masters(case: dict[str, Any], check: Checked, tmp_path: Path) -> None:
+    """What a row says counts first, then its class, then the default, and it is counted from where values are; by words
+    as by crnplan.toml."""
+    heading, cells = case["masters"]
+    answer, rejects = check(demand_of(["2", "3"]), *case["words"].split(), masters=f"{heading}\n{cells}\n")
+    item = check.items["A"]
+    assert answer.status == 0 and not rejects
+    assert {name: str(getattr(item, name)) for name in case["facts"]} == case["facts"]
+    assert [line for line in answer.errors.splitlines() if " by the " in line] == [f"# {it}" for it in case["said"]]
+    pairs = [pair.split() for pair in case["words"][2:].split(" --")]
+    lines = [f'{name.replace("-", "_")} = "{value}"\n' for name, value in pairs if "=" not in value]
+    lines += [f"[catalogue.service]\nA = {value[2:]}\n" for name, value in pairs if name == "service"]
+    lines += ['[catalogue.items]\nprice_for = "base"\n' for name, _ in pairs if name == "column"]
+    (tmp_path / "mine.toml").write_text(f"[catalogue]\n{''.join(lines)}".replace('setup = "9"', "setup = 9.0"), "utf-8")
+    check(demand_of(["2", "3"]), "--config", tmp_path / "mine.toml", masters=f"{heading}\n{cells}\n")
+    assert check.items["A"] == item
+
+
+@pytest.mark.parametrize("words, said", CASES["wrong_defaults"]["words"])
+def test_defaults_that_cannot_be_meant(words: str, said: str, check: Checked, tmp_path: Path) -> None:
+    """A default that may be meant in two ways is refused with both, by words as by crnplan.toml."""
+    masters = "item,setup,holding,backlog,price,lead,s,S\nA,45,1,10,8,2,3,9\n"
+    answer, _ = check(demand_of(["2", "3"]), *words.split(), masters=masters)
+    assert answer.status == 2 and said in answer.errors
+    name, value = words[2:].split()
+    lines = f"[catalogue.service]\n{value}" if "=" in value else f'[catalogue]\n{name.replace("-", "_")} = "{value}"'
+    (tmp_path / "mine.toml").write_text(f"{lines}\n", "utf-8")
+    answer, _ = check(demand_of(["2", "3"]), "--config", tmp_path / "mine.toml", masters=masters)
+    assert answer.status == 2 and said.partition(": ")[2] in answer.errors
+
+
+@pytest.mark.parametrize("cells, words, said", CASES["wrong_defaults"]["cells"])
+def test_masters_that_lack_what_a_default_needs(cells: str, words: str, said: str, check: Checked) -> None:
+    """An item whose default needs its price, and amounts in two currencies, are left out."""
+    _, rejects = check(demand_of(["2", "3"]), *words.split(),
+                       masters=f"item,setup,holding,backlog,price,lead,s,S\n{cells}\n")
+    assert [row["kind"] for row in rejects] == ["item"] and said in rejects[0]["reason"]
+
+
+@pytest.mark.parametrize("setup, price, words, currency", CASES["currencies"]["cases"])
+def test_currency_of_a_catalogue(setup: str, price: str, words: str, currency: str, check: Checked) -> None:
+    """The currency is that of the signs, of a column, or the stated one, which a sign may stand for."""
+    _, rejects = check(demand_of(["2", "3"]), *words.split(),
+                       masters=f"item,setup,holding,backlog,price,lead,s,S\nA,{setup},1,10,{price},2,3,9\n")
+    assert not rejects and check.facts["currency"] == currency
+    column = currency if len(currency) == 3 else ""
+    check(demand_of(["2", "3"]), masters=f"{MASTERS},WAERS\nA,45,1,10,2,3,9,{column}\n")
+    assert check.facts["currency"] == column
+
+
+def test_two_exports_of_a_system_lead_to_a_plan(crnplan: Answers, program: Path, tmp_path: Path) -> None:
+    """Four options lead from movements and masters of SAP to a plan in its currency. 20% a year of 12.50 are 0.0479 a
+    week, and ten days of delivery one week or two."""
+    sap = CASES["sap"]
+    rows = [f"{item};;1000;261;{MONDAY + datetime.timedelta(days=7 * week):%d.%m.%Y};{cells[week % len(cells)]};ST"
+            for item, cells in sap["issues"].items() for week in range(WEEKS)]
+    (tmp_path / "mb51.csv").write_text("\n".join([sap["movements"], *rows, *sap["undone"], ""]), "cp1252")
+    (tmp_path / "marc.csv").write_text(sap["masters"].lstrip(), "cp1252")
+    answer = crnplan("catalogue", tmp_path / "mb51.csv", tmp_path / "marc.csv", "--out", tmp_path / "plan", "--jobs", "1",
+                     "--program", program, "--negate", "--setup", "45", "--holding-rate", "20%", "--fill", "95%")
+    assert answer.status == 0 and "2 named = 2 planned + 0 left out" in answer.output
+    assert "saved: EUR " in answer.output
+    first, second = csv.DictReader((tmp_path / "plan/decisions.csv").open(encoding="utf-8", newline=""))
+    with Catalogue(tmp_path / "plan/catalogue.sqlite").opened() as read:
+        bearing, ring = read.items()
+    assert sum(bearing.counts) == 2 + sum((3, 1, 0, 2)[week % 4] for week in range(1, WEEKS))
+    assert (bearing.levels, bearing.stock, bearing.price, bearing.leads) == ((5, 12), 7, Fraction(25, 2), (2,))
+    assert bearing.holding == Fraction(25, 2) / 5 * Fraction(28, 1461) and ring.leads == (1, 1, 1, 1, 2, 2, 2)
+    # Their demand is worth 18.51 and 22.40 a week: both are of class A. Its variation is 0.75 and 0.64 of its mean.
+    assert [(row["class"], row["abc"], row["xyz"]) for row in (first, second)] == [("A", "A", "Y")] * 2

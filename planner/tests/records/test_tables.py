@@ -299,5 +299,5 @@ def test_a_rejected_row_decides_nothing(more: str, tmp_path: Path) -> None:
     rejects = read(tmp_path, rows).rejects
     assert [line for line, reason in zip(rejects.line, rejects.reason) if "may be 1000 or 1" in reason] == [WEEKS + 2]
     if more.startswith("A"):
-        with pytest.raises(RefusedFaults, match="'1,000' may be 1000 or 1, and no other number of the column decides"):
+        with pytest.raises(RefusedFaults, match="'1,000' may be 1000 or 1, and no other number decides"):
             read_history(tmp_path / "demand.csv", demand="quantity")

@@ -20,6 +20,7 @@ from ..plan.settings import CONFIG, read_config
 from ..records.catalogue_reading import CATALOGUE, Catalogue, read_into
 from ..records.cells import DECIMALS, EVERY
 from ..records.columns import ROLES
+from ..records.defaults import Defaults
 from ..records.item import BORROW
 from ..records.items import KEEP, LEAVE_OUT, Words
 from . import note
@@ -64,10 +65,21 @@ decimal_option = click.option("--decimal", type=click.Choice(DECIMALS),
 @click.option("--from", "start", metavar="DATE", help="The first day of the record, for all items.")
 @click.option("--to", "end", metavar="DATE", help="The last day of the record, for all items.")
 @click.option("--net", is_flag=True, default=None, help="Take quantities below 0 off their period.")
+@click.option("--negate", is_flag=True, default=None,
+              help="Take quantities with the other sign: issues are below 0, as in SAP. What undoes them is taken off.")
 @click.option("--twice", type=click.Choice(TAKEN), help="Rows that stand twice; by default they are kept and named.")
 @click.option("--far", type=click.Choice(TAKEN),
               help="Items with an amount far above all others; by default they are left out.")
 @click.option("--least", type=click.IntRange(1), metavar="N", help="The periods that a history needs; by default 13.")
+@click.option("--setup", metavar="MONEY", help="The cost of an order, for items whose masters say none.")
+@click.option("--holding-rate", metavar="SHARE",
+              help="What holding costs a year, as 20% of the price, for items whose masters say no holding cost.")
+@click.option("--fill", metavar="SHARE", help="The wanted fill rate of items whose masters say none, as 97%.")
+@click.option("--service", metavar="CLASS=SHARE", multiple=True, callback=pairs_of(r"(.*\S.*)=(.*\S.*)", "A=0.98"),
+              help="That of a class, as A=0.98, which counts before --fill. May be given several times.")
+@click.option("--currency", metavar="CODE", help="The currency of all money, as EUR, if the masters do not say it.")
+@click.option("--abc", metavar="SHARES",
+              help="The shares of the value of demand, in percent, at which the classes A and B end; by default 80,95.")
 @writing_options
 @decimal_option
 @click.option("--fit", type=click.Choice(METHODS), metavar="METHOD",
@@ -149,6 +161,9 @@ def words_of(asked: Mapping[str, Any], config: Mapping[str, Any]) -> tuple[Words
         **{name: value for name, value in asked.items() if value not in (None, ())},
         "columns": _by_kind(named | asked["columns"]), "units": _by_kind(config.get("units", {}) | asked["units"]),
         "names": _by_kind(config.get("names", {})), "factors": factors or config.get("factors"),
+        "defaults": Defaults.of(**{it.name: asked.get(it.name) or config.get(it.name) for it in fields(Defaults)
+                                   if it.name != "service"},
+                                service=config.get("service", {}) | asked.get("service", {})),
         "date_formats": tuple(asked["date_formats"] or config.get("date_formats", ()))}
 
     def given(kind: type) -> dict[str, Any]:

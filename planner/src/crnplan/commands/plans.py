@@ -42,7 +42,8 @@ def curve(folder: Path, plot: Path | None, is_csv: bool, **options: Any) -> None
     if plot:
         from ..pages.page import Money
         from ..pages.pictures import exchange_picture, save
-        save(exchange_picture(drawn.curve, drawn.named, Money("", drawn.gathered.folder.decimals)), plot)
+        currency = drawn.gathered.folder.currency
+        save(exchange_picture(drawn.curve, drawn.named, Money(currency.code, currency.decimals)), plot)
     click.echo(drawn.table.csv if is_csv else drawn.text, nl=False)
 
 

@@ -12,6 +12,7 @@ from typing import Any
 import click
 
 import crnplan as crn
+from .. import money
 from ..table import DataTable, Result
 from . import COMMANDS
 
@@ -42,13 +43,10 @@ def pairs_of(form: str, example: str) -> Callable[[click.Context, click.Paramete
 
 def share_of(context: click.Context, option: click.Parameter, word: str | None) -> float | None:
     """Returns a share, as 2% or 0.02. Raises Refused for a number that may be either."""
-    if word is None:
-        return None
-    pair = re.fullmatch(r"([0-9]+(?:\.[0-9]+)?) ?(%?)", word.strip())
-    share = float(pair[1]) / (100 if pair[2] else 1) if pair else 1.0
-    if not 0 < share < 1:
-        raise crn.Refused(f"{option.opts[0]} {word!r} is no share", "write 2% or 0.02")
-    return share
+    try:
+        return None if word is None else float(money.share_of(word))
+    except crn.Refused as why:
+        raise crn.Refused(f"{option.opts[0]} {why.what}", why.advice) from why
 
 
 def command(kind: type[click.Command] = click.Command) -> Callable[[Callable[..., Any]], click.Command]:

@@ -31,7 +31,7 @@ from ..records.catalogue_reading import CATALOGUE
 from ..remarks import Remark
 from ..scenario import Policy
 from ..stored import Store, digest_of
-from ..table import Cell, DataTable, MONEY, Result, aligned, number, text, whole
+from ..table import Cell, Column, DataTable, MONEY, Result, aligned, number, text, whole
 from ..words import PREMISE, advice, sentence
 from .candidates import PRICES, VERSION, Candidates, candidates_batch
 from .exchange import NEAR, Budget, Choice, Items, Ladder, OffCurve, Point, chosen_by, gap_of, with_more_orders
@@ -211,14 +211,15 @@ class Drawn(Result):
         """Returns the points: named ones first, then the curve by rising price."""
         rows: list[list[Cell]] = [[name, None, *point, gap] for name, (point, gap) in self.points.items()]
         rows += [[ON_CURVE, price, *point, 0.0] for price, point in self.curve]
-        return DataTable(COLUMNS, rows, self.gathered.folder.decimals, "")
+        return self._table(COLUMNS, rows)
 
     @property
     def text(self) -> str:
         """Returns the named points as a table, and what they mean."""
         folder, left = self.gathered.folder, self.gathered.left_out
-        money, every = min(folder.decimals, 2), folder.every
-        rows = [["", "stock value", "met at once", f"orders a {every}", f"setup and holding a {every}",
+        money, every = folder.currency.places, folder.every
+        unit = f", {folder.currency.code}" if folder.currency.code else ""
+        rows = [["", f"stock value{unit}", "met at once", f"orders a {every}", f"setup and holding a {every}{unit}",
                  "above the best"],
                 *([self.said[name], f"{point.value:,.{money}f}", f"{point.fill:.2%}", f"{point.orders:,.4g}",
                    f"{point.cost:,.{money}f}", gap_text(gap)] for name, (point, gap) in self.points.items())]
@@ -249,7 +250,11 @@ class Drawn(Result):
                                                   1 - items.unmet[rows] / items.demand, items.orders[rows],
                                                   items.cost[rows]))
         cells = ([name, *shown, *row] for name, shown, *row in zip(items.names, self.gathered.shown, *columns))
-        return DataTable(POLICY_COLUMNS, cells, self.gathered.folder.decimals, "")
+        return self._table(POLICY_COLUMNS, cells)
+
+    def _table(self, columns: Sequence[Column], rows: Iterable[Sequence[Cell]]) -> DataTable:
+        folder = self.gathered.folder
+        return DataTable(columns, rows, folder.decimals, "", currency=folder.currency.code, every=folder.every)
 
     @property
     def left_out(self) -> DataTable:

@@ -107,7 +107,7 @@ def by_class(pairs: Iterable[tuple[Item, Answer | Remark]]) -> dict[str, Totals]
     sums: defaultdict[str, Totals] = defaultdict(Totals)
     for item, answer in pairs:
         if isinstance(answer, Answer) and answer.verdict in COMPARED:
-            sums[item.group or NO_CLASS].add(item, answer)
+            sums[item.category or NO_CLASS].add(item, answer)
     return sums
 
 

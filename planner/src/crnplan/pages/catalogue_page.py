@@ -83,19 +83,19 @@ class Shown(NamedTuple):
 
 def catalogue_page(folder: PlannedFolder, totals: Totals) -> str:
     """Returns the page of a planned catalogue, with a link to the page of each item that has one."""
-    rows, curve, settings = shown_items(folder), kept_curve(folder.store), folder.settings
+    rows, curve, settings, currency = shown_items(folder), kept_curve(folder.store), folder.settings, folder.currency
     half = totals.half_width(settings.level)
     ends = totals["run_saving"] - half, totals["run_saving"] + half
     there = {path.name for path in (folder.path / ITEMS).glob("*.html")}
     files = {row.item.name: file_name(row.item.name) for row in rows} if there else {}
     columns = [name for name in COLUMNS if name not in OPTIONAL or any(row.cells[name] for row in rows)]
 
-    reasons, money = reasons_of(folder.read.rejects(faults_of(folder))), Money("", folder.decimals)
+    reasons, money = reasons_of(folder.read.rejects(faults_of(folder))), Money(currency.code, currency.decimals)
     plot, points = exchange_plot(curve, money) if curve else (None, [])
     codes = Counter(code for row in rows for code in {remark.code for remark in (
         *row.item.remarks, *row.answer.remarks)})
     return rendered("catalogue.html", {
-        "every": folder.every, "money": money.exact, "decimals": folder.decimals, "settings": settings,
+        "every": folder.every, "money": money.exact, "currency": currency, "settings": settings,
         "totals": totals, "sources": folder.counts["files"], "named": folder.counts["items"]["named"], "ends": ends,
         "aims": aims_of(folder, totals),
         "pages": {name: quote(f"{ITEMS}/{file}") for name, file in files.items() if file in there},
@@ -116,7 +116,7 @@ def shown_items(folder: PlannedFolder) -> list[Shown]:
     without one come last."""
     kept = heapq.nlargest(MOST_ROWS, planned_of(folder), key=lambda pair: abs(pair[1].saving or 0.0))
     kept.sort(key=lambda pair: (pair[1].saving is None, -(pair[1].saving or 0.0), pair[0].name))
-    table = DataTable(DECISION_COLUMNS, [decision_row(*pair) for pair in kept], folder.decimals, "")
+    table = DataTable(DECISION_COLUMNS, [decision_row(*pair) for pair in kept], folder.currency.digits, "")
     return [Shown(*pair, cells) for pair, cells in zip(kept, table.cells(is_shown=True))]
 
 
@@ -225,7 +225,7 @@ def report(folder: str | Path, items: Iterable[str] = (), *, program: str | Path
             own.claim(f"{ITEMS}/", in_place=True)
             (own.path / ITEMS).mkdir(exist_ok=True)
             depth = Depth(planned.question(item), answer, str(find_program(program)))
-            words = ItemWords(depth, planned.every, planned.decimals)
+            words = ItemWords(depth, planned.every, planned.currency)
             own.write(f"{ITEMS}/{file_name(name)}", item_page(words))
         own.write(PAGE, catalogue_page(planned, Totals.of(planned.answers())))
     return Path(folder) / PAGE

@@ -8,6 +8,8 @@ from fractions import Fraction
 from ..plan.aims import CLASSES
 from ..plan.answer import RUN, THEORY, Answer, Figures
 from ..plan.catalogue import PlannedFolder, Totals
+from ..records.catalogue_reading import defaulted
+from ..records.classes import xyz_of
 from ..records.items import FileCounts, Reject
 from ..records.item import Item
 from ..remarks import Remark
@@ -25,7 +27,8 @@ def money(name: str, meaning: str) -> Column:
 
 
 DECISION_COLUMNS = (
-    text("item", "the item"), text("description", "of the masters"), text("class", "of the masters"),
+    text("item", "the item"), text("description", "of the masters"),
+    text("class", "of the masters; that of `abc` if no item has one there"),
     text("verdict", "cheaper, more service, undecided, same, dearer, or no policy today, beside which cells are empty"),
     *(whole(f"{letter}_{policy}", "items", f"{letter} of {words}") for policy, words in (
         ("today", "today's policy"), ("chosen", "the chosen policy")) for letter in "sS"),
@@ -52,6 +55,11 @@ DECISION_COLUMNS = (
     whole("periods_with_demand", "periods", "of these, with demand"), text("law", "the family of the law"),
     number("law_share", "share", "of the family in the law; the rest is what was seen", ".5g"),
     number("log10_bayes", "log10", "of the Bayes factor for what was learned from others", ".5g"),
+    text("abc", "A, B or C by the value of demand, its mean at the price: A while items of higher value have less than "
+         "80% of all, B while less than 95%, else C (`--abc 80,95`); empty without a price. Source: Silver, Pyke and "
+         "Thomas, Inventory and Production Management in Supply Chains (2017), section 2.4"),
+    text("xyz", "X, Y or Z by the standard deviation of demand by period over its mean: X up to 0.5, Y up to 1, else "
+         "Z; these limits are a convention"),
     text("codes", "codes of all that must be said of the item"), text("warnings", "the same in words"))
 EXACT_COLUMNS = (
     text("item", "the item"),
@@ -93,14 +101,14 @@ def decision_row(item: Item, answer: Answer) -> list[Cell]:
     values = [None if item.price is None or stock is None else float(item.price) * stock for stock in stocks]
     remarks = *item.remarks, *answer.remarks
     codes, words = "; ".join(it.code for it in remarks), "; ".join(map(sentence, remarks))
-    return [item.name, item.description, item.group, answer.verdict, *level_cells(today, chosen), answer.cost_today,
+    return [item.name, item.description, item.category, answer.verdict, *level_cells(today, chosen), answer.cost_today,
             answer.cost_chosen, answer.saving, PLANNED_BY[answer.source], run.saving,
             run.low, run.high, None if item.fill is None else float(item.fill),
             correction.aim if correction else None, *fills, *stocks, correction.plain_stock if correction else None,
             *values, *orders, answer.confidence_cost, *level_cells(alone), alone.cost if alone else None,
             alone.fill if alone else None, answer.law.mean, len(item.counts),
-            sum(count > 0 for count in item.counts), answer.law.family, answer.law.share, answer.law.log10_bayes, codes,
-            words]
+            sum(count > 0 for count in item.counts), answer.law.family, answer.law.share, answer.law.log10_bayes,
+            item.abc, xyz_of(item.counts), codes, words]
 
 
 def exact_row(item: Item, answer: Answer) -> list[Cell]:
@@ -125,7 +133,7 @@ def planned_of(folder: PlannedFolder) -> Iterator[tuple[Item, Answer]]:
 def decisions_of(folder: PlannedFolder) -> DataTable:
     """Returns the decisions of a folder: a row for each planned item."""
     rows = (decision_row(*pair) for pair in planned_of(folder))
-    return DataTable(DECISION_COLUMNS, rows, folder.decimals, "")
+    return DataTable(DECISION_COLUMNS, rows, folder.decimals, "", currency=folder.currency.code, every=folder.every)
 
 
 def exact_of(planned: Iterable[tuple[Item, Answer]]) -> DataTable:
@@ -214,4 +222,5 @@ def catalogue_summary(folder: PlannedFolder, totals: Totals, learned: Sequence[R
         "settings": folder.settings, "every": folder.every, "items": folder.counts["items"], "totals": totals,
         "files": counted_rows(folder.counts["files"]), "rejects": REJECTS, "ends": (saving - half, saving + half),
         "learned": learned, "changes": changes, "missing": missing, "aims": aims_of(folder, totals),
-        "money": lambda amount: f"{amount:z,.{min(folder.decimals, 2)}f}"})
+        "money": folder.currency.text, "sources": defaulted(folder.read.fact("sources")),
+        "cuts": folder.read.fact("abc")})

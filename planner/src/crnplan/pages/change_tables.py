@@ -92,16 +92,15 @@ def change_lines(folder: PlannedFolder) -> list[str]:
     if not folder.planned.earlier:
         return []
     sums, every, least = ChangeSums.of(folder.changes()), folder.every, folder.settings.least_gain
-    decimals = min(folder.decimals, 2)
+    text = folder.currency.text
     kinds = [f"{sums.kinds[kind]:,} {kind}" for kind in KINDS]
     lines = [f"policies since the earlier plan: {', '.join(kinds)} ({CHANGES} says why)"]
     counts = sorted(sums.reasons.items(), key=lambda pair: (-pair[1], pair[0]))
     reasons = [f"{count:,} {REASONS[code]}" for code, count in counts if code in REASONS]
     lines += [f"why, by items: {', '.join(reasons)}"] * bool(reasons)
     if sums.kinds[MOVED]:
-        lines.append(f"the moved policies change the cost of a {every} by {-sums.gained:+z,.{decimals}f}, by the new "
-                     "laws")
+        lines.append(f"the moved policies change the cost of a {every} by {text(-sums.gained, '+')}, by the new laws")
     if least is not None:
         lines.append(f"policies that stay, since another gains less than {100 * least:g}%: {sums.kinds[DAMPED]:,}, "
-                     f"which costs {sums.given_up:z,.{decimals}f} a {every}")
+                     f"which costs {text(sums.given_up)} a {every}")
     return [*lines, *([_since_line(sums.since, every)] if sums.since else [])]

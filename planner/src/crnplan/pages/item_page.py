@@ -20,6 +20,7 @@ from ..demand.checks import check_history, largest_periods
 from ..demand.fitted import QUANTILES, FittedLaw, fit_words
 from ..errors import Fault, spelt, worded
 from ..files import own_folder
+from ..money import Currency
 from ..plan.answer import CHEAPER, CHOSEN, DEARER, SAME, SERVICE, THEORY, UNCOMPARED, UNDECIDED, Figures
 from ..plan.item import Coming, Depth, Facts, planned, read_item
 from ..plan.question import Question
@@ -101,12 +102,13 @@ def law_words(law: FittedLaw) -> str:
 
 
 class ItemWords:
-    """The words on an item. A period is a day, week, month or period (`every`); money has so many decimals. `coming`
+    """The words on an item. A period is a day, week, month or period (`every`); money is in a currency. `coming`
     are the policies over coming periods, if they were asked for. `heard` is what is to be said of the files."""
 
-    def __init__(self, depth: Depth, every: str, decimals: int, coming: Coming | None = None,
+    def __init__(self, depth: Depth, every: str, currency: Currency, coming: Coming | None = None,
                  heard: Sequence[Fault | Remark] = ()) -> None:
-        self.depth, self.every, self.decimals, self.coming, self.heard = depth, every, decimals, coming, heard
+        self.depth, self.every, self.currency, self.coming, self.heard = depth, every, currency, coming, heard
+        self.decimals = currency.decimals
         self.question, self.answer = depth.question, depth.answer
         self.item, self.settings = depth.question.item, depth.question.settings
         self.level, self.near = f"{100 * self.settings.level:g}%", f"within {100 * WITHIN:g}%"
@@ -124,7 +126,7 @@ class ItemWords:
         coming = depth.coming(run["horizon"], run["replications"] or COMING) if run["horizon"] else None
         heard: list[Fault | Remark] = [*facts.history.notes, *(facts.leads.notes if facts.leads else ())]
         heard += check_history(facts.history, season=facts.settings["history"]["season"]).unknown
-        return cls(depth, facts.settings["history"]["every"] or "period", decimals, coming, heard)
+        return cls(depth, facts.settings["history"]["every"] or "period", Currency("", decimals), coming, heard)
 
     @cached_property
     def figures(self) -> dict[str, Figures]:
@@ -156,14 +158,14 @@ class ItemWords:
 
     def money(self, amount: float | None) -> str:
         """Returns an amount of money; - if there is none."""
-        return "-" if amount is None else number(amount, self.decimals)
+        return "-" if amount is None else self.currency.named(number(amount, self.currency.digits))
 
     def spoken(self, saving: float) -> str:
         return f"{self.money(abs(saving))} {'more' if saving < 0 else 'less'}"
 
     @property
     def title(self) -> str:
-        group = f"class {self.item.group}" if self.item.group else ""
+        group = f"class {self.item.category}" if self.item.category else ""
         return ", ".join(filter(None, (self.item.name, self.item.description, group)))
 
     @property

@@ -14,6 +14,7 @@ from functools import partial
 from typing import TYPE_CHECKING, Any, NamedTuple
 
 from .. import __version__
+from ..money import Currency
 from ..words import PREMISE, sentence
 
 if TYPE_CHECKING:
@@ -57,7 +58,7 @@ class Unit(NamedTuple):
         """Returns the unit of amounts of which `most` is the largest. Below 100 of money it has its decimals."""
         size, word = next(((size, word) for least, size, word in WORDS if most >= least), (1.0, ""))
         if size == 1:
-            return cls(size, word, 0 if most >= 10**(FIGURES - 1) else min(decimals, 2))
+            return cls(size, word, 0 if most >= 10**(FIGURES - 1) else decimals)
         return cls(size, word, max(0, FIGURES - len(f"{most / size:.0f}")))
 
     def cell(self, amount: float) -> str:
@@ -65,29 +66,26 @@ class Unit(NamedTuple):
         return number(amount / self.size, self.digits)
 
 
-class Money(NamedTuple):
-    """How money is shown: its currency, empty if that is not known, and the decimals of its smallest unit."""
-
-    currency: str
-    decimals: int
+class Money(Currency):
+    """How money is shown on a page."""
 
     def exact(self, amount: float) -> str:
         """Returns a sum with all digits of its whole number, or if it is small with decimals."""
-        return number(amount, 0 if abs(amount) >= LARGE else min(self.decimals, 2))
+        return self.named(number(amount, 0 if abs(amount) >= LARGE else self.places))
 
     def rounded(self, amount: float) -> str:
         """Returns an amount as people say it: by three figures, and large ones in thousands, millions or billions."""
         known = float(f"{amount:.{FIGURES}g}") if abs(amount) >= 10**(FIGURES - 1) else amount
-        unit = Unit.of(abs(known), self.decimals)
-        return " ".join(filter(None, (self.currency, unit.cell(known), unit.word)))
+        unit = Unit.of(abs(known), self.places)
+        return self.named(f"{unit.cell(known)} {unit.word}".strip())
 
     def unit(self, amounts: Iterable[float]) -> Unit:
         """Returns the unit of a column, or of an axis, of these amounts."""
-        return Unit.of(max((abs(amount) for amount in amounts), default=0.0), self.decimals)
+        return Unit.of(max((abs(amount) for amount in amounts), default=0.0), self.places)
 
     def heading(self, words: str, unit: Unit) -> str:
         """Returns the heading of a column, or the name of an axis, of this unit."""
-        name = f"{self.currency} {unit.word}".strip() if self.currency else f"{unit.word}s" * bool(unit.word)
+        name = self.named(unit.word).strip() if self.code else f"{unit.word}s" * bool(unit.word)
         return f"{words}, {name}" if name else words
 
 

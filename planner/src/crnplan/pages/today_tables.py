@@ -12,7 +12,7 @@ from typing import TYPE_CHECKING
 
 from ..errors import Refused, argument
 from ..files import Folder
-from ..money import Amount, exact
+from ..money import Amount, Currency, exact
 from ..plan.catalogue import copied_folder
 from ..plan.today import Addition, Group, Lying, Money, Standing, Today, sum_of_money, today_of
 from ..records.item import Item
@@ -94,7 +94,7 @@ def file_of(table: str) -> str:
 
 
 def named(item: Item) -> list[Cell]:
-    return [item.name, item.description, item.group, item.supplier]
+    return [item.name, item.description, item.category, item.supplier]
 
 
 def plain(amount: Money) -> float | None:
@@ -149,10 +149,12 @@ class OrdersToday(Result):
     which nothing is known; `text` says what it comes to. docs/TABLES.md has all columns."""
 
     today: Today = field(repr=False)
-    decimals: int = field(default=2, repr=False)
+    every: str = field(default="", repr=False)
+    currency: Currency = field(default=Currency(), repr=False)
 
     def _table(self, name: str, rows: Iterable[Sequence[Cell]]) -> DataTable:
-        return DataTable(TABLES[name], [*rows], self.decimals, "")
+        return DataTable(TABLES[name], [*rows], self.currency.decimals, "", currency=self.currency.code,
+                         every=self.every)
 
     @cached_property
     def table(self) -> DataTable:
@@ -225,7 +227,7 @@ class OrdersToday(Result):
                 (group, [it.standing for it in group.additions()]) for group in short],
             "unpriced": sum(it.item.price is None for it in whole.due),
             "owed": sum_of_money(it.worth(it.hand.owed) for it in today.owed),
-            "money": lambda amount: f"{float(amount):,.{self.decimals}f}"})
+            "money": lambda amount: self.currency.named(f"{float(amount):,.{self.currency.digits}f}")})
 
     @property
     def notes(self) -> str:
@@ -244,4 +246,4 @@ def orders_today(path: Path, tables: Mapping[str, Table | None], words: Words, d
         today = today_of(folder, tables, replace(words, every=folder.every),
                          stated_day("date", day) or datetime.date.today(),
                          {name: amount for name, amount in amounts.items() if amount is not None})
-        return OrdersToday(today, folder.decimals)
+        return OrdersToday(today, folder.every, folder.currency)

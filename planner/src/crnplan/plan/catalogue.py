@@ -23,6 +23,8 @@ from ..demand.learning import LEAST_ITEMS, LEAST_ON_REQUEST, Prior, learn
 from ..errors import Failed, Refused, argument
 from ..files import Folder, faults_of, read_folder
 from ..jobs import Work, program_digest, workers_of
+from ..money import Currency
+from ..records.classes import xyz_of
 from ..records.catalogue_reading import CATALOGUE, READ, Catalogued, missing_of
 from ..records.item import Item
 from ..remarks import Remark
@@ -66,8 +68,9 @@ class Totals:
     policies that aim at the wanted fill, `held_plain`.
 
     Counts of items: by verdict, those that are not planned (`faults`), those of them by a fault of ours (`broken`),
-    with a confidence in their fill rate (`promised`), and by the wanted fill, if that is `corrected`; of those that are
-    compared, those with the run's figures (`by_run`), without an interval of the run, and with a price.
+    with a confidence in their fill rate (`promised`), by the wanted fill, if that is `corrected`, and by the `letters`
+    A, B, C and X, Y, Z of their classes; of those that are compared, those with the run's figures (`by_run`), without
+    an interval of the run, and with a price.
     """
 
     parts: defaultdict[str, list[float]] = field(default_factory=lambda: defaultdict(list))
@@ -78,6 +81,7 @@ class Totals:
     without_interval: int = 0
     promised: int = 0
     priced: int = 0
+    letters: Counter[str] = field(default_factory=Counter)
     corrected: Counter[float] = field(default_factory=Counter)
 
     @classmethod
@@ -108,6 +112,7 @@ class Totals:
         price = float(item.price or 0)
         self.verdicts[answer.verdict] += 1
         self.promised += answer.confidence_cost is not None
+        self.letters.update((item.abc, xyz_of(item.counts)))
         values = {"confidence_cost": answer.confidence_cost or 0.0}
         if answer.correction and item.fill is not None:
             self.corrected[float(item.fill)] += 1
@@ -186,6 +191,7 @@ class PlannedFolder:
         self.path, self.read, self.store, self.planned = path, read, answers, planned
         self.settings = planned.settings
         self.every, self.decimals, self.counts = (read.fact(name) for name in ("every", "decimals", "counts"))
+        self.currency = Currency(read.fact("currency"), self.decimals)
 
     def check(self) -> None:
         """Raises Refused if an item is not planned as its rows are now."""

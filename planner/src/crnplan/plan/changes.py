@@ -147,15 +147,16 @@ def change_of(pair: Pair, settings: Settings, stop: int, common: Sequence[Remark
     if new is None:
         assert old
         item, _ = old
-        return Change(item.name, item.description, item.group, GONE, earlier, None, None, None, law, None,
+        return Change(item.name, item.description, item.category, GONE, earlier, None, None, None, law, None,
                       (left or Remark("not in the files"),), None)
     item, answer = new
     if old is None:
-        return Change(item.name, item.description, item.group, NEW, None, None, answer.chosen, None, None, answer.law,
-                      (Remark("new item", {"periods": len(item.counts)}),), None)
+        return Change(item.name, item.description, item.category, NEW, None, None, answer.chosen, None, None,
+                      answer.law, (Remark("new item", {"periods": len(item.counts)}),), None)
     kind = DAMPED if answer.undamped else SAME if answer.chosen.levels == old[1].chosen.levels else MOVED
-    return Change(item.name, item.description, item.group, kind, earlier, answer.before, answer.chosen, answer.undamped,
-                  law, answer.law, tuple(reasons_of(old, new, stop, common)), since_of(old, item, settings, stop))
+    return Change(item.name, item.description, item.category, kind, earlier, answer.before, answer.chosen,
+                  answer.undamped, law, answer.law, tuple(reasons_of(old, new, stop, common)),
+                  since_of(old, item, settings, stop))
 
 
 @dataclass(frozen=True)

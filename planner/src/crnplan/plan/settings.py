@@ -4,7 +4,7 @@ It says all that is wrong with them: file, line, column, what, and what to do.
 """
 from __future__ import annotations
 
-from collections.abc import Container, Iterator, Mapping
+from collections.abc import Callable, Container, Iterator, Mapping
 from dataclasses import replace
 from fractions import Fraction
 from pathlib import Path
@@ -15,14 +15,16 @@ from ..decide.doubt import TIMES
 from ..demand import LEAD_METHODS, METHODS
 from ..errors import Refused
 from ..formats import MOST_PERIODS, MOST_REPLICATIONS, MOST_WEIGHT
+from ..money import amount_of, share_of
 from ..records.cells import DECIMALS, EVERY
 from ..records.columns import COLUMNS, ROLES, unit_fault
+from ..records.defaults import cuts_of, currency_of
 from ..records.item import BORROW
 from ..records.items import KEEP, LEAVE_OUT
 from ..records.sources import DELIMITERS
 from ..toml.documents import Path as Place, TreeFault, shown
-from ..toml.rules import (MISSING, RANGE, Key, Table, choice, date, flag, money, number, numbers, read_tables, share,
-                          text, texts)
+from ..toml.rules import (MISSING, RANGE, Check, Key, Table, choice, date, flag, money, number, numbers, read_tables,
+                          share, text, texts)
 
 Tables = Mapping[str, Mapping[str, Any]]
 CONFIG = "crnplan.toml"
@@ -56,6 +58,17 @@ def unit(path: Place, value: Any) -> list[TreeFault]:
     return [TreeFault(RANGE, path, what, "write a unit of this column")] if what else []
 
 
+def stated(read: Callable[[Any], object]) -> Check:
+    """Returns the check of a value that a function reads, which raises Refused for a wrong one."""
+    def check(path: Place, value: Any) -> list[TreeFault]:
+        try:
+            read(value)
+        except Refused as why:
+            return [TreeFault(RANGE, path, why.what, why.advice)]
+        return []
+    return check
+
+
 RULES = Table({
     "history": Table({
         "demand": Key(text, needed=True), "returns": TEXT, "date": TEXT, **READING,
@@ -81,15 +94,18 @@ RULES = Table({
                    "this line"})},
     elsewhere={"check": "an item is no longer checked by itself: run crnplan check on scenario.toml, and remove this "
                         "table"})
+SHARE = Key(stated(share_of))
 HOMES = {key: name for name, table in reversed(RULES.keys.items()) if isinstance(table, Table) for key in table.keys}
 CATALOGUE_RULES = Table({"catalogue": Table({
-    **READING, "date_formats": Key(texts), "net": Key(flag), "twice": Key(choice(KEEP, LEAVE_OUT)),
+    **READING, "date_formats": Key(texts), "net": Key(flag), "negate": Key(flag), "twice": Key(choice(KEEP, LEAVE_OUT)),
     "far": Key(choice(KEEP, LEAVE_OUT)), "borrow": Key(choice(*BORROW)), "least": Key(number(1, MOST_WEIGHT)),
     "seed": TEXT, "fit": Key(choice(*METHODS)), "correct": Key(flag),
     "confidence": Key(share("0.8 for 80% of the laws that a history allows")),
     "level": Key(share("0.95 for 95 of 100 samples")), "window": Key(number(1, MOST_WEIGHT)),
     "periods": Key(number(1, MOST_PERIODS)),
     "replications": Key(number(2, MOST_REPLICATIONS)),
+    "setup": Key(stated(amount_of)), "holding_rate": SHARE, "fill": SHARE, "service": Table({}, other=SHARE),
+    "currency": Key(stated(currency_of)), "abc": Key(stated(cuts_of)),
     **{kind: Table(dict.fromkeys(roles, TEXT)) for kind, roles in ROLES.items()},
     "units": Table(dict.fromkeys(COLUMNS, Key(unit))), "names": Table(dict.fromkeys(COLUMNS, Key(texts))),
     "factors": Table({}, other=Key(number(1, MOST_WEIGHT))), "supplier_min": Table({}, other=Key(money))})},

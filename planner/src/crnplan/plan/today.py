@@ -250,7 +250,7 @@ class Today:
 
     @cached_property
     def classes(self) -> list[Group]:
-        return self._groups("group")
+        return self._groups("category")
 
     @cached_property
     def suppliers(self) -> list[Group]:

@@ -15,12 +15,14 @@ from typing import TYPE_CHECKING, Any, cast
 
 from ..errors import Fault, Refused, RefusedFaults, argument, worded
 from ..files import Folder, faults_of, own_folder
+from ..money import Amount, Currency, Number
 from ..remarks import Remark
 from ..stored import Columns, check_whole, digest_of, quoted
 from ..table import Json
-from ..words import message
+from ..words import message, sentence
 from .cells import NAMES, Unreadable, on_one_line, text_of
 from .columns import ROLES, converted, find_columns
+from .defaults import SOURCES, Defaults
 from .item import PLANNED, Item
 from .items import AMOUNTS, KEEP, LEAVE_OUT, Counts, Reader, Reject, Words
 from .observed import Day
@@ -137,7 +139,7 @@ class Catalogue:
         return contextlib.closing(Catalogued(self.path))
 
     def fact(self, name: str) -> Json:
-        """Returns a fact: `counts`, `found`, `said`, `every`, `decimals` or `periods`."""
+        """Returns a fact: `counts`, `found`, `said`, `sources`, `every`, `currency`, `decimals` or `periods`."""
         with self.opened() as read:
             return cast(Json, read.fact(name))
 
@@ -155,8 +157,8 @@ class Catalogue:
 
     @property
     def said(self) -> list[str]:
-        """Returns what is to be said of the files, as units that were converted."""
-        return cast(list[str], self.fact("said"))
+        """Returns what is to be said of the files, as units that were converted, and where defaults hold."""
+        return [*cast(list[str], self.fact("said")), *map(sentence, defaulted(self.fact("sources")))]
 
     @property
     def missing(self) -> list[str]:
@@ -171,6 +173,14 @@ class Catalogue:
         from ..pages.catalogue_tables import rejects_of
         with self.opened() as read:
             return rejects_of(read.rejects()).frame
+
+
+def defaulted(sources: Any) -> Iterator[Remark]:
+    """Yields of each value that may have a default, if it is not from the masters alone, of how many items it is from
+    where."""
+    for role, counts in sources.items():
+        if counts.keys() & {"class", "default"}:
+            yield Remark("taken from", {"role": role, **{name: counts.get(name, 0) for name in SOURCES}})
 
 
 def missing_of(counts: Counts, answered: int) -> list[str]:
@@ -191,28 +201,34 @@ def read_catalogue(demand: Table, items: Table, orders: Table | None = None, *,
                    every: str = "week", columns: Mapping[str, Mapping[str, str]] | None = None,
                    units: Mapping[str, Mapping[str, str]] | None = None,
                    names: Mapping[str, Mapping[str, Sequence[str]]] | None = None,
-                   start: Day | str | None = None, end: Day | str | None = None, net: bool = False, twice: str = KEEP,
-                   far: str = LEAVE_OUT, least: int = 13, factors: Mapping[str, int] | None = None,
-                   today: Day | None = None, delimiter: str | None = None, encoding: str | None = None,
-                   decimal: str | None = None, date_formats: Sequence[str] = ()) -> Catalogue:
+                   start: Day | str | None = None, end: Day | str | None = None, net: bool = False,
+                   negate: bool = False, twice: str = KEEP, far: str = LEAVE_OUT, least: int = 13,
+                   factors: Mapping[str, int] | None = None,
+                   setup: Amount | None = None, holding_rate: Amount | None = None, fill: Amount | None = None,
+                   service: Mapping[str, Amount] | None = None, currency: str | None = None,
+                   abc: str | Sequence[Number] | None = None, today: Day | None = None,
+                   delimiter: str | None = None, encoding: str | None = None, decimal: str | None = None,
+                   date_formats: Sequence[str] = ()) -> Catalogue:
     """Reads a catalogue from CSV files of any size, sheets of workbooks (FILE.xlsx!SHEET) or DataFrames.
 
     `demand` has a row for each movement (item, date, quantity, perhaps returned), `items` one for each item (item,
     setup, holding, backlog or fill, lead, perhaps s, S, description, stock, price, class, and bounds), `orders` the
-    dates of orders (item, ordered, received). `columns` names columns by file and role, as {"demand": {"quantity": "Menge"}};
-    others are found by usual names, to which `names` adds. `units` states what a column counts, as {"items": {"lead":
-    "day"}}; else its heading does. Periods are `every` day, week (ISO) or month. The record is that of the whole file,
-    or from `start` to `end`; rows after `today` are rejected. With `net` quantities below 0 are taken off their period.
-    Rows that stand `twice` and items with amounts `far` above all others are kept or left out ("keep", "leave-out"). An
-    item needs a history of `least` periods. `factors` says how many items one of a unit of measure is. `delimiter`,
-    `encoding`, `decimal` sign and `date_formats` are found if they can be.
+    dates of orders (item, ordered, received). `columns` names columns by file and role, as {"demand": {"quantity":
+    "Menge"}}; others are found by usual names, to which `names` adds. `units` states what a column counts, as {"items":
+    {"lead": "day"}}; else its heading does. Periods are `every` day, week (ISO) or month. The record is that of the
+    whole file, or from `start` to `end`; rows after `today` are rejected. With `net` quantities below 0 are taken off
+    their period, and with `negate` too, by which all have the other sign. Rows that stand `twice` and items with
+    amounts `far` above all others are kept or left out ("keep", "leave-out"). An item needs a history of `least`
+    periods. `factors` says how many items one of a unit of measure is. `setup` to `abc` are what masters need not say:
+    see `plan`. `delimiter`, `encoding`, `decimal` sign and `date_formats` are found if they can be.
 
     Raises Refused and RefusedFaults for files that can't be read. Rows and items with faults are in `rejects`.
     """
     words = Words(every=every, columns=columns or {}, units=units or {}, names=names or {}, start=start, end=end,
-                  today=today or datetime.date.today(), net=net, twice=twice, far=far, least=least,
+                  today=today or datetime.date.today(), net=net, negate=negate, twice=twice, far=far, least=least,
                   factors=factors or {}, delimiter=delimiter, encoding=encoding, decimal=decimal,
-                  date_formats=tuple(date_formats))
+                  date_formats=tuple(date_formats), defaults=Defaults.of(
+                      setup=setup, holding_rate=holding_rate, fill=fill, service=service, currency=currency, abc=abc))
     room = tempfile.TemporaryDirectory(prefix="crnplan-")
     path = read_alone(Path(room.name), {"demand": demand, "items": items, "orders": orders}, words)
     return Catalogue(path, room)
@@ -250,7 +266,9 @@ def read_into(folder: Folder, tables: Mapping[str, Table | None], words: Words) 
         reader = Reader(read_rows(sheets), words, writer.add)
         reader.read()
         periods = reader.record.periods
-        return writer.finish({"counts": reader.counts, "every": words.every, "decimals": reader.decimals,
+        return writer.finish({"counts": reader.counts, "every": words.every,
+                              "decimals": max(reader.decimals, Currency(reader.currency, 0).places),
+                              "currency": reader.currency, "abc": words.defaults.abc, "sources": reader.sources_by_role,
                               "periods": [periods.start, periods.stop], "found": found_of(reader),
                               "said": [f"{sheet.file_name}: {converted(column, role, words.every)}"
                                        for sheet in sheets.values() for role, column in sheet.columns.items()

@@ -2,7 +2,8 @@
 of a column together decide its decimal sign, and all dates of a table whether the day or the month comes first.
 
 A cell that could mean two things is rejected, never guessed: 1,234 is read only if its column has a number such as 0.05
-or 1,234,567, which has one reading alone, or if the sign is stated. The time of day and its zone are read over.
+or 1,234,567, which has one reading alone, or else the other columns of a catalogue's table have some, or if the sign is
+stated. The time of day and its zone are read over.
 """
 from __future__ import annotations
 
@@ -50,12 +51,12 @@ RULES: dict[str, Callable[[Fraction], Any]] = {
     "decimals": lambda number: (number * 10**MOST_DECIMALS).denominator == 1,
     "no whole items": lambda number: number >= 0 and number.denominator == 1, "zero": bool,
     "below 1": lambda number: number >= 1, **dict.fromkeys(
-        ("below 0", "negative", "negative period", "negative movement"), lambda number: number >= 0)}
+        ("below 0", "negative", "negative sale", "negative period", "negative movement"), lambda number: number >= 0)}
 # Kinds of numbers: the code of an empty cell, none if that is 0, and which of RULES a number meets beside the digits.
 KINDS = {
     "number": ("no amount",), "money": ("no amount", "below 0", "decimals"),
     "cost": ("no amount", "below 0", "decimals", "zero"), "items": ("no amount", "no whole items"),
-    "whole": ("no quantity", "not whole"), "sales": ("no quantity", "not whole", "negative"),
+    "whole": ("no quantity", "not whole"), "sales": ("no quantity", "not whole", "negative sale"),
     "period": ("no quantity", "not whole", "negative period"),
     "movement": ("no quantity", "not whole", "negative movement"), "returns": ("", "not whole", "negative"),
     "lead": ("no lead", "not whole", "below 1"), "owed": ("", "below 0"), "on order": ("no amount", "below 0")}
@@ -176,8 +177,6 @@ class AmountReader:
     def _read(self, text: str) -> Fraction:
         """Returns the number of a text. Raises Unreadable."""
         numbers = readings(unwrapped(text) if self.currencies is None else split_money(text)[0])
-        if self.currencies and len(self.currencies) > 1:
-            raise Unreadable("currencies", texts=" and ".join(repr(shown(it)) for it in self.currencies.values()))
         is_doubtful = len({*numbers.values()}) > 1
         if is_doubtful and self.sign is None:
             small, large = (f"{float(number):.15g}" for number in sorted(numbers.values(), key=abs))
@@ -200,6 +199,16 @@ class AmountReader:
         if not 0 < number < 1:
             raise Unreadable("no share", cell)
         return number
+
+
+def decide_together(readers: Iterable[AmountReader]) -> None:
+    """Gives the decimal sign that the columns of a table agree on to those whose texts may be two numbers, and in which
+    no number decides."""
+    known = [*readers]
+    signs = {sign: text for reader in reversed(known) for sign, text in reader.sides.items()}
+    for reader in known:
+        if reader.is_doubtful and not reader.sides and len(signs) == 1:
+            reader.sides = signs
 
 
 def other_reading(text: str, decimal: str) -> str | None:

@@ -128,7 +128,7 @@ class Finder:
     """Finds the columns of a table in its heading, by the words of a planner and by usual names."""
 
     def __init__(self, kind: str, words: Words) -> None:
-        self.kind, self.every = kind, words.every
+        self.kind, self.every, self.needed = kind, words.every, NEEDED[kind] - words.defaults.roles
         self.stated, self.units = words.columns.get(kind, {}), words.units.get(kind, {})
         more = words.names.get(kind, {})
         self.names = {role: {*HEADINGS["all"].get(role, ()), *HEADINGS[kind].get(role, ()),
@@ -156,8 +156,9 @@ class Finder:
                 self._refuse("two columns", role, names=" and ".join(repr(heading[place]) for place in places))
             elif places:
                 self._add(role, Column(heading[places[0]], places[0], True))
-            elif role in NEEDED[self.kind] or self._has_other(role):
-                self._refuse("no column", role, columns=listed(heading))
+            elif role in self.needed or self._has_other(role):
+                self._refuse(f"no column of {role}" if role in ("setup", "holding") else "no column", role,
+                             columns=listed(heading))
         return self.columns, self.wrong
 
     def _has_other(self, role: str) -> bool:

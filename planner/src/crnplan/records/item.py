@@ -26,7 +26,9 @@ class Item:
 
     What follows is no part of the plan: `stock` is today's, `price` the money that an item of stock is worth,
     `supplier_min` the money that an order of all items of the `supplier` comes to at least, `first` the number of the
-    first period, `line` and `rows` are the line of the master and the rows of demand.
+    first period, `line` and `rows` are the line of the master and the rows of demand. `abc` is the class by the value
+    of demand, empty without a price, and `category` the class that is shown: `group`, or `abc` if no item of the
+    catalogue has a class.
     """
 
     name: str
@@ -47,6 +49,8 @@ class Item:
     description: str = ""
     supplier: str = ""
     supplier_min: Fraction | None = None
+    abc: str = ""
+    category: str = ""
     first: int = 0
     line: int = 0
     rows: int = 0

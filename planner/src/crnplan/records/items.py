@@ -6,6 +6,7 @@ import datetime
 from collections import Counter
 from collections.abc import Callable, Mapping, Sequence
 from dataclasses import dataclass, field, replace
+from fractions import Fraction
 from typing import Literal, NamedTuple, TypedDict
 
 import numpy as np
@@ -14,19 +15,21 @@ import numpy.typing as npt
 from ..errors import Refused, argument
 from ..formats import MOST_ITEMS, MOST_LEAD
 from ..remarks import Remark
-from .cells import (EVERY, TOTAL, UNPRINTABLE, Cell, CellFault, Numbers, Unreadable, fault, named_lines, on_one_line,
-                    period_name, periods_of_days, text_of)
+from .cells import (EVERY, TOTAL, UNPRINTABLE, Cell, CellFault, Numbers, Unreadable, decide_together, fault,
+                    named_lines, on_one_line, period_name, periods_of_days, text_of)
+from .classes import abc_of
 from .columns import COLUMNS, ROLES, unit_fault
+from .defaults import Defaults, currency_in
 from .item import Item
-from .masters import MONEY, Masters
+from .masters import MONEY, Master, Masters
 from .observed import Day, ends_of, record_of, summed
 from .rows import Flags, Rows, far_above
 from .sources import Rules, Sheet
 
 KEEP, LEAVE_OUT = "keep", "leave-out"
 # The roles with amounts by table.
-AMOUNTS = {"items": ("setup", "holding", "backlog", "fill", "s", "S", "stock", "price", "price_for", "order_min", "pack",
-                     "s_min", "supplier_min"),
+AMOUNTS = {"items": ("setup", "holding", "backlog", "fill", "s", "S", "stock", "price", "price_for", "order_min",
+                     "pack", "s_min", "supplier_min"),
            "demand": ("quantity", "returned"), "orders": ()}
 
 
@@ -50,8 +53,9 @@ class Words(Rules):
     """How the files of a catalogue are read: periods, columns with their units and usual names by file and role, the
     ends of the record, how rows are taken, and how files are written. Raises Refused for what can't be meant.
 
-    `net` takes amounts below 0 off the sales that they undo, `twice` and `far` are keep or leave-out, and an item needs
-    a history of `least` periods. A row in a unit of measure counts so many items as `factors` says.
+    `net` takes amounts below 0 off the sales that they undo, and so does `negate`, by which all quantities have the
+    other sign; `twice` and `far` are keep or leave-out, and an item needs a history of `least` periods. A row in a unit
+    of measure counts so many items as `factors` says. `defaults` hold for items whose masters say nothing.
     """
 
     every: str = "week"
@@ -62,10 +66,12 @@ class Words(Rules):
     end: Day | str | None = None
     today: Day = field(default_factory=datetime.date.today)
     net: bool = False
+    negate: bool = False
     twice: str = KEEP
     far: str = LEAVE_OUT
     least: int = 13
     factors: Mapping[str, int] = field(default_factory=dict)
+    defaults: Defaults = field(default_factory=Defaults)
 
     def __post_init__(self) -> None:
         super().__post_init__()
@@ -145,18 +151,44 @@ class Reader:
             for row, wrong in rows[kind].nameless():
                 self._reject_row(kind, row, [wrong], is_named=False)
         self.dates = {kind: its.date_reader() for kind, its in rows.items()}
-        currencies: dict[str, str] = {}
-        self.amounts = {role: rows[kind].amount_reader(role, currencies if role in MONEY else None)
+        self.currencies = self._currencies()
+        self.amounts = {role: rows[kind].amount_reader(role, self.currencies if role in MONEY else None)
                         for kind in rows for role in AMOUNTS[kind]}
+        for kind in rows:
+            decide_together(self.amounts[role] for role in AMOUNTS[kind])
         days = Counter[Day]()
         for cell, count in rows["demand"].counts("date"):
             with contextlib.suppress(Unreadable):
                 days[self.dates["demand"].read(cell)[0]] += count
         start, end = ends_of(words.start, words.end)
         self.record = record_of(days, words.every, start, end, words.today)
-        self.masters = Masters(self.amounts, rows["items"].sheet.columns, words.every)
+        self.masters = Masters(self.amounts, rows["items"].sheet.columns, words.every, words.defaults, self.currencies)
+        self.sources = Counter[tuple[str, str]]()
         self.twice, self.master_twins = Counter[int](), rows["items"].twins()
         self.named = rows["demand"].by_item(rows["demand"].good)
+
+    def _currencies(self) -> dict[str, str]:
+        """Returns the currencies that are stated, or that the masters have in a column, each with its text."""
+        stated = self.words.defaults.currency
+        currencies = {stated: stated} if stated else {}
+        for cell, _ in self.rows["items"].counts("currency"):
+            with contextlib.suppress(Unreadable):
+                currencies.setdefault(currency_in(cell), text_of(cell))
+        currencies.pop("", None)
+        return currencies
+
+    @property
+    def currency(self) -> str:
+        """Returns the currency of the masters; empty if they name none."""
+        return next(iter(self.masters.currencies), "")
+
+    @property
+    def sources_by_role(self) -> dict[str, dict[str, int]]:
+        """Returns of how many items a value that may have a default is from where, by role."""
+        roles: dict[str, dict[str, int]] = {}
+        for (role, source), count in sorted(self.sources.items()):
+            roles.setdefault(role, {})[source] = count
+        return roles
 
     def _reject(self, what: str, kind: str, line: int, name: str, faults: Sequence[CellFault], rows: int) -> None:
         self.add(reject_of(what, self.rows[kind].sheet, line, name, faults, rows))
@@ -172,7 +204,12 @@ class Reader:
         moves_of, totals = self._moves()
         leads_of, masters_of = self._leads(), self.rows["items"].by_item(self.rows["items"].good)
         known = {code for table in self.rows.values() for code in np.unique(table.codes["item"][table.good]).tolist()}
-        for item in sorted(known - totals, key=self.names.__getitem__):
+        items = sorted(known - totals, key=self.names.__getitem__)
+        self.letters = self._letters(items, moves_of, masters_of)
+        groups = {text_of(cell) for cell, _ in self.rows["items"].counts("class")}
+        self.has_classes = any(groups)
+        self.words.defaults.check_classes(groups if self.has_classes else {*self.letters.values()})
+        for item in items:
             moves, masters, (leads, orders) = moves_of(item), masters_of(item).tolist(), leads_of(item)
             counts = {"demand": len(moves.lines), "items": len(masters), "orders": orders}
             state: Literal["used", "with_item"] = "with_item"
@@ -186,6 +223,23 @@ class Reader:
             self.counts["items"]["ready" if state == "used" else "left_out"] += 1
             for kind, file in self.counts["files"].items():
                 file[state] += counts[kind]
+
+    def _letters(self, items: Sequence[int], moves_of: Callable[[int], Moves],
+                 masters_of: Callable[[int], Numbers]) -> dict[int, str]:
+        """Returns the class of each item that has a price and demand, by the value of its mean demand."""
+        table, values = self.rows["items"], dict[int, Fraction]()
+        for item in items:
+            moves, masters = moves_of(item), masters_of(item).tolist()
+            cells = {role: table.cell(role, row) for row in masters[:1] for role in table.columns}
+            price, asked = self.masters.price(cells), int(moves.asked.sum())
+            if price is not None and asked > 0:
+                periods = self.record.periods.stop - self.record.first_of(int(moves.periods.min()))
+                values[item] = price * Fraction(asked, periods)
+        return abc_of(values, self.words.defaults.abc)
+
+    def _group(self, item: int, cells: Mapping[str, Cell]) -> str:
+        """Returns the class of an item: that of its row, or the one by value if no row has a class."""
+        return UNPRINTABLE.sub(" ", text_of(cells.get("class"))) if self.has_classes else self.letters.get(item, "")
 
     def _dates(self, kind: str, role: str) -> tuple[Numbers, Numbers, dict[int, Remark]]:
         """Returns the day, as an ordinal number, and the period of each row's date, and what is wrong with values."""
@@ -203,10 +257,11 @@ class Reader:
         rows = self.rows["demand"]
         _, periods, dated = self._dates("demand", "date")
         faults, amounts = {"date": dated}, {"returned": np.broadcast_to(np.int64(0), len(rows))}
-        kinds = {"quantity": "whole" if self.words.net else "sales", "returned": "returns"}
+        kinds = {"quantity": "whole" if self.words.net or self.words.negate else "sales", "returned": "returns"}
         for role in (it for it in kinds if it in rows.columns):
             unit = rows.sheet.columns[role].unit
             amounts[role], faults[role] = rows.amounts(role, self.amounts[role], kinds[role], unit)
+        amounts["quantity"] = amounts["quantity"] * (-1 if self.words.negate else 1)
         if "measure" in rows.columns and self.words.factors:
             units = rows.columns["measure"].distinct
             factors = np.array([self.words.factors.get(text_of(unit), 1) for unit in units], np.int64)
@@ -270,7 +325,7 @@ class Reader:
 
     def _item(self, item: int, moves: Moves, masters: Sequence[int], leads: Sequence[int]) -> Item:
         self._check_measures(item)
-        master, decimals = self._master(self.names[item], masters, leads, moves)
+        master, decimals, sources = self._master(item, masters, leads, moves)
         self._check_far(moves)
         start = self.record.periods[0]
         first = self.record.first_of(int(moves.periods.min()))
@@ -283,11 +338,12 @@ class Reader:
         back = np.bincount(moves.periods - first, moves.back, periods).astype(np.int64).tolist()
         self._check_counts(asked, back)
         its = replace(master, counts=tuple(asked), returns=tuple(back) if any(back) else (), first=first,
-                      rows=len(moves.lines))
+                      rows=len(moves.lines), abc=self.letters.get(item, ""))
         if its.levels and round(its.levels[1] / its.box) > MOST_ITEMS:
             raise Left("items", its.line, fault("S", its.levels[1], "S too large", most=MOST_ITEMS))
         self.counts["items"]["late"] += first > start
         self.decimals = max(self.decimals, decimals)
+        self.sources.update(sources.items())
         remarks: list[tuple[str, bool, Mapping[str, int | str]]] = [
             ("equal masters", len(masters) > 1, {"masters": len(masters)}),
             ("late", first > start, {"period": period_name(first, self.words.every)}),
@@ -309,9 +365,9 @@ class Reader:
             raise Left("demand", int(rows.lines[row]), fault(
                 "measure", unit, "measures", measures=" and ".join(repr(it) for _, it in unknown), text=unit))
 
-    def _master(self, name: str, rows: Sequence[int], leads: Sequence[int], moves: Moves) -> tuple[Item, int]:
-        """Returns an item that has demand, by its master, and the decimals of its money. Raises Left."""
-        table = self.rows["items"]
+    def _master(self, item: int, rows: Sequence[int], leads: Sequence[int], moves: Moves) -> Master:
+        """Returns the master of an item that has demand. Raises Left."""
+        table, name = self.rows["items"], self.names[item]
         if not rows:
             kind = "orders" if leads and not len(moves.lines) else "demand"
             raise Left(kind, int(moves.lines[0]) if len(moves.lines) else 0, fault("item", name, "no master"))
@@ -319,12 +375,14 @@ class Reader:
         if len({*self.master_twins[rows].tolist()}) > 1:
             raise Left("items", lines[1], fault("item", name, "several masters", masters=len(rows),
                                                 lines=named_lines(lines)))
-        read, faults = self.masters.read({role: table.cell(role, rows[0]) for role in table.columns}, leads)
+        cells = {role: table.cell(role, rows[0]) for role in table.columns}
+        group = self._group(item, cells)
+        read, faults = self.masters.read(cells, leads, group)
         if faults:
             raise Left("items", lines[0], *faults)
         if not len(moves.lines):
             raise Left("items", lines[0], fault("item", name, "no rows"))
-        return self.masters.item(name, lines[0], read, leads)
+        return self.masters.item(name, lines[0], read, leads, group)
 
     def _check_far(self, moves: Moves) -> None:
         """Raises Left if some amounts are far above all others, as if counted a thousand times too large."""

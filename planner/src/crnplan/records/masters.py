@@ -1,4 +1,5 @@
-"""Reads the rows of masters: costs, a wanted share, lead times, today's levels and prices."""
+"""Reads the rows of masters: costs, a wanted share, lead times, today's levels, bounds and prices; and takes what a
+planner states for all items if a row lacks it."""
 from __future__ import annotations
 
 import math
@@ -6,13 +7,14 @@ import re
 from collections.abc import Callable, Mapping, Sequence
 from fractions import Fraction
 from functools import partial
-from typing import Any
+from typing import Any, NamedTuple
 
 from ..formats import MOST_LEAD
 from ..money import MOST_DECIMALS
 from .bounds import Bounds
-from .cells import UNPRINTABLE, AmountReader, Cell, CellFault, Unreadable, fault
+from .cells import UNPRINTABLE, AmountReader, Cell, CellFault, Unreadable, fault, shown
 from .columns import DAYS, LEVELS, NEEDED, ROLES, UNITS, conversion, periods_of
+from .defaults import DEFAULT, MASTERS, Defaults, currency_in, distinct
 from .item import BORROW, Item
 from .sources import Column
 
@@ -75,19 +77,33 @@ def level_faults(cells: Mapping[str, Cell], s: Fraction | None, S: Fraction | No
     return [fault("s", cells["s"], "s above S", s=int(s), S=int(S))] if s > S else []
 
 
-class Masters:
-    """Reads the rows of masters, with the unit of each column."""
+class Master(NamedTuple):
+    """An item without its demand, the decimals of its money, and by role where a value that may have a default is
+    from."""
 
-    def __init__(self, amounts: Mapping[str, AmountReader], columns: Mapping[str, Column], every: str) -> None:
+    item: Item
+    decimals: int
+    sources: Mapping[str, str]
+
+
+class Masters:
+    """Reads the rows of masters, with the unit of each column, and what holds if they say nothing. `currencies` has the
+    first text of each currency in them."""
+
+    def __init__(self, amounts: Mapping[str, AmountReader], columns: Mapping[str, Column], every: str,
+                 defaults: Defaults, currencies: Mapping[str, str]) -> None:
         units = {role: column.unit for role, column in columns.items() if column.unit}
-        self.factors = {role: conversion(role, unit, every)[0] for role, unit in units.items()
-                        if role not in ("lead", "fill", "coverage", "shelf_life")}
+        factors = {role: conversion(role, unit, every)[0] for role, unit in units.items()
+                   if role not in ("lead", "fill", "coverage", "shelf_life")}
+        self.price_factor, self.factors = factors.pop("price", Fraction(1)), factors
         self.is_money = units.get("order_min") == "money"
         self.share = units["holding"] if units.get("holding") in ("share", "percent") else ""
+        self.defaults, self.currencies = defaults, distinct(currencies)
+        self.a_year = conversion("holding", "share", every)[0]
         self.readers: dict[str, Callable[[Cell], Any]] = {
             **{role: partial(amounts[role].number, kind=kind) for role, kind in READ_AS.items()},
             **dict.fromkeys(("description", "class", "supplier"), lambda cell: UNPRINTABLE.sub(" ", str(cell))),
-            "holding": partial(self._holding, amounts["holding"]), "borrow": borrowed_from,
+            "holding": partial(self._holding, amounts["holding"]), "borrow": borrowed_from, "currency": currency_in,
             "lead": partial(leads_of, unit=units.get("lead", ""), every=every),
             **{role: partial(span_of, unit=units.get(role, ""), every=every) for role in ("coverage", "shelf_life")},
             "fill": partial(amounts["fill"].share, in_percent="fill" in units)}
@@ -103,50 +119,72 @@ class Masters:
             raise Unreadable("small percent of holding", cell)
         return number / 100 if is_percent and self.share == "share" else number
 
-    def read(self, cells: Mapping[str, Cell], observed: Sequence[int]) -> tuple[dict[str, Any], list[CellFault]]:
+    def price(self, cells: Mapping[str, Cell]) -> Fraction | None:
+        """Returns the price of one item of a row; None if it has none that can be read."""
+        return self._price({role: self._value(role, cells.get(role, ""), []) for role in ("price", "price_for")})
+
+    def _price(self, read: Mapping[str, Any]) -> Fraction | None:
+        """Returns the price of one item by the values of its row."""
+        price: Fraction | None = read["price"]
+        return None if price is None else price / (read["price_for"] or 1) * self.price_factor
+
+    def _value(self, role: str, cell: Cell, faults: list[CellFault]) -> Any:
+        """Returns the value of a cell; None if it is empty and may be so, or has a fault, which is added."""
+        is_needed = role in NEEDED["items"] - self.defaults.roles
+        try:
+            return None if cell == "" and not is_needed else self.readers[role](cell)
+        except Unreadable as why:
+            faults.append((role, cell, why.remark))
+            return None
+
+    def read(self, cells: Mapping[str, Cell], observed: Sequence[int],
+             group: str) -> tuple[dict[str, Any], list[CellFault]]:
         """Returns the values of a row by role, None of an empty cell, and all that is wrong with the row. `observed`
-        are lead times of orders, for a row that says none."""
-        read: dict[str, Any] = {}
+        are lead times of orders, for a row that says none, and `group` is the class of the item."""
         faults: list[CellFault] = []
-        for role in ROLES["items"][1:]:
-            cell = cells.get(role, "")
-            try:
-                read[role] = None if cell == "" and role not in NEEDED["items"] else self.readers[role](cell)
-            except Unreadable as why:
-                faults.append((role, cell, why.remark))
-        if "backlog" in read and "fill" in read and read["backlog"] is None and read["fill"] is None:
+        read = {role: self._value(role, cells.get(role, ""), faults) for role in ROLES["items"][1:]}
+        unread = {role for role, _, _ in faults}
+        fill, _ = self.defaults.fill_of(group, read["fill"])
+        if not unread & {"backlog", "fill"} and read["backlog"] is None and fill is None:
             faults.append(fault("backlog", "", "no goal"))
-        if "lead" in read and read["lead"] is None and not observed:
+        if "lead" not in unread and read["lead"] is None and not observed:
             faults.append(fault("lead", "", "nothing of leads"))
-        if "s" in read and "S" in read:
+        if not unread & {"s", "S"}:
             faults += level_faults(cells, read["s"], read["S"])
-        if self.share and "price" in read and not read["price"]:
-            faults.append(fault("holding", cells["holding"], "no price for share"))
-        if self.is_money and read.get("order_min") and "price" in read and not read["price"]:
-            faults.append(fault("order_min", cells["order_min"], "no price for order"))
+        if "price" not in unread and not read["price"]:
+            if self.share or read["holding"] is None and "holding" not in unread:
+                faults.append(fault("holding", cells.get("holding", ""), "no price for share"))
+            if self.is_money and read["order_min"]:
+                faults.append(fault("order_min", cells["order_min"], "no price for order"))
+        if len(self.currencies) > 1:
+            texts = " and ".join(repr(shown(text)) for text in self.currencies.values())
+            faults.append(fault("currency", cells.get("currency", ""), "currencies", texts=texts))
         return read, faults
 
-    def item(self, name: str, line: int, read: dict[str, Any], observed: Sequence[int]) -> tuple[Item, int]:
-        """Returns an item without its demand, by the values of its row without units, and the decimals of its money."""
+    def item(self, name: str, line: int, read: dict[str, Any], observed: Sequence[int], group: str) -> Master:
+        """Returns the master of an item, of a class, by the values of its row without units."""
+        defaults, price = self.defaults, self._price(read)
+        sources = {role: DEFAULT if read[role] is None else MASTERS for role in ("setup", "holding")}
+        fill, sources["fill"] = defaults.fill_of(group, read["fill"])
+        read["setup"] = setup = defaults.setup if read["setup"] is None else read["setup"]
         decimals = next(digits for digits in range(MOST_DECIMALS + 1) if all(
             (read[role] * 10**digits).denominator == 1 for role in MONEY if read[role] is not None))
-        read["price"] = None if read["price"] is None else read["price"] / (read["price_for"] or 1)
         read |= {role: read[role] * factor for role, factor in self.factors.items() if read[role] is not None}
-        holding = read["holding"] * read["price"] if self.share else read["holding"]
+        rate = self.a_year * (defaults.holding_rate or 0) if read["holding"] is None else read["holding"]
+        holding = rate * (price or 0) if self.share or read["holding"] is None else rate
         levels = None if read["s"] is None else (int(read["s"]), int(read["S"]))
-        item = Item(name, (), tuple(read["lead"] or observed), levels, read["setup"], holding,
-                    read["backlog"], read["fill"], group=read["class"] or "", borrow=read["borrow"] or "",
-                    bounds=self._bounds(read),
-                    stock=read["stock"], price=read["price"], description=read["description"] or "",
-                    supplier=read["supplier"] or "", supplier_min=read["supplier_min"], line=line)
-        return item, decimals
+        item = Item(name, (), tuple(read["lead"] or observed), levels, setup or Fraction(0), holding, read["backlog"],
+                    fill, group=read["class"] or "", borrow=read["borrow"] or "", bounds=self._bounds(read, price),
+                    stock=read["stock"], price=price, description=read["description"] or "",
+                    supplier=read["supplier"] or "", supplier_min=read["supplier_min"], category=group, line=line)
+        return Master(item, decimals, sources)
 
-    def _bounds(self, read: Mapping[str, Any]) -> Bounds:
-        """Returns the bounds of an item, by the values of its row without units. A 0 of a system states none but for s.
-        """
+    def _bounds(self, read: Mapping[str, Any], price: Fraction | None) -> Bounds:
+        """Returns the bounds of an item with a price, by the values of its row without units. A 0 of a system states
+        none but for s."""
         least = read["order_min"] or None
-        if least and self.is_money:
-            least /= read["price"]
+        if least and price and self.is_money:
+            least /= price
         return Bounds(int(read["pack"] or 1), least and math.ceil(least),
                       None if read["s_min"] is None else int(read["s_min"]), read["coverage"] or None,
                       read["shelf_life"] or None)

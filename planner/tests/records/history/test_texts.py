@@ -39,7 +39,7 @@ def test_number_in_any_form(digits: int, places: int, decimal: str | None, data:
     bare = f"-{text[1:-1]}" if text[0] == "(" else text
     assert number in readings(bare).values()
     if decimal is None and len({*readings(bare).values()}) > 1:
-        with pytest.raises(Unreadable, match="may be .* or .*, and no other number of the column decides it; say"):
+        with pytest.raises(Unreadable, match="may be .* or .*, and no other number decides it; say"):
             AmountReader().number(text)
     else:
         assert AmountReader(decimal).number(text) == number

@@ -1,0 +1,40 @@
+"""Puts items into classes: by the value of their demand (ABC), and by how much it varies (XYZ).
+
+Source: Silver, Pyke and Thomas, Inventory and Production Management in Supply Chains (2017), section 2.4, for ABC. The
+limits of XYZ are a convention.
+"""
+from __future__ import annotations
+
+from collections.abc import Hashable, Mapping, Sequence
+from fractions import Fraction
+from typing import TypeVar
+
+import numpy as np
+
+Name = TypeVar("Name", bound=Hashable)
+LETTERS, VARIED = "ABC", "XYZ"
+# The coefficients of variation up to which an item is X, and Y.
+MOST_VARIED = (0.5, 1.0)
+
+
+def abc_of(values: Mapping[Name, Fraction], cuts: Sequence[int]) -> dict[Name, str]:
+    """Returns the class of each item by the value of its demand: A if the items of higher value have less than the
+    first share of all value, in percent, B if they have less than the second, else C. Equal values have one class."""
+    classes, total, above = dict[Name, str](), sum(values.values()), Fraction(0)
+    by_value: dict[Fraction, list[Name]] = {}
+    for name, value in values.items():
+        by_value.setdefault(value, []).append(name)
+    for value in sorted(by_value, reverse=True):
+        letter = LETTERS[sum(100 * above >= cut * total for cut in cuts)]
+        classes |= dict.fromkeys(by_value[value], letter)
+        above += value * len(by_value[value])
+    return classes
+
+
+def xyz_of(counts: Sequence[int]) -> str:
+    """Returns the class of an item by the coefficient of variation of its demand by period, the standard deviation of
+    the periods over their mean: X up to 0.5, Y up to 1, else Z. It is empty without demand."""
+    if not any(counts):
+        return ""
+    variation = float(np.std(counts) / np.mean(counts))
+    return VARIED[sum(variation > most for most in MOST_VARIED)]
