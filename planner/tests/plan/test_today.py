@@ -137,7 +137,9 @@ def test_additions_for_a_supplier() -> None:
         "near": [10, 20, 65], "fast": [6, 18, 83]}
     assert today.suppliers.set_index("supplier")[["dead", "short"]].T.to_dict("list") == {"ABB": [14, 0], "Bosch": [0, 38]}
     assert "Bosch: 45.00 is 38.00 short of 83.00; add 10 near, 6 fast\n" in today.text and today.text in today.notes
-    assert list(today.dead.periods) == [60] and "1 items, with stock worth 14.00" in today.text
+    more = OrdersToday(replace(today.today, minimums={"Bosch": Fraction(999)}))
+    assert "add 10 near, 6 fast: no other item of it needs stock, and 916.00 are lacking\n" in more.text
+    assert list(today.dead.periods) == [60] and "1 item, with stock worth 14.00" in today.text
 
 
 def test_least_order_values_of_suppliers() -> None:
@@ -221,7 +223,7 @@ def test_stock_of_the_masters_and_dead_stock(tmp_path: Path, crnplan: Command, m
         assert today.frame[today.frame.item == "Q-1"].placed.notna().sum() == orders
         assert list(today.dead.value) == [6 * 1.5] * (orders == 0) and "The plan is old" in today.text
         if orders:
-            assert list(today.suppliers.short) == [10**6 - today.frame.value[0]] and "add nothing" in today.text
+            assert list(today.suppliers.short) == [10**6 - today.frame.value[0]] and "add nothing: no other item of it needs" in today.text
     old = replace(crn.open_plan(tmp_path / "left").orders_today().today, day=FRIDAY)
     assert [replace(old, end=days(-it)).weeks_old for it in (56, 57, 70)] == [None, 8, 10]
     with contextlib.closing(sqlite3.connect(tmp_path / "left" / READ)) as base, base:
@@ -245,6 +247,7 @@ def test_command(folder: Path, stock: pd.DataFrame, tmp_path: Path, monkeypatch:
     answer = crnplan("today", folder, *words, "--out", "today")
     assert answer.status == 0, answer.errors
     assert "stock.csv: 7 rows = 4 used + 2 rejected + 1 left out with their item" in answer.output
+    assert "1 left out: stock.csv:8, item X-1: no item of the plan has this name; add it to the masters" in answer.output
     left = pd.read_csv("today/today_left_out.csv")
     assert [*left.line] == [4, 6, 8] and [*left.kind] == ["row", "row", "item"]
     orders = pd.read_csv("today/today_orders.csv").set_index("item")

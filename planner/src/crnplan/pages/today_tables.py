@@ -20,8 +20,8 @@ from ..records.items import Words
 from ..records.observed import Day, stated_day
 from ..records.sources import Table
 from ..table import MONEY, Cell, Column, DataTable, Result, number, text, whole
-from ..words import sentence
-from .catalogue_tables import REJECT_COLUMNS, counted_rows, rejects_of
+from ..words import counted, sentence
+from .catalogue_tables import REJECT_COLUMNS, counted_rows, reasons_of, rejects_of
 from .page import rendered
 
 if TYPE_CHECKING:
@@ -57,7 +57,8 @@ ORDER_COLUMNS = (
     whole("placed", "items", "the order in whole packs"), worth("value", "the placed order at the price of the masters"),
     weeks("weeks", "until a shortage at mean demand if nothing came: the stock less what is owed, over the mean"),
     number("chance", "share", "the chance of a shortage before delivery: that the demand of a lead time and one more "
-           "period exceeds the stock less what is owed and what is due by then, by the laws of the plan", ".5g", ".1%"),
+           "period exceeds the stock less what is owed and what is due by then, by the laws of the plan, if periods "
+           "are independent; what has no date, or is overdue, comes in time", ".5g", ".1%"),
     text("latest", "the day on which the order has to leave to arrive, at mean demand and after the mean lead time, "
          "before the position is used up; today if that is past"),
     text("code", "of the reason; of items without an order, why nothing is known of them"), text("why", "it in words"))
@@ -223,8 +224,9 @@ class OrdersToday(Result):
         urgent = self._table("orders", map(order_row, whole.due[:MOST_URGENT])).with_columns(URGENT)
         short = [group for group in today.suppliers if group.short]
         return rendered("today.txt", {
-            "today": today, "whole": whole, "urgent": urgent.text, "files": counted_rows(today.counts), "short": [
-                (group, [it.standing for it in group.additions()]) for group in short],
+            "today": today, "whole": whole, "urgent": urgent.text, "counted": counted, "files": counted_rows(today.counts),
+            "reasons": reasons_of(today.rejects), "short": [
+                (group, [*group.additions()]) for group in short],
             "unpriced": sum(it.item.price is None for it in whole.due),
             "owed": sum_of_money(it.worth(it.hand.owed) for it in today.owed),
             "money": lambda amount: self.currency.named(f"{float(amount):,.{self.currency.digits}f}")})

@@ -11,7 +11,6 @@ import math
 from collections.abc import Iterator, Sequence
 from typing import NamedTuple
 
-from scipy.optimize import brentq
 from scipy.special import ndtr
 
 from ...records.item import Item
@@ -51,6 +50,8 @@ def loss(factor: float) -> float:
 def safety_factor(share: float, quantity: float) -> float:
     """Returns the factor with which a share of demand is met at once, or of periods end without items owed: both have
     the same rule. The order quantity is in standard deviations."""
+    from scipy.optimize import brentq  # which takes long to import
+
     def lacking(factor: float) -> float:
         return loss(factor) - loss(factor + quantity) - quantity * (1 - share)
     ends = lacking(-MOST_FACTOR), lacking(MOST_FACTOR)
