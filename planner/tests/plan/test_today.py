@@ -240,19 +240,19 @@ def test_command(folder: Path, stock: pd.DataFrame, tmp_path: Path, monkeypatch:
     before = {path: path.read_bytes() for path in folder.iterdir()}
     names = [*crn.open_plan(folder).decisions.item]
     before_times = {path.name: path.stat().st_mtime_ns for path in folder.iterdir()}
-    rows = [f"{names[0]};1,5", f"{names[0]};2", f"{names[1]};viel", f"{names[2]};0", ";3", f"{names[3]};-2", "X-1;4"]
+    rows = [f"{names[0]};1,5", f"{names[0]};2", f"{names[1]};viel", f"{names[2]};0", ";3", f"{names[3]};-2", "X-1;4", f"{names[4]};0"]
     Path("stock.csv").write_text("\n".join(["Material;frei verwendbar", *rows, ""]), "utf-8")
-    Path("open.csv").write_text(f"Artikel;Offene Menge;Liefertermin\n{names[2]};1;01.12.2026\n", "utf-8")
+    Path("open.csv").write_text(f"Artikel;Offene Menge;Liefertermin\n{names[2]};1;01.12.2026\n{names[4]};viel;\n", "utf-8")
     words = "--stock", "stock.csv", "--on-order", "open.csv", "--date", "2026-11-27"
     answer = crnplan("today", folder, *words, "--out", "today")
     assert answer.status == 0, answer.errors
-    assert "stock.csv: 7 rows = 4 used + 2 rejected + 1 left out with their item" in answer.output
+    assert "stock.csv: 8 rows = 5 used + 2 rejected + 1 left out with their item" in answer.output
     assert "1 left out: stock.csv:8, item X-1: no item of the plan has this name; add it to the masters" in answer.output
     left = pd.read_csv("today/today_left_out.csv")
-    assert [*left.line] == [4, 6, 8] and [*left.kind] == ["row", "row", "item"]
+    assert [*left.line] == [3, 4, 6, 8] and [*left.kind] == ["row", "row", "row", "item"]
     orders = pd.read_csv("today/today_orders.csv").set_index("item")
     assert orders.stock[names[0]] == 3.5 and orders.owed[names[3]] == 2
-    assert orders.code[names[1]] == "unread stock" and pd.isna(orders.order[names[1]])
+    assert {*orders.code[[names[1], names[4]]]} == {"unread stock"} and orders.order[[names[1], names[4]]].isna().all()
     assert crnplan("today", folder, *words, "--csv", "orders").output == Path("today/today_orders.csv").read_text("utf-8")
     assert {path: path.read_bytes() for path in folder.iterdir()} == before
     assert {path.name: path.stat().st_mtime_ns for path in folder.iterdir()} == before_times
@@ -272,3 +272,14 @@ def test_refused_words(folder: Path, stock: pd.DataFrame, tmp_path: Path, crnpla
     stock.to_csv("stock.csv", index=False)
     answer = crnplan("today", folder, "--stock", "stock.csv", *words)
     assert answer.status == 2 and wanted in answer.errors
+
+
+def test_plan_of_another_version(tmp_path: Path, crnplan: Command) -> None:
+    """Answers with other columns are refused, and stay."""
+    made_folder(tmp_path / "plan", 12, has_curve=False)
+    with contextlib.closing(sqlite3.connect(tmp_path / "plan" / ANSWERS)) as base, base:
+        base.execute("ALTER TABLE answers DROP COLUMN laws_box")
+    answer = crnplan("today", tmp_path / "plan")
+    assert answer.status == 2 and "run crnplan catalogue" in answer.errors
+    with contextlib.closing(sqlite3.connect(tmp_path / "plan" / ANSWERS)) as base:
+        assert base.execute("SELECT count(*) FROM answers").fetchone() == (12,)
