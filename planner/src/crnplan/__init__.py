@@ -38,6 +38,7 @@ if TYPE_CHECKING:
     from .records.catalogue_reading import Catalogue as Catalogue, read_catalogue as read_catalogue
     from .curve.exchange_curve import exchange_curve as exchange_curve
     from .pages.catalogue_page import report as report
+    from .pages.today_tables import OrdersToday as OrdersToday
 
 # The module of each public name: those above that are imported as themselves, which is how checkers of types know them.
 _HOMES = {name.asname: node.module for node in ast.walk(ast.parse(Path(__file__).read_text("utf-8")))

@@ -55,7 +55,7 @@ def standing_of(stock: int = 5, owed: int = 0, arrivals: Sequence[Arrival] = (),
     (standing_of(pack=4), 5, 16, 2.5, days(3), 1 / 2),
     (standing_of(stock=8), 8, 12, 4, days(14), 1 / 8),
     (standing_of(stock=0), 0, 20, 0, days(0), 7 / 8),
-    # An order that is due after 3 weeks comes too late for the demand of a lead time and a week; one without a date not.
+    # An order that is due after 3 weeks comes too late for the demand of a lead time and a week.
     (standing_of(2, 3, [Arrival(Fraction(6), days(20))]), 5, 15, 0, days(3), 1 / 2),
     (standing_of(2, 3, [Arrival(Fraction(6), days(21))]), 5, 15, 0, days(3), 1),
     (standing_of(2, 3, [Arrival(Fraction(4)), Arrival(Fraction(2), days(-9))]), 5, 15, 0, days(3), 1 / 2),
@@ -135,7 +135,8 @@ def test_additions_for_a_supplier() -> None:
     today = OrdersToday(Today(FRIDAY, FRIDAY, items, [], dead, {"Bosch": Fraction(83)}, False, {}, []))
     assert today.added.set_index("item")[["placed", "value", "total"]].T.to_dict("list") == {
         "near": [10, 20, 65], "fast": [6, 18, 83]}
-    assert today.suppliers.set_index("supplier")[["dead", "short"]].T.to_dict("list") == {"ABB": [14, 0], "Bosch": [0, 38]}
+    assert today.suppliers.set_index("supplier")[["dead", "short"]].T.to_dict("list") == {
+        "ABB": [14, 0], "Bosch": [0, 38]}
     assert "Bosch: 45.00 is 38.00 short of 83.00; add 10 near, 6 fast\n" in today.text and today.text in today.notes
     more = OrdersToday(replace(today.today, minimums={"Bosch": Fraction(999)}))
     assert "add 10 near, 6 fast: no other item of it needs stock, and 916.00 are lacking\n" in more.text
@@ -151,7 +152,7 @@ def test_least_order_values_of_suppliers() -> None:
         minimums_of(items, {"Bosch": Fraction(400)})
     with pytest.raises(crn.Refused, match="two least order values"):
         minimums_of([*items, item_of(name="4", supplier="Bosch", supplier_min=Fraction(4))], {})
-    with pytest.raises(crn.Refused, match="supplier_min=ABB: 'much' is no amount of money"):
+    with pytest.raises(crn.Refused, match="supplier_min: 'much' is no cost"):
         orders_today(Path(), {}, Words(), None, {"ABB": "much"})
     with pytest.raises(crn.Refused, match="no item has this supplier; did you mean 'Bosch'?"):
         minimums_of(items, {"Boschh": Fraction(400)})
@@ -187,7 +188,7 @@ def test_sums_by_pandas(folder: Path, stock: pd.DataFrame, on_order: pd.DataFram
         "stock": own.assign(stock=own.stock.clip(lower=0)).groupby("item").stock.sum(),
         "owed": (-own.assign(stock=own.stock.clip(upper=0)).groupby("item").stock.sum())}).join(
             known[["class", "s_chosen", "S_chosen"]])
-    table["position"] = table.stock - table.owed + on_order.groupby("item").quantity.sum().reindex(table.index).fillna(0)
+    table["position"] = (table.stock - table.owed).add(on_order.groupby("item").quantity.sum(), fill_value=0)
     table["placed"] = (table.S_chosen - table.position).where(table.position < table.s_chosen).astype(float)
     table["price"] = (known.value_chosen / known.stock_chosen).reindex(table.index)
     table["value"] = table.placed * table.price
@@ -195,7 +196,8 @@ def test_sums_by_pandas(folder: Path, stock: pd.DataFrame, on_order: pd.DataFram
     orders = today.frame.set_index("item")
     due, unknown = orders[orders.placed.notna()], orders[orders.placed.isna()]
     columns = ["stock", "owed", "position", "placed", "value"]
-    pd.testing.assert_frame_equal(due[columns].sort_index().astype(float), table[table.placed.notna()][columns].astype(float))
+    wanted = table[table.placed.notna()][columns].astype(float)
+    pd.testing.assert_frame_equal(due[columns].sort_index().astype(float), wanted)
     assert list(due.weeks) == sorted(due.weeks) and [*unknown.index] == [*known.index[-5:]]
     assert {*unknown.code} == {"no stock"}
     sums = today.classes.set_index("class")
@@ -214,7 +216,8 @@ def test_stock_of_the_masters_and_dead_stock(tmp_path: Path, crnplan: Command, m
     quiet, answer = made_pair(random.Random(3), "Q-1")
     quiet = replace(quiet, counts=(7, *[0] * 53), stock=Fraction(-4), price=Fraction(3, 2), supplier="Bosch",
                     supplier_min=Fraction(10**6))
-    for name, its, stock, orders in (("planned", answer, Fraction(-4), 1), ("left", Remark("no demand"), Fraction(6), 0)):
+    for name, its, stock, orders in (("planned", answer, Fraction(-4), 1),
+                                     ("left", Remark("no demand"), Fraction(6), 0)):
         item: Any = replace(quiet, stock=stock), its
         made_folder(tmp_path / name, 12, has_curve=False, change=item)
         with contextlib.closing(Store(tmp_path / name / ANSWERS, Answer)) as store:
@@ -223,7 +226,8 @@ def test_stock_of_the_masters_and_dead_stock(tmp_path: Path, crnplan: Command, m
         assert today.frame[today.frame.item == "Q-1"].placed.notna().sum() == orders
         assert list(today.dead.value) == [6 * 1.5] * (orders == 0) and "The plan is old" in today.text
         if orders:
-            assert list(today.suppliers.short) == [10**6 - today.frame.value[0]] and "add nothing: no other item of it needs" in today.text
+            assert list(today.suppliers.short) == [10**6 - today.frame.value[0]]
+            assert "add nothing: no other item of it needs" in today.text
     old = replace(crn.open_plan(tmp_path / "left").orders_today().today, day=FRIDAY)
     assert [replace(old, end=days(-it)).weeks_old for it in (56, 57, 70)] == [None, 8, 10]
     with contextlib.closing(sqlite3.connect(tmp_path / "left" / READ)) as base, base:
@@ -240,20 +244,23 @@ def test_command(folder: Path, stock: pd.DataFrame, tmp_path: Path, monkeypatch:
     before = {path: path.read_bytes() for path in folder.iterdir()}
     names = [*crn.open_plan(folder).decisions.item]
     before_times = {path.name: path.stat().st_mtime_ns for path in folder.iterdir()}
-    rows = [f"{names[0]};1,5", f"{names[0]};2", f"{names[1]};viel", f"{names[2]};0", ";3", f"{names[3]};-2", "X-1;4", f"{names[4]};0"]
+    rows = [f"{names[0]};1,5", f"{names[0]};2", f"{names[1]};viel", f"{names[2]};0", ";3", f"{names[3]};-2", "X-1;4",
+            f"{names[4]};0"]
     Path("stock.csv").write_text("\n".join(["Material;frei verwendbar", *rows, ""]), "utf-8")
-    Path("open.csv").write_text(f"Artikel;Offene Menge;Liefertermin\n{names[2]};1;01.12.2026\n{names[4]};viel;\n", "utf-8")
+    Path("open.csv").write_text(
+        f"Artikel;Offene Menge;Liefertermin\n{names[2]};1;01.12.2026\n{names[4]};viel;\n", "utf-8")
     words = "--stock", "stock.csv", "--on-order", "open.csv", "--date", "2026-11-27"
     answer = crnplan("today", folder, *words, "--out", "today")
     assert answer.status == 0, answer.errors
     assert "stock.csv: 8 rows = 5 used + 2 rejected + 1 left out with their item" in answer.output
-    assert "1 left out: stock.csv:8, item X-1: no item of the plan has this name; add it to the masters" in answer.output
+    assert "1 left out: stock.csv:8, item X-1: no item of the plan has this name; add it to" in answer.output
     left = pd.read_csv("today/today_left_out.csv")
     assert [*left.line] == [3, 4, 6, 8] and [*left.kind] == ["row", "row", "row", "item"]
     orders = pd.read_csv("today/today_orders.csv").set_index("item")
     assert orders.stock[names[0]] == 3.5 and orders.owed[names[3]] == 2
     assert {*orders.code[[names[1], names[4]]]} == {"unread stock"} and orders.order[[names[1], names[4]]].isna().all()
-    assert crnplan("today", folder, *words, "--csv", "orders").output == Path("today/today_orders.csv").read_text("utf-8")
+    table = Path("today/today_orders.csv").read_text("utf-8")
+    assert crnplan("today", folder, *words, "--csv", "orders").output == table
     assert {path: path.read_bytes() for path in folder.iterdir()} == before
     assert {path.name: path.stat().st_mtime_ns for path in folder.iterdir()} == before_times
     answer = crnplan("today", folder, *words, "--out", folder)
@@ -263,7 +270,8 @@ def test_command(folder: Path, stock: pd.DataFrame, tmp_path: Path, monkeypatch:
 
 
 @pytest.mark.parametrize("words, wanted", [
-    (("--config", "words.toml"), "--supplier-min ABB: no item"), (("--date", "soon"), "--date: 'soon' is no date"), (("--supplier-min", "Bosch=5"), "--supplier-min Bosch: no item"),
+    (("--config", "words.toml"), "--supplier-min ABB: no item"), (("--date", "soon"), "--date: 'soon' is no date"),
+    (("--supplier-min", "Bosch=5"), "--supplier-min Bosch: no item"),
     (("--column", "stock.stock=Menge"), "Menge")])
 def test_refused_words(folder: Path, stock: pd.DataFrame, tmp_path: Path, crnplan: Command, words: Sequence[str],
                        wanted: str, monkeypatch: pytest.MonkeyPatch) -> None:

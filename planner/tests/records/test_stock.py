@@ -11,6 +11,7 @@ import pandas as pd
 import pytest
 
 from crnplan.errors import RefusedFaults
+from crnplan.records.catalogue_reading import read_catalogue
 from crnplan.records.items import Words
 from crnplan.records.stock import Arrival, Holdings, OnHand, read_holdings
 from crnplan.words import sentence
@@ -30,7 +31,8 @@ def read(folder: Path, stock: str = "", on_order: str = "", **words: Any) -> Hol
 
 @pytest.mark.parametrize("heading", [
     "Material;Unrestricted;Backorder", "Material;Frei verwendbar;Rückstand", "MATNR;LABST;backlog",
-    "Item;On Hand;Back Ordered", "Item number;Available physical;Owed", "Item No.;Quantity on Hand;Quantity on backorder",
+    "Item;On Hand;Back Ordered", "Item number;Available physical;Owed",
+    "Item No.;Quantity on Hand;Quantity on backorder",
     "Artikel;Bestand;Rückstände", "Référence;Stock actuel;Reliquat", "Código;Existencias;Pedidos pendientes",
     "Indeks;Stan magazynowy;Zaległości", "物料编码;库存数量;欠货数量", "item;Qty;owed", "Artikel;Menge;Auftragsrückstand"])
 def test_headings_of_stock(tmp_path: Path, heading: str) -> None:
@@ -91,7 +93,7 @@ def test_rows_that_are_named(tmp_path: Path) -> None:
 
 
 def test_frames_and_tables_that_cannot_be_read(tmp_path: Path) -> None:
-    """A frame is read as a file, a missing column is refused with the tables' own words, two are never chosen between."""
+    """A frame is read as a file. A missing column is refused, and two are never chosen between."""
     frame = pd.DataFrame({"sku": ["A", "B"], "on hand": [2.0, float("nan")]})
     holdings = read_holdings({"stock": frame, "on_order": None}, Words(), {"A", "B"})
     assert holdings.on_hand == {"A": OnHand(Fraction(2))} and holdings.unread == {"B"}
@@ -99,3 +101,20 @@ def test_frames_and_tables_that_cannot_be_read(tmp_path: Path) -> None:
         read(tmp_path, "item,place\nA,1")
     with pytest.raises(RefusedFaults, match="'qty' and 'stock'"):
         read(tmp_path, "item,qty,stock\nA,1,2")
+
+
+@pytest.mark.parametrize("heading, least", [
+    (["Supplier", "Supplier lead note", "Supplier min"], 500),
+    (["Vendor", "Vendor item", "Minimum order value (EUR)"], 500),
+    (["LIFNR", "x", "Mindestbestellwert"], 500), (["Lieferant", "Lieferant Ort", "y"], None),
+    (["Fournisseur", "x", "Montant minimum de commande"], 500), (["Proveedor", "x", "Importe mínimo de pedido"], 500),
+    (["Dostawca", "x", "Minimalna wartość zamówienia"], 500), (["供应商", "x", "最低订货金额"], 500)])
+def test_suppliers_of_masters(heading: list[str], least: int | None) -> None:
+    """A supplier is found by the whole name of its column alone: others that begin so are no suppliers."""
+    demand = pd.DataFrame({"item": "A", "date": [f"2026-{month:02}-02" for month in range(1, 12)], "quantity": 3})
+    rest = {"item": "A", "setup": 9, "holding": 1, "backlog": 9, "lead": 2, "s": 1, "S": 4}
+    for names, wanted in ((heading, ("Bosch", least)), ([f"{heading[0]} x", "note", "z"], ("", None))):
+        masters = pd.DataFrame([{**rest, **dict(zip(names, ("Bosch", "5 days", 500)))}])
+        with read_catalogue(demand, masters).opened() as read:
+            item, = read.items()
+        assert (item.supplier, item.supplier_min) == wanted

@@ -22,7 +22,7 @@ from .words import command, pairs_of
 @click.option("--on-order", metavar="ORDERS.csv", help="What is on order: item, quantity, and perhaps due.")
 @click.option("--date", metavar="DATE", help="The day; by default today.")
 @click.option("--supplier-min", metavar="NAME=MONEY", multiple=True,
-              callback=pairs_of(r"(.*\S.*)=([0-9]+(?:\.[0-9]+)?)", "Bosch=500"),
+              callback=pairs_of(r"(.*\S.*)=(.*\S.*)", "Bosch=500"),
               help="The least value of an order of a supplier. May be given several times.")
 @click.option("--csv", "table", type=click.Choice([*TABLES]), help="Print this table as CSV, in place of the text.")
 @click.option("--out", metavar="FOLDER", type=click.Path(path_type=Path), help="Keep all tables here.")

@@ -10,11 +10,11 @@ from functools import cached_property
 from pathlib import Path
 from typing import TYPE_CHECKING
 
-from ..errors import Refused, argument
 from ..files import Folder
-from ..money import Amount, Currency, exact
+from ..money import Amount, Currency, amount_of
 from ..plan.catalogue import copied_folder
 from ..plan.today import Addition, Group, Lying, Money, Standing, Today, sum_of_money, today_of
+from ..records.defaults import read_argument
 from ..records.item import Item
 from ..records.items import Words
 from ..records.observed import Day, stated_day
@@ -54,7 +54,8 @@ POSITION = items("position", "the stock, less what is owed, plus all that is on 
 ORDER_COLUMNS = (
     *NAMED, STOCK, items("on_order", "ordered before, and still to come"), OWED, POSITION, *LEVELS,
     items("order", "S less the position, as that is below s"), whole("packs", "packs", "that order, rounded up"),
-    whole("placed", "items", "the order in whole packs"), worth("value", "the placed order at the price of the masters"),
+    whole("placed", "items", "the order in whole packs"),
+    worth("value", "the placed order at the price of the masters"),
     weeks("weeks", "until a shortage at mean demand if nothing came: the stock less what is owed, over the mean"),
     number("chance", "share", "the chance of a shortage before delivery: that the demand of a lead time and one more "
            "period exceeds the stock less what is owed and what is due by then, by the laws of the plan, if periods "
@@ -224,8 +225,8 @@ class OrdersToday(Result):
         urgent = self._table("orders", map(order_row, whole.due[:MOST_URGENT])).with_columns(URGENT)
         short = [group for group in today.suppliers if group.short]
         return rendered("today.txt", {
-            "today": today, "whole": whole, "urgent": urgent.text, "counted": counted, "files": counted_rows(today.counts),
-            "reasons": reasons_of(today.rejects), "short": [
+            "today": today, "whole": whole, "urgent": urgent.text, "counted": counted,
+            "files": counted_rows(today.counts), "reasons": reasons_of(today.rejects), "short": [
                 (group, [*group.additions()]) for group in short],
             "unpriced": sum(it.item.price is None for it in whole.due),
             "owed": sum_of_money(it.worth(it.hand.owed) for it in today.owed),
@@ -240,12 +241,9 @@ class OrdersToday(Result):
 def orders_today(path: Path, tables: Mapping[str, Table | None], words: Words, day: Day | str | None,
                  minimums: Mapping[str, Amount]) -> OrdersToday:
     """Returns what a planned folder, which is only read, says on a day: see `Plan.orders_today`. Tables are by kind."""
-    amounts = {name: exact(amount) for name, amount in minimums.items()}
-    wrong = next((name for name, amount in amounts.items() if amount is None or amount < 0), None)
-    if wrong is not None:
-        raise Refused(f"{argument('supplier_min', wrong)}: {minimums[wrong]!r} is no amount of money", "write it as 500")
+    stated = {name: amount for name, value in minimums.items()
+              if (amount := read_argument("supplier_min", value, amount_of)) is not None}
     with (tempfile.TemporaryDirectory(prefix="crnplan-") as room, copied_folder(path, Path(room)) as folder):
         today = today_of(folder, tables, replace(words, every=folder.every),
-                         stated_day("date", day) or datetime.date.today(),
-                         {name: amount for name, amount in amounts.items() if amount is not None})
+                         stated_day("date", day) or datetime.date.today(), stated)
         return OrdersToday(today, folder.every, folder.currency)

@@ -108,7 +108,7 @@ CATALOGUE_RULES = Table({"catalogue": Table({
     "currency": Key(stated(currency_of)), "abc": Key(stated(cuts_of)),
     **{kind: Table(dict.fromkeys(roles, TEXT)) for kind, roles in ROLES.items()},
     "units": Table(dict.fromkeys(COLUMNS, Key(unit))), "names": Table(dict.fromkeys(COLUMNS, Key(texts))),
-    "factors": Table({}, other=Key(number(1, MOST_WEIGHT))), "supplier_min": Table({}, other=Key(money))})},
+    "factors": Table({}, other=Key(number(1, MOST_WEIGHT))), "supplier_min": Table({}, other=Key(stated(amount_of)))})},
     other=Key(lambda path, value: []))
 
 

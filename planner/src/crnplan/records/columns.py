@@ -180,8 +180,14 @@ class Finder:
         if role in WHOLE_NAMES:
             return exact
         bare = [place for place in free if role in ROLE_UNITS and self.bare[place][0] in mine]
-        return exact or bare or [place for place in free if self.bare[place][0] not in others and any(
-            len(name) > 1 and self.plain[place].startswith(f"{name} ") for name in mine)]
+        return exact or bare or [place for place in free if self.bare[place][0] not in others
+                                 and self._role_of_beginning(self.plain[place]) == role]
+
+    def _role_of_beginning(self, plain: str) -> str | None:
+        """Returns the role with the longest name that a plain name begins with: a minimum order value is no minimum
+        order. None if there is none."""
+        names = [name for name in self.role_of if len(name) > 1 and plain.startswith(f"{name} ")]
+        return self.role_of[max(names, key=len)] if names else None
 
     def _add(self, role: str, column: Column) -> None:
         """Adds the column of a role with its unit: the stated one, else that of its heading."""

@@ -40,11 +40,11 @@ class Defaults:
            service: Mapping[str, Amount] | None = None, currency: str | None = None,
            abc: str | Sequence[Number] | None = None) -> Defaults:
         """Reads what is stated. Shares are numbers below 1 or texts such as 20%. Raises Refused."""
-        return cls(_read("setup", setup, amount_of), _read("holding_rate", holding_rate, share_of),
-                   _read("fill", fill, share_of),
+        return cls(read_argument("setup", setup, amount_of), read_argument("holding_rate", holding_rate, share_of),
+                   read_argument("fill", fill, share_of),
                    {name: share for name, value in (service or {}).items()
-                    if (share := _read("service", value, share_of)) is not None},
-                   _read("currency", currency, currency_of) or "", _read("abc", abc, cuts_of) or ABC)
+                    if (share := read_argument("service", value, share_of)) is not None},
+                   read_argument("currency", currency, currency_of) or "", read_argument("abc", abc, cuts_of) or ABC)
 
     @property
     def roles(self) -> set[str]:
@@ -66,7 +66,7 @@ class Defaults:
                           f"the classes are {names_of(sorted(filter(None, groups)), MOST_CLASSES)}")
 
 
-def _read(name: str, value: Any, read: Callable[[Any], Value]) -> Value | None:
+def read_argument(name: str, value: Any, read: Callable[[Any], Value]) -> Value | None:
     """Returns an argument as it is read; None if it is not given. Raises Refused with its name."""
     try:
         return None if value is None else read(value)
