@@ -39,8 +39,11 @@ class Currency:
         return self.places if self.code else self.decimals
 
     def named(self, amount: str) -> str:
-        """Returns the text of an amount with the currency before it."""
-        return f"{self.code} {amount}" if self.code else amount
+        """Returns the text of an amount with the currency before it: EUR -3.00, -$3.00."""
+        bare = amount.lstrip("+-\u2212")
+        if not self.code or self.code[-1].isalpha() or not bare[:1].isdecimal():
+            return f"{self.code} {amount}".lstrip()
+        return f"{amount.removesuffix(bare)}{self.code}{bare}"
 
     def text(self, amount: float, sign: str = "") -> str:
         """Returns an amount for a reader, with a sign "+" also if it is above 0."""

@@ -39,8 +39,8 @@ def test_classes_by_variation(counts: tuple[int, ...], letter: str) -> None:
 
 
 @pytest.mark.parametrize("code, decimals, text", [
-    ("EUR", 0, "EUR -1,234.50"), ("JPY", 2, "JPY -1,234"), ("KWD", 2, "KWD -1,234.500"), ("", 4, "-1,234.50"),
-    ("", 0, "-1,234")])
+    ("EUR", 0, "EUR -1,234.50"), ("JPY", 2, "JPY -1,234"), ("KWD", 2, "KWD -1,234.500"), ("$", 2, "-$1,234.50"),
+    ("", 4, "-1,234.50"), ("", 0, "-1,234")])
 def test_money_in_a_currency(code: str, decimals: int, text: str) -> None:
     """Money has its currency, and its usual decimals: 2, but 0 and 3 in some. -1234.5 rounds to the even -1234."""
     assert Currency(code, decimals).text(-1234.5) == text
