@@ -24,7 +24,8 @@ from .words import command, pairs_of
 @click.option("--supplier-min", metavar="NAME=MONEY", multiple=True,
               callback=pairs_of(r"(.*\S.*)=(.*\S.*)", "Bosch=500"),
               help="The least value of an order of a supplier. May be given several times.")
-@click.option("--csv", "table", type=click.Choice([*TABLES]), help="Print this table as CSV, in place of the text.")
+@click.option("--csv", "table", metavar="TABLE", type=click.Choice([*TABLES]),
+              help="Print this table as CSV, in place of the text.")
 @click.option("--out", metavar="FOLDER", type=click.Path(path_type=Path), help="Keep all tables here.")
 @column_options
 @writing_options
