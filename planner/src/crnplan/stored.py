@@ -80,6 +80,8 @@ class Columns(Generic[Row]):
                 part = Columns[Any](types[0] if type(None) in types else hint, f"{name}_{field}" if name else field)
                 self.parts.append((field, part))
             self.names = [column for _, part in self.parts for column in part.names]
+            starts = itertools.accumulate((len(part.names) for _, part in self.parts), initial=0)
+            self.slots = [(start, start + len(part.names), part) for start, (_, part) in zip(starts, self.parts)]
         else:
             self.written, self.read = KINDS[kind if kind in KINDS else typing.get_origin(kind)]
 
@@ -102,8 +104,10 @@ class Columns(Generic[Row]):
             return typing.cast(Row, None)
         if not self.parts:
             return typing.cast(Row, self.read(cells[0]))
-        rest = iter(cells)
-        return self.kind(*(part.value([*itertools.islice(rest, len(part.names))]) for _, part in self.parts))
+        # A catalogue has a hundred cells an item, most of them without parts: these are read here, which is fast.
+        return self.kind(*[part.value(cells[start:stop]) if part.parts else
+                           None if cells[start] is None else part.read(cells[start])
+                           for start, stop, part in self.slots])
 
 
 class Store(Generic[Row]):
