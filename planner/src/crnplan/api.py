@@ -195,9 +195,9 @@ class Plan(Result):
                       date_formats=tuple(date_formats))
         return orders_today(self.path, {"stock": stock, "on_order": on_order}, words, date, supplier_min or {})
 
-    def report(self, items: Iterable[str] = ()) -> Path:
-        """Writes report.html, and pages of `items`, into the folder of the plan, and returns the path."""
-        return report(self.path, items, program=self.program)
+    def report(self, items: Iterable[str] = (), *, jobs: int | None = None, cluster: str | None = None) -> Path:
+        """Writes report.html, and pages of `items`, into the folder of the plan, and returns the path: see `report`."""
+        return report(self.path, items, jobs=jobs, cluster=cluster, program=self.program)
 
 
 def check_masters(sales: Table | Catalogue, masters: Table | None) -> None:

@@ -13,12 +13,13 @@ from typing import Any
 from crnplan.curve.exchange import Point
 from crnplan.curve.exchange_curve import keep_curve
 from crnplan.demand.learning import Prior
-from crnplan.files import own_folder
+from crnplan.files import Folder, own_folder
 from crnplan.law import Law
 from crnplan.pages.catalogue_page import CATALOGUE_FILES, write_catalogue
 from crnplan.plan.answer import CHEAPER, RUN, SAME, SERVICE, THEORY, UNDECIDED, Answer, Figures, LawFacts, Laws, Run
 from crnplan.plan.catalogue import ANSWERS, Planned, PlannedFolder, Totals
 from crnplan.plan.question import Settings
+from crnplan.plan.swings import CASES, SWINGS, Swing, drawn_items
 from crnplan.records.catalogue_reading import CATALOGUE, READ, Catalogued, Writer
 from crnplan.records.items import Reject
 from crnplan.records.item import Item
@@ -36,13 +37,13 @@ LAWS = Laws(1, Law((0, 3), (2, 1)), Law((2,), (1,)), None)
 Pair = tuple[Item, Answer]
 
 
-def made_folder(path: Path, items: int, names: Sequence[str] = (), has_curve: bool = True,
+def made_folder(path: Path, items: int, names: Sequence[str] = (), has_curve: bool = True, has_swings: bool = True,
                 change: tuple[Item, Answer | Remark] | None = None, currency: str = "") -> Path:
     """Makes a folder with so many planned items, with its tables and its page, and returns it.
 
     The first items are called as `names` say, the others P00000 and so on. One item in twelve more is left out. Figures
-    follow from the number of items alone. `has_curve` adds an exchange curve, `change` one more item, and money may be
-    in a currency.
+    follow from the number of items alone. `has_curve` adds an exchange curve, `has_swings` what would change the
+    answer, `change` one more item, and money may be in a currency.
     """
     source = random.Random(items)
     called = [*names, *(f"P{number:05}" for number in range(len(names), items))]
@@ -63,8 +64,21 @@ def made_folder(path: Path, items: int, names: Sequence[str] = (), has_curve: bo
             if has_curve:
                 keep_curve(answers, made_curve((item, answer) for item, answer in pairs if isinstance(answer, Answer)))
             its = PlannedFolder(path, read, answers, planned)
+            if has_swings:
+                keep_made(folder, its)
             write_catalogue(folder, its, Totals.of(its.answers()), (), ())
     return path
+
+
+def keep_made(folder: Folder, planned: PlannedFolder) -> None:
+    """Keeps what would change the answer: of each drawn item a tenth more cost in each case, and one point less service
+    than planned."""
+    with contextlib.closing(Store(folder.store(SWINGS), Swing)) as kept:
+        for name, digest in drawn_items(planned).items():
+            answer = planned.answer(name)
+            assert isinstance(answer, Answer)
+            today, cost, fill = answer.cost_today, 1.1 * answer.cost_chosen, answer.chosen.fill - 0.01
+            kept.keep([(name, digest, Swing(((today, cost, answer.cost_chosen, fill, fill + 0.02),) * len(CASES)))])
 
 
 def made_pair(source: random.Random, name: str) -> Pair:
@@ -78,7 +92,7 @@ def made_pair(source: random.Random, name: str) -> Pair:
     near = saving + error * source.uniform(-1, 1)
     run = Run("0 0 0 0", 1024, 24, 9, Fraction(100), 900, 60, 900, 900_000, cost - near, 1_000_000, Fraction(-near),
               Fraction(error)**2, cost, near, error, near - QUANTILE * error, near + QUANTILE * error)
-    group = source.choice(("X", "Y", "Z", ""))
+    group = source.choice(("X", "Y", "Z", "U", "V", "W", "T", ""))
     item = Item(name, (0, 3, 1), (2,), (s, s + 9), Fraction(9), Fraction(3, 5), Fraction(9), first=1000, line=7,
                 rows=90, group=group, category=group, price=price if source.random() > 0.05 else None,
                 description=f"{source.choice(NOUNS)} {source.randrange(100)}")

@@ -48,17 +48,36 @@ def test_classes_are_those_of_pandas(large: Path) -> None:
         rows[f"met_{policy}"] = rows.asked * rows[f"fill_{policy}"]
     wanted = rows.assign(**{"class": rows["class"].replace("", "no class"), "items": 1}).groupby("class")[[
         "items", "saving", "asked", "met_today", "met_chosen", "value_today", "value_chosen"]].sum()
-    wanted.loc["all"] = wanted.sum()
+    names = wanted.saving.abs().sort_values(ascending=False).index
+    wanted.loc["3 other classes"] = wanted.loc[names[5:]].sum()
+    wanted.loc["all"] = wanted.loc[names].sum()
     heading, *shown = Page(large / "report.html").tables["By class"]
     assert heading[2:] == ["saved a year, thousands", "met at once,today \u2192 new",
                            "stock value, millions,today \u2192 new"]
-    assert [row[0] for row in shown] == ["all", *wanted.drop("all").sort_values("saving", ascending=False).index]
+    named = wanted.loc[names[:5]].sort_values("saving", ascending=False).index
+    assert [row[0] for row in shown] == ["all", *named, "3 other classes"]
     for name, items, saved, met, value in shown:
         its = wanted.loc[name]
         assert int(items) == its["items"] and numbers(saved) == pytest.approx([YEAR * its.saving / 1e3], abs=0.51)
         assert numbers(met) == pytest.approx(
             [100 * its.met_today / its.asked, 100 * its.met_chosen / its.asked], abs=0.06)
         assert numbers(value) == pytest.approx([its.value_today / 1e6, its.value_chosen / 1e6], abs=0.006)
+
+
+def test_what_would_change_the_answer(large: Path, tmp_path: Path) -> None:
+    """A tenth more cost, a point less service and what a new choice saves are those of all items, as far as they are
+    drawn. Of all items they are exact."""
+    for folder, items in ((large, 600), (made_folder(tmp_path / "plan", 12), 12)):
+        rows, page = pd.read_csv(folder / "decisions.csv"), Page(folder / "report.html")
+        today, chosen = (YEAR * rows[name].sum() for name in ("cost_today", "cost_chosen"))
+        met = float(page.tables["By class"][1][3].split("\u2192")[1].strip(" %")) - 1
+        unit = 1e3 if items == 600 else 1
+        for _, cost, saved, served, beyond in page.tables["What would change the answer"][1:]:
+            assert numbers(cost) == pytest.approx([1.1 * chosen / unit], rel=1e-3)
+            assert numbers(beyond) == pytest.approx([0.1 * chosen / unit], rel=2e-2)
+            assert numbers(served) == pytest.approx([met], abs=0.11)
+            assert items == 600 or numbers(saved) == pytest.approx([today - 1.1 * chosen], abs=1)
+        assert ("From 100 items; standard errors are up to" in page.words) == (items == 600)
 
 
 def test_no_technical_word_is_on_the_first_screen(large: Path) -> None:

@@ -338,7 +338,8 @@ def test_page_of_a_plan(tmp_path: Path, program: Path, crnplan: Command) -> None
     assert len(page.items) == 6 and not (tmp_path / "plan/curve.csv").exists() and ", seed crnplan" in page.words
     name, plan = next(iter(page.items)), tmp_path / "plan"
     status, output, errors = crnplan("report", plan, "--item", name, "--program", program)
-    assert (status, errors) == (0, "") and output.split() == [str(file_of(plan, name)), str(plan / "report.html")]
+    assert (status, errors) == (0, "0 of 6 items (0 kept)\n6 of 6 items (0 kept)\n")
+    assert output.split() == [str(file_of(plan, name)), str(plan / "report.html")]
     assert {unquote(address) for address in Page(plan / "report.html").links.values()} == {f"items/{name}.html"}
     assert name in Page(file_of(plan, name)).words
     status, output, errors = crnplan("report", plan, "--item", "A-999", "--program", program)

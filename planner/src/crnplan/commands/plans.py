@@ -51,9 +51,9 @@ def curve(folder: Path, plot: Path | None, is_csv: bool, **options: Any) -> None
 @folder_argument
 @click.option("--item", "items", metavar="NAME", multiple=True,
               help="Write the page of this item too, by crnsim. May be given several times.")
-@program_option
-def report(folder: Path, items: tuple[str, ...], program: str | None) -> None:
+@worker_options
+def report(folder: Path, items: tuple[str, ...], **options: Any) -> None:
     from ..pages.catalogue_page import file_of
-    page = crn.report(folder, items, program=program)
+    page = crn.report(folder, items, progress=True, **options)
     for path in (*(file_of(folder, name) for name in items), page):
         click.echo(path)

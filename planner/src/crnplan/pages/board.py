@@ -9,22 +9,25 @@ from typing import NamedTuple
 
 from ..plan.answer import CHOSEN, COMPARED, SAME, TODAY, Answer
 from ..plan.catalogue import PlannedFolder, Totals
+from ..plan.swings import Swings, kept_swings
 from ..records.columns import periods_a_year
 from ..records.item import Item
 from ..remarks import Remark
 from .catalogue_tables import Reason
-from .page import Mark, Money, Scale, Unit
+from .page import MINUS, Money, Scale, Unit, percent
 
 MOST_CLASSES = 6
 MOST_REASONS = 3
 ALL, NO_CLASS = "all", "no class"
 BEFORE_AND_AFTER = TODAY, CHOSEN
+# What differs in a case, in words.
+WORDS = {"holding": "cost of stock", "backlog": "cost of delay", "demand": "demand", "lead": "lead times"}
 LEAST_SERVICE = 5.0  # percent, by which the axis of service begins below the least one
 
 
 class Row(NamedTuple):
-    """A class: its items with a policy today, what a year saves, and with today's levels and the new ones the share of demand met at once,
-    None if it is not known, and the value of the mean stock."""
+    """A class: its items with a policy today, what a year saves, and with today's levels and the new ones the share of
+    demand met at once, None if it is not known, and the value of the mean stock."""
 
     name: str
     items: int
@@ -67,6 +70,7 @@ class Board(NamedTuple):
     changed: int
     left_out: LeftOut
     reasons: Sequence[Reason]
+    swings: Swings | None
 
     @property
     def others(self) -> int:
@@ -77,6 +81,21 @@ class Board(NamedTuple):
     def shown(self) -> Sequence[Row]:
         """Returns the rows of the table: all items, and their classes if there are several."""
         return [self.all, *self.rows] if len(self.rows) > 1 else [self.all]
+
+    @property
+    def cases(self) -> Sequence[Sequence[str]]:
+        """Returns what would change the answer, as rows of cells: the case, what the new levels cost then, serve and
+        save beside today's, and what levels that are chosen anew would save beyond."""
+        unit = self.case_unit
+        return [[f"{WORDS[case.what]} {'+' if case.tenths > 10 else MINUS}{10 * abs(case.tenths - 10)}%",
+                 *(unit.cell(self.periods * amount) for amount in (case.cost, case.saving)), percent(case.fill),
+                 unit.cell(self.periods * case.beyond)] for case in (self.swings.cases if self.swings else ())]
+
+    @property
+    def case_unit(self) -> Unit:
+        """Returns the unit of these costs, with one digit more, since what they differ by is small."""
+        unit = self.money.unit(self.periods * case.cost for case in (self.swings.cases if self.swings else ()))
+        return unit._replace(digits=unit.digits + (unit.size > 1))
 
     @property
     def picture(self) -> Picture | None:
@@ -136,6 +155,6 @@ def board_of(folder: PlannedFolder, totals: Totals, reasons: Sequence[Reason], m
     rows = rows_of(by_class(folder.answers()), periods, by_value)
     everything = row_of(ALL, [totals], periods, by_value)
     return Board(money, periods, by_value, everything, rows, money.unit([row.saving for row in (everything, *rows)]),
-                 money.unit(everything.values), totals.planned - totals.verdicts[SAME],
+                 money.unit(everything.values), totals.compared - totals.verdicts[SAME],
                  left_out_of(folder, periods, reasons),
-                 [reason for reason in reasons if reason.kind == "item"][:MOST_REASONS])
+                 [reason for reason in reasons if reason.kind == "item"][:MOST_REASONS], kept_swings(folder, totals))

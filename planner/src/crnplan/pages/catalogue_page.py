@@ -19,6 +19,7 @@ from ..plan.answer import CHEAPER, COMPARED, DEARER, SAME, SERVICE, UNCOMPARED, 
 from ..plan.backtest.catalogue import past_of
 from ..plan.catalogue import PlannedFolder, Totals, planned_folder
 from ..plan.item import Depth
+from ..plan.swings import keep_swings
 from ..records.catalogue_reading import CATALOGUE, Catalogued, missing_of
 from ..records.item import Item
 from ..remarks import Remark
@@ -206,13 +207,18 @@ def write_catalogue(folder: Folder, planned: PlannedFolder, totals: Totals, lear
     return summary
 
 
-def report(folder: str | Path, items: Iterable[str] = (), *, program: str | Path | None = None) -> Path:
+def report(folder: str | Path, items: Iterable[str] = (), *, jobs: int | None = None, cluster: str | None = None,
+           program: str | Path | None = None, progress: bool = False) -> Path:
     """Writes the page of a planned folder, report.html, and returns its path.
 
-    `folder` is that of `plan`, or of `crnplan catalogue`, in which the run has ended. The page has what the plan saves,
-    the exchange curve if `exchange_curve` has drawn it, the greatest savings, what was left out and why, and a table of
-    all items, which sorts and filters; above 5,000 items, of those with the greatest saving or loss. Money and orders
-    are those of a period. It is one file that asks for no other; the same plan gives the same bytes.
+    `folder` is that of `plan`, or of `crnplan catalogue`, in which the run has ended. The page has what the plan saves
+    a year, with service and stock before and after, what would change that, the exchange curve if `exchange_curve` has
+    drawn it, the greatest savings, what was left out and why, and a table of all items, which sorts and filters; above
+    5,000 items, of those with the greatest saving or loss. It is one file that asks for no other; the same plan gives
+    the same bytes.
+
+    What would change the answer is computed for at most 100 items by `jobs` processes or a Dask `cluster`, and kept in
+    the folder.
 
     `items` get pages of their own first, below `items` in the folder, to which the table links. These need the program
     crnsim, found as `program` says. Raises Refused for a folder without a finished plan of the rows that were read
@@ -227,5 +233,6 @@ def report(folder: str | Path, items: Iterable[str] = (), *, program: str | Path
             depth = Depth(planned.question(item), answer, str(find_program(program)))
             words = ItemWords(depth, planned.every, planned.currency)
             own.write(f"{ITEMS}/{file_name(name)}", item_page(words))
+        keep_swings(own, planned, jobs=jobs, address=cluster, shown=progress)
         own.write(PAGE, catalogue_page(planned, Totals.of(planned.answers())))
     return Path(folder) / PAGE

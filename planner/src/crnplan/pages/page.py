@@ -29,6 +29,7 @@ MARKS = 4
 ROOM, BELOW = 1.35, 4.0  # times the greatest stock of a named point, and percent below the least service of one
 # From which amount on, how much of it is one, and its word: of amounts of money.
 WORDS = ((1e9, 1e9, "billion"), (1e6, 1e6, "million"), (1e5, 1e3, "thousand"))
+MINUS = "\u2212"
 FIGURES = 3  # of an amount that is rounded for a reader
 LARGE = 1_000  # Sums of so much money are shown in whole numbers.
 # The classes of lines: of today's policy or what was seen, and of the chosen policy or its law.
@@ -38,7 +39,7 @@ Mark = tuple[float, str, str]  # its place, its text and its class
 
 def number(value: float, digits: int = 0) -> str:
     """Returns a number with separators of thousands and a minus sign; - if there is none."""
-    return "-" if value != value else f"{round(value, digits) + 0.0:,.{digits}f}".replace("-", "\u2212")
+    return "-" if value != value else f"{round(value, digits) + 0.0:,.{digits}f}".replace("-", MINUS)
 
 
 def percent(share: str | float | None, digits: int = 1) -> str:
@@ -95,7 +96,7 @@ def capital(text: str) -> str:
 
 
 def tick(value: float) -> str:
-    return f"{value:,.10g}".replace("-", "\u2212")
+    return f"{value:,.10g}".replace("-", MINUS)
 
 
 def source(text: str) -> Markup:

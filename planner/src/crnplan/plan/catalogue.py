@@ -143,6 +143,10 @@ class Totals:
         asked = self["demand"]
         return self[f"met_{policy}"] / asked if asked else None
 
+    def service(self, policy: str) -> float | None:
+        """Returns the share of demand met at once: by value, or the mean over items if none has a price."""
+        return self.fill(policy) if self["demand"] or not self.compared else self[f"fill_{policy}"] / self.compared
+
     def half_width(self, level: float) -> float:
         """Returns half the width of the interval of all savings by runs. Those of different items are independent."""
         return NormalDist().inv_cdf((1 + level) / 2) * math.sqrt(self["run_variance"])
@@ -318,11 +322,14 @@ def own_laws(reason: str) -> Learned:
     return Learned(Prior(NONE), NONE, (Remark("own laws", {"reason": reason}),))
 
 
+def drawn_from(names: Iterable[str], most: int) -> frozenset[str]:
+    """Returns so many names, or all if there are fewer: those with the least digests, which is as good as at random."""
+    return frozenset(heapq.nsmallest(most, names, key=lambda name: hashlib.sha256(name.encode()).digest()))
+
+
 def items_of(read: Catalogued, most: int | None) -> Iterator[Item]:
-    """Yields so many items, or all, but for those counted in boxes. They are those whose names have the least digests,
-    which is as good as at random."""
-    drawn = frozenset(read.names() if most is None else heapq.nsmallest(
-        most, read.names(), key=lambda name: hashlib.sha256(name.encode()).digest()))
+    """Yields so many items that are drawn, or all, but for those counted in boxes."""
+    drawn = frozenset(read.names()) if most is None else drawn_from(read.names(), most)
     yield from (item for item in read.items() if item.name in drawn and item.box == 1)
 
 

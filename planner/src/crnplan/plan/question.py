@@ -199,18 +199,23 @@ def in_boxes(levels: Levels | None, box: int) -> Levels | None:
     return levels[0] // box, levels[1] // box
 
 
-def question_of(item: Item, settings: Settings, prior: Prior | None = None, before: Levels | None = None) -> Question:
-    """Returns the question of an item, whose law is perhaps learned, and which has perhaps the s and S of an earlier
-    plan. Raises Refused if its numbers are none of a scenario."""
-    prior, box = prior or Prior(NONE), item.box
-    costs = {"setup": item.setup, "holding": box * item.holding}
+def rates_of(item: Item) -> tuple[dict[str, int], Fraction, float]:
+    """Returns the costs of a box of an item as whole rates, with their scale and the share by which one is rounded.
+    Raises Refused if its costs are too far apart."""
+    box, costs = item.box, {"setup": item.setup, "holding": item.box * item.holding}
     if item.backlog is not None:
         costs["backlog"] = box * item.backlog
     if item.unit:
         costs["unit"] = box * item.unit
     rates, scale, error = rounded_costs(costs, "holding")
-    if item.backlog is None:
-        rates, scale = finest(rates, scale)
+    return (rates, scale, error) if item.backlog is not None else (*finest(rates, scale), error)
+
+
+def question_of(item: Item, settings: Settings, prior: Prior | None = None, before: Levels | None = None) -> Question:
+    """Returns the question of an item, whose law is perhaps learned, and which has perhaps the s and S of an earlier
+    plan. Raises Refused if its numbers are none of a scenario."""
+    prior, box = prior or Prior(NONE), item.box
+    rates, scale, error = rates_of(item)
     borrow = NONE if settings.fit != "auto" else item.borrow or settings.borrow or NONE
     group = item.group if borrow == CLASS else None
     demand = fit_demand(item.counts, method=settings.fit, box=box) if borrow == NONE else \

@@ -1,0 +1,190 @@
+"""Says what the chosen policies of a catalogue would cost and serve if costs, demand or lead times were a fifth off, and
+how much better the best ones would then be. It is computed by theory for at most 100 items, from which all follow."""
+from __future__ import annotations
+
+import contextlib
+import math
+from collections.abc import Iterable, Sequence
+from dataclasses import dataclass, replace
+from fractions import Fraction
+from typing import NamedTuple
+
+import numpy as np
+
+from ..chances import Floats
+from ..decide.sensitivity import changed_demand
+from ..demand.learning import Prior
+from ..errors import Refused
+from ..files import Folder
+from ..jobs import Work, workers_of
+from ..law import Law
+from ..records.item import Item
+from ..remarks import Remark
+from ..stored import Store, digest_of
+from .answer import COMPARED, Answer
+from .catalogue import PlannedFolder, Totals, drawn_from
+from .one import choice_of, figures_of, or_fault
+from .question import Levels, Question, Settings, question_of, rates_of
+
+SWINGS = "swings.sqlite"
+VERSION = 1  # Answers of others are not used again.
+MOST_DRAWN = 100
+# What differs, and how many tenths of it there are.
+CASES = tuple((what, tenths) for what in ("holding", "backlog", "demand", "lead") for tenths in (12, 8))
+LEADS = "lead"
+# The figures of a case: what today's, the chosen and the best policy cost a period, and the shares that the last two
+# meet at once.
+TODAY, KEPT, BEST, KEPT_FILL, BEST_FILL = range(5)
+
+
+@dataclass(frozen=True)
+class Swing:
+    """The figures of an item in each of `CASES`, as places of a row; an empty row if the case has no plan."""
+
+    rows: tuple[tuple[float, ...], ...]
+
+
+class CaseSum(NamedTuple):
+    """A case of a whole catalogue, in money of a period: what the chosen policies cost, what they save beside today's,
+    and what the best ones would save beyond; and the shares of demand met at once. `lacking` items are not in it."""
+
+    what: str
+    tenths: int
+    cost: float
+    saving: float
+    beyond: float
+    fill: float | None
+    best_fill: float | None
+    lacking: int
+
+
+class Swings(NamedTuple):
+    """All cases of a catalogue, from so many items, with the greatest standard errors of costs and of shares."""
+
+    cases: Sequence[CaseSum]
+    drawn: int
+    cost_error: float
+    fill_error: float
+
+
+def changed_lead(lead: Law, tenths: int) -> Law:
+    """Returns lead times of which each is multiplied by so many tenths, shared between the whole periods beside that,
+    so that the mean is right. But none is below one period."""
+    changed = changed_demand(lead, tenths)
+    weights = dict(zip(changed.values, changed.weights))
+    weights[1] = weights.get(1, 0) + weights.pop(0, 0)
+    return Law.of(weights)
+
+
+def changed(question: Question, what: str, tenths: int) -> Question:
+    """Returns a question with so many tenths of a cost, of all demand, or of all lead times. Raises Refused if the
+    costs are too far apart."""
+    if what in ("demand", LEADS):
+        law = question.lead if what == LEADS else question.demand
+        other = (changed_lead if what == LEADS else changed_demand)(law, tenths)
+        return replace(question, **{what: replace(law, values=other.values, weights=other.weights)})
+    item = replace(question.item, **{what: getattr(question.item, what) * Fraction(tenths, 10)})
+    rates, scale, error = rates_of(item)
+    return replace(question, item=item, rates=rates, scale=scale, rate_error=error)
+
+
+def figures_in(question: Question, chosen: Levels, today: Levels) -> tuple[float, ...]:
+    """Returns the figures of a case, without a confidence in the fill rate of its best policy; none without a plan."""
+    try:
+        theory = question.theory()
+        best, kept, base = (figures_of(question, theory, levels) for levels in (
+            choice_of(theory, question).levels, chosen, today))
+    except Refused:
+        return ()
+    return base.cost, kept.cost, best.cost, kept.fill, best.fill
+
+
+def swing_of(question: Question, chosen: Levels) -> Swing:
+    """Returns the figures of an item with a policy of today, and a chosen one in boxes. What it does not have can't
+    change."""
+    question, today = replace(question, settings=replace(question.settings, confidence=None)), question.levels
+    assert today is not None
+    cases = (question if what == "backlog" and not question.has_backlog else changed(question, what, tenths)
+             for what, tenths in CASES)
+    return Swing(tuple(figures_in(case, chosen, today) for case in cases))
+
+
+def swing_batch(batch: Sequence[tuple[Item, Answer]], settings: Settings, prior: Prior) -> list[Swing | Remark]:
+    """Returns the figures of items with their answers, or why an item has none."""
+    def asked(item: Item, answer: Answer) -> Swing:
+        chosen = answer.chosen.point // item.box, answer.chosen.level // item.box
+        return swing_of(question_of(item, settings, prior), chosen)
+    return [or_fault(lambda item: asked(item, answer), item) for item, answer in batch]
+
+
+def drawn_items(folder: PlannedFolder) -> dict[str, str]:
+    """Returns the planned items with a policy of today that are drawn, each with the digest of all that its figures
+    depend on."""
+    names = drawn_from((item.name for item, answer in folder.answers()
+                        if isinstance(answer, Answer) and answer.verdict in COMPARED), MOST_DRAWN)
+    digests = folder.store.digests()
+    return {name: digest_of(digests[name], VERSION) for name in sorted(names)}
+
+
+def keep_swings(own: Folder, folder: PlannedFolder, *, jobs: int | None = None, address: str | None = None,
+                shown: bool = False) -> None:
+    """Computes the figures of a planned folder that are not kept yet, and keeps them."""
+    def asked(name: str) -> tuple[Item | None, Answer | Remark]:
+        return folder.read.item(name), folder.store.answer(name)
+    with contextlib.closing(Store(own.store(SWINGS), Swing)) as kept:
+        Work(kept, drawn_items(folder)).finish(swing_batch, asked, folder.settings, folder.planned.prior,
+                                               workers=workers_of(jobs, address), shown=shown)
+
+
+def kept_swings(folder: PlannedFolder, totals: Totals) -> Swings | None:
+    """Returns what is kept for a planned folder; None if that is not of its plan."""
+    path = folder.path / SWINGS
+    if not path.is_file():
+        return None
+    with contextlib.closing(Store(path, Swing)) as kept:
+        digests, drawn = kept.digests(), drawn_items(folder)
+        if not drawn or any(digests.get(name) != digest for name, digest in drawn.items()):
+            return None
+        pairs = [(folder.read.item(name), folder.store.answer(name), kept.answer(name)) for name in drawn]
+    return swings_of([(item, answer, swing) for item, answer, swing in pairs
+                      if item and isinstance(answer, Answer) and isinstance(swing, Swing)], totals)
+
+
+def estimated(parts: Floats, sizes: Floats, total: float, items: int) -> tuple[float, float]:
+    """Returns the sum over so many items of a figure that is known of some, and its standard error: the sum follows
+    that of their sizes, whose total is known.
+
+    Source: Cochran, Sampling Techniques, 1977, chapter 6: the ratio estimate, its error with the finite correction.
+    """
+    drawn, ratio = len(parts), parts.sum() / sizes.sum()
+    rest = (parts - ratio * sizes) * (total / sizes.sum())
+    error = math.sqrt(max(0.0, 1 - drawn / items) * drawn / max(1, drawn - 1) * float(rest @ rest))
+    return float(ratio * total), error
+
+
+def swings_of(known: Sequence[tuple[Item, Answer, Swing]], totals: Totals) -> Swings | None:
+    """Returns all cases of a catalogue from items with their figures; None if these cost nothing."""
+    items, cases, errors = totals.compared, list[CaseSum](), np.zeros(2)
+    for place, (what, tenths) in enumerate(CASES):
+        some = [(item, answer, swing.rows[place]) for item, answer, swing in known if swing.rows[place]]
+        costs = np.array([answer.cost_chosen for _, answer, _ in some])
+        if not costs.sum() > 0:
+            return None
+        rows, fills = np.array([row for *_, row in some]), np.array([answer.chosen.fill for _, answer, _ in some])
+        weights = np.array([float(item.price or 0) * answer.law.mean if totals["demand"] else 1.0
+                            for item, answer, _ in some])
+        cost, saving, beyond = (estimated(part, costs, totals["cost_chosen"], items) for part in (
+            rows[:, KEPT], rows[:, TODAY] - rows[:, KEPT], rows[:, KEPT] - rows[:, BEST]))
+        fill, best = (shifted(rows[:, column] - fills, weights, totals.service("chosen"), items)
+                      for column in (KEPT_FILL, BEST_FILL))
+        cases.append(CaseSum(what, tenths, cost[0], saving[0], beyond[0], fill[0], best[0], len(known) - len(some)))
+        errors = np.maximum(errors, [max(cost[1], saving[1], beyond[1]), max(fill[1], best[1])])
+    return Swings(cases, len(known), *errors.tolist())
+
+
+def shifted(more: Floats, weights: Floats, share: float | None, items: int) -> tuple[float | None, float]:
+    """Returns a share of all items that is so much more of some, by their weights, with its standard error."""
+    if share is None or not weights.sum() > 0:
+        return None, 0.0
+    change, error = estimated(more * weights, weights, 1.0, items)
+    return share + change, error
