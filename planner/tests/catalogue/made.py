@@ -86,7 +86,7 @@ def master(source: random.Random, number: int) -> dict[str, str]:
 
 
 def teaching(its: Made, planned: Collection[str]) -> Made:
-    """Returns a catalogue of which only some items can be planned. The others teach, by costs that are too far apart for
+    """Returns a catalogue of which only some items can be planned. The others teach: their costs are too far apart for
     a plan."""
     return replace(its, masters=[row if row["Artikel"] in planned else row | NO_COSTS for row in its.masters])
 

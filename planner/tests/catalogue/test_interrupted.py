@@ -263,8 +263,8 @@ def test_no_room_to_read(folder: Path, crnplan: Command, holding: Path, start: S
 
 @pytest.mark.timeout(2 * SECONDS)
 def test_a_cluster_that_loses_a_worker(folder: Path, drawn: Path, holding: Path, session_cluster: Cluster) -> None:
-    """Works on a Dask cluster, one worker of which is killed in the middle of a plan: the same bytes, of the plan and of
-    its curve, which the other worker draws."""
+    """Works on a Dask cluster, one worker of which is killed in the middle of a plan: the same bytes, of the plan and
+    of its curve, which the other worker draws."""
     session_cluster.restore(folder)
     for command, file, names in (PLAN, DRAW):
         session_cluster.start("driver", "-m", "crnplan", *command, "--program", str(holding), "--cluster",

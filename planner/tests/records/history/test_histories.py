@@ -233,8 +233,9 @@ def test_large_history(tmp_path: Path, time: str) -> None:
     random, path = np.random.default_rng(1), tmp_path / "large.csv"
     days, seconds, items, amounts = random.integers(0, [[3 * 365], [86_400], [3_000], [30]], (4, ROWS)).tolist()
     names = [f"{datetime.date(2024, 1, 1) + datetime.timedelta(day)}" for day in range(3 * 365)]
-    rows = [f"D{number:07},P{item:05},{names[day]}{time.format(second // 3600, second // 60 % 60, second % 60)},{amount}"
-            for number, (day, second, item, amount) in enumerate(zip(days, seconds, items, amounts))]
+    clocks = [time.format(second // 3600, second // 60 % 60, second % 60) for second in seconds]
+    rows = [f"D{number:07},P{item:05},{names[day]}{clock},{amount}"
+            for number, (day, clock, item, amount) in enumerate(zip(days, clocks, items, amounts))]
     path.write_text("\n".join(["document,item,at,amount", "D,P,2024-01-01,x", *rows, ""]), "utf-8")
     words = ["history", path, "--demand", "amount", "--date", "at", "--every", "day", "--leave-out", "--fit",
              "empirical"]
