@@ -227,7 +227,7 @@ def test_stock_of_the_masters_and_dead_stock(tmp_path: Path, crnplan: Command, m
         assert list(today.dead.value) == [6 * 1.5] * (orders == 0) and "The plan is old" in today.text
         if orders:
             assert list(today.suppliers.short) == [10**6 - today.frame.value[0]]
-            assert "add nothing: no other item of it needs" in today.text
+            assert "add none: no other item of it needs" in today.text
     old = replace(crn.open_plan(tmp_path / "left").orders_today().today, day=FRIDAY)
     assert [replace(old, end=days(-it)).weeks_old for it in (56, 57, 70)] == [None, 8, 10]
     with contextlib.closing(sqlite3.connect(tmp_path / "left" / READ)) as base, base:

@@ -6,6 +6,7 @@ import datetime
 import tempfile
 from collections.abc import Iterable, Mapping, Sequence
 from dataclasses import dataclass, field, replace
+from fractions import Fraction
 from functools import cached_property
 from pathlib import Path
 from typing import TYPE_CHECKING
@@ -19,7 +20,8 @@ from ..records.item import Item
 from ..records.items import Words
 from ..records.observed import Day, stated_day
 from ..records.sources import Table
-from ..table import MONEY, Cell, Column, DataTable, Result, number, text, whole
+from ..records.stock import NONE
+from ..table import MONEY, Cell, Column, DataTable, Result, names_of, number, text, whole
 from ..words import counted, sentence
 from .catalogue_tables import REJECT_COLUMNS, counted_rows, reasons_of, rejects_of
 from .page import rendered
@@ -28,7 +30,7 @@ if TYPE_CHECKING:
     import pandas as pd
 
 TODAY, SUMMARY = "today", "today.txt"  # the kind of the folder, and its text
-MOST_URGENT = 10
+MOST_URGENT, MOST_NAMED = 10, 8
 URGENT = ["item", "stock", "on_order", "owed", "s", "S", "placed", "value", "weeks", "chance", "latest"]  # of the text
 
 
@@ -145,6 +147,14 @@ def added_row(addition: Addition) -> list[Cell]:
             plain(standing.worth(standing.placed)), float(total)]
 
 
+def short_of(group: Group) -> tuple[Group, str, Fraction]:
+    """Returns a supplier whose order is below its least value, with what to add, and what is lacking then."""
+    added = [*group.additions()]
+    names = [f"{it.standing.placed:,} {it.standing.item.name}" for it in added]
+    total = added[-1].total if added else group.value
+    return group, names_of(names, MOST_NAMED), max((group.minimum or NONE) - total, NONE)
+
+
 @dataclass(frozen=True)
 class OrdersToday(Result):
     """What a plan says on a day. `frame` has a row for each order, the most urgent first, and then for each item of
@@ -223,11 +233,11 @@ class OrdersToday(Result):
         """Returns how many orders there are and what they are worth, the most urgent ones, and all totals."""
         today, whole = self.today, self.today.whole
         urgent = self._table("orders", map(order_row, whole.due[:MOST_URGENT])).with_columns(URGENT)
-        short = [group for group in today.suppliers if group.short]
         return rendered("today.txt", {
             "today": today, "whole": whole, "urgent": urgent.text, "counted": counted,
-            "files": counted_rows(today.counts), "reasons": reasons_of(today.rejects), "short": [
-                (group, [*group.additions()]) for group in short],
+            "files": counted_rows(today.counts), "reasons": reasons_of(today.rejects),
+            "short": [short_of(group) for group in today.suppliers if group.short],
+            "unknown": names_of([item.name for item, _ in today.unknown], MOST_NAMED),
             "unpriced": sum(it.item.price is None for it in whole.due),
             "owed": sum_of_money(it.worth(it.hand.owed) for it in today.owed),
             "money": lambda amount: self.currency.named(f"{float(amount):,.{self.currency.digits}f}")})
