@@ -15,9 +15,9 @@ PAGE = Path(__file__).parents[1] / "docs/TABLES.md"
 HEAD = """# The tables of crnplan
 
 Each table is declared once, in Python; this page follows from that. A file has a heading and a row for each item, policy or period, in
-UTF-8 with commas. A text that a spreadsheet would run as a formula stands behind an apostrophe. Data frames and JSON have the same
-columns, unrounded. Money is that of the masters or settings, in files with as many decimals as its smallest unit has. `-` or an empty
-cell stands for no figure.
+UTF-8 with commas; by `--csv-style de` or `fr` with semicolons, decimal commas and a byte order mark. A text that a spreadsheet would
+run as a formula stands behind an apostrophe. Data frames, JSON and workbooks have the same columns, unrounded. Money is that of the
+masters or settings, in files with as many decimals as its smallest unit has. `-` or an empty cell stands for no figure.
 """
 AS_ORDERS = "Other columns are as in `today_orders.csv`."
 

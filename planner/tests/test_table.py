@@ -10,10 +10,11 @@ import re
 from dataclasses import replace
 from fractions import Fraction
 
+import pandas as pd
 import pytest
 from hypothesis import given, strategies as st
 
-from crnplan.table import MONEY, Cell, DataTable, aligned, exact, names_of, number, text, whole
+from crnplan.table import MONEY, Cell, DataTable, aligned, csv_style, exact, names_of, number, text, whole
 from planner.tables_page import PAGE, TABLES, page
 
 TEXTS = st.text("ab .9", max_size=5)
@@ -56,6 +57,18 @@ def test_data_is_not_rounded() -> None:
         "cost": "money a period"}
     table = DataTable(COLUMNS, [["A", None, math.nan, 0.0, None]]).without_empty(("count", "cost", "share"))
     assert table.names == ["name", "share", "mean"] and table.rows == [["A", 0.0, None]]
+
+
+@pytest.mark.parametrize("style", ["de", "fr"])
+def test_tables_for_spreadsheets_of_a_language(style: str) -> None:
+    """By a style a file has semicolons and decimal commas, and begins with a mark of UTF-8; texts and headings stay."""
+    columns = (*COLUMNS, number("50.0%", "items", "a heading with a point", ".1f"))
+    table = DataTable(columns, [["a.b;c", 3, 1234.5678, 0.25, Fraction(7, 2), 1.5], ["ü", None, None, None, None, -2.0]], 2, "")
+    with csv_style(style):
+        read = pd.read_csv(io.BytesIO(table.csv.encode()), sep=";", decimal=",", encoding="utf-8-sig")
+    assert [*read.columns] == table.names and read.name.tolist() == ["a.b;c", "ü"]
+    assert read.cost[0] == 1234.57 and read["50.0%"].tolist() == [1.5, -2.0] and read["mean"][0] == "7/2"
+    assert table.csv.splitlines()[1] == "a.b;c,3,1234.57,0.2500,7/2,1.5"
 
 
 @pytest.mark.parametrize("cell, is_run", [*((it, True) for it in RUN), *((it, False) for it in PLAIN)])

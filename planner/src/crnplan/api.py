@@ -195,6 +195,12 @@ class Plan(Result):
                       date_formats=tuple(date_formats))
         return orders_today(self.path, {"stock": stock, "on_order": on_order}, words, date, supplier_min or {})
 
+    def to_excel(self, path: str | Path) -> None:
+        """Writes the plan as a workbook: its summary, decisions, orders of today if the masters have stock, what is
+        left out, the curve if it was drawn, classes, and what each column means. Raises Refused."""
+        from .pages.workbook import write_workbook
+        write_workbook(self.path, Path(path))
+
     def report(self, items: Iterable[str] = (), *, jobs: int | None = None, cluster: str | None = None) -> Path:
         """Writes report.html, and pages of `items`, into the folder of the plan, and returns the path: see `report`."""
         return report(self.path, items, jobs=jobs, cluster=cluster, program=self.program)

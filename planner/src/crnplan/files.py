@@ -11,6 +11,7 @@ import errno
 import fcntl
 import functools
 import hashlib
+import io
 import os
 import re
 import secrets
@@ -73,6 +74,15 @@ def faults_of(folder: Path) -> Iterator[None]:
 
 @contextlib.contextmanager
 def new_file(path: Path, room: Path | None = None) -> Iterator[IO[str]]:
+    """Gives a file for a text, as `new_bytes` does."""
+    with new_bytes(path, room) as data:
+        file = io.TextIOWrapper(data, encoding="utf-8", errors="backslashreplace", newline="")
+        yield file
+        file.detach()
+
+
+@contextlib.contextmanager
+def new_bytes(path: Path, room: Path | None = None) -> Iterator[IO[bytes]]:
     """Gives a file to write, which is there whole or not at all. Until then it has a random name, beside the target or
     in another folder of the same disk, its `room`. A symlink at the target is replaced, and not followed. Raises as
     `faults_of` does."""
@@ -80,7 +90,7 @@ def new_file(path: Path, room: Path | None = None) -> Iterator[IO[str]]:
     with faults_of(room.parent if room else path):
         descriptor = os.open(part, os.O_WRONLY | os.O_CREAT | os.O_EXCL | os.O_NOFOLLOW, 0o666)
         try:
-            with open(descriptor, "w", encoding="utf-8", errors="backslashreplace", newline="") as file:
+            with open(descriptor, "wb") as file:
                 yield file
                 file.flush()
                 os.fsync(file.fileno())

@@ -1,6 +1,7 @@
 """Tables whose columns are declared once: the frame, CSV, JSON, text, HTML and the page of formats follow from that."""
 from __future__ import annotations
 
+import contextlib
 import csv
 import html
 import io
@@ -8,6 +9,7 @@ import math
 import re
 from abc import ABC, abstractmethod
 from collections.abc import Callable, Collection, Iterable, Iterator, Mapping, Sequence
+from contextvars import ContextVar
 from dataclasses import dataclass, replace
 from fractions import Fraction
 from functools import partial
@@ -28,6 +30,22 @@ NAMED_UNITS = {"money": "{money}", "periods": "{period}s",
                "money a period": "{money} a {period}"}
 # How a text begins that a spreadsheet would run, unless it is a number or a mark for no figure.
 RUN = re.compile(r"[=@\t\r]|[+-](?![0-9.,]*$)")
+
+
+# The signs of a CSV file by its style: between cells, of decimals, and at its beginning. A spreadsheet opens a file in
+# the style of its language, and takes one that begins with a byte order mark for UTF-8.
+STYLES = {"en": (",", ".", ""), "de": (";", ",", "\ufeff"), "fr": (";", ",", "\ufeff")}
+_style: ContextVar[str] = ContextVar("style", default="en")
+
+
+@contextlib.contextmanager
+def csv_style(name: str) -> Iterator[None]:
+    """Writes tables as CSV in a style of STYLES within the block."""
+    token = _style.set(name)
+    try:
+        yield
+    finally:
+        _style.reset(token)
 
 
 @dataclass(frozen=True)
@@ -142,11 +160,16 @@ class DataTable:
 
     @property
     def lines(self) -> Iterator[str]:
-        """Yields the lines of the table as CSV. Rows may be many: they are not kept."""
-        for row in self.spelt():
+        """Yields the lines of the table as CSV, by default with commas: see `csv_style`. Rows may be many: they are not
+        kept."""
+        delimiter, decimal, mark = STYLES[_style.get()]
+        for place, row in enumerate(self.spelt()):
+            if place:
+                row = [cell if it.is_text else cell.replace(".", decimal) for it, cell in zip(self.columns, row)]
             line = io.StringIO(newline="")
-            csv.writer(line).writerow(row)  # which quotes a lone carriage return if it ends lines by one
-            yield line.getvalue().removesuffix("\r\n") + "\n"
+            # It quotes a lone carriage return if it ends lines by one.
+            csv.writer(line, delimiter=delimiter).writerow(row)
+            yield mark * (not place) + line.getvalue().removesuffix("\r\n") + "\n"
 
     @property
     def csv(self) -> str:

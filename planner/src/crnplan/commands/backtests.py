@@ -16,7 +16,7 @@ from ..plan.question import Settings
 from ..plan.settings import read_config
 from ..records.catalogue_reading import CATALOGUE, read_into
 from .catalogues import words_of
-from .words import command, share_of, worker_options
+from .words import command, csv_style_option, share_of, worker_options
 
 
 @command()
@@ -34,6 +34,7 @@ from .words import command, share_of, worker_options
               help="Refit with levels that stay too, if others gain less than this share of their cost, as 2%; by "
               "default as the plan does.")
 @click.option("--config", metavar="FILE.toml", help="Settings; by default crnplan.toml, if it is here.")
+@csv_style_option
 @worker_options
 def backtest(tables: Sequence[Path], orders: str | None, out: Path | None, record: int, every: int, window: int | None,
              least_gain: float | None, config: str | None, jobs: int | None, cluster: str | None,

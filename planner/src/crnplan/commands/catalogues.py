@@ -25,7 +25,7 @@ from ..records.item import BORROW
 from ..records.items import KEEP, LEAVE_OUT, Words
 from . import note
 from .histories import writing_options
-from .words import command, pairs_of, share_of, together, worker_options
+from .words import command, csv_style_option, pairs_of, share_of, together, worker_options
 
 # So many reasons are named on the terminal.
 MOST_REASONS = 10
@@ -102,6 +102,7 @@ decimal_option = click.option("--decimal", type=click.Choice(DECIMALS),
 @click.option("--level", type=float, metavar="SHARE", help="The level of the intervals; by default 0.95.")
 @click.option("--seed", metavar="TEXT", help="The keys of all items follow from it; by default crnplan.")
 @click.option("--config", metavar="FILE.toml", help="Settings; by default crnplan.toml, if it is here.")
+@csv_style_option
 @worker_options
 def catalogue(**asked: Any) -> int:
     config, path = read_config(asked["config"]), Path(asked["config"] or CONFIG)

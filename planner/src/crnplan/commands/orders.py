@@ -12,7 +12,7 @@ from ..plan.settings import read_config
 from .catalogues import column_options, decimal_option, words_of
 from .histories import writing_options
 from .plans import folder_argument
-from .words import command, pairs_of
+from .words import command, csv_style_option, pairs_of
 
 
 @command()
@@ -30,6 +30,7 @@ from .words import command, pairs_of
 @column_options
 @writing_options
 @decimal_option
+@csv_style_option
 @click.option("--config", metavar="FILE.toml", help="Settings; by default crnplan.toml, if it is here.")
 def today(folder: Path, stock: str | None, on_order: str | None, date: str | None, supplier_min: dict[str, str],
           table: str | None, out: Path | None, config: str | None, **reading: Any) -> None:

@@ -8,7 +8,7 @@ from typing import Any
 import click
 
 import crnplan as crn
-from .words import command, picture, program_option, worker_options
+from .words import command, csv_style_option, picture, program_option, worker_options
 
 folder_argument = click.argument("folder", metavar="FOLDER", type=click.Path(path_type=Path))
 
@@ -17,6 +17,7 @@ folder_argument = click.argument("folder", metavar="FOLDER", type=click.Path(pat
 @click.argument("history", metavar="HISTORY.csv", type=click.Path())
 @click.argument("settings", metavar="SETTINGS.toml", type=click.Path())
 @click.option("--out", metavar="FOLDER", type=click.Path(), required=True, help="Keep every file here.")
+@csv_style_option
 @program_option
 def item(history: str, settings: str, out: str, program: str | None) -> None:
     from ..pages.item_page import item_summary, plan_item
@@ -36,6 +37,7 @@ def item(history: str, settings: str, out: str, program: str | None) -> None:
               help="Count the stock of N items by crnsim.")
 @click.option("--plot", callback=picture, metavar="FILE", help="Draw the curve, as .png or .svg.")
 @click.option("--csv", "is_csv", is_flag=True, help="Print curve.csv in place of the text.")
+@csv_style_option
 @worker_options
 def curve(folder: Path, plot: Path | None, is_csv: bool, **options: Any) -> None:
     drawn = crn.exchange_curve(folder, progress=True, **options)
@@ -51,9 +53,14 @@ def curve(folder: Path, plot: Path | None, is_csv: bool, **options: Any) -> None
 @folder_argument
 @click.option("--item", "items", metavar="NAME", multiple=True,
               help="Write the page of this item too, by crnsim. May be given several times.")
+@click.option("--xlsx", metavar="FILE", type=click.Path(dir_okay=False, path_type=Path),
+              help="Write the plan as a workbook for spreadsheets too.")
 @worker_options
-def report(folder: Path, items: tuple[str, ...], **options: Any) -> None:
+def report(folder: Path, items: tuple[str, ...], xlsx: Path | None, **options: Any) -> None:
     from ..pages.catalogue_page import file_of
+    if xlsx:
+        crn.Plan(folder).to_excel(xlsx)
+        click.echo(xlsx)
     page = crn.report(folder, items, progress=True, **options)
     for path in (*(file_of(folder, name) for name in items), page):
         click.echo(path)

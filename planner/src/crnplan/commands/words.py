@@ -13,7 +13,7 @@ import click
 
 import crnplan as crn
 from .. import money
-from ..table import DataTable, Result
+from ..table import STYLES, DataTable, Result, csv_style
 from . import COMMANDS
 
 Decorator = Callable[[Callable[..., Any]], Callable[..., Any]]
@@ -62,6 +62,11 @@ def together(*options: Decorator) -> Decorator:
     return lambda command: functools.reduce(lambda made, option: option(made), reversed(options), command)
 
 
+def in_style(context: click.Context, option: click.Parameter, name: str) -> None:
+    """Writes the tables of the command in a style."""
+    context.with_resource(csv_style(name))
+
+
 scenario_argument = click.argument("scenario", metavar="SCENARIO.toml", type=click.Path())
 program_option = click.option("--program", metavar="PATH", help="The program crnsim.")
 worker_options = together(
@@ -70,6 +75,9 @@ worker_options = together(
     click.option("--cluster", metavar="ADDRESS",
                  help="A Dask scheduler, as tcp://host:8786. Its workers need crnplan."),
     program_option)
+csv_style_option = click.option(
+    "--csv-style", type=click.Choice([*STYLES]), default="en", callback=in_style, expose_value=False,
+    help="Write tables for spreadsheets in German or French: with ;, a decimal comma and a byte order mark.")
 level_option = click.option("--level", type=float, default=0.95, show_default=True,
                             help="The joint level of the intervals.")
 form_options = together(

@@ -1,0 +1,123 @@
+"""Tests the workbook of a plan, read again by openpyxl: each cell is that of the tables, and nothing runs."""
+from __future__ import annotations
+
+import datetime
+import random
+import zipfile
+from dataclasses import replace
+from fractions import Fraction
+from pathlib import Path
+from typing import Any
+
+import openpyxl
+import pandas as pd
+import pytest
+
+import crnplan as crn
+from crnplan.curve.exchange_curve import kept_curve
+from crnplan.pages import workbook
+from crnplan.plan.catalogue import planned_folder
+from planner.tests.conftest import Command
+from planner.tests.pages.made_catalogue import made_folder, made_pair
+
+NAMES = ("000123", "=1+1", "@SUM(A1)", "https://example.org", "قطعة ٣", "  two  blanks ", "<b>&amp;", "1e5")
+DAY = datetime.date(20, 3, 23)  # behind the record of made folders, whose last week is 1002
+DIGITS = 16  # that a workbook keeps
+
+
+@pytest.fixture(scope="module")
+def folder(tmp_path_factory: pytest.TempPathFactory) -> Path:
+    """Returns a made plan in a currency, with a curve, and with stock of one item, which nobody changes."""
+    item, answer = made_pair(random.Random(1), "held")
+    return made_folder(tmp_path_factory.mktemp("made") / "plan", 30, NAMES, currency="KWD",
+                       change=(replace(item, stock=Fraction(2), price=Fraction(3)), answer))
+
+
+@pytest.fixture(scope="module")
+def book(folder: Path) -> Any:
+    crn.Plan(folder).to_excel(folder.parent / "plan.xlsx")
+    return openpyxl.load_workbook(folder.parent / "plan.xlsx")
+
+
+def cells_of(frame: pd.DataFrame) -> list[list[Any]]:
+    """Returns a frame as a sheet has it: its heading, and its cells without the missing ones."""
+    plain = frame.astype(object).where(frame.notna() & (frame != ""), None)
+    rows = [[float(f"{cell:.{DIGITS}g}") if isinstance(cell, float) else cell for cell in row]
+            for row in plain.values.tolist()]
+    return [[*frame.columns], *rows]
+
+
+def sheet_cells(sheet: Any) -> list[list[Any]]:
+    return [[*row] for row in sheet.iter_rows(values_only=True)]
+
+
+def test_cells_are_those_of_the_frames(book: Any, folder: Path) -> None:
+    """Decisions, orders, what is left out and the curve are as in the tables, unrounded. Item numbers are texts."""
+    plan = crn.Plan(folder)
+    assert sheet_cells(book["Decisions"]) == cells_of(plan.decisions)
+    assert sheet_cells(book["Left out"]) == cells_of(plan.rejects)
+    assert sheet_cells(book["Today"]) == cells_of(plan.orders_today(date=DAY).frame)
+    assert {*NAMES} < {row[0].value for row in book["Decisions"].iter_rows(min_row=2)}
+    with planned_folder(folder) as planned:
+        curve = kept_curve(planned.store)
+    assert curve and sheet_cells(book["Curve"])[1:] == cells_of(pd.DataFrame(
+        [[name, *point] for name, point in curve]))[1:]
+    assert len(book["Curve"]._charts) == 1
+
+
+def test_classes_and_meanings(book: Any, folder: Path) -> None:
+    """Classes are the sums of decisions, and each column of each sheet has a meaning and a unit in the currency."""
+    sums = crn.Plan(folder).decisions.assign(**{"class": lambda it: it["class"].replace("", "no class")}).groupby("class")
+    rows = {row[0]: row[1:] for row in sheet_cells(book["Classes"])[1:]}
+    assert {name: row[0] for name, row in rows.items()} == sums.size().to_dict()
+    for place, column in ((1, "saving"), (4, "value_today"), (5, "value_chosen")):
+        assert {name: row[place] for name, row in rows.items()} == pytest.approx(sums[column].sum().to_dict())
+    meanings = sheet_cells(book["Read me"])[1:]
+    assert [row[:2] for row in meanings] == [
+        [sheet.title, cell.value] for sheet in book.worksheets[:-1] for cell in sheet[1]]
+    assert ["Decisions", "saving", "KWD a week"] in [row[:3] for row in meanings] and all(row[3] for row in meanings)
+
+
+def test_formats_and_panes(book: Any) -> None:
+    """Each sheet has its heading frozen and filters on; numbers have the decimals of their columns and the currency."""
+    assert book.sheetnames == ["Summary", "Decisions", "Today", "Left out", "Curve", "Classes", "Read me"]
+    for sheet in book.worksheets:
+        assert sheet.freeze_panes == "B2" and sheet.auto_filter.ref == sheet.dimensions
+        assert all(sheet.column_dimensions[cell.column_letter].width >= len(cell.value) for cell in sheet[1])
+    first = dict(zip((cell.value for cell in book["Decisions"][1]), book["Decisions"][2]))
+    assert first["saving"].number_format == '"KWD" #,##0.000;"KWD" -#,##0.000'
+    assert [first[name].number_format for name in ("fill_chosen", "s_chosen", "stock_today", "item")] == [
+        "0.00%", "#,##0", "#,##0.0###", "@"]
+    assert book["Summary"]["B2"].number_format == first["saving"].number_format
+
+
+def test_nothing_runs_and_bytes_stay(book: Any, folder: Path, crnplan: Command, tmp_path: Path) -> None:
+    """There is no formula, link, macro or query; the same plan gives the same bytes, by the command too."""
+    for sheet in book.worksheets:
+        assert not {cell.data_type for row in sheet.iter_rows() for cell in row} - {"s", "n", "inlineStr"}
+        assert not any(cell.hyperlink for row in sheet.iter_rows() for cell in row)
+    path = folder.parent / "plan.xlsx"
+    assert not any(word in name for name in zipfile.ZipFile(path).namelist() for word in ("vba", "external", "connect"))
+    answer = crnplan("report", folder, "--xlsx", tmp_path / "again.xlsx")
+    assert answer.status == 0 and answer.output.startswith(str(tmp_path / "again.xlsx"))
+    assert (tmp_path / "again.xlsx").read_bytes() == path.read_bytes()
+
+
+def test_tables_in_a_style(folder: Path, crnplan: Command) -> None:
+    """A command writes its tables in the style that is asked for, and the next one as ever."""
+    words = "today", folder, "--date", "2026-11-27", "--csv", "orders"
+    styled, plain = crnplan(*words, "--csv-style", "de"), crnplan(*words)
+    assert styled.output.startswith("\ufeffitem;description;") and plain.output.startswith("item,description,")
+
+
+def test_plain_plans_and_too_many_rows(tmp_path: Path, monkeypatch: pytest.MonkeyPatch) -> None:
+    """A plan without currency, stock and curve has neither sheet; a table with more rows than a sheet is refused."""
+    plan = crn.Plan(made_folder(tmp_path / "plan", 5, has_curve=False))
+    plan.to_excel(tmp_path / "plan.xlsx")
+    book = openpyxl.load_workbook(tmp_path / "plan.xlsx")
+    assert book.sheetnames == ["Summary", "Decisions", "Left out", "Classes", "Read me"]
+    assert book["Decisions"]["K2"].number_format == "#,##0.00"
+    monkeypatch.setattr(workbook, "MOST_ROWS", 50)
+    with pytest.raises(crn.Refused, match="'Decisions' would have more than 50 rows.*decisions.csv"):
+        crn.Plan(made_folder(tmp_path / "large", 50, has_curve=False)).to_excel(tmp_path / "more.xlsx")
+    assert not (tmp_path / "more.xlsx").exists()
