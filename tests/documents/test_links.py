@@ -69,9 +69,9 @@ def test_readme_fits_three_screens() -> None:
 
 
 def test_words_of_the_guide() -> None:
-    """The guide has at most 4,000 words: on many items at most 600, on the past at most 350."""
+    """The guide has at most 4,000 words: at the desk and on all items together at most 400 each, on the past 350."""
     text = text_of("docs/GUIDE.md")
-    for heading, most in (("Many items", 600), (r"Does it hold on your past\?", 350)):
+    for heading, most in (("The desk", 400), ("All items together", 400), (r"Does it hold on your past\?", 350)):
         section, = re.findall(rf"^## {heading}\n.*?(?=^## )", text, re.MULTILINE | re.DOTALL)
         assert len(section.split()) <= most
     assert words_of("docs/GUIDE.md") <= 4_000
