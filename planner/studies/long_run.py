@@ -38,7 +38,7 @@ from planner.studies.long_run_items import Item, items_of
 STORED = Path(__file__).with_name("long_run.txt")
 SEEDS = (1, 20261126, 48)
 REPLICATIONS = 24
-SMALL = 24  # items
+SMALL = 12  # items
 LEVEL = 0.95
 # Tables of the exact target are made up to this gap, and up to this work with late orders (`overtaking.work_of`).
 MOST_GAP = 20_000

@@ -15,6 +15,7 @@ from planner.tests.conftest import Answer, Command
 
 MASTERS = "item,setup,holding,backlog,lead,s,S,price,class\n"
 MASTER = "{},12,0.06,0.9,2,6,20,5,{}\n"
+TEACHER = "{},12,0.0001,500,2,6,20,5,{}\n"  # with costs too far apart for a plan
 SMALL = "[catalogue]\nperiods = 8\nreplications = 2\nleast = 1\n"
 MOST_ORDERS = 65_536
 Write = Callable[[str, Sequence[Sequence[object]]], str]
@@ -41,10 +42,10 @@ def write(tmp_path: Path, monkeypatch: pytest.MonkeyPatch) -> Write:
     return file
 
 
-def catalogue(crnplan: Command, names: Sequence[str], *words: str | Path) -> Answer:
-    """Runs `crnplan catalogue` on demand.csv for items with these names, by one process."""
-    Path("items.csv").write_text(MASTERS + "".join(MASTER.format(name, "AB"[place % 2])
-                                                   for place, name in enumerate(names)), "utf-8")
+def catalogue(crnplan: Command, names: Sequence[str], *words: str | Path, teachers: Sequence[str] = ()) -> Answer:
+    """Runs `crnplan catalogue` on demand.csv for items with these names, by one process. Teachers have no plan."""
+    rows = [(TEACHER if name in teachers else MASTER).format(name, "AB"[place % 2]) for place, name in enumerate(names)]
+    Path("items.csv").write_text(MASTERS + "".join(rows), "utf-8")
     return crnplan("catalogue", "demand.csv", "items.csv", "--config", "settings.toml", "--jobs", "1", "--out", "plan",
                    *words)
 
@@ -84,7 +85,7 @@ def test_how_many_items_are_learned_from(write: Write, crnplan: Command, program
     write("demand.csv", [["date", "item", "quantity"], *(
         [str(day + datetime.timedelta(7 * week)), name, 1 + (number * week) % 4]
         for number, name in enumerate(names) for week in range(number % 3, 24, 2))])
-    told = catalogue(crnplan, names, "--borrow", borrow, "--program", program)
+    told = catalogue(crnplan, names, "--borrow", borrow, "--program", program, teachers=names[2:])
     assert told.status == 0 and f"laws of demand were learned from {learned} items" in told.output, told
 
 

@@ -106,7 +106,7 @@ def test_costs_and_orders_are_those_of_a_slow_simulation(scenario: Scenario, pro
     assert found.orders in (tuple(counted), (None,) * len(counted))
     assert min(counted) > 20 or found.orders[0] is not None
     far = scenario is SCENARIOS["stock far below 0"]
-    assert long_run_of(scenario, 2, program).periods == (1024 - 4 * 8 if far else 1020)
+    assert found.periods == (1024 - 4 * 8 if far else 1020)
 
 
 CHAINS = [PLAIN, replace(PLAIN, lead=Law((2,), (1,))), replace(SCENARIOS["returns"], lead=Law((1, 2), (1, 1)))]

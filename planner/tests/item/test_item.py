@@ -123,7 +123,7 @@ def test_laws_that_the_history_allows(room: Path, plan: Plan) -> None:
     wanted = {it.policy.name: it.policy for it in suggestions_of(scenario).rows}
     assert {"fill_95", "fill_99", "fewer_orders"} <= {*names} and any(it.startswith("sure_") for it in names)
     assert all(wanted[it.name] == it for it in scenario.policies if it.name in ("fill_95", "fill_99", "fewer_orders"))
-    found = crn.doubt(scenario, counts_of(room), [2, 3, 2, 4], times=400).frame
+    found = crn.doubt(scenario, counts_of(room), [2, 3, 2, 4], times=100).frame
     rows = {row["policy"]: row for row in rows_of(room / "plan/doubt.csv")}
     for name in ("today", "chosen"):
         assert float(rows[name]["cost"]) == pytest.approx(found.cost[name] / 10, rel=0.05)

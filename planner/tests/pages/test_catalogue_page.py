@@ -69,7 +69,7 @@ def folder(hostile: Path, tmp_path: Path) -> Path:
 def test_cells_are_those_of_the_table(name: str, request: pytest.FixtureRequest) -> None:
     """The page has each item once, each cell as decisions.csv spells it, by falling saving."""
     folder = request.getfixturevalue(name)
-    page, rows = Page(crn.report(folder)), rows_of(folder / "decisions.csv")
+    page, rows = Page(folder / "report.html"), rows_of(folder / "decisions.csv")
     assert page.columns == [name for name in COLUMNS if not name.endswith("_alone")]
     assert page.items == {row["item"]: {it: row[it] for it in page.columns} for row in rows}
     savings = [Decimal(row["saving"]) for row in page.items.values()]

@@ -26,6 +26,7 @@ for kind, values in ((float, FLOATS), (int, WHOLE), (Fraction, some.fractions())
     some.register_type_strategy(kind, values)
 
 
+@settings(max_examples=50)
 @given(some.from_type(Answer) | some.from_type(Item))
 def test_columns_give_back_what_they_are_given(value: Answer | Item) -> None:
     """Each field comes back as it was, of any size, through SQLite's own columns."""
