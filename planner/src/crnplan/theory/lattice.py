@@ -17,6 +17,7 @@ from ..errors import Refused
 from ..formats import MOST_ITEMS
 from ..law import Law
 from ..scenario import Scenario
+from .feasible import ALL, Feasible
 from .long_run import LongRun, gap_grid
 from .one_lead import OneLead
 from .shortfalls import work_of
@@ -56,11 +57,12 @@ class Shape:
     order: float
     height: float
     rise: float  # the largest net number that comes back in a period
+    least_gap: int = 0  # that may be chosen above 0
 
     @property
     def gap(self) -> int:
         """Returns the largest gap that is looked at."""
-        return min(MOST_ITEMS, int(3 * self.order + 3 * self.high))
+        return min(MOST_ITEMS, max(int(3 * self.order + 3 * self.high), self.least_gap + 3 * self.high))
 
     @property
     def spread(self) -> float:
@@ -144,7 +146,7 @@ def lattice_of(scenario: Scenario, shape: Shape, widest: int, most_gaps: int = M
     """Returns the step of the lattice, and whether it is exact. With one lead time it has at most so many gaps. If it
     is not exact, that of some coarser steps is taken that adds the least variance."""
     base = shape.base
-    least = finest(base, max(shape.high, shape.order),
+    least = finest(base, max(shape.high, shape.order, shape.least_gap),
                    lambda step: 1 if shape.is_small(step, widest, most_gaps) else math.inf)
     if least is None:
         raise NoTheory("the numbers of this scenario are too far apart for the theory's tables: what comes back is "
@@ -156,9 +158,9 @@ def lattice_of(scenario: Scenario, shape: Shape, widest: int, most_gaps: int = M
     return min(steps, key=lambda step: blur(scenario, step)), False
 
 
-def theory_on(scenario: Scenario, shape: Shape, step: int, exact: bool) -> LongRun:
+def theory_on(scenario: Scenario, shape: Shape, step: int, exact: bool, feasible: Feasible = ALL) -> LongRun:
     """Returns the theory of a scenario on a lattice."""
-    return (OneLead if shape.leads == 1 else LongRun)(scenario, step, exact, -(-shape.gap // step))
+    return (OneLead if shape.leads == 1 else LongRun)(scenario, step, exact, -(-shape.gap // step), feasible)
 
 
 def theories_of(scenario: Scenario, widest: int | None = None) -> tuple[LongRun, LongRun | None]:

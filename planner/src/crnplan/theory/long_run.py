@@ -14,10 +14,11 @@ place j cells below S is a low of a cycle, and M(g) their sum up to the gap g.
 """
 from __future__ import annotations
 
+import copy
 import math
 from collections.abc import Callable, Iterable, Iterator, Sequence
 from functools import partial
-from typing import Any, NamedTuple, TypeVar
+from typing import Any, NamedTuple
 
 import numpy as np
 from numpy.lib.stride_tricks import sliding_window_view
@@ -26,10 +27,9 @@ from scipy import fft
 from ..chances import Floats, Whole
 from ..formats import MOST_ITEMS
 from ..scenario import Scenario
+from .feasible import ALL, Feasible, Places
 from .shortfalls import lateness, renewed, transforms_of, work_of
 from .walk import LatticeLaw, Surplus, Walk, power_of, room_for, sum_of
-
-Places = TypeVar("Places", int, Whole)
 
 GRID_GROWTH = 1.15
 SMALL_GAP = 8
@@ -152,15 +152,17 @@ def search(policies_of: Callable[[Sequence[int]], Iterable[Candidate]], most: in
 
 
 class LongRun(Walk):
-    """The figures of a scenario's policies on a lattice, and searches for the cheapest ones, which look at all gaps
-    that matter, unless these take too long. With one lead time `OneLead` is faster."""
+    """The figures of a scenario's policies on a lattice, and searches for the cheapest of feasible ones, which look at
+    all gaps that matter, unless these take too long. With one lead time `OneLead` is faster."""
 
-    # Whether a search looked at a grid of gaps alone. Else its policy is the best of all pairs with s of at least 0.
+    # Whether a search looked at a grid of gaps alone. Else its policy is the best of all feasible pairs.
     is_searched = False
+    most_work: float = MOST_WORK
 
-    def __init__(self, scenario: Scenario, step: int, exact: bool, most: int) -> None:
+    def __init__(self, scenario: Scenario, step: int, exact: bool, most: int, feasible: Feasible = ALL) -> None:
         """Makes the laws of a scenario. `most` is the largest gap that a search looks at."""
         super().__init__(scenario, step, exact)
+        self.feasible = feasible
         costs, leads = scenario.costs, scenario.lead.chances
         self.setup, self.holding, self.backlog = costs.setup, costs.holding, costs.backlog
         self.most, self.shorts = most, dict[int, Floats]()
@@ -178,6 +180,12 @@ class LongRun(Walk):
         self.after = sum_of(under_way, self.net)
         self.one_period = Surplus(self.after, step)
         self.one_before = Surplus(sum_of(under_way, self.back.reflected), step)
+
+    def within(self, feasible: Feasible) -> LongRun:
+        """Returns the same theory with other feasible policies."""
+        other = copy.copy(self)
+        other.feasible = feasible
+        return other
 
     @property
     def ratio(self) -> float:
@@ -230,15 +238,31 @@ class LongRun(Walk):
 
     def widest(self, cost: float, lowest: int) -> int:
         """Returns the greatest gap of a policy with s of at least `lowest` that costs no more: see the module."""
-        return int(min(MOST_ITEMS // self.step, max(0, 2 * (self.reach(cost) - lowest) // self.step)))
+        most = (self.feasible.top - self.feasible.least) // self.step
+        return int(min(most, max(0, 2 * (self.reach(cost) - lowest) // self.step)))
 
     def items(self, gap: Places) -> Places:
-        """Returns S - s of a gap; if the lattice is not exact, the middle of those that have this gap."""
-        return gap * self.step + (0 if self.exact else (self.step - 1) // 2)
+        """Returns S - s of a gap: see `Feasible.gap_in`."""
+        return self.feasible.gap_in(gap, self.step, self.exact)
+
+    def is_gap(self, gap: Places) -> Any:
+        """Returns whether a feasible policy may have a gap."""
+        return self.items(gap) < (gap + 1) * self.step
+
+    def gaps(self, first: int, most: int) -> list[int]:
+        """Returns the gaps from the first to the most that feasible policies may have."""
+        gaps = np.arange(first, min(most, -(-(self.feasible.top - self.feasible.least) // self.step)) + 1)
+        kept: list[int] = gaps[self.is_gap(gaps)].tolist()
+        return kept
+
+    def grid(self) -> list[int]:
+        """Returns a few gaps that feasible policies may have, further apart as they grow; none if there are none."""
+        gaps = self.gaps(0, self.most)
+        return [gaps[place] for place in gap_grid(len(gaps) - 1)[::FEW]] if gaps else []
 
     def floor(self, gap: Places) -> Places:
-        """Returns the least level of a gap with s of at least 0, in cells."""
-        return -(-self.items(gap) // self.step)
+        """Returns the least feasible level of a gap, in cells."""
+        return -(-(self.items(gap) + self.feasible.least) // self.step)
 
     def figures(self, point: int, level: int) -> Figures:
         """Returns the figures of a policy; if the lattice is not exact, between those of the gaps beside its own."""
@@ -255,9 +279,10 @@ class LongRun(Walk):
         return Figures(self.setup * orders + stock_cost, 1 - unmet / self.asked, 1 - held, stock, orders)
 
     def policy(self, gap: int, level: int, point: int | None = None) -> Candidate:
-        """Returns the policy of a gap with a level, and perhaps a point; none if s or S is out of its range."""
+        """Returns the policy of a gap with a level, and perhaps a point; none if it is not feasible."""
         point = level - self.items(gap) if point is None else point
-        if not 0 <= point <= level <= MOST_ITEMS:
+        is_gap = self.items(gap) <= level - point < (gap + 1) * self.step
+        if not (is_gap and self.feasible.has(point, level)):
             return NO_POLICY
         return Candidate(self.figures_of_gap(gap, level).cost, point, level)
 
@@ -299,19 +324,42 @@ class LongRun(Walk):
         return np.concatenate(levels), np.concatenate(costs)
 
     def best_levels(self, means: Means, share: float) -> Levels:
-        """Returns the cheapest levels that meet a share of demand at once: those, or the newsvendor's if higher."""
+        """Returns the cheapest feasible levels that meet a share of demand at once: those, or the newsvendor's if
+        higher."""
         allowed, highest = self.allowed(share), np.full(len(means.gaps), means.top)
 
         def is_enough(levels: Whole) -> Any:
             unmet, held = means.at(levels, slice(1, 3))
             return (unmet <= allowed) & (held >= self.ratio)
         places = self.places(means, least_levels(self.floor(means.gaps), highest, is_enough))
-        return self.costs_of(places, self.spare_of(places, allowed))
+        spare = self.spare_of(places, allowed)
+        if self.feasible.has_all_levels:
+            return self.costs_of(places, spare)
+        return self.feasible_levels(means, places.levels * self.step - spare, allowed)
+
+    def feasible_levels(self, means: Means, levels: Whole, allowed: float) -> Levels:
+        """Returns the cheapest feasible levels with at most so much unmet demand, of which some levels are the cheapest
+        of all; -1 if there are none. Costs are convex in the level, so of multiples one of both beside it is best,
+        and beyond the greatest level that one."""
+        best, least = np.full(len(levels), -1), np.full(len(levels), math.inf)
+        for level in (levels // self.feasible.multiple * self.feasible.multiple, self.feasible.up(levels)):
+            level = np.minimum(level, self.feasible.top)
+            places, spare = self.places_at(means, level)
+            unmet = places.here[1] + spare / self.step * (places.below[1] - places.here[1])
+            is_enough = unmet <= allowed * (1 + NEAR) * places.totals
+            costs = np.where(is_enough, self.costs_of(places, spare)[1], math.inf)
+            best, least = np.where(costs < least, level, best), np.minimum(costs, least)
+        return best, least
 
     def fixed_levels(self, means: Means, levels: Whole) -> Levels:
-        """Returns these levels, with their costs. Beyond the highest one, each item more is one more in stock."""
+        """Returns these levels, with their costs."""
+        return self.costs_of(*self.places_at(means, levels))
+
+    def places_at(self, means: Means, levels: Whole) -> tuple[GapLevels, Whole]:
+        """Returns places of gaps, and how far below them some levels are. Beyond the highest one, each item more is one
+        more in stock."""
         cells = np.minimum(-(-levels // self.step), means.top)
-        return self.costs_of(self.places(means, cells), cells * self.step - levels)
+        return self.places(means, cells), cells * self.step - levels
 
     def places(self, means: Means, levels: Whole) -> GapLevels:
         """Returns levels of gaps, in cells, with the sums over the lows."""
@@ -323,19 +371,20 @@ class LongRun(Walk):
         """Returns how far below these places a level can be, in items, less than a cell, if so much may be unmet."""
         free, slope = allowed * places.totals - places.here[1], places.below[1] - places.here[1]
         spare = np.minimum(self.step * np.divide(free, slope, where=slope > 0, out=np.ones_like(free)), self.step - 1)
-        spare = np.minimum(spare.astype(int), places.levels * self.step - self.items(places.gaps))
+        least = self.items(places.gaps) + self.feasible.least
+        spare = np.minimum(spare.astype(int), places.levels * self.step - least)
         return np.where(places.below[2] >= self.ratio * places.totals, spare, 0)
 
     def costs_of(self, places: GapLevels, spare: Whole) -> Levels:
-        """Returns the levels that are so much below these places, with their costs; infinite if s or S is out of range.
+        """Returns the levels that are so much below these places, with their costs; infinite if they are not feasible.
         """
         levels = places.levels * self.step - spare
         costs = self.setup / self.span + places.here[0] + spare / self.step * (places.below[0] - places.here[0])
-        is_allowed = (levels <= MOST_ITEMS) & (levels >= self.items(places.gaps))
+        is_allowed = self.feasible.has(levels - self.items(places.gaps), levels) & self.is_gap(places.gaps)
         return levels, np.where(is_allowed, costs / places.totals, math.inf)
 
     def cheapest_of_gaps(self, gaps: Sequence[int], share: float) -> Candidate:
-        """Returns the cheapest policy of rising gaps that meets a share of demand at once."""
+        """Returns the cheapest feasible policy of rising gaps that meets a share of demand at once."""
         levels, costs = self.costed(partial(self.best_levels, share=share), gaps)
         best = place_of_least(costs)
         return self.policy(gaps[best], int(levels[best]))
@@ -346,36 +395,55 @@ class LongRun(Walk):
         def policies_of(gaps: Sequence[int]) -> Iterable[Candidate]:
             levels, costs = self.costed(levels_of, gaps)
             return map(Candidate, costs.tolist(), gaps, levels.tolist())  # gaps stand in place of reorder points
-        known = min(policies_of(gap_grid(self.most)[::FEW])).cost
+        grid = self.grid()
+        known = min(policies_of(grid)).cost if grid else math.inf
         most = self.widest(known, lowest)
-        if (most + 1) * work_of(power_of(self.net, self.longest).high + most, self.longest) > MOST_WORK:
-            self.is_searched = True
-            _, gap, level = search(policies_of, self.most)
+        if known == math.inf:
+            return 0, -1
+        if (most + 1) * work_of(power_of(self.net, self.longest).high + most, self.longest) > self.most_work:
+            self.is_searched, allowed = True, self.gaps(0, self.most)
+            _, gap, level = search(lambda places: policies_of([allowed[it] for it in places]), len(allowed) - 1)
             return gap, level
-        first = self.first_gap(known, most)
-        levels, costs = self.costed(levels_of, range(first, most + 1))
+        gaps = self.gaps(self.first_gap(known, most), most)
+        levels, costs = self.costed(levels_of, gaps)
         place = int(np.argmax(costs <= CLOSE * costs.min()))
-        return first + place, int(levels[place])
+        return gaps[place], int(levels[place])
 
     def best(self, share: float = 0.0) -> Candidate:
-        """Returns the cheapest policy that meets at least this share of demand at once."""
-        return self.policy(*self.cheapest(partial(self.best_levels, share=share), 0))
+        """Returns the cheapest feasible policy that meets at least this share of demand at once."""
+        return self.policy(*self.cheapest(partial(self.best_levels, share=share), self.feasible.least))
+
+    def fullest(self) -> Candidate:
+        """Returns the feasible policy that meets most demand at once: that of the greatest S and the least gap."""
+        return self.policy(self.feasible.gap(0) // self.step, self.feasible.top)
 
     def best_with_point(self, point: int) -> Candidate:
-        """Returns the cheapest policy with a reorder point.
+        """Returns the cheapest feasible policy with a reorder point.
 
         If demand comes in packs, all S up to a pack higher have one gap. Their costs bend only at multiples of it. So
-        S may cost least with what these rests have beyond the least of a gap, in items.
+        S may cost least with what these rests have beyond the least of a gap, in items; or with the feasible S beside
+        them, or the greatest one.
         """
         rests = sorted({0, -point % self.step, self.step - 1}) if self.exact else [0]
-        return min(self.best_with_rest(point, rest) for rest in rests)
+        most_less = self.feasible.multiple - 1
+        found = [self.best_with_rest(point, rest, less) for rest in rests for less in sorted({0, most_less})]
+        top = self.feasible.top
+        if len(rests) > 1 and not self.feasible.has_all_levels:
+            found.append(self.policy(self.gap_of(point, top), top, point))
+        return min(found)
 
-    def best_with_rest(self, point: int, rest: int) -> Candidate:
-        """Returns the cheapest policy with a reorder point and a rest of S."""
-        return self.policy(*self.cheapest(
-            lambda means: self.fixed_levels(means, point + self.items(means.gaps) + rest), point), point)
+    def best_with_rest(self, point: int, rest: int, less: int = 0) -> Candidate:
+        """Returns the cheapest feasible policy with a reorder point and a rest of S. If that S is not feasible, it is
+        the first from there on, or from so many items less on."""
+        def levels_of(means: Means) -> Levels:
+            spans = self.items(means.gaps)
+            if self.exact:
+                spans = np.maximum(spans, self.feasible.gap(means.gaps * self.step + rest - less))
+            levels, costs = self.fixed_levels(means, point + spans)
+            return levels, np.where(spans < (means.gaps + 1) * self.step, costs, math.inf)
+        return self.policy(*self.cheapest(levels_of, point), point)
 
     def best_with_level(self, level: int) -> Candidate:
-        """Returns the cheapest policy with an order-up-to level."""
+        """Returns the cheapest feasible policy with an order-up-to level."""
         return self.policy(*self.cheapest(
             lambda means: self.fixed_levels(means, np.full(len(means.gaps), level)), 0))

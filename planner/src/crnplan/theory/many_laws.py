@@ -38,6 +38,7 @@ CHECKED = 3  # laws on a coarse lattice that are computed again on one twice as 
 
 CONFIDENCE = 0.8
 FACTORS = tuple(1.1**power for power in range(-5, 7))  # of the gap without a promise
+FEWER = (0.0, 0.125, 0.25, 0.5)  # further factors if S has a bound
 BESIDE = 8  # laws on each side of the confidence's place that are looked at for other gaps
 MOST_LEVELS = 1_500  # cells, with one lead time, in the mean of the laws
 MOST_LATE_WORK = 60_000  # for late orders with a gap, by `work_of`, in the mean
@@ -184,12 +185,14 @@ class Promises:
         return levels[place] if place < len(levels) else math.inf
 
     def policy(self, gap: int, level: float, share: float) -> Candidate:
-        """Returns the cheapest policy of a gap with S of at least a level that meets a share by the own law."""
-        own = self.theory.gap_of(0, gap * self.step + (0 if self.exact else (self.step - 1) // 2))
+        """Returns the cheapest feasible policy of a gap with S of at least a level that meets a share by the own law.
+        """
+        feasible = self.theory.feasible
+        own = self.theory.gap_of(0, feasible.gap_in(gap, self.step, self.exact))
         least = self.theory.cheapest_of_gaps([own], share)
         if max(level, least.cost) == math.inf:
             return NO_POLICY
-        return self.theory.policy(own, int(level)) if level > least.level else least
+        return self.theory.policy(own, feasible.up(int(level))) if level > least.level else least
 
     @property
     def place(self) -> int:
@@ -202,14 +205,16 @@ class Promises:
         return self.level_at(self.place, laws, (level - point) // self.step, share) <= level
 
     def cheapest(self, plain: Candidate, share: float) -> Candidate:
-        """Returns the cheapest policy found that meets a share under enough laws. `plain` is the one by the own law."""
+        """Returns the cheapest feasible policy found that meets a share under enough laws. `plain` is the one by the own
+        law."""
         if plain.cost == math.inf:
             return NO_POLICY
-        laws, place = range(len(self.theories)), self.place
+        laws, place, feasible = range(len(self.theories)), self.place, self.theory.feasible
         first, low = (plain.level - plain.point) // self.step, max(0, place - BESIDE)
         self.prepare(laws, [first])
         near = sorted(laws, key=lambda law: self.levels[law, first][share])[low:place + BESIDE + 1]
-        others = sorted({round(first * factor) for factor in FACTORS} - {first})
+        factors = FACTORS if feasible.has_all_levels else (*FEWER, *FACTORS)
+        others = sorted({feasible.gap(round(first * factor) * self.step) // self.step for factor in factors} - {first})
         self.prepare(near, others)
         best = min(others, key=lambda gap: self.policy(gap, self.level_at(place - low, near, gap, share), share),
                    default=first)

@@ -8,7 +8,8 @@ demand of L + 1 periods (Zipkin, Foundations of Inventory Management, 2000, chap
 a period, with m and M as in `long_run.py`. G(y) is the mean cost of stock and backlog of a period that starts from a
 low at y. Gaps up to `widest` are looked at, and s from `lowest` on: if G(s) is above C(g, S), the policy with the gap
 g - 1 and the same S costs less. It meets more demand at once too, since the lowest of all lows meets least. So the best
-policy, also with a fill rate, has G(s) of at most its cost.
+policy, also with a fill rate, has G(s) of at most its cost, unless its gap is the least feasible one. That one is looked
+at in any case.
 
 Of each gap the least level is sought that meets the share and is at least the newsvendor's (compare Zheng and
 Federgruen, Finding optimal (s,S) policies is about as simple as evaluating a single policy, 1991).
@@ -25,7 +26,7 @@ import numpy.typing as npt
 
 from ..chances import Floats, Whole
 from ..formats import MOST_ITEMS
-from .long_run import CLOSE, FEW, NO_POLICY, Candidate, GapLevels, LongRun, gap_grid, least_levels, place_of_least
+from .long_run import CLOSE, NO_POLICY, Candidate, GapLevels, LongRun, least_levels, place_of_least
 from .walk import convolved
 
 EVEN = 1e-10  # Chances that differ by no more than this share are taken as the same by a search, not for figures.
@@ -67,6 +68,8 @@ class Lows:
         for gap in [first, *(first + 1 + np.flatnonzero(self.chances[first + 1:most + 1])).tolist()]:
             low, floor = float(self.chances[gap]), floor_of(gap)
             total += low if gap > first else 0.0
+            if floor > self.last:
+                break
             if level < floor:
                 level, below, here = floor, self.at(gap, floor - 1), self.at(gap, floor)
             elif gap > first:
@@ -99,7 +102,10 @@ class Lows:
 
 
 class OneLead(LongRun):
-    """A scenario with one lead time. Each search finds the best of all policies on the lattice, not only of a grid."""
+    """A scenario with one lead time. Each search finds the best of all feasible policies on the lattice, not only of a
+    grid."""
+
+    most_work = math.inf
 
     def rows_of(self, gaps: Whole) -> tuple[int, Floats]:
         """Returns the chances of the lows, a row for each gap, and their first cell."""
@@ -111,24 +117,30 @@ class OneLead(LongRun):
         """Returns the least low, in items, of a best policy that costs no more: see the module."""
         levels = self.step * np.arange(int(min(MOST_ITEMS, self.reach(cost))) // self.step + 2)
         cheap = np.flatnonzero(self.figures_from(levels)[0] <= CLOSE * cost)
-        return max(0, int(levels[cheap[0]]) - self.step + 1) if len(cheap) else 0
+        return max(self.feasible.least, int(levels[cheap[0]]) - self.step + 1) if len(cheap) else self.feasible.least
 
     def places_of(self, lows: Lows, known: Candidate) -> GapLevels:
         """Returns the best level, in cells, of each gap that may cost no more than a known policy."""
         most = len(lows.counts) - 1
-        first = self.first_gap(known.cost, most)
+        first = max(self.first_gap(known.cost, most), self.feasible.least_gap // self.step)
         gaps = np.arange(max(first, lows.even), most + 1)
         gaps = gaps[self.floor(gaps) <= lows.last]
         places = lows.spread(gaps, self.floor(gaps))
         return places if first >= lows.even else lows.walked(first, lows.even - 1, self.floor).joined(places)
 
     def best(self, share: float = 0.0) -> Candidate:
-        """Returns the cheapest of all policies that meet at least this share of demand at once."""
-        known = self.cheapest_of_gaps(gap_grid(self.most)[::FEW], share)
+        """Returns the cheapest of all feasible policies that meet at least this share of demand at once.
+
+        Beyond the greatest level, that one is the best for a gap, since costs are convex in the level.
+        """
+        if self.feasible.multiple > 1:
+            return super().best(share)
+        grid, highest = self.grid(), self.feasible.top
+        known = self.cheapest_of_gaps(grid, share) if grid else NO_POLICY
         if known.cost == math.inf:
             return NO_POLICY
         chances = self.lows_of(self.widest(known.cost, self.lowest(known.cost)))
-        top = int(min(MOST_ITEMS, self.reach(known.cost) + len(chances) * self.step / 2)) // self.step
+        top = int(min(-(-highest // self.step), (self.reach(known.cost) + len(chances) * self.step / 2) // self.step))
         table = self.figures_from(self.step * np.arange(-2, top + 2))[:3]
         lows = Lows(chances, table, self.allowed(share), self.ratio)
         places = self.places_of(lows, known)
@@ -137,8 +149,8 @@ class OneLead(LongRun):
             levels, costs = self.costs_of(places, self.spare_of(places, lows.allowed))
             place = place_of_least(costs)
             best = self.policy(int(places.gaps[place]), int(levels[place]))
-        is_cut = (lows.last + 1) * self.step > MOST_ITEMS and len(places.gaps) < len(chances)
-        return min(best, self.best_with_level(MOST_ITEMS, share)) if is_cut else best
+        is_cut = lows.last * self.step >= highest
+        return min(best, self.best_with_level(highest, share)) if is_cut else best
 
     def least_of(self, stock_sums: Floats, is_allowed: npt.NDArray[np.bool_]) -> tuple[float, int]:
         """Returns the least cost, and its gap, from the costs of stock summed over the lows of each allowed gap."""
@@ -147,22 +159,26 @@ class OneLead(LongRun):
         gap = place_of_least(costs)
         return float(costs[gap]), gap
 
-    def best_with_rest(self, point: int, rest: int) -> Candidate:
-        """Returns the cheapest of all policies with a reorder point and a rest of S."""
+    def best_with_rest(self, point: int, rest: int, less: int = 0) -> Candidate:
+        """Returns the cheapest of all feasible policies with a reorder point and a rest of S."""
+        if not self.feasible.has_all_gaps:
+            return super().best_with_rest(point, rest, less)
         most, cost, gap = self.most, math.inf, 0
         while most:
             levels = point + rest + self.items(np.arange(most + 1))
             sums = convolved(self.lows_of(most), self.figures_from(levels)[0])[:most + 1]
-            cost, gap = self.least_of(sums, levels <= MOST_ITEMS)
+            cost, gap = self.least_of(sums, levels <= self.feasible.top)
             widest = self.widest(cost, point) if cost < math.inf else 0
             most = min(widest, 2 * most) if widest > most else 0
         return self.policy(gap, point + self.items(gap) + rest, point)
 
     def best_with_level(self, level: int, share: float = 0.0) -> Candidate:
-        """Returns the cheapest of all policies with an order-up-to level that meet a share of demand at once."""
+        """Returns the cheapest of the feasible policies with an order-up-to level that meet a share of demand at once.
+        """
         gaps = np.arange(level // self.step + 1)
         levels, lows = level - self.step * gaps, self.lows_of(len(gaps) - 1)
         costs, unmet = np.cumsum(lows * self.figures_from(levels)[:2], axis=1)
-        is_allowed = (self.items(gaps) <= level) & (unmet <= self.allowed(share) * np.cumsum(lows))
+        is_feasible = self.feasible.has(level - self.items(gaps), level) & self.is_gap(gaps)
+        is_allowed = is_feasible & (unmet <= self.allowed(share) * np.cumsum(lows))
         cost, gap = self.least_of(costs, is_allowed)
         return self.policy(gap, level) if cost < math.inf else NO_POLICY

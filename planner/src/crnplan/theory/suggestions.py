@@ -114,7 +114,7 @@ def add_fills(chosen: Chosen, theory: LongRun, promises: Promises | None) -> Non
 
 
 def chosen_policies(scenario: Scenario, theory: LongRun, best: Candidate, promises: Promises | None) -> Chosen:
-    """Returns the suggested policies of a scenario, of which the best is known."""
+    """Returns the suggested policies of a scenario, of which the best is known. All but today's are feasible."""
     chosen = Chosen(scenario)
     chosen.add("best", best, Remark("the best"))
     for today in scenario.policies[:1]:
@@ -125,8 +125,9 @@ def chosen_policies(scenario: Scenario, theory: LongRun, best: Candidate, promis
     for name, factor in ORDERS.items():
         changed = max(round(gap * factor), gap + 1) if factor > 1 else min(round(gap * factor), gap - 1)
         if changed >= 0:
+            changed = theory.gap_of(0, theory.feasible.gap(changed * theory.step))
             chosen.add(name, theory.cheapest_of_gaps([changed], 0.0), Remark(name))
-    shift = max(1, round(theory.deviation / 2))
+    shift = theory.feasible.up(max(1, round(theory.deviation / 2)))
     for times, name in NEIGHBOURS:
         point = best.point + times * shift
         if 0 <= point <= MOST_ITEMS:

@@ -1,0 +1,68 @@
+"""The policies that a search may choose: all pairs (s,S) within bounds."""
+from __future__ import annotations
+
+from dataclasses import dataclass
+from typing import Any, TypeVar
+
+from ..chances import Whole
+from ..formats import MOST_ITEMS
+
+Places = TypeVar("Places", int, Whole)
+
+
+@dataclass(frozen=True)
+class Feasible:
+    """The pairs (s,S) that may be chosen, in items of a scenario: S - s is at least `least_gap`, s at least
+    `least_point`, S at most `most_level`, and both are multiples of `multiple`."""
+
+    least_gap: int = 0
+    least_point: int = 0
+    most_level: int = MOST_ITEMS
+    multiple: int = 1
+
+    @property
+    def has_all_gaps(self) -> bool:
+        """Returns whether S - s has no bound."""
+        return self.least_gap == 0 and self.multiple == 1
+
+    @property
+    def has_all_levels(self) -> bool:
+        """Returns whether S has no bound above s."""
+        return self.most_level == ALL.most_level and self.multiple == 1
+
+    @property
+    def least(self) -> int:
+        """Returns the least s."""
+        return self.up(self.least_point)
+
+    @property
+    def top(self) -> int:
+        """Returns the greatest S."""
+        return min(self.most_level, MOST_ITEMS) // self.multiple * self.multiple
+
+    def up(self, amount: Places) -> Places:
+        """Returns the least multiples that are no less than some amounts."""
+        return -(-amount // self.multiple) * self.multiple
+
+    def gap(self, least: Places) -> Places:
+        """Returns the least S - s that may be chosen, and that are at least so many items."""
+        return self.up(least + (self.least_gap - least) * (least < self.least_gap))
+
+    def gap_in(self, cell: Places, step: int, exact: bool) -> Places:
+        """Returns S - s for cells of a lattice: the least in the cell; if the lattice is not exact, one from its middle
+        on if there is one. If there is none in the cell, it is beyond."""
+        low = cell * step
+        near = low + (0 if exact else (step - 1) // 2)
+        if self.has_all_gaps:
+            return near
+        least, middle = self.gap(low), self.gap(near)
+        return least + (middle - least) * (middle < low + step)
+
+    def has(self, point: Any, level: Any) -> Any:
+        """Returns whether pairs may be chosen, whatever S - s is but for multiples."""
+        multiple = self.multiple
+        return ((self.least <= point) & (point <= level) & (level <= self.top) & (point % multiple == 0)
+                & (level % multiple == 0))
+
+
+ALL = Feasible()
