@@ -234,7 +234,8 @@ def plan(sales: str | Path | pd.DataFrame | Catalogue, masters: str | Path | pd.
          setup: Amount | None = None, holding_rate: Amount | None = None, fill: Amount | None = None,
          service: Mapping[str, Amount] | None = None, currency: str | None = None,
          abc: str | Sequence[Number] | None = None, fit: str = "auto", borrow: str | None = None,
-         confidence: float | None = None, correct: bool = False, window: int | None = None, level: float = 0.95,
+         confidence: float | None = None, correct: bool = False, order_min: int | None = None,
+         max_coverage: int | None = None, s_min: int | None = None, window: int | None = None, level: float = 0.95,
          seed: str | int = "crnplan", periods: int = 1024, replications: int = 24, jobs: int | None = None,
          cluster: str | None = None, program: str | Path | None = None, learn_again: bool = False,
          progress: bool = False) -> Plan:
@@ -263,11 +264,13 @@ def plan(sales: str | Path | pd.DataFrame | Catalogue, masters: str | Path | pd.
     **How it is planned.** `fit` is how laws of demand are fitted (auto, predictive, empirical, or a family). Items
     `borrow` laws from one another (all, class, none; by default all if there are 100). With a `window`, laws are
     fitted, learned and checked on the last so many periods alone. `confidence` keeps a wanted fill rate under this
-    share of the laws that a history allows. With `correct`, plans aim at the fill rates whose policies met the wanted
-    ones on the past of the catalogue, learned from at least 30 items. Intervals hold at `level`. Each item is run by
-    crnsim under `replications` of `periods` periods, with random numbers that follow from the `seed` (a text or a whole
-    number) and its name alone. `jobs` processes work, by default one for each processor, or those of a Dask `cluster`;
-    the result is the same. `program` is the path of crnsim, if it is not found by itself.
+    share of the laws that a history allows. With `correct`, plans aim at the fill rates whose policies met the
+    wanted ones on the past of the catalogue, learned from at least 30 items. `order_min`, `s_min` and
+    `max_coverage` (periods of demand that S covers, by default two years) bound items whose masters state none.
+    Intervals hold at `level`. Each item is run by crnsim under `replications` of `periods` periods, with random
+    numbers that follow from the `seed` (a text or a whole number) and its name alone. `jobs` processes work, by
+    default one for each processor, or those of a Dask `cluster`; the result is the same. `program` is the path of
+    crnsim, if it is not found by itself.
 
     With `out`, the folder keeps tables, pages and all answers: planned again, only what has changed is planned, and
     items learn from one another and plans aim as before, unless `learn_again`. `progress` is shown on standard error.
@@ -280,7 +283,8 @@ def plan(sales: str | Path | pd.DataFrame | Catalogue, masters: str | Path | pd.
     Raises Refused (a ValueError) for what can't be read or meant, ProgramError, and Lost if counts do not add up.
     """
     settings = Settings(str(seed), fit, borrow, confidence, level, periods, replications, window=window,
-                        least_gain=least_gain, correct=correct)
+                        least_gain=least_gain, correct=correct, order_min=order_min, max_coverage=max_coverage,
+                        s_min=s_min)
     words = Words(every=every, columns=columns or {}, units=units or {}, start=start, end=end,
                   today=today or datetime.date.today(), net=net, negate=negate, twice=twice, far=far, least=least,
                   factors=factors or {}, delimiter=delimiter, encoding=encoding, decimal=decimal,

@@ -97,7 +97,7 @@ def made_pair(source: random.Random, name: str) -> Pair:
                 rows=90, group=group, category=group, price=price if source.random() > 0.05 else None,
                 description=f"{source.choice(NOUNS)} {source.randrange(100)}")
     answer = Answer(CHEAPER if saving > 0 else SERVICE, THEORY, cost, cost - saving, saving, today, chosen,
-                    None, None, None, 1, None, None, LawFacts("poisson", 0.5, None, demand, 2.0), LAWS, run,
+                    None, None, None, 1, None, None, None, LawFacts("poisson", 0.5, None, demand, 2.0), LAWS, run,
                     source.choice(REMARKS))
     return item, with_verdict(source, answer)
 

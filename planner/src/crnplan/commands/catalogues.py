@@ -97,6 +97,12 @@ decimal_option = click.option("--decimal", type=click.Choice(DECIMALS),
               help="Plan again after the plan in FOLDER, with the same records or longer ones: say what moved and why.")
 @click.option("--least-gain", metavar="SHARE", callback=share_of,
               help="With --after, keep levels if a change gains less than this share of their cost, as 2%.")
+@click.option("--order-min", type=click.IntRange(1), metavar="N",
+              help="The items of the smallest order, where the masters state none.")
+@click.option("--max-coverage", type=click.IntRange(1), metavar="N",
+              help="S covers at most N periods of mean demand; by default two years.")
+@click.option("--s-min", type=click.IntRange(0), metavar="N",
+              help="The smallest s; by default 1 for items with a wanted fill rate, else 0.")
 @click.option("--correct", is_flag=True, default=None,
               help="Aim at fill rates at which the catalogue's past has met the wanted ones.")
 @click.option("--level", type=float, metavar="SHARE", help="The level of the intervals; by default 0.95.")

@@ -16,7 +16,6 @@ import numpy.typing as npt
 
 from ..chances import Floats, Whole
 from ..demand.learning import Prior
-from ..formats import MOST_ITEMS
 from ..plan.one import or_fault
 from ..plan.question import Question, Settings, question_of
 from ..records.item import Item
@@ -24,7 +23,7 @@ from ..remarks import Remark
 from ..theory.long_run import STOCK_LEFT, UNMET, LongRun, Means, gap_grid
 
 # Answers of other versions are not used again.
-VERSION = 2
+VERSION = 3
 # Prices of a unit of value that is not met at once, in units of value: eight a decade.
 PRICES: Floats = 10.0**(np.arange(-40, 33) / 8)
 DIGITS = 10  # of a figure that is kept
@@ -77,7 +76,8 @@ def vertices(owner: Whole, cost: Floats, unmet: Floats, kept: Whole) -> Whole:
 
 
 class Policies:
-    """The best policies of an item, gap by gap, for each of `STOCK` and each of the prices, in the units of theory.
+    """The best feasible policies of an item, gap by gap, for each of `STOCK` and each of the prices, in the units of
+    theory.
 
     Of a gap these are vertices of the hull of all its levels. Of all gaps the best is taken. `known` has by gap the
     best levels with their stock and unmet demand: arrays of that shape.
@@ -90,10 +90,12 @@ class Policies:
     def best_of(self, gaps: Whole) -> Iterator[Floats]:
         """Yields what is known of each of some rising gaps."""
         means = Means(self.theory, gaps)
-        levels = self.theory.step * np.arange(means.top)
-        stock, unmet = means.of_all_levels(STOCK_LEFT), np.maximum(means.of_all_levels(UNMET), 0)
-        owner, place = np.nonzero(self.may_be_best(gaps, levels, stock, unmet))
-        figures = np.array([levels[place], stock[owner, place], unmet[owner, place]])
+        levels = self.levels_of(gaps, means.top)
+        beyond = np.maximum(levels - self.theory.step * (means.top - 1), 0)  # where all demand is met
+        stock = self.at(means.of_all_levels(STOCK_LEFT), levels - beyond) + beyond
+        unmet = np.maximum(self.at(means.of_all_levels(UNMET), levels - beyond), 0)
+        owner, place = np.nonzero(self.may_be_best(levels, stock, unmet))
+        figures = np.array([table[owner, place] for table in (levels, stock, unmet)])
         kept = vertices(owner, figures[1], figures[2], np.arange(len(owner)))
         owner, figures = owner[kept], figures[:, kept]
         prices = slopes(owner, figures[1], figures[2]) * (self.holding / self.value)
@@ -101,15 +103,31 @@ class Policies:
         for first, end in zip(ends, ends[1:]):
             yield figures[:, first + np.searchsorted(prices[first:end - 1], asked)]
 
-    def may_be_best(self, gaps: Whole, levels: Whole, stock: Floats, unmet: Floats) -> npt.NDArray[np.bool_]:
+    def levels_of(self, gaps: Whole, cells: int) -> Whole:
+        """Returns for each gap the feasible level for each of so many cells: the first from there on, but at least the
+        least one, and at most the greatest one."""
+        feasible, step = self.theory.feasible, self.theory.step
+        least, cells = (self.theory.items(gaps) + feasible.least)[:, None], min(cells, -(-feasible.top // step) + 1)
+        levels: Whole = np.clip(feasible.up(step * np.arange(cells)), least, feasible.top)
+        return levels
+
+    def at(self, table: Floats, levels: Whole) -> Floats:
+        """Returns what a table with a column for each cell has at some levels of each row: between two cells a mean."""
+        cells, rests = np.divmod(levels, self.theory.step)
+        values: Floats = np.take_along_axis(table, cells, 1)
+        if rests.any():
+            above = np.take_along_axis(table, np.minimum(cells + 1, table.shape[1] - 1), 1)
+            values += rests / self.theory.step * (above - values)
+        return values
+
+    def may_be_best(self, levels: Whole, stock: Floats, unmet: Floats) -> npt.NDArray[np.bool_]:
         """Returns for each gap which levels may be best for a price: the least, and those that meet more demand than
         all lower ones and than the one before for no more than the highest price."""
-        least = self.theory.floor(gaps)[:, None] * self.theory.step
-        is_allowed = (levels >= least) & (levels <= np.maximum(least, MOST_ITEMS))
-        before = np.minimum.accumulate(np.where(is_allowed, unmet, np.inf), axis=1)[:, :-1]
+        before = np.minimum.accumulate(unmet, axis=1)[:, :-1]
         is_better = (unmet[:, 1:] < before) & (self.holding * np.diff(stock) <= self.value * PRICES[-1]
                                                * (unmet[:, :-1] - unmet[:, 1:]))
-        is_best: npt.NDArray[np.bool_] = is_allowed & ((levels == least) | np.pad(is_better, ((0, 0), (1, 0))))
+        is_best: npt.NDArray[np.bool_] = np.pad(is_better, ((0, 0), (1, 0)), constant_values=True)
+        is_best[:, 1:] &= np.diff(levels, axis=1) > 0
         return is_best
 
     def best(self, costs: Sequence[tuple[float, float]]) -> tuple[Whole, Whole, Floats]:
@@ -126,16 +144,16 @@ class Policies:
         return gaps, np.array(places), np.array(figures)
 
     def search(self, costs: Sequence[tuple[float, float]]) -> tuple[Whole, Floats]:
-        """Returns the best gaps, with what `best` has of them: of a grid, and then ever finer beside the best. Gaps are
-        left out with which S is out of its range."""
-        beside = gap_grid(self.theory.most)
-        while new := {gap for gap in beside if self.theory.items(gap) <= MOST_ITEMS} - self.known.keys():
+        """Returns the best gaps, with what `best` has of them: of a grid, and then ever finer beside the best."""
+        allowed = self.theory.gaps(0, self.theory.most)
+        beside = gap_grid(len(allowed) - 1)
+        while new := {allowed[place] for place in beside} - self.known.keys():
             for some in self.theory.parts(sorted(new)):
                 self.known.update(zip(some.tolist(), self.best_of(some)))
             gaps, places, figures = self.best(costs)
-            best = np.unique(places)
-            below, above = gaps[np.maximum(best - 1, 0)], gaps[np.minimum(best + 1, len(gaps) - 1)]
-            beside = [*((below + gaps[best]) // 2).tolist(), *((gaps[best] + above + 1) // 2).tolist()]
+            best, at = np.unique(places), np.searchsorted(allowed, gaps)
+            below, above = at[np.maximum(best - 1, 0)], at[np.minimum(best + 1, len(gaps) - 1)]
+            beside = [*((below + at[best]) // 2).tolist(), *((at[best] + above + 1) // 2).tolist()]
         return gaps[places], figures
 
 

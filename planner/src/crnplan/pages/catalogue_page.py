@@ -15,7 +15,7 @@ from ..crnsim.program import find_program
 from ..curve.exchange import Point
 from ..curve.exchange_curve import kept_curve
 from ..files import Folder, own_folder
-from ..plan.answer import CHEAPER, COMPARED, DEARER, SAME, SERVICE, UNCOMPARED, UNDECIDED, Answer
+from ..plan.answer import BOUNDED, CHEAPER, COMPARED, DEARER, SAME, SERVICE, UNCOMPARED, UNDECIDED, Answer
 from ..plan.backtest.catalogue import past_of
 from ..plan.catalogue import PlannedFolder, Totals, planned_folder
 from ..plan.item import Depth
@@ -71,6 +71,7 @@ MEANING = {
     UNDECIDED: "Theory is rounded here, and the runs cannot tell which policy costs less.",
     SAME: "Today's policy is the best one already.",
     DEARER: "The chosen policy costs more, though it is the best by theory. Look at these items.",
+    BOUNDED: "No policy within the item's bounds meets the wanted share of demand at once. The chosen one comes nearest.",
     UNCOMPARED: "The masters have no s and S, so nothing is compared. No sum of costs, savings or stock has these items."}
 
 

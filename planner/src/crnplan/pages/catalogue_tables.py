@@ -29,7 +29,8 @@ def money(name: str, meaning: str) -> Column:
 DECISION_COLUMNS = (
     text("item", "the item"), text("description", "of the masters"),
     text("class", "of the masters; that of `abc` if no item has one there"),
-    text("verdict", "cheaper, more service, undecided, same, dearer, or no policy today, beside which cells are empty"),
+    text("verdict", "cheaper, more service, undecided, same, dearer, bounded, or no policy today, beside which cells are "
+         "empty"),
     *(whole(f"{letter}_{policy}", "items", f"{letter} of {words}") for policy, words in (
         ("today", "today's policy"), ("chosen", "the chosen policy")) for letter in "sS"),
     money("cost_today", "what today's policy costs: by theory, or by crnsim (column by)"),
@@ -47,6 +48,7 @@ DECISION_COLUMNS = (
     *(number(f"value_{it}", "money", "that stock at the price of the masters", MONEY) for it in ("today", "chosen")),
     *(number(f"orders_{it}", "orders a period", "by theory", ".5g") for it in ("today", "chosen")),
     money("cost_confidence", "what the confidence in the wanted fill costs, by theory"),
+    money("cost_coverage", "what it costs that S covers no more periods of demand, by theory"),
     whole("s_alone", "items", "s of the policy by the item's own history alone"), whole("S_alone", "items", "its S"),
     money("cost_alone", "what that policy costs under the law that the item has, by theory"),
     number("fill_alone", "share", "of demand that it meets at once", ".4f"),
@@ -105,7 +107,7 @@ def decision_row(item: Item, answer: Answer) -> list[Cell]:
             answer.cost_chosen, answer.saving, PLANNED_BY[answer.source], run.saving,
             run.low, run.high, None if item.fill is None else float(item.fill),
             correction.aim if correction else None, *fills, *stocks, correction.plain_stock if correction else None,
-            *values, *orders, answer.confidence_cost, *level_cells(alone), alone.cost if alone else None,
+            *values, *orders, answer.confidence_cost, answer.coverage_cost, *level_cells(alone), alone.cost if alone else None,
             alone.fill if alone else None, answer.law.mean, len(item.counts),
             sum(count > 0 for count in item.counts), answer.law.family, answer.law.share, answer.law.log10_bayes,
             item.abc, xyz_of(item.counts), codes, words]

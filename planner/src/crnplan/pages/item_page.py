@@ -21,7 +21,7 @@ from ..demand.fitted import QUANTILES, FittedLaw, fit_words
 from ..errors import Fault, spelt, worded
 from ..files import own_folder
 from ..money import Currency
-from ..plan.answer import CHEAPER, CHOSEN, DEARER, SAME, SERVICE, THEORY, UNCOMPARED, UNDECIDED, Figures
+from ..plan.answer import BOUNDED, CHEAPER, CHOSEN, DEARER, SAME, SERVICE, THEORY, UNCOMPARED, UNDECIDED, Figures
 from ..plan.item import Coming, Depth, Facts, planned, read_item
 from ..plan.question import Question
 from ..plan.settings import as_setting
@@ -35,7 +35,8 @@ from .page import (OF_CHOSEN, OF_TODAY, UNITS, Line, Plot, Scale, capital, marks
 
 VERDICTS = {CHEAPER: "cheaper than today's policy ({})", DEARER: "dearer than today's policy ({})",
             UNDECIDED: "not told apart from today's policy ({})", SAME: "keep today's policy",
-            SERVICE: "for the fill rate that today's policy ({}) misses", UNCOMPARED: UNCOMPARED}
+            SERVICE: "for the fill rate that today's policy ({}) misses", UNCOMPARED: UNCOMPARED,
+            BOUNDED: "as near to the wanted fill rate as its bounds allow"}
 COMING = 64  # replications of the coming periods
 MOST_DECIMALS = 6
 ALONE = "the law of this item alone"

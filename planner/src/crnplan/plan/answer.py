@@ -10,9 +10,11 @@ from ..remarks import Remark
 # Policies: today's, the chosen one, the one that the item would get by its own history alone, that of an earlier plan,
 # and the one that would be chosen if that one did not stay.
 TODAY, CHOSEN, ALONE, BEFORE, UNDAMPED = "today", "chosen", "alone", "before", "undamped"
-# Verdicts. `more service`: today's policy misses the wanted fill, and keeping it costs more.
+# Verdicts. `more service`: today's policy misses the wanted fill, and keeping it costs more. `bounded`: no policy within
+# the bounds of the item has the wanted fill; the chosen one comes nearest.
 CHEAPER, DEARER, UNDECIDED, SAME, SERVICE = "cheaper", "dearer", "undecided", "same", "more service"
-COMPARED = CHEAPER, DEARER, UNDECIDED, SAME, SERVICE
+BOUNDED = "bounded"
+COMPARED = CHEAPER, DEARER, UNDECIDED, SAME, SERVICE, BOUNDED
 UNCOMPARED = "no policy today"  # the verdict on an item without one, beside which nothing is compared
 # Whose figures costs and savings are: those of theory where it is exact, else those of the run.
 THEORY, RUN = "theory", "run"
@@ -106,11 +108,12 @@ class Answer:
     """The plan of an item.
 
     `saving`, and `cost_today` and `cost_chosen`, in money of a period of the long run, are those of `source`: of theory
-    where it is exact, else of the run. What is beside today's policy, and that, are None if there is none. `alone` is the policy of the item's own history under the law that it has; None
-    if there is none. So is `before`, that of an earlier plan, and `undamped`, which would be chosen if that one did not
-    stay because a change gains too little. Theory counts in steps of `step` boxes. `confidence_cost` is what the
-    confidence in a wanted fill costs a period, None without one. `correction` is None if the wanted fill is not
-    corrected.
+    where it is exact, else of the run. What is beside today's policy, and that, are None if there is none. `alone` is
+    the policy of the item's own history under the law that it has; None if there is none. So is `before`, that of an
+    earlier plan, and `undamped`, which would be chosen if that one did not stay because a change gains too little.
+    Theory counts in steps of `step` boxes. `confidence_cost` is what the confidence in a wanted fill costs a period,
+    None without one; `coverage_cost` is what it costs that S covers no more periods of demand, None if that does not
+    bind. `correction` is None if the wanted fill is not corrected.
     """
 
     verdict: str
@@ -125,6 +128,7 @@ class Answer:
     undamped: Figures | None
     step: int
     confidence_cost: float | None
+    coverage_cost: float | None
     correction: Correction | None
     law: LawFacts
     laws: Laws

@@ -63,14 +63,14 @@ class Totals:
     and `value_chosen` of the mean stock; `saving VERDICT`; of those with a price, the value of the demand of a period,
     `demand`, and `met_today` and `met_chosen` of it at once; of shares of demand met at once, `fill_today` and
     `fill_chosen`, and of orders a period, `orders_today` and `orders_chosen`. Of the other planned items
-    `cost_uncompared` and `value_uncompared`, by the chosen policies. Of both `confidence_cost` of a period, and of
-    items whose wanted fill is corrected, what it costs a period to hold the mean stock, `held`, and that of the
-    policies that aim at the wanted fill, `held_plain`.
+    `cost_uncompared` and `value_uncompared`, by the chosen policies. Of both `confidence_cost` and `coverage_cost` of a
+    period, and of items whose wanted fill is corrected, what it costs a period to hold the mean stock, `held`, and that
+    of the policies that aim at the wanted fill, `held_plain`.
 
     Counts of items: by verdict, those that are not planned (`faults`), those of them by a fault of ours (`broken`),
-    with a confidence in their fill rate (`promised`), by the wanted fill, if that is `corrected`, and by the `letters`
-    A, B, C and X, Y, Z of their classes; of those that are compared, those with the run's figures (`by_run`), without
-    an interval of the run, and with a price.
+    with a confidence in their fill rate (`promised`), whose S may cover no more periods (`covered`), by the wanted
+    fill, if that is `corrected`, and by the `letters` A, B, C and X, Y, Z of their classes; of those that are compared,
+    those with the run's figures (`by_run`), without an interval of the run, and with a price.
     """
 
     parts: defaultdict[str, list[float]] = field(default_factory=lambda: defaultdict(list))
@@ -80,6 +80,7 @@ class Totals:
     by_run: int = 0
     without_interval: int = 0
     promised: int = 0
+    covered: int = 0
     priced: int = 0
     letters: Counter[str] = field(default_factory=Counter)
     corrected: Counter[float] = field(default_factory=Counter)
@@ -113,7 +114,8 @@ class Totals:
         self.verdicts[answer.verdict] += 1
         self.promised += answer.confidence_cost is not None
         self.letters.update((item.abc, xyz_of(item.counts)))
-        values = {"confidence_cost": answer.confidence_cost or 0.0}
+        self.covered += answer.coverage_cost is not None
+        values = {"confidence_cost": answer.confidence_cost or 0.0, "coverage_cost": answer.coverage_cost or 0.0}
         if answer.correction and item.fill is not None:
             self.corrected[float(item.fill)] += 1
             values |= {"held": float(item.holding) * answer.chosen.stock,

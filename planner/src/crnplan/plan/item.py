@@ -25,6 +25,7 @@ from ..errors import Refused
 from ..formats import MOST_ITEMS, POLICIES
 from ..law import Law
 from ..records import History, LeadTimes, read_history, read_lead_times
+from ..records.bounds import Bounds
 from ..records.item import Item
 from ..scenario import Policy, Scenario
 from ..theory.lattice import NoTheory
@@ -289,10 +290,13 @@ def read_item(history: str | Path, settings: str | Path) -> Facts:
     leads = read_lead_times(lead["path"], lead=lead["column"], every=asked["every"], ordered=lead["ordered"],
                             received=lead["received"], **rules) if lead["path"] else None
     returns = demand.returns.counts if demand.returns else ()
+    spans = {name: None if tables["bounds"][name] is None else Fraction(tables["bounds"][name])
+             for name in ("coverage", "shelf_life")}
+    bounds = Bounds(**{**tables["bounds"], **spans})
     item = Item(run["name"] or ", ".join(asked["item"].values()) or path.stem, demand.counts,
                 leads.counts if leads else tuple(lead["times"]), (today["s"], today["S"]), costs["setup"],
                 costs["holding"], costs["backlog"], run["fill"], costs["unit"], returns if any(returns) else (),
-                stock=Fraction(today["stock"]), first=demand.first, rows=len(demand.counts))
+                bounds=bounds, stock=Fraction(today["stock"]), first=demand.first, rows=len(demand.counts))
     return Facts(item, demand, leads, tables)
 
 

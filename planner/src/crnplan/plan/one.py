@@ -30,14 +30,15 @@ from ..errors import CrnplanError, Failed, Refused, worded
 from ..formats import MOST_ITEMS, MOST_REPLICATIONS
 from ..law import Law
 from ..records.item import Item
-from ..remarks import Remark
+from ..remarks import Remark, Value
 from ..scenario import Policy, Scenario, key_words
 from ..theory.long_run import LongRun
 from ..theory.many_laws import Promises
 from ..theory.run_effects import start_bias
 from ..words import advice, sentence
-from .answer import (ALONE, BEFORE, CHEAPER, CHOSEN, DAMPED, DEARER, RUN, SAME, SERVICE, THEORY, TODAY, UNDAMPED,
-                     UNCOMPARED, UNDECIDED, Answer, Correction, Figures, LawFacts, Laws, Run)
+from .answer import (ALONE, BEFORE, BOUNDED, CHEAPER, CHOSEN, DAMPED, DEARER, RUN, SAME, SERVICE, THEORY, TODAY,
+                     UNDAMPED, UNCOMPARED, UNDECIDED, Answer, Correction, Figures, LawFacts, Laws, Run)
+from .bounds import COVERAGE, binding
 from .question import NONE, Levels, Question, Settings, question_of
 
 Result = TypeVar("Result")
@@ -72,12 +73,14 @@ class Disagreement(Unplanned, Failed):
 class Choice:
     """The policy of an item in boxes, and the one without a confidence in its fill rate, which is mostly the same.
     `is_promised` says whether that confidence is kept, if there is one. `undamped` would be chosen if that of an
-    earlier plan did not stay."""
+    earlier plan did not stay. `is_bounded` says that no policy within the bounds of the item has the wanted fill rate:
+    this one comes nearest."""
 
     levels: Levels
     plain: Levels
     is_promised: bool = True
     undamped: Levels | None = None
+    is_bounded: bool = False
 
     @property
     def best(self) -> Levels:
@@ -98,10 +101,14 @@ def allowed_by(question: Question, laws: int = LAWS) -> tuple[tuple[Law, ...], t
 
 
 def choice_of(theory: LongRun, question: Question) -> Choice:
-    """Returns the best policy, or the cheapest that meets the share it aims at: with a confidence, under so many of the
-    laws that the history allows. That of an earlier plan may stay: see `damped`. Raises NoPolicy if there is none."""
+    """Returns the best policy within the bounds of the item, or the cheapest that meets the share it aims at: with a
+    confidence, under so many of the laws that the history allows. If the bounds leave none, it is the one that meets
+    most. That of an earlier plan may stay: see `damped`. Raises NoPolicy if there is none."""
     confidence, fill = question.settings.confidence, question.aim
     best = theory.best(fill or 0.0)
+    if best.cost == math.inf and theory.free.best(fill or 0.0).cost < math.inf:
+        fullest = theory.fullest()
+        return Choice(fullest[1:], fullest[1:], is_bounded=True)
     plain = best.point, best.level
     if best.cost == math.inf:
         raise NoPolicy(Remark("no policy", {"fill": fill}))
@@ -117,10 +124,10 @@ def choice_of(theory: LongRun, question: Question) -> Choice:
 
 def damped(choice: Choice, theory: LongRun, question: Question, promises: Promises | None = None) -> Choice:
     """Returns the choice; or the policy of an earlier plan, if a change gains less than the least share of its cost,
-    and it still keeps the fill rate at which plans aim: by the law of the item, and under enough laws if that is
-    promised."""
+    and it is within the bounds and still keeps the fill rate at which plans aim: by the law of the item, and under
+    enough laws if that is promised."""
     before, least, fill = question.before, question.settings.least_gain, question.aim
-    if before is None or least is None or before == choice.levels:
+    if before is None or least is None or before == choice.levels or not theory.feasible.allows(*before):
         return choice
     earlier, new = (figures_of(question, theory, levels) for levels in (before, choice.levels))
     if fill is not None and (earlier.fill < fill or promises and not promises.keeps(*before, fill)):
@@ -302,7 +309,35 @@ def correction_of(question: Question, theory: LongRun) -> Correction | None:
     if aim is None or wanted is None or question.settings.aims is None:
         return None
     plain = theory.best(float(wanted))
+    if plain.cost == math.inf:
+        plain = theory.fullest()
     return Correction(aim, theory.figures(plain.point, plain.level).stock * question.item.box)
+
+
+def remarks_of_bounds(question: Question, theory: LongRun, choice: Choice) -> Iterator[Remark]:
+    """Yields what must be said of the bounds of an item: what each costs that binds, in money of a period."""
+    box, share, feasible = question.item.box, question.aim or 0.0, theory.feasible
+
+    def cost(levels: Levels) -> float:
+        return figures_of(question, theory, levels).cost
+
+    def in_items(levels: Levels) -> dict[str, Value]:
+        return {"s": levels[0] * box, "S": levels[1] * box}
+    if question.levels and not feasible.allows(*question.levels):
+        yield Remark("today out of bounds", in_items(question.levels))
+    if choice.is_bounded:
+        free, fill = theory.free.best(share)[1:], theory.figures(*choice.levels).fill
+        yield Remark(BOUNDED, {**in_items(free), "cost": cost(free), "wanted": share, "fill": fill})
+        return
+    is_usual = question.item.bounds.s_min is None and question.settings.s_min is None
+    for name, best in binding(theory, question.bounds, box, question.demand.mean, share):
+        if name != "s_min" or not is_usual:
+            yield Remark(f"bound of {name}", {**in_items(best[1:]), "cost": cost(choice.plain) - cost(best[1:]),
+                                              "bound": float(getattr(question.bounds, name))})
+    if choice.plain[0] == 0:
+        waiting = theory.within(dataclasses.replace(feasible, least_point=1)).best(share)
+        if waiting.cost < math.inf:
+            yield Remark("s of 0", {"cost": cost(waiting[1:]) - cost(choice.plain)})
 
 
 def remarks_of(question: Question, theory: LongRun, sample: Sample, choice: Choice) -> Iterator[Remark]:
@@ -346,15 +381,20 @@ def plan_one(question: Question, program: str) -> Answer:
     check_run(question, theory, report, sample, figures, program)
     run, chosen = run_of(question, report, sample), figures[CHOSEN]
     verdict, cost_today, saving = beside_today(question, theory, figures, run)
+    if choice.is_bounded and verdict != UNCOMPARED:
+        verdict = BOUNDED
+    bounds = [*remarks_of_bounds(question, theory, choice)]
+    coverage = next((cost for remark in bounds if remark.code == f"bound of {COVERAGE}" and isinstance(
+        cost := remark.facts["cost"], float)), None)
     confidence_cost = None
     if question.settings.confidence is not None and item.fill is not None:
         best, plain = (figures_of(question, theory, levels) for levels in (choice.best, choice.plain))
         confidence_cost = best.cost - plain.cost
     source, cost = (THEORY, chosen.cost) if theory.exact else (RUN, run.cost_chosen)
     return Answer(verdict, source, cost_today, cost, saving, figures.get(TODAY), chosen, figures.get(ALONE),
-                  figures.get(BEFORE), figures.get(UNDAMPED), theory.step, confidence_cost,
+                  figures.get(BEFORE), figures.get(UNDAMPED), theory.step, confidence_cost, coverage,
                   correction_of(question, theory), law_facts(question.demand, item.box), laws_of(question), run,
-                  (*remarks_of(question, theory, sample, choice), *damping_of(figures)))
+                  (*remarks_of(question, theory, sample, choice), *bounds, *damping_of(figures)))
 
 
 def or_fault(answer: Callable[[Item], Result], item: Item) -> Result | Remark:

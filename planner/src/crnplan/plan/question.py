@@ -15,15 +15,17 @@ from ..demand.borrowing import law_of
 from ..demand.learning import Prior
 from ..demand import LEAD_METHODS, METHODS
 from ..errors import Refused, argument
-from ..formats import MOST_PERIODS, MOST_REPLICATIONS, MOST_WEIGHT, limits
+from ..formats import MOST_ITEMS, MOST_PERIODS, MOST_REPLICATIONS, MOST_WEIGHT, limits
 from ..money import rounded_costs
+from ..records.bounds import Bounds
 from ..records.item import BORROW, Item
 from ..scenario import Scenario
 from ..theory.lattice import lattice_of, shape_of, theory_on
 from ..theory.long_run import LongRun
 from .aims import Aims
+from .bounds import MOST_COVERAGE, feasible_of
 
-VERSION = 7  # Answers of others are not used again.
+VERSION = 8  # Answers of others are not used again.
 NONE, CLASS, ALL = BORROW
 MOST_GAPS = 4_000  # of a lattice: with 150 times as many, a search takes half a minute
 Levels = tuple[int, int]
@@ -38,7 +40,10 @@ class Settings:
     day, week or month (`every`), or has no dates; `season` is the number of periods of a season that is looked for.
     Laws are fitted, learned and checked on the last `window` periods of each history alone, or on all. The levels of an
     earlier plan stay if a change gains less than the share `least_gain` of their cost. `correct` has wanted fill rates
-    corrected by the catalogue's past, by which items then have their `aims`.
+    corrected by the catalogue's past, by which items then have their `aims`. `order_min`, `max_coverage` and `s_min`
+    are bounds of items whose masters state none: the smallest order, the most periods of demand that S covers (by
+    default two years), and the smallest s (by default 1 if a fill rate is wanted, so that no order waits for a
+    customer).
     """
 
     seed: str = "crnplan"
@@ -54,6 +59,9 @@ class Settings:
     window: int | None = None
     least_gain: float | None = None
     correct: bool = False
+    order_min: int | None = None
+    max_coverage: int | None = None
+    s_min: int | None = None
     aims: Aims | None = field(default=None, repr=False)
 
     def __post_init__(self) -> None:
@@ -71,7 +79,10 @@ class Settings:
                 raise Refused(f"{argument(name, f'{share:g}')} is not between 0 and 1", f"write {example}")
         for name, number, least, most in (("periods", self.periods, 1, MOST_PERIODS),
                                           ("replications", self.replications, 2, MOST_REPLICATIONS),
-                                          ("window", self.window, 1, MOST_WEIGHT)):
+                                          ("window", self.window, 1, MOST_WEIGHT),
+                                          ("order_min", self.order_min, 1, MOST_ITEMS),
+                                          ("max_coverage", self.max_coverage, 1, MOST_WEIGHT),
+                                          ("s_min", self.s_min, 0, MOST_ITEMS)):
             if number is not None and not least <= number <= most:
                 raise Refused(f"{argument(name, str(number))} is not from {least} to {most:,}")
 
@@ -82,6 +93,14 @@ class Settings:
         settings = dataclasses.asdict(self)
         del settings["least_gain"]
         return json.dumps([__version__, VERSION, program, learned, settings])
+
+    def bounds_of(self, item: Item) -> Bounds:
+        """Returns the bounds of an item: those of its masters, else those of the settings."""
+        own, coverage = item.bounds, self.max_coverage or MOST_COVERAGE.get(self.every or "")
+        s_min = int(item.fill is not None) if self.s_min is None else self.s_min
+        return dataclasses.replace(
+            own, order_min=own.order_min or self.order_min, s_min=s_min if own.s_min is None else own.s_min,
+            coverage=own.coverage or (None if coverage is None else Fraction(coverage)))
 
     def seed_of(self, purpose: str, name: str) -> int:
         """Returns the seed of random numbers for a purpose, which follows from an item's name and the seed."""
@@ -141,6 +160,11 @@ class Question:
         return aims.aim(self.item.counts, float(wanted))
 
     @property
+    def bounds(self) -> Bounds:
+        """Returns the bounds of the item's policies, in items."""
+        return self.settings.bounds_of(self.item)
+
+    @property
     def implied_backlog(self) -> int:
         """Returns the backlog rate; without one, that by which the wanted share would be best for a newsvendor."""
         fill = self.item.fill
@@ -178,8 +202,10 @@ class Question:
         """
         scenario = self.scenario()
         costs = dataclasses.replace(scenario.costs, backlog=self.implied_backlog)
-        shape, (point, level) = shape_of(dataclasses.replace(scenario, costs=costs)), self.levels or (0, 0)
-        return theory_on(scenario, shape, *lattice_of(scenario, shape, level - point, MOST_GAPS))
+        feasible, (point, level) = feasible_of(self.bounds, self.item.box, self.demand.mean), self.levels or (0, 0)
+        shape = dataclasses.replace(shape_of(dataclasses.replace(scenario, costs=costs)),
+                                    least_gap=feasible.gap(1) - 1)
+        return theory_on(scenario, shape, *lattice_of(scenario, shape, level - point, MOST_GAPS), feasible)
 
 
 def finest(rates: Mapping[str, int], scale: Fraction) -> tuple[dict[str, int], Fraction]:

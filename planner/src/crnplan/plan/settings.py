@@ -14,7 +14,7 @@ from .. import formats
 from ..decide.doubt import TIMES
 from ..demand import LEAD_METHODS, METHODS
 from ..errors import Refused
-from ..formats import MOST_PERIODS, MOST_REPLICATIONS, MOST_WEIGHT
+from ..formats import MOST_ITEMS, MOST_PERIODS, MOST_REPLICATIONS, MOST_WEIGHT
 from ..money import amount_of, share_of
 from ..records.cells import DECIMALS, EVERY
 from ..records.columns import COLUMNS, ROLES, unit_fault
@@ -84,6 +84,10 @@ RULES = Table({
         "setup": Key(money, needed=True), "holding": Key(amount, needed=True), "backlog": Key(amount),
         "unit": Key(money, default=0)}, needed=True),
     "today": Table({"s": ITEMS, "S": ITEMS, "stock": ITEMS}, needed=True),
+    "bounds": Table({
+        "order_min": Key(number(1, MOST_ITEMS)), "pack": Key(number(1, MOST_ITEMS), default=1),
+        "s_min": Key(number(0, MOST_ITEMS)), "coverage": Key(number(1, MOST_WEIGHT)),
+        "shelf_life": Key(number(1, MOST_WEIGHT))}),
     "run": Table({
         "name": TEXT, "seed": Key(text, default="crnplan"), "horizon": Key(horizon),
         "replications": Key(number(2, MOST_REPLICATIONS)),
@@ -103,6 +107,8 @@ CATALOGUE_RULES = Table({"catalogue": Table({
     "confidence": Key(share("0.8 for 80% of the laws that a history allows")),
     "level": Key(share("0.95 for 95 of 100 samples")), "window": Key(number(1, MOST_WEIGHT)),
     "periods": Key(number(1, MOST_PERIODS)),
+    "order_min": Key(number(1, MOST_ITEMS)), "max_coverage": Key(number(1, MOST_WEIGHT)),
+    "s_min": Key(number(0, MOST_ITEMS)),
     "replications": Key(number(2, MOST_REPLICATIONS)),
     "setup": Key(stated(amount_of)), "holding_rate": SHARE, "fill": SHARE, "service": Table({}, other=SHARE),
     "currency": Key(stated(currency_of)), "abc": Key(stated(cuts_of)),

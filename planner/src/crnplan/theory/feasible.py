@@ -64,5 +64,9 @@ class Feasible:
         return ((self.least <= point) & (point <= level) & (level <= self.top) & (point % multiple == 0)
                 & (level % multiple == 0))
 
+    def allows(self, point: int, level: int) -> bool:
+        """Returns whether a pair may be chosen."""
+        return bool(self.has(point, level)) and level - point >= self.least_gap
+
 
 ALL = Feasible()

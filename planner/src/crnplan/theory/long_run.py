@@ -17,7 +17,7 @@ from __future__ import annotations
 import copy
 import math
 from collections.abc import Callable, Iterable, Iterator, Sequence
-from functools import partial
+from functools import cached_property, partial
 from typing import Any, NamedTuple
 
 import numpy as np
@@ -162,7 +162,7 @@ class LongRun(Walk):
     def __init__(self, scenario: Scenario, step: int, exact: bool, most: int, feasible: Feasible = ALL) -> None:
         """Makes the laws of a scenario. `most` is the largest gap that a search looks at."""
         super().__init__(scenario, step, exact)
-        self.feasible = feasible
+        self.feasible, self.found = feasible, dict[float, Candidate]()
         costs, leads = scenario.costs, scenario.lead.chances
         self.setup, self.holding, self.backlog = costs.setup, costs.holding, costs.backlog
         self.most, self.shorts = most, dict[int, Floats]()
@@ -184,8 +184,17 @@ class LongRun(Walk):
     def within(self, feasible: Feasible) -> LongRun:
         """Returns the same theory with other feasible policies."""
         other = copy.copy(self)
-        other.feasible = feasible
+        other.feasible, other.found = feasible, {}
         return other
+
+    @cached_property
+    def free(self) -> LongRun:
+        """Returns the same theory with all policies feasible."""
+        return self if self.feasible == ALL else self.within(ALL)
+
+    def has(self, policy: Candidate) -> bool:
+        """Returns whether a policy is feasible, or one with its gap and level."""
+        return self.policy(self.gap_of(policy.point, policy.level), policy.level).cost < math.inf
 
     @property
     def ratio(self) -> float:
@@ -251,8 +260,9 @@ class LongRun(Walk):
 
     def gaps(self, first: int, most: int) -> list[int]:
         """Returns the gaps from the first to the most that feasible policies may have."""
-        gaps = np.arange(first, min(most, -(-(self.feasible.top - self.feasible.least) // self.step)) + 1)
-        kept: list[int] = gaps[self.is_gap(gaps)].tolist()
+        most_items = self.feasible.top - self.feasible.least
+        gaps = np.arange(first, min(most, most_items // self.step) + 1)
+        kept: list[int] = gaps[self.is_gap(gaps) & (self.items(gaps) <= most_items)].tolist()
         return kept
 
     def grid(self) -> list[int]:
@@ -410,7 +420,16 @@ class LongRun(Walk):
         return gaps[place], int(levels[place])
 
     def best(self, share: float = 0.0) -> Candidate:
-        """Returns the cheapest feasible policy that meets at least this share of demand at once."""
+        """Returns the cheapest feasible policy that meets at least this share of demand at once: that of all policies,
+        if it is feasible."""
+        if share not in self.found:
+            free = self.free.best(share) if self.feasible != ALL else NO_POLICY
+            here = self.policy(self.gap_of(free.point, free.level), free.level) if free.cost < math.inf else NO_POLICY
+            self.found[share] = here if here.cost < math.inf else self.best_within(share)
+        return self.found[share]
+
+    def best_within(self, share: float) -> Candidate:
+        """Returns the cheapest feasible policy that meets a share of demand at once, by a search."""
         return self.policy(*self.cheapest(partial(self.best_levels, share=share), self.feasible.least))
 
     def fullest(self) -> Candidate:

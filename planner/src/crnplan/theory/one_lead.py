@@ -128,13 +128,13 @@ class OneLead(LongRun):
         places = lows.spread(gaps, self.floor(gaps))
         return places if first >= lows.even else lows.walked(first, lows.even - 1, self.floor).joined(places)
 
-    def best(self, share: float = 0.0) -> Candidate:
+    def best_within(self, share: float) -> Candidate:
         """Returns the cheapest of all feasible policies that meet at least this share of demand at once.
 
         Beyond the greatest level, that one is the best for a gap, since costs are convex in the level.
         """
         if self.feasible.multiple > 1:
-            return super().best(share)
+            return super().best_within(share)
         grid, highest = self.grid(), self.feasible.top
         known = self.cheapest_of_gaps(grid, share) if grid else NO_POLICY
         if known.cost == math.inf:

@@ -1,0 +1,166 @@
+"""Tests plans within the bounds of orders and levels: what they are, what each costs, and what is said of them."""
+from __future__ import annotations
+
+from collections.abc import Mapping
+from dataclasses import replace
+from fractions import Fraction
+from pathlib import Path
+from typing import Any
+
+import numpy as np
+import pytest
+
+from crnplan.curve.candidates import PRICES, candidates_of
+from crnplan.plan.answer import BOUNDED, Answer
+from crnplan.plan.bounds import feasible_of
+from crnplan.plan.item import read_item
+from crnplan.plan.one import plan_one
+from crnplan.plan.question import Question, Settings, question_of
+from crnplan.records.bounds import Bounds
+from crnplan.records.item import Item
+from crnplan.remarks import Value
+from crnplan.theory.feasible import ALL, Feasible
+from planner.tests.plan.items import alone
+from planner.tests.theory.long_run_costs import costs_of, fills_of, shortfall_of
+
+# A demand of 0, 1 or 4 a week, 1 on average.
+SEEN = (0, 0, 0, 1, 4, 0, 1, 2) * 8
+FILL: dict[str, Any] = {"backlog": None, "fill": Fraction(19, 20)}
+
+
+def asked(bounds: Bounds = Bounds(), settings: Mapping[str, Any] = {}, **changed: Any) -> Question:
+    facts: dict[str, Any] = {"name": "A", "counts": SEEN, "leads": (2,), "levels": (3, 9), "setup": Fraction(30),
+                             "holding": Fraction(1), "backlog": Fraction(19), "bounds": bounds}
+    return question_of(Item(**facts | changed), alone(fit="empirical", **settings))
+
+
+def answer_of(question: Question, program: Path) -> tuple[Answer, dict[str, Mapping[str, Value]]]:
+    """Returns the answer to a question, and the facts of its remarks by their codes."""
+    answer = plan_one(question, str(program))
+    return answer, {remark.code: remark.facts for remark in answer.remarks}
+
+
+def figures_of(question: Question, levels: tuple[int, int]) -> tuple[float, float]:
+    """Returns the cost in money and the fill of a policy, by the second computation of the tests. Without a backlog
+    cost only orders and stock cost something."""
+    scenario = question.scenario()
+    costs = replace(scenario.costs, backlog=scenario.costs.backlog if question.has_backlog else 0)
+    short, level = shortfall_of(scenario, levels[1] - levels[0]), np.array(levels[1:])
+    cost, fill = costs_of(replace(scenario, costs=costs), short, level)[0], fills_of(scenario, short, level)[0]
+    return float(cost) / float(question.scale), float(fill)
+
+
+@pytest.mark.parametrize("bounds, box, feasible", [
+    (Bounds(), 1, ALL), (Bounds(s_min=0), 1, ALL),
+    # Each order is above S - s; of boxes of 10, two have 11 items.
+    (Bounds(order_min=12), 1, Feasible(11)), (Bounds(order_min=11), 10, Feasible(1)),
+    (Bounds(s_min=11), 10, Feasible(0, 2)),
+    (Bounds(pack=12), 1, Feasible(multiple=12)), (Bounds(pack=12), 8, Feasible(multiple=3)),
+    # 2.5 boxes a period: of the coverage and the shelf life the shorter one holds, rounded down.
+    (Bounds(coverage=Fraction(9)), 1, Feasible(most_level=22)),
+    (Bounds(coverage=Fraction(9), shelf_life=Fraction(5)), 1, Feasible(most_level=12)),
+    # S covers what s, here of a whole pack, and the smallest order need.
+    (Bounds(5, 7, 6, Fraction(1)), 1, Feasible(6, 6, 20, 5)),
+], ids=str)
+def test_feasible_policies(bounds: Bounds, box: int, feasible: Feasible) -> None:
+    assert feasible_of(bounds, box, Fraction(5, 2)) == feasible
+
+
+@pytest.mark.parametrize("every, coverage", [("day", 728), ("week", 104), ("month", 24), (None, None)])
+def test_bounds_where_masters_state_none(every: str | None, coverage: int | None) -> None:
+    """Masters come first, then settings. Else S covers two years, and s is at least 1 for a wanted fill rate."""
+    plain, wanted = asked().item, asked(**FILL).item
+    own = replace(plain, bounds=Bounds(4, 9, 0, Fraction(3), Fraction(2)))
+    usual, stated = Settings(every=every), Settings(every=every, order_min=7, max_coverage=30, s_min=2)
+    years = None if coverage is None else Fraction(coverage)
+    assert usual.bounds_of(plain) == Bounds(s_min=0, coverage=years)
+    assert usual.bounds_of(wanted) == Bounds(s_min=1, coverage=years)
+    assert stated.bounds_of(wanted) == Bounds(1, 7, 2, Fraction(30))
+    assert stated.bounds_of(own) == usual.bounds_of(own) == own.bounds
+
+
+@pytest.mark.parametrize("name, bounds, settings", [
+    ("coverage", Bounds(coverage=Fraction(5)), {}), ("coverage", Bounds(), {"max_coverage": 5}),
+    ("shelf_life", Bounds(shelf_life=Fraction(4)), {}), ("order_min", Bounds(order_min=30), {}),
+    ("pack", Bounds(pack=7), {}), ("s_min", Bounds(s_min=8), {})], ids=str)
+def test_what_a_bound_costs(name: str, bounds: Bounds, settings: Mapping[str, Any], program: Path) -> None:
+    """A bound that the best policy would leave is said with what it costs, by a second computation."""
+    question, free = asked(bounds, settings), asked()
+    answer, remarks = answer_of(question, program)
+    best = plan_one(free, str(program)).chosen.levels
+    facts = remarks[f"bound of {name}"]
+    assert (facts["s"], facts["S"]) == best
+    cost = figures_of(free, answer.chosen.levels)[0] - figures_of(free, best)[0]
+    assert cost > 0 and facts["cost"] == pytest.approx(cost, rel=1e-6)
+    assert answer.coverage_cost == (facts["cost"] if name == "coverage" else None)
+    assert [code for code in remarks if code.startswith("bound of")] == [f"bound of {name}"]
+
+
+def test_bounds_that_leave_no_policy_for_a_fill(program: Path) -> None:
+    """No policy within the bounds has the wanted fill: of all these the chosen one meets most. That is a verdict."""
+    question, free = asked(Bounds(coverage=Fraction(3)), **FILL), asked(**FILL)
+    answer, remarks = answer_of(question, program)
+    fills = {(s, S): figures_of(question, (s, S))[1] for S in range(4) for s in range(1, S + 1)}
+    best = plan_one(free, str(program)).chosen.levels
+    facts = remarks["bounded"]
+    assert answer.verdict == BOUNDED and answer.chosen.levels == max(fills, key=fills.__getitem__)
+    assert facts["fill"] == pytest.approx(max(fills.values()), rel=1e-9) and max(fills.values()) < facts["wanted"]
+    assert (facts["s"], facts["S"]) == best and facts["cost"] == pytest.approx(figures_of(free, best)[0], rel=1e-6)
+    assert remarks["today out of bounds"] == {"s": 3, "S": 9}
+
+
+def test_no_order_waits_for_a_customer(program: Path) -> None:
+    """With a wanted fill rate s is at least 1. With a backlog cost alone it is said what that would cost."""
+    few = {"counts": (0, 0, 0, 0, 0, 0, 1, 0) * 8, "setup": Fraction(1, 10), "levels": (1, 2)}
+    answer, remarks = answer_of(asked(backlog=Fraction(3, 2), **few), program)
+    question = asked(backlog=Fraction(3, 2), **few)
+    costs = [min(figures_of(question, (s, S))[0] for S in range(s, 9)) for s in (0, 1)]
+    assert answer.chosen.point == 0 and remarks["s of 0"]["cost"] == pytest.approx(costs[1] - costs[0], rel=1e-6)
+    wanted = few | {"backlog": None, "fill": Fraction(1, 10), "leads": (1,)}
+    answer, remarks = answer_of(asked(**wanted), program)
+    assert answer.chosen.point == 1 and not {"s of 0", "bound of s_min"} & remarks.keys()
+    answer, remarks = answer_of(asked(Bounds(s_min=0), **wanted), program)
+    assert answer.chosen.point == 0 and "s of 0" in remarks
+
+
+def test_an_earlier_policy_out_of_bounds_does_not_stay(program: Path) -> None:
+    """A policy of an earlier plan stays if a change gains little, but not if it is out of bounds."""
+    settings = alone(fit="empirical", least_gain=0.9)
+    for bounds, stays in ((Bounds(), True), (Bounds(order_min=9), False)):
+        question = question_of(asked(bounds).item, settings, None, (3, 9))
+        assert (plan_one(question, str(program)).undamped is not None) == stays
+
+
+def test_bounds_of_settings(tmp_path: Path) -> None:
+    """The bounds of one item stand in its settings."""
+    (tmp_path / "history.csv").write_text("n\n" + "2\n" * 20, "utf-8")
+    (tmp_path / "settings.toml").write_text(
+        '[history]\ndemand = "n"\n[lead]\ntimes = [2]\n[costs]\nsetup = 9\nholding = 1\nbacklog = 9\n[today]\ns = 3\nS = 9\n'
+        "stock = 5\n[bounds]\norder_min = 6\npack = 3\ns_min = 2\ncoverage = 30\nshelf_life = 20\n", "utf-8")
+    item = read_item(tmp_path / "history.csv", tmp_path / "settings.toml").item
+    assert item.bounds == Bounds(3, 6, 2, Fraction(30), Fraction(20))
+
+
+@pytest.mark.parametrize("bounds, size", [
+    (Bounds(coverage=Fraction(7)), 1), (Bounds(pack=3), 1), (Bounds(order_min=5, s_min=2), 1),
+    (Bounds(4, coverage=Fraction(9)), 6)], ids=str)
+def test_candidates_of_the_curve(bounds: Bounds, size: int) -> None:
+    """For each price the candidate of the curve is as good as the best of all feasible pairs, by a second computation,
+    but for what a search on a grid may miss."""
+    question = asked(bounds, price=Fraction(5), counts=tuple(size * count for count in SEEN))
+    feasible, scenario = question.theory().feasible, question.scenario()
+    most = min(feasible.top, 40 * size)
+    pairs, figures, mean = list[tuple[int, int]](), list[list[float]](), float(scenario.demand.mean)
+    for gap in range(most + 1):
+        short = shortfall_of(scenario, gap)
+        levels = np.array([level for level in range(gap, most + 1) if feasible.allows(level - gap, level)], int)
+        if len(levels):
+            stock = np.maximum(levels[:, None] - short.least - np.arange(len(short.chances)), 0) @ short.chances
+            unmet = (1 - fills_of(scenario, short, levels)) * mean
+            pairs += [(level - gap, level) for level in levels.tolist()]
+            figures += [[*row, short.orders] for row in np.transpose([stock, unmet]).tolist()]
+    costs, rows = np.array(figures), [row for row in candidates_of(question).rows if row[0] == 0]
+    for place, price in enumerate(PRICES):
+        found = [row for row in rows if row[1] <= place][-1]
+        by_pair = costs @ [1, 5 * price, 30]
+        assert by_pair[pairs.index((found[2], found[3]))] <= 1.007 * by_pair.min() + 1e-9
