@@ -24,7 +24,7 @@ from crnplan.pages import catalogue_page
 from crnplan.pages.catalogue_page import COLUMNS, MEANING, clipped, file_of
 from crnplan.pages.catalogue_tables import reasons_of
 from crnplan.pages.page import LARGE
-from crnplan.plan.answer import CHEAPER, DEARER, RUN, SAME, SERVICE, UNCOMPARED, UNDECIDED, Answer
+from crnplan.plan.answer import BOUNDED, CHEAPER, DEARER, RUN, SAME, SERVICE, UNCOMPARED, UNDECIDED, Answer
 from crnplan.plan.catalogue import ANSWERS, Totals
 from crnplan.records.catalogue_reading import CATALOGUE, READ, Writer
 from crnplan.records.items import Reject
@@ -225,7 +225,7 @@ def test_reasons_verdicts_and_service() -> None:
         ("theory counts in steps of \u2026 items", "day", 2, 2, {"A"}),
         ("theory counts in steps of \u2026 items", "amount", 1, 3, {"B"}),
         ("each item has the law of its own history", "day", 1, 4, {"B"})]
-    assert set(MEANING) == {CHEAPER, DEARER, SERVICE, SAME, UNDECIDED, UNCOMPARED}
+    assert set(MEANING) == {CHEAPER, DEARER, SERVICE, SAME, UNDECIDED, UNCOMPARED, BOUNDED}
     totals = Totals()
     for price, demand, fill in ((30, 3, 1.0), (2, 5, 0.5)):
         item, answer = made_pair(random.Random(1), "it")
