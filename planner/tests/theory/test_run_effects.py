@@ -1,6 +1,7 @@
 """Compares what the start and the end of a run add with a chain of all states, and with runs of the program."""
 from __future__ import annotations
 
+import functools
 import itertools
 import math
 from dataclasses import replace
@@ -29,22 +30,33 @@ SLOW = {"the same demand in all periods": scenario_of(([1], [1]), ([2], [1])),
 # Policies, and the stock before the first period: below s, between, at S, and above.
 STARTS = [(4, 11, 0), (4, 11, 7), (4, 11, 11), (2, 6, 15), (5, 5, 5), (0, 20, 3)]
 BACK = [it for it in CASES if it.startswith("returns")]
+LENGTHS = [1, 3, 40]  # of runs, in periods
+
+
+def asked_of(case: str, start: tuple[int, int, int], periods: int) -> Scenario:
+    s, S, initial = start
+    return replace((CASES | SLOW)[case], costs=COSTS, periods=periods, initial=initial, policies=(Policy("it", s, S),))
+
+
+@functools.cache
+def costs_of_chain(case: str, start: tuple[int, int, int]) -> tuple[float, list[float]]:
+    """Returns a chain's cost of a period in the long run, and those of the longest run of a case by period."""
+    asked = asked_of(case, start, LENGTHS[-1])
+    return by_chain(asked)[0], expected(asked)
 
 
 @pytest.mark.parametrize("start", STARTS, ids=lambda it: f"({it[0]},{it[1]}) from {it[2]}")
 @pytest.mark.parametrize("case, periods, dense", [
-    *itertools.product([*CASES, *SLOW], [1, 3, 40], [100]), *itertools.product(BACK, [40], [0])])
+    *itertools.product([*CASES, *SLOW], LENGTHS, [100]), *itertools.product(BACK, LENGTHS[-1:], [0])])
 def test_biases_are_those_of_a_chain(case: str, start: tuple[int, int, int], periods: int, dense: int,
                                      monkeypatch: pytest.MonkeyPatch) -> None:
     monkeypatch.setattr("crnplan.theory.run_effects.MOST_DENSE", dense)
-    s, S, initial = start
-    asked = replace((CASES | SLOW)[case], costs=COSTS, periods=periods, initial=initial, policies=(Policy("it", s, S),))
+    asked, (usual, costs) = asked_of(case, start, periods), costs_of_chain(case, start)
     found = start_bias(asked)
     net = asked.demand.mean - (asked.returns.mean if asked.returns else 0)
-    usual = by_chain(asked)[0]
     assert found.costs == pytest.approx([usual], rel=1e-8)
     assert found.theory.exact
-    wanted = sum(expected(asked)) - periods * (usual + COSTS.unit * float(net))
+    wanted = sum(costs[:periods]) - periods * (usual + COSTS.unit * float(net))
     assert found.biases == pytest.approx([wanted], abs=1e-5 * periods)
 
 
