@@ -19,8 +19,10 @@ from crnplan.plan.question import Question, Settings, question_of
 from crnplan.records.bounds import Bounds
 from crnplan.records.item import Item
 from crnplan.remarks import Value
+from crnplan.scenario import Policy
 from crnplan.theory.feasible import ALL, Feasible
 from planner.tests.plan.items import alone
+from planner.tests.theory import chain
 from planner.tests.theory.long_run_costs import costs_of, fills_of, shortfall_of
 
 # A demand of 0, 1 or 4 a week, 1 on average.
@@ -129,6 +131,25 @@ def test_an_earlier_policy_out_of_bounds_does_not_stay(program: Path) -> None:
     for bounds, stays in ((Bounds(), True), (Bounds(order_min=9), False)):
         question = question_of(asked(bounds).item, settings, None, (3, 9))
         assert (plan_one(question, str(program)).undamped is not None) == stays
+
+
+@pytest.mark.parametrize("changed", [{}, {"leads": (1, 3, 2)}], ids=["one lead time", "several"])
+def test_orders_that_are_rounded_up(changed: dict[str, Any], program: Path, monkeypatch: pytest.MonkeyPatch) -> None:
+    """Rounding orders up to packs adds what a Markov chain says, but for the error of a run. If demand comes in whole
+    packs, it adds nothing."""
+    question = asked(Bounds(pack=7), **changed)
+    answer, remarks = answer_of(question, program)
+    scenario = question.scenario().with_policies([Policy("chosen", *answer.chosen.levels)])
+    plain, period = chain.by_chain(scenario)[0], chain.period
+
+    def rounded(state: chain.State, levels: tuple[int, int], *drawn: int) -> tuple[chain.State, chain.Counted]:
+        position = sum(state)
+        return period(state, (levels[0], position - (position - levels[1]) // 7 * 7), *drawn)
+    monkeypatch.setattr(chain, "period", rounded)
+    more = (chain.by_chain(scenario)[0] - plain) / float(question.scale)
+    assert more > 1 and remarks["rounded orders"]["cost"] == pytest.approx(more, abs=0.2)
+    whole = asked(Bounds(pack=7), counts=tuple(7 * count for count in SEEN))
+    assert "rounded orders" not in answer_of(whole, program)[1]
 
 
 def test_bounds_of_settings(tmp_path: Path) -> None:

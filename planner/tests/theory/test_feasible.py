@@ -8,11 +8,11 @@ from dataclasses import replace
 import numpy as np
 import pytest
 
-from crnplan.scenario import Costs, Scenario
+from crnplan.scenario import Costs, Policy, Scenario
 from crnplan.theory.feasible import Feasible
 from crnplan.theory.lattice import lattice_of, shape_of, theory_on
 from crnplan.theory.long_run import Candidate, LongRun
-from crnplan.theory.many_laws import Promises
+from crnplan.theory.many_laws import Promises, figures_of_laws
 from planner.tests.theory.chain import by_chain
 from planner.tests.theory.scenarios import Pair, scenario_of, table
 from planner.tests.theory.test_searches import all_pairs
@@ -99,6 +99,16 @@ def test_feasible_pairs_by_a_chain(lead: list[int]) -> None:
                                         levels=pair))[0] for pair in pairs}
     best = min(pairs, key=costs.__getitem__)
     assert (found.point, found.level) == best and found.cost == pytest.approx(costs[best], rel=1e-9)
+
+
+@pytest.mark.parametrize("feasible", [Feasible(), Feasible(3), Feasible(0, 2, 7), Feasible(multiple=4)], ids=str)
+def test_the_best_of_other_laws_is_feasible(feasible: Feasible) -> None:
+    """Under each law a policy is compared with the cheapest feasible pair of that law."""
+    laws = [table(([0, 1, 4], [weight, 3, 1])) for weight in (1, 9)]
+    scenarios = [scenario_of((law.values, law.weights), ([2], [1]), costs=Costs(9, 0, 2, 11)) for law in laws]
+    found = figures_of_laws(scenarios[0], [(law, scenarios[0].lead) for law in laws], [Policy("a", 2, 6)], feasible)
+    least = [kept_of(all_pairs(it, 20), feasible)[:, 0].min() for it in scenarios]
+    assert found.least == pytest.approx(least, rel=1e-9)
 
 
 @pytest.mark.parametrize("lead", [[2], [1, 3]], ids=["one lead time", "several"])

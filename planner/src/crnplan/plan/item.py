@@ -195,7 +195,8 @@ class Depth:
         costs = replace(scenario.costs, backlog=self.question.implied_backlog)
         scenario = replace(scenario, costs=costs)
         try:
-            figures = figures_of_laws(scenario, [*zip(demands, leads or repeat(scenario.lead))], policies)
+            figures = figures_of_laws(scenario, [*zip(demands, leads or repeat(scenario.lead))], policies,
+                                      self.theory.feasible)
         except NoTheory:
             return None
         return Doubt(scenario, policies, WITHIN, AllowedLaws({}, demands), None, figures)

@@ -39,6 +39,7 @@ from ..words import advice, sentence
 from .answer import (ALONE, BEFORE, BOUNDED, CHEAPER, CHOSEN, DAMPED, DEARER, RUN, SAME, SERVICE, THEORY, TODAY,
                      UNDAMPED, UNCOMPARED, UNDECIDED, Answer, Correction, Figures, LawFacts, Laws, Run)
 from .bounds import COVERAGE, binding
+from .packs import remarks_of_packs
 from .question import NONE, Levels, Question, Settings, question_of
 
 Result = TypeVar("Result")
@@ -383,7 +384,7 @@ def plan_one(question: Question, program: str) -> Answer:
     verdict, cost_today, saving = beside_today(question, theory, figures, run)
     if choice.is_bounded and verdict != UNCOMPARED:
         verdict = BOUNDED
-    bounds = [*remarks_of_bounds(question, theory, choice)]
+    bounds = [*remarks_of_bounds(question, theory, choice), *remarks_of_packs(question, theory, choice.levels)]
     coverage = next((cost for remark in bounds if remark.code == f"bound of {COVERAGE}" and isinstance(
         cost := remark.facts["cost"], float)), None)
     confidence_cost = None

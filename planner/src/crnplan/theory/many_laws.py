@@ -23,6 +23,7 @@ from ..chances import Floats
 from ..errors import Refused
 from ..law import Law
 from ..scenario import Policy, Scenario
+from .feasible import ALL, Feasible
 from .lattice import NoTheory, Shape, finest, shape_of, theory_on
 from .long_run import NO_POLICY, Candidate, LongRun, place_of_least
 from .walk import Walk, room_for
@@ -72,7 +73,7 @@ def under_laws(scenario: Scenario, laws: Iterable[tuple[Law, Law]]) -> Iterator[
         yield own, shape
 
 
-def run_of(scenario: Scenario, shape: Shape, widest: int) -> LongRun | None:
+def run_of(scenario: Scenario, shape: Shape, widest: int, feasible: Feasible = ALL) -> LongRun | None:
     """Returns the long run of a scenario on the finest lattice that is computed in time for gaps up to so many items;
     None if its numbers are too far apart for that."""
     periods, last = shape.lead + 1, shape.lead * (shape.leads > 1)
@@ -86,25 +87,28 @@ def run_of(scenario: Scenario, shape: Shape, widest: int) -> LongRun | None:
         likely = periods * net.mean + DEVIATIONS * math.sqrt(periods * net.variance) + net.high
         return room_for(above - (-widest // step) + int(min(periods * net.high, likely)) + 3) / allowed
     step = finest(shape.base, max(shape.high, shape.order), excess, lambda size: 0.8 * size)
-    return None if step is None else theory_on(scenario, shape, step, step == shape.base)
+    return None if step is None else theory_on(scenario, shape, step, step == shape.base, feasible)
 
 
 def least_cost(theory: LongRun, most: int) -> float:
-    """Returns the least cost with a gap up to the most, by a search that gets finer round the best gap."""
-    low, high, least = 0, most, math.inf
-    for count in GAPS:
-        shares = np.linspace(0, 1, count)**(2 if high == most else 1)
-        gaps = np.unique(np.rint(low + (high - low) * shares).astype(int)).tolist()
-        _, costs = theory.costed(partial(theory.best_levels, share=0.0), gaps)
+    """Returns the least cost of a feasible policy with a gap up to the most, by a search that gets finer round the best
+    gap; nan if there is none on the lattice."""
+    allowed = theory.gaps(0, most)
+    low, high, least = 0, len(allowed) - 1, math.inf
+    for count in GAPS if allowed else ():
+        shares = np.linspace(0, 1, count)**(2 if high == len(allowed) - 1 else 1)
+        places = np.unique(np.rint(low + (high - low) * shares).astype(int)).tolist()
+        _, costs = theory.costed(partial(theory.best_levels, share=0.0), [allowed[place] for place in places])
         best = place_of_least(costs)
         least = min(least, float(costs[best]))
-        low, high = gaps[max(best - 1, 0)], gaps[min(best + 1, len(gaps) - 1)]
-    return least
+        low, high = places[max(best - 1, 0)], places[min(best + 1, len(places) - 1)]
+    return least if least < math.inf else math.nan
 
 
-def figures_of_laws(scenario: Scenario, laws: Sequence[tuple[Law, Law]],
-                    policies: Sequence[Policy]) -> LawFigures:
-    """Returns the figures of policies under laws, each of demand and of lead times; all else is the scenario's.
+def figures_of_laws(scenario: Scenario, laws: Sequence[tuple[Law, Law]], policies: Sequence[Policy],
+                    feasible: Feasible = ALL) -> LawFigures:
+    """Returns the figures of policies under laws, each of demand and of lead times; all else is the scenario's. Each
+    law's own best policy is a feasible one.
 
     A lattice is as fine as `MOST_WORK` allows. Raises NoTheory if the scenario has no best policy.
     """
@@ -116,7 +120,7 @@ def figures_of_laws(scenario: Scenario, laws: Sequence[tuple[Law, Law]],
         if shape is None:
             continue
         widest = max(given, math.ceil(2 * shape.order))
-        theory = run_of(own, shape, widest)
+        theory = run_of(own, shape, widest, feasible)
         if theory is None:
             continue
         is_long = shape.leads > 1 and shape.lead > LONG_LEAD

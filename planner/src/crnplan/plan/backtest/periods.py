@@ -46,14 +46,14 @@ class Period(NamedTuple):
         return kept + (rates.setup + rates.unit * self.ordered if self.ordered else 0)
 
 
-def periods_of(past: Past, levels: Iterable[Levels], initial: int) -> list[Period]:
+def periods_of(past: Past, levels: Iterable[Levels], initial: int, pack: int = 1) -> list[Period]:
     """Returns the periods of a policy that starts with a stock and nothing on order. Its s and S may change from one
-    period to the next."""
+    period to the next. Orders are rounded up to packs of so many items."""
     stock, position, due, periods = initial, initial, defaultdict[int, int](int), list[Period]()
     happened = zip(past.demands, past.returns, past.leads, levels, strict=True)
     for number, (demand, returned, lead, (s, S)) in enumerate(happened):
         stock += due.pop(number, 0)
-        ordered = S - position if position < s else 0
+        ordered = -(-(S - position) // pack) * pack if position < s else 0
         due[number + lead] += ordered
         offered = stock + returned
         stock = offered - demand
