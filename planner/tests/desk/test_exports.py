@@ -1,5 +1,5 @@
-"""Tests of the way from the files of three systems to a plan and today's orders, in a command each. pandas adds up what
-the files have."""
+"""Tests of the way from the files of three systems to a plan, today's orders and a workbook, in a command each. pandas
+adds up what the files have."""
 from __future__ import annotations
 
 from pathlib import Path
@@ -16,7 +16,7 @@ TODAY = "2026-11-27"
 
 
 @pytest.mark.parametrize("system", SYSTEMS)
-def test_from_two_files_to_orders(system: str, crnplan: Command, program: Path, tmp_path: Path) -> None:
+def test_from_two_files_to_orders_and_a_workbook(system: str, crnplan: Command, program: Path, tmp_path: Path) -> None:
     """What is sold, stocked and ordered adds up to the cent, whatever the system writes."""
     export, plan, today = SYSTEMS[system](tmp_path, PARTS), tmp_path / "plan", tmp_path / "today"
     planned = crnplan("catalogue", export.demand, export.masters, *export.words, "--setup", "45", "--holding-rate",
@@ -43,3 +43,13 @@ def test_from_two_files_to_orders(system: str, crnplan: Command, program: Path, 
     assert (orders.order == wanted).all() and (orders.placed >= wanted).all()
     assert (orders.value - orders.placed * parts.price[orders.index]).abs().max() < CENT
     assert f"{TODAY}: {due.sum()} orders, worth {export.currency} {orders.value.sum():,.2f}\n" in listed.output
+
+    book = tmp_path / "plan.xlsx"
+    assert crnplan("report", plan, "--xlsx", book, "--program", program).status == 0
+    sheets = pd.read_excel(book, sheet_name=None, dtype={"item": str})
+    assert sheets["Decisions"].item.tolist() == [*decisions.index]
+    assert sheets["Decisions"].saving.sum() == pytest.approx(decisions.saving.sum(), abs=CENT * len(decisions))
+    saved = sheets["Summary"].set_index("figure").chosen["saved a week"]
+    assert saved == pytest.approx(sheets["Decisions"].saving.sum())
+    assert sheets["Today"].value.sum() == pytest.approx(orders.value.sum())
+    assert {*sheets["Left out"].item.dropna()} | {*decisions.index} >= {*counts.index}
