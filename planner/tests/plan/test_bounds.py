@@ -1,6 +1,7 @@
 """Tests plans within the bounds of orders and levels: what they are, what each costs, and what is said of them."""
 from __future__ import annotations
 
+import datetime
 from collections.abc import Mapping
 from dataclasses import replace
 from fractions import Fraction
@@ -13,7 +14,8 @@ import pytest
 from crnplan.curve.candidates import PRICES, candidates_of
 from crnplan.plan.answer import BOUNDED, Answer
 from crnplan.plan.bounds import feasible_of
-from crnplan.plan.item import read_item
+from crnplan.plan.catalogue import planned_folder
+from crnplan.plan.item import Depth, read_item
 from crnplan.plan.one import plan_one
 from crnplan.plan.question import Question, Settings, question_of
 from crnplan.records.bounds import Bounds
@@ -21,6 +23,7 @@ from crnplan.records.item import Item
 from crnplan.remarks import Value
 from crnplan.scenario import Policy
 from crnplan.theory.feasible import ALL, Feasible
+from planner.tests.conftest import Command, rows_of
 from planner.tests.plan.items import alone
 from planner.tests.theory import chain
 from planner.tests.theory.long_run_costs import costs_of, fills_of, shortfall_of
@@ -152,12 +155,56 @@ def test_orders_that_are_rounded_up(changed: dict[str, Any], program: Path, monk
     assert "rounded orders" not in answer_of(whole, program)[1]
 
 
+def test_deeper_looks_respect_the_bounds(program: Path) -> None:
+    """All suggested policies but today's are within the bounds, and so is the best of each case, the decision without
+    the largest periods, and the best of each law, beside which nothing is cheaper."""
+    question = asked(Bounds(3, 7, 3, Fraction(30)), counts=(*SEEN, 40), levels=(4, 9))
+    depth = Depth(question, plan_one(question, str(program)), str(program), laws=4)
+    feasible = question.theory().feasible
+    own = {(policy.s, policy.S) for policy in depth.policies} - {(4, 9)}
+    assert len(own) > 5 and all(feasible.allows(*levels) for levels in own)
+    moves = {(move.s, move.S) for move in depth.moves.moves}
+    assert len(moves) > 3 and all(s % 3 == S % 3 == 0 and S - s >= 6 and s >= 3 for s, S in moves)
+    assert depth.without and depth.without.rare.point % 3 == depth.without.rare.level % 3 == 0
+    free = asked(counts=question.item.counts, levels=(4, 9))
+    doubts = [depth.doubt, Depth(free, plan_one(free, str(program)), str(program), laws=4).doubt]
+    least, least_free = (doubt.figures.least for doubt in doubts if doubt)
+    assert (least >= least_free).all() and (least > 1.001 * least_free).any()
+
+
+def test_bounds_of_a_catalogue(crnplan: Command, tmp_path: Path, program: Path) -> None:
+    """Options and crnplan.toml bound items whose masters state nothing. The summary adds up what coverage costs."""
+    monday = datetime.date(2026, 1, 5)
+    rows = [f"{name},{monday + datetime.timedelta(weeks=week)},{count}" for name in "AB"
+            for week, count in enumerate(SEEN[:40])]
+    texts = {"demand.csv": "\n".join(["item,date,quantity", *rows, ""]),
+             "items.csv": "item,setup,holding,backlog,lead,s,S,coverage\n"
+                          "A,30.25,1,19,2,3,9,\nB,30.25,1,19,2,3,9,90\n",
+             "mine.toml": '[catalogue]\nfit = "empirical"\nperiods = 64\nreplications = 2\norder_min = 9\n'
+                          "max_coverage = 8\n"}
+    for name, text in texts.items():
+        (tmp_path / name).write_text(text, "utf-8")
+    demand, items, settings_path = map(tmp_path.joinpath, texts)
+    answer = crnplan("catalogue", demand, items, "--out", tmp_path / "plan", "--config", settings_path,
+                     "--order-min", "3", "--s-min", "2", "--jobs", "1", "--program", program)
+    decisions = rows_of(tmp_path / "plan/decisions.csv")
+    with planned_folder(tmp_path / "plan") as plan:
+        settings = plan.settings
+    assert (settings.order_min, settings.max_coverage, settings.s_min) == (3, 8, 2)
+    # The mean demand is 1 a week.
+    assert decisions["A"]["S_chosen"] == "8" and int(decisions["B"]["S_chosen"]) > 8
+    cost = decisions["A"]["cost_coverage"]
+    assert float(cost) > 0 and not decisions["B"]["cost_coverage"]
+    assert f"S may cover no more periods of demand: 1 items, which costs {float(cost):.2f} a week" in answer.output
+    assert "no more periods of demand for 1 items" in (tmp_path / "plan/report.html").read_text("utf-8")
+
+
 def test_bounds_of_settings(tmp_path: Path) -> None:
     """The bounds of one item stand in its settings."""
     (tmp_path / "history.csv").write_text("n\n" + "2\n" * 20, "utf-8")
     (tmp_path / "settings.toml").write_text(
-        '[history]\ndemand = "n"\n[lead]\ntimes = [2]\n[costs]\nsetup = 9\nholding = 1\nbacklog = 9\n[today]\ns = 3\nS = 9\n'
-        "stock = 5\n[bounds]\norder_min = 6\npack = 3\ns_min = 2\ncoverage = 30\nshelf_life = 20\n", "utf-8")
+        '[history]\ndemand = "n"\n[lead]\ntimes = [2]\n[costs]\nsetup = 9\nholding = 1\nbacklog = 9\n[today]\ns = 3\n'
+        "S = 9\nstock = 5\n[bounds]\norder_min = 6\npack = 3\ns_min = 2\ncoverage = 30\nshelf_life = 20\n", "utf-8")
     item = read_item(tmp_path / "history.csv", tmp_path / "settings.toml").item
     assert item.bounds == Bounds(3, 6, 2, Fraction(30), Fraction(20))
 

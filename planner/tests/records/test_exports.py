@@ -123,7 +123,8 @@ def test_units_of_masters(heading: str, cells: str, role: str, value: Any, check
 @pytest.mark.parametrize("heading, words, cells, expected", CASES["bounds"])
 def test_bounds_of_masters(heading: str, words: str, cells: str, expected: list[Any], check: Checked) -> None:
     """The bounds of orders and levels are read with their units. None is stated by an empty cell."""
-    answer, rejects = check(demand_of(["2", "3"]), *words.split(), masters=f"{MASTERS},{heading}\nA,45,1,10,2,3,9,{cells}\n")
+    masters = f"{MASTERS},{heading}\nA,45,1,10,2,3,9,{cells}\n"
+    answer, rejects = check(demand_of(["2", "3"]), *words.split(), masters=masters)
     pack, order_min, s_min, *spans = (None if value == "" else value for value in expected)
     assert answer.status == 0 and not rejects and "not used" not in answer.errors
     assert check.items["A"].bounds == Bounds(pack, order_min, s_min, *(span and Fraction(span) for span in spans))

@@ -71,7 +71,7 @@ MEANING = {
     UNDECIDED: "Theory is rounded here, and the runs cannot tell which policy costs less.",
     SAME: "Today's policy is the best one already.",
     DEARER: "The chosen policy costs more, though it is the best by theory. Look at these items.",
-    BOUNDED: "No policy within the item's bounds meets the wanted share of demand at once. The chosen one comes nearest.",
+    BOUNDED: "No policy within the item's bounds meets the wanted share of demand at once. The chosen one meets most.",
     UNCOMPARED: "The masters have no s and S, so nothing is compared. No sum of costs, savings or stock has these items."}
 
 

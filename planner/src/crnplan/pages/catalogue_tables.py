@@ -107,8 +107,8 @@ def decision_row(item: Item, answer: Answer) -> list[Cell]:
             answer.cost_chosen, answer.saving, PLANNED_BY[answer.source], run.saving,
             run.low, run.high, None if item.fill is None else float(item.fill),
             correction.aim if correction else None, *fills, *stocks, correction.plain_stock if correction else None,
-            *values, *orders, answer.confidence_cost, answer.coverage_cost, *level_cells(alone), alone.cost if alone else None,
-            alone.fill if alone else None, answer.law.mean, len(item.counts),
+            *values, *orders, answer.confidence_cost, answer.coverage_cost, *level_cells(alone),
+            alone.cost if alone else None, alone.fill if alone else None, answer.law.mean, len(item.counts),
             sum(count > 0 for count in item.counts), answer.law.family, answer.law.share, answer.law.log10_bayes,
             item.abc, xyz_of(item.counts), codes, words]
 

@@ -10,8 +10,8 @@ from ..remarks import Remark
 # Policies: today's, the chosen one, the one that the item would get by its own history alone, that of an earlier plan,
 # and the one that would be chosen if that one did not stay.
 TODAY, CHOSEN, ALONE, BEFORE, UNDAMPED = "today", "chosen", "alone", "before", "undamped"
-# Verdicts. `more service`: today's policy misses the wanted fill, and keeping it costs more. `bounded`: no policy within
-# the bounds of the item has the wanted fill; the chosen one comes nearest.
+# Verdicts. `more service`: today's policy misses the wanted fill, and keeping it costs more. `bounded`: no policy
+# within the bounds of the item has the wanted fill; the chosen one meets most.
 CHEAPER, DEARER, UNDECIDED, SAME, SERVICE = "cheaper", "dearer", "undecided", "same", "more service"
 BOUNDED = "bounded"
 COMPARED = CHEAPER, DEARER, UNDECIDED, SAME, SERVICE, BOUNDED

@@ -209,8 +209,8 @@ class Promises:
         return self.level_at(self.place, laws, (level - point) // self.step, share) <= level
 
     def cheapest(self, plain: Candidate, share: float) -> Candidate:
-        """Returns the cheapest feasible policy found that meets a share under enough laws. `plain` is the one by the own
-        law."""
+        """Returns the cheapest feasible policy found that meets a share under enough laws. `plain` is the one by the
+        own law."""
         if plain.cost == math.inf:
             return NO_POLICY
         laws, place, feasible = range(len(self.theories)), self.place, self.theory.feasible

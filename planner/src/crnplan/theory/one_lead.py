@@ -8,8 +8,8 @@ demand of L + 1 periods (Zipkin, Foundations of Inventory Management, 2000, chap
 a period, with m and M as in `long_run.py`. G(y) is the mean cost of stock and backlog of a period that starts from a
 low at y. Gaps up to `widest` are looked at, and s from `lowest` on: if G(s) is above C(g, S), the policy with the gap
 g - 1 and the same S costs less. It meets more demand at once too, since the lowest of all lows meets least. So the best
-policy, also with a fill rate, has G(s) of at most its cost, unless its gap is the least feasible one. That one is looked
-at in any case.
+policy, also with a fill rate, has G(s) of at most its cost, unless its gap is the least feasible one. That one is
+looked at in any case.
 
 Of each gap the least level is sought that meets the share and is at least the newsvendor's (compare Zheng and
 Federgruen, Finding optimal (s,S) policies is about as simple as evaluating a single policy, 1991).
