@@ -74,10 +74,10 @@ def crnplan(monkeypatch: pytest.MonkeyPatch, capfd: pytest.CaptureFixture[str]) 
     return run
 
 
-@pytest.fixture(scope="session")
-def session_cluster(tmp_path_factory: pytest.TempPathFactory, program: Path) -> Iterator[Cluster]:
-    """Returns the cluster of all tests of a worker, which find the tested program by its name. A test calls `restore`
-    first. At the end nothing of it is left."""
+@pytest.fixture(scope="module")
+def shared_cluster(tmp_path_factory: pytest.TempPathFactory, program: Path) -> Iterator[Cluster]:
+    """Returns the cluster of all tests of a module, which find the tested program by its name. A test calls `restore`
+    first. At the end nothing of it is left: an idle cluster takes 8% of a processor."""
     cluster = Cluster(tmp_path_factory.mktemp("cluster"))
     (cluster.home / "bin").mkdir()
     (cluster.home / "bin/crnsim").symlink_to(program)

@@ -262,17 +262,17 @@ def test_no_room_to_read(folder: Path, crnplan: Command, holding: Path, start: S
 
 
 @pytest.mark.timeout(2 * SECONDS)
-def test_a_cluster_that_loses_a_worker(folder: Path, drawn: Path, holding: Path, session_cluster: Cluster) -> None:
+def test_a_cluster_that_loses_a_worker(folder: Path, drawn: Path, holding: Path, shared_cluster: Cluster) -> None:
     """Works on a Dask cluster, one worker of which is killed in the middle of a plan: the same bytes, of the plan and
     of its curve, which the other worker draws."""
-    session_cluster.restore(folder)
+    shared_cluster.restore(folder)
     for command, file, names in (PLAN, DRAW):
-        session_cluster.start("driver", "-m", "crnplan", *command, "--program", str(holding), "--cluster",
-                              session_cluster.address)
-        session_cluster.wait_until("the first batch", lambda: kept(folder, file) >= 1, "driver")
-        session_cluster.end("leaves")
+        shared_cluster.start("driver", "-m", "crnplan", *command, "--program", str(holding), "--cluster",
+                              shared_cluster.address)
+        shared_cluster.wait_until("the first batch", lambda: kept(folder, file) >= 1, "driver")
+        shared_cluster.end("leaves")
         assert kept(folder, PLAN[1]) < FEW or file == CANDIDATES
-        assert children(session_cluster.processes["driver"]) == []
+        assert children(shared_cluster.processes["driver"]) == []
         (folder / "go_on").touch()
-        assert session_cluster.wait_for_end("driver") == 0, session_cluster.last_words("driver")
+        assert shared_cluster.wait_for_end("driver") == 0, shared_cluster.last_words("driver")
         assert tables(folder / "plan", names) == tables(drawn, names)

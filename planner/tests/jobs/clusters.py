@@ -21,7 +21,7 @@ import psutil
 
 import crnplan as crn
 
-# What a test may take that uses a cluster, and, some times as much, the cluster of all tests.
+# What a test may take that uses a cluster, and, some times as much, the cluster of a module.
 SECONDS, LIFETIME = 120, 1_200
 LOOPBACK = "127.0.0.1"
 WORKERS = ("stays", "leaves")

@@ -41,13 +41,13 @@ echo "$CRNSIM_WORKER ends" >> "{room}/taken"
 
 
 @pytest.fixture
-def cluster(session_cluster: Cluster, room: Path, program: Path, monkeypatch: pytest.MonkeyPatch) -> Iterator[Cluster]:
+def cluster(shared_cluster: Cluster, room: Path, program: Path, monkeypatch: pytest.MonkeyPatch) -> Iterator[Cluster]:
     """Returns a cluster, and makes a base and a program that waits. At the end all that waits goes on."""
     (room / "base.toml").write_text(priced(room / "examples/two_policies.toml", 3), "utf-8")
     script(room / "holding", HOLDING.format(room=room, program=program))
-    monkeypatch.setenv("PATH", session_cluster.environment["PATH"])
-    session_cluster.restore(room)
-    yield session_cluster
+    monkeypatch.setenv("PATH", shared_cluster.environment["PATH"])
+    shared_cluster.restore(room)
+    yield shared_cluster
     (room / "go_on").touch()
 
 
