@@ -51,7 +51,7 @@ def pages(tmp_path_factory: pytest.TempPathFactory, request: pytest.FixtureReque
         "catalogue without a curve": ("report.html", lambda folder: report(made_folder(folder, 12, has_curve=False))),
         "catalogue of two groups": ("report.html",
                                     lambda folder: report(made_folder(folder, ROWS_A_GROUP + 30, HOSTILE))),
-        "catalogue of hundreds": ("report.html", lambda folder: report(made_folder(folder, 300, HOSTILE))),
+        "catalogue of hundreds": ("report.html", lambda folder: report(made_folder(folder, 300, HOSTILE, currency="EUR"))),
         "catalogue of a thousand": ("report.html", lambda folder: report(made_folder(folder, 1_000, HOSTILE))),
         "catalogue of thousands": ("report.html",
                                    lambda folder: repeat_rows(page("catalogue of a thousand"), folder, 3)),

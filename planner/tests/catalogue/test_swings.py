@@ -2,6 +2,7 @@
 from __future__ import annotations
 
 import math
+import random
 import shutil
 from collections import Counter
 from dataclasses import replace
@@ -14,9 +15,12 @@ import pytest
 import crnplan as crn
 from crnplan.law import Law
 from crnplan.plan import swings
+from crnplan.plan.catalogue import Totals
 from crnplan.plan.question import question_of
-from crnplan.plan.swings import BEST, BEST_FILL, CASES, KEPT, KEPT_FILL, TODAY, changed_lead, estimated, swing_of
+from crnplan.plan.swings import (BEST, BEST_FILL, CASES, KEPT, KEPT_FILL, TODAY, Swing, changed_lead, estimated, shifted,
+                                 swing_of, swings_of)
 from crnplan.scenario import Policy, Scenario
+from planner.tests.pages.made_catalogue import made_pair
 from planner.tests.pages.page_reader import Page
 from planner.tests.plan.items import alone, item_of
 from planner.tests.theory.chain import by_chain
@@ -75,6 +79,18 @@ def test_estimate_by_hand() -> None:
     """Three of six items: the ratio is 12 / 6, the residuals are 0, -1 and 1, twice that of the total."""
     assert estimated(np.array([2.0, 3, 7]), np.array([1.0, 2, 3]), 12, 6) == pytest.approx((24, math.sqrt(6)))
     assert estimated(np.array([2.0, 3, 7]), np.array([1.0, 2, 3]), 6, 3) == (12, 0)
+
+
+def test_cases_without_items() -> None:
+    """An item that a case does not have is counted, and a case that no item has is left out. Without prices among the
+    drawn items there is no service by value."""
+    pairs = [made_pair(random.Random(place), f"I-{place}") for place in range(3)]
+    row = (10.0, 8.0, 7.0, 0.9, 0.95)
+    known = [(item, answer, Swing(((), *[row if place else ()] * 6, row))) for place, (item, answer) in enumerate(pairs)]
+    found = swings_of(known, Totals.of(pairs))
+    assert found and [case.lacking for case in found.cases] == [*[1] * 6, 0] and found.lacking == 1
+    assert swings_of([(item, answer, Swing(((),) * 8)) for item, answer, _ in known], Totals.of(pairs)) is None
+    assert shifted(np.zeros(2), np.zeros(2), 0.9, 5) == (None, 0)
 
 
 def test_figures_are_kept(planned: Path, tmp_path: Path, monkeypatch: pytest.MonkeyPatch) -> None:

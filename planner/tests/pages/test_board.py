@@ -52,8 +52,7 @@ def test_classes_are_those_of_pandas(large: Path) -> None:
     wanted.loc["3 other classes"] = wanted.loc[names[5:]].sum()
     wanted.loc["all"] = wanted.loc[names].sum()
     heading, *shown = Page(large / "report.html").tables["By class"]
-    assert heading[2:] == ["saved a year, thousands", "met at once,today \u2192 new",
-                           "stock value, millions,today \u2192 new"]
+    assert heading[2:] == ["saved a year,thousands", "met at once,today \u2192 new", "stock, today \u2192 new,millions"]
     named = wanted.loc[names[:5]].sort_values("saving", ascending=False).index
     assert [row[0] for row in shown] == ["all", *named, "3 other classes"]
     for name, items, saved, met, value in shown:

@@ -154,7 +154,7 @@ def test_an_item_without_a_policy_today(tmp_path: Path) -> None:
     assert {row[name] for name in ("s_today", "S_today", "cost_today", "saving", "run_saving", "fill_today")} == {""}
     exact, = (its for its in rows_of(tmp_path / "more/exact.csv") if its["item"] == "it")
     assert {exact[name] for name in ("s_today", "total_today", "cost_today", "saving", "saving_variance")} == {""}
-    costs = [re.findall("deliveries cost (.*?) a year with today's levels, (.*?) with", page.words) for page in pages]
+    costs = [re.findall("deliveries cost (.*?) a year today, (.*?) with", page.words) for page in pages]
     assert costs[0] == costs[1] and len(costs[0]) == 1
     cost, value = f"{answer.cost_chosen:,.2f}", f"{3 * answer.chosen.stock:,.2f}"
     assert "1 planned items have no levels today to compare with, and are in no other sum." in pages[1].words

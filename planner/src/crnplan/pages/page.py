@@ -84,10 +84,13 @@ class Money(Currency):
         """Returns the unit of a column, or of an axis, of these amounts."""
         return Unit.of(max((abs(amount) for amount in amounts), default=0.0), self.places)
 
+    def unit_name(self, unit: Unit) -> str:
+        """Returns the name of a unit, as EUR million, or millions; nothing if there is nothing to say."""
+        return self.named(unit.word).strip() if self.code else f"{unit.word}s" * bool(unit.word)
+
     def heading(self, words: str, unit: Unit) -> str:
-        """Returns the heading of a column, or the name of an axis, of this unit."""
-        name = self.named(unit.word).strip() if self.code else f"{unit.word}s" * bool(unit.word)
-        return f"{words}, {name}" if name else words
+        """Returns the name of an axis, or the heading of a column, of this unit."""
+        return ", ".join(filter(None, (words, self.unit_name(unit))))
 
 
 def capital(text: str) -> str:

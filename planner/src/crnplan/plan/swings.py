@@ -66,6 +66,11 @@ class Swings(NamedTuple):
     cost_error: float
     fill_error: float
 
+    @property
+    def lacking(self) -> int:
+        """Returns how many of the items are not in each case, at most."""
+        return max(case.lacking for case in self.cases)
+
 
 def changed_lead(lead: Law, tenths: int) -> Law:
     """Returns lead times of which each is multiplied by so many tenths, shared between the whole periods beside that,
@@ -163,13 +168,13 @@ def estimated(parts: Floats, sizes: Floats, total: float, items: int) -> tuple[f
 
 
 def swings_of(known: Sequence[tuple[Item, Answer, Swing]], totals: Totals) -> Swings | None:
-    """Returns all cases of a catalogue from items with their figures; None if these cost nothing."""
+    """Returns all cases of a catalogue that some of the items have; None without such a case."""
     items, cases, errors = totals.compared, list[CaseSum](), np.zeros(2)
     for place, (what, tenths) in enumerate(CASES):
         some = [(item, answer, swing.rows[place]) for item, answer, swing in known if swing.rows[place]]
+        if not some:
+            continue
         costs = np.array([answer.cost_chosen for _, answer, _ in some])
-        if not costs.sum() > 0:
-            return None
         rows, fills = np.array([row for *_, row in some]), np.array([answer.chosen.fill for _, answer, _ in some])
         weights = np.array([float(item.price or 0) * answer.law.mean if totals["demand"] else 1.0
                             for item, answer, _ in some])
@@ -179,7 +184,7 @@ def swings_of(known: Sequence[tuple[Item, Answer, Swing]], totals: Totals) -> Sw
                       for column in (KEPT_FILL, BEST_FILL))
         cases.append(CaseSum(what, tenths, cost[0], saving[0], beyond[0], fill[0], best[0], len(known) - len(some)))
         errors = np.maximum(errors, [max(cost[1], saving[1], beyond[1]), max(fill[1], best[1])])
-    return Swings(cases, len(known), *errors.tolist())
+    return Swings(cases, len(known), *errors.tolist()) if cases else None
 
 
 def shifted(more: Floats, weights: Floats, share: float | None, items: int) -> tuple[float | None, float]:
