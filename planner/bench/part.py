@@ -56,8 +56,20 @@ def page(folder: Path, jobs: int) -> None:
     report(folder / PLAN)
 
 
-PARTS: dict[str, Callable[[Path, int], None]] = {"read": read, "learn": learn, "plan": plan, "curve": curve,
-                                                 "page": page}
+def today(folder: Path, jobs: int) -> None:
+    """Says what to order, by the stock of the masters."""
+    from crnplan.pages.today_tables import orders_today
+    click.echo(orders_today(folder / PLAN, {}, Words(), None, {}).text)
+
+
+def workbook(folder: Path, jobs: int) -> None:
+    """Writes the workbook of a plan into it."""
+    from crnplan.pages.workbook import write_workbook
+    write_workbook(folder / PLAN, folder / PLAN / "plan.xlsx")
+
+
+PARTS: dict[str, Callable[[Path, int], None]] = {
+    it.__name__: it for it in (read, learn, plan, curve, page, today, workbook)}
 
 
 @click.command()

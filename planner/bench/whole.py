@@ -1,4 +1,5 @@
-"""Measures the whole way of catalogues of several sizes, part by part: reading, learning, planning, curve and page.
+"""Measures the whole way of catalogues of several sizes, part by part: reading, learning, planning, curve, page, today's
+orders and the workbook.
 
     python -m planner.bench.whole --items 300 --items 1000 --items 3000 --store
     python -m planner.bench.whole --items 100000 --only read --store
