@@ -334,6 +334,12 @@ def test_masters_that_lack_what_a_default_needs(cells: str, words: str, said: st
     assert [row["kind"] for row in rejects] == ["item"] and said in rejects[0]["reason"]
 
 
+def test_a_currency_that_is_none(check: Checked) -> None:
+    """A cell of the column that names no currency leaves its item out."""
+    _, rejects = check(demand_of(["2", "3"]), masters=f"{MASTERS},WAERS\nA,45,1,10,2,3,9,Euro\n")
+    assert [(row["kind"], row["column"], row["text"]) for row in rejects] == [("item", "WAERS", "Euro")]
+
+
 @pytest.mark.parametrize("setup, price, words, currency", CASES["currencies"]["cases"])
 def test_currency_of_a_catalogue(setup: str, price: str, words: str, currency: str, check: Checked) -> None:
     """The currency is that of the signs, of a column, or the stated one, which a sign may stand for."""

@@ -177,12 +177,13 @@ def confirmed(gathered: Gathered, choices: Mapping[str, Choice], said: Mapping[s
         for name, (levels, value) in stocks.items():
             runs = price * counted[levels]
             sums[name] += value, runs.mean(), runs.var(ddof=1) / KEYS
+    money = gathered.folder.currency.text
     lines = [f"crnsim: the stock of {len(sample):,} of {len(items.names):,} items, taken at random, is worth"]
     wide, shares = max(map(len, said.values())), dict[str, float]()
     for name, (theory, run, variance) in sums.items():
         shares[said[name]] = share = run / theory - 1 if theory else 0.0
-        lines.append(f"{said[name].ljust(wide)}  {run:,.2f} by runs (standard error {math.sqrt(variance):,.2f}), "
-                     f"{theory:,.2f} by theory ({share:+.2%})")
+        lines.append(f"{said[name].ljust(wide)}  {money(run)} by runs (standard error {money(math.sqrt(variance))}), "
+                     f"{money(theory)} by theory ({share:+.2%})")
     far = ", ".join(words for words, share in shares.items() if abs(share) > CLOSE)
     return [*lines, f"More than {CLOSE:.0%} apart, so look at these items: {far}."] if far else lines
 

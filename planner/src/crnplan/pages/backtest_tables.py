@@ -96,9 +96,9 @@ def _policy_cells(outcome: Outcome | None, policy: str) -> list[Cell]:
 
 def _row(item: Item, test: Backtest | Remark) -> list[Cell]:
     if isinstance(test, Remark):
-        return [item.name, item.group, *[None] * (len(BACKTEST_COLUMNS) - 3), advised(test)]
+        return [item.name, item.category, *[None] * (len(BACKTEST_COLUMNS) - 3), advised(test)]
     policies = [cell for policy in (*POLICIES, "shuffled") for cell in _policy_cells(getattr(test, policy), policy)]
-    return [item.name, item.group, test.record, len(test.demands), test.mean, *policies, test.above,
+    return [item.name, item.category, test.record, len(test.demands), test.mean, *policies, test.above,
             test.shuffled_above, None]
 
 

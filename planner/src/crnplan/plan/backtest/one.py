@@ -151,7 +151,7 @@ def backtest_one(item: Item, settings: Settings, prior: Prior, walk: Walk) -> Ba
         beside: Outcome | None = Walked(other, settings, prior, walk).kept()
     except Refused:
         beside = None
-    return Backtest(item.name, item.group, record, item.first + record, statistics.fmean(item.counts),
+    return Backtest(item.name, item.category, record, item.first + record, statistics.fmean(item.counts),
                     item.counts[record:], ratio(item.counts, record), walked.today(), walked.kept(), *walked.refitted(),
                     walked.smoothed(), beside, other.counts[record:], ratio(other.counts, record))
 
