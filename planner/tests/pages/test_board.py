@@ -70,10 +70,9 @@ def test_what_would_change_the_answer(large: Path, tmp_path: Path) -> None:
         rows, page = pd.read_csv(folder / "decisions.csv"), Page(folder / "report.html")
         today, chosen = (YEAR * rows[name].sum() for name in ("cost_today", "cost_chosen"))
         met = float(page.tables["By class"][1][3].split("\u2192")[1].strip(" %")) - 1
-        unit = 1e3 if items == 600 else 1
         for _, cost, saved, served, beyond in page.tables["What would change the answer"][1:]:
-            assert numbers(cost) == pytest.approx([1.1 * chosen / unit], rel=1e-3)
-            assert numbers(beyond) == pytest.approx([0.1 * chosen / unit], rel=2e-2)
+            assert numbers(cost) == pytest.approx([1.1 * chosen], rel=1e-3)
+            assert numbers(beyond) == pytest.approx([0.1 * chosen], rel=1e-2)
             assert numbers(served) == pytest.approx([met], abs=0.11)
             assert items == 600 or numbers(saved) == pytest.approx([today - 1.1 * chosen], abs=1)
         assert ("From 100 items; standard errors are up to" in page.words) == (items == 600)

@@ -93,9 +93,9 @@ class Board(NamedTuple):
 
     @property
     def case_unit(self) -> Unit:
-        """Returns the unit of these costs, with one digit more, since what they differ by is small."""
-        unit = self.money.unit(self.periods * case.cost for case in (self.swings.cases if self.swings else ()))
-        return unit._replace(digits=unit.digits + (unit.size > 1))
+        """Returns the unit of these costs: that of what they differ by, which is smaller."""
+        cases = self.swings.cases if self.swings else ()
+        return self.money.unit(self.periods * amount for case in cases for amount in (case.saving, case.beyond))
 
     @property
     def picture(self) -> Picture | None:
