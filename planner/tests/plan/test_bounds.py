@@ -12,9 +12,11 @@ import numpy as np
 import pytest
 
 from crnplan.curve.candidates import PRICES, candidates_of
+from crnplan.plan.aims import FILLS, Aims, Tried
 from crnplan.plan.answer import BOUNDED, Answer
 from crnplan.plan.bounds import feasible_of
 from crnplan.plan.catalogue import planned_folder
+from crnplan.plan.changes import masters_of
 from crnplan.plan.item import Depth, read_item
 from crnplan.plan.one import plan_one
 from crnplan.plan.question import Question, Settings, question_of
@@ -23,6 +25,7 @@ from crnplan.records.item import Item
 from crnplan.remarks import Value
 from crnplan.scenario import Policy
 from crnplan.theory.feasible import ALL, Feasible
+from crnplan.words import sentence
 from planner.tests.conftest import Command, rows_of
 from planner.tests.plan.items import alone
 from planner.tests.theory import chain
@@ -103,8 +106,10 @@ def test_what_a_bound_costs(name: str, bounds: Bounds, settings: Mapping[str, An
 
 def test_bounds_that_leave_no_policy_for_a_fill(program: Path) -> None:
     """No policy within the bounds has the wanted fill: of all these the chosen one meets most. That is a verdict."""
-    question, free = asked(Bounds(coverage=Fraction(3)), **FILL), asked(**FILL)
+    aims = Aims(1.0, (Tried(20, 20, tuple(1 - fill for fill in FILLS)),) * 2)  # which correct nothing
+    question, free = asked(Bounds(coverage=Fraction(3)), {"aims": aims}, **FILL), asked(**FILL)
     answer, remarks = answer_of(question, program)
+    assert answer.correction and answer.correction.plain_stock == answer.chosen.stock
     fills = {(s, S): figures_of(question, (s, S))[1] for S in range(4) for s in range(1, S + 1)}
     best = plan_one(free, str(program)).chosen.levels
     facts = remarks["bounded"]
@@ -197,6 +202,13 @@ def test_bounds_of_a_catalogue(crnplan: Command, tmp_path: Path, program: Path) 
     assert float(cost) > 0 and not decisions["B"]["cost_coverage"]
     assert f"S may cover no more periods of demand: 1 items, which costs {float(cost):.2f} a week" in answer.output
     assert "no more periods of demand for 1 items" in (tmp_path / "plan/report.html").read_text("utf-8")
+
+
+def test_other_bounds_are_a_reason() -> None:
+    """Planned again after an earlier plan, an item with other bounds has another master."""
+    old, new = (asked(bounds).item for bounds in (Bounds(), Bounds(4, coverage=Fraction(9, 2))))
+    remark, = masters_of(old, new, (3, 9))
+    assert sentence(remark) == "pack 1 to 4, coverage none to 4.5"
 
 
 def test_bounds_of_settings(tmp_path: Path) -> None:

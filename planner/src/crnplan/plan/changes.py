@@ -8,9 +8,11 @@ from collections import Counter
 from collections.abc import Iterable, Iterator, Sequence
 from dataclasses import dataclass, field
 from fractions import Fraction
+from operator import attrgetter
 from typing import NamedTuple
 
 from ..demand.fitting import fit_lead
+from ..records.bounds import Bounds
 from ..records.item import Item
 from ..remarks import Remark, Value
 from .answer import Answer, Figures, LawFacts
@@ -21,7 +23,8 @@ from .question import Settings
 # What an item's policy is beside the earlier one: the same, moved, the same though another costs less, new, or gone.
 KINDS = SAME, MOVED, DAMPED, NEW, GONE = ("same", "moved", "damped", "new", "gone")
 # The facts of a master, but for lead times and levels, by the names of their columns.
-COLUMNS = {name: name for name in ("setup", "holding", "backlog", "fill", "borrow")} | {"class": "group"}
+COLUMNS = {name: name for name in ("setup", "holding", "backlog", "fill", "borrow")} | {"class": "group"} | {
+    bound.name: f"bounds.{bound.name}" for bound in dataclasses.fields(Bounds)}
 Planned = tuple[Item, Answer]
 
 
@@ -95,10 +98,10 @@ def rows_of(old: Item, new: Item, stop: int) -> Iterator[Remark]:
 
 
 def masters_of(old: Item, new: Item, earlier: tuple[int, int]) -> Iterator[Remark]:
-    """Yields what has changed in the master of an item: costs and the like, lead times, and today's policy."""
+    """Yields what has changed in the master of an item: costs, bounds and the like, lead times, and today's policy."""
     facts: dict[str, Value] = {}
     for name, field_name in COLUMNS.items():
-        values = [getattr(item, field_name) for item in (old, new)]
+        values = [attrgetter(field_name)(item) for item in (old, new)]
         if values[0] != values[1]:
             facts |= {f"{name} {when}": float(value) if isinstance(value, Fraction) else value
                       for when, value in zip(("before", "after"), values)}

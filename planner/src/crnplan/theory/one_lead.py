@@ -68,8 +68,6 @@ class Lows:
         for gap in [first, *(first + 1 + np.flatnonzero(self.chances[first + 1:most + 1])).tolist()]:
             low, floor = float(self.chances[gap]), floor_of(gap)
             total += low if gap > first else 0.0
-            if floor > self.last:
-                break
             if level < floor:
                 level, below, here = floor, self.at(gap, floor - 1), self.at(gap, floor)
             elif gap > first:
@@ -123,10 +121,13 @@ class OneLead(LongRun):
         """Returns the best level, in cells, of each gap that may cost no more than a known policy."""
         most = len(lows.counts) - 1
         first = max(self.first_gap(known.cost, most), self.feasible.least_gap // self.step)
-        gaps = np.arange(max(first, lows.even), most + 1)
+        gaps = np.arange(first, most + 1)
         gaps = gaps[self.floor(gaps) <= lows.last]
-        places = lows.spread(gaps, self.floor(gaps))
-        return places if first >= lows.even else lows.walked(first, lows.even - 1, self.floor).joined(places)
+        even = gaps[gaps >= lows.even]
+        places = lows.spread(even, self.floor(even))
+        if len(even) == len(gaps):
+            return places
+        return lows.walked(first, min(lows.even - 1, int(gaps[-1])), self.floor).joined(places)
 
     def best_within(self, share: float) -> Candidate:
         """Returns the cheapest of all feasible policies that meet at least this share of demand at once.
