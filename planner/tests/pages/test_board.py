@@ -13,6 +13,7 @@ import pytest
 
 import crnplan as crn
 from crnplan.pages.page import Money, Unit
+from crnplan.plan.answer import DEARER, SAME
 from crnplan.records.columns import periods_a_year
 from crnplan.remarks import Remark
 from planner.tests.conftest import shared
@@ -107,11 +108,14 @@ def test_without_prices(tmp_path: Path) -> None:
 def test_loss_and_nothing(tmp_path: Path) -> None:
     """A saving below 0 is said as more cost. Without a plan there is nothing to compare."""
     item, answer = pair()
-    dearer = replace(answer, saving=-2.0, cost_today=10.0, cost_chosen=12.0)
+    dearer = replace(answer, verdict=DEARER, saving=-2.0, cost_today=10.0, cost_chosen=12.0)
     page = Page(crn.report(made_folder(tmp_path / "plan", 0, has_curve=False, change=(item, dearer))))
     assert "The new reorder levels cost 104 a year more, 20.0% of today's cost" in page.words
+    same = replace(answer, verdict=SAME)
+    page = Page(crn.report(made_folder(tmp_path / "same", 0, has_curve=False, change=(item, same))))
+    assert "Today's reorder levels stay: no better ones were found" in page.words
     page = Page(crn.report(made_folder(tmp_path / "none", 0, has_curve=False)))
-    assert "No item is planned" in page.words and "By class" not in page.tables
+    assert "No item is planned" in page.words and not {"By class", "Verdicts"} & page.tables.keys()
 
 
 def test_value_of_what_is_left_out(tmp_path: Path) -> None:

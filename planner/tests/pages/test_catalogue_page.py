@@ -184,7 +184,7 @@ def test_headline_of_runs(tmp_path: Path, error: float, said: str) -> None:
     """By runs, the chosen policies are better only if the interval, 1.96 errors around 1, is above 0."""
     item, answer = made_pair(random.Random(1), "it")
     run = replace(answer.run, saving=1.0, error=error)
-    answer = replace(answer, source=RUN, cost_today=10.0, cost_chosen=9.0, saving=1.0, run=run)
+    answer = replace(answer, verdict=UNDECIDED, source=RUN, cost_today=10.0, cost_chosen=9.0, saving=1.0, run=run)
     assert said in Page(crn.report(made_folder(tmp_path / "plan", 0, has_curve=False, change=(item, answer)))).words
 
 
