@@ -88,9 +88,27 @@ def test_cases_without_items() -> None:
     row = (10.0, 8.0, 7.0, 0.9, 0.95)
     known = [(item, answer, Swing(((), *[row if place else ()] * 6, row))) for place, (item, answer) in enumerate(pairs)]
     found = swings_of(known, Totals.of(pairs))
-    assert found and [case.lacking for case in found.cases] == [*[1] * 6, 0] and found.lacking == 1
+    assert found and [case.lacking for case in found.cases] == [0, *[1] * 6, 0] and found.lacking == 1
     assert swings_of([(item, answer, Swing(((),) * 8)) for item, answer, _ in known], Totals.of(pairs)) is None
     assert shifted(np.zeros(2), np.zeros(2), 0.9, 5) == (None, 0)
+
+
+def test_what_a_case_does_not_change() -> None:
+    """What all items cost and save is known, so a case that changes nothing shows just that. Without a backlog cost
+    none is shown."""
+    pairs = [made_pair(random.Random(place), f"I-{place}") for place in range(5)]
+    known = [(item, answer, Swing(((answer.cost_today or 0.0, answer.cost_chosen, answer.cost_chosen,
+                                    answer.chosen.fill, answer.chosen.fill),) * len(CASES)))
+             for item, answer in pairs[:2]]
+    known = [(item, replace(answer, saving=(answer.cost_today or 0.0) - answer.cost_chosen), it)
+             for item, answer, it in known]
+    found, totals = swings_of(known, Totals.of(pairs)), Totals.of(pairs)
+    assert found and found.cost_error == pytest.approx(0, abs=1e-9)
+    for case in found.cases:
+        assert (case.cost, case.saving, case.beyond) == pytest.approx((totals["cost_chosen"], totals["saving"], 0))
+    fills = [(replace(item, backlog=None), answer, it) for item, answer, it in known]
+    without = swings_of(fills, totals)
+    assert without and len(found.cases) - len(without.cases) == 2 * any(item.backlog for item, *_ in known)
 
 
 def test_figures_are_kept(planned: Path, tmp_path: Path, monkeypatch: pytest.MonkeyPatch) -> None:
@@ -99,8 +117,9 @@ def test_figures_are_kept(planned: Path, tmp_path: Path, monkeypatch: pytest.Mon
     assert "is said by crnplan report FOLDER." in Page(folder / "report.html").words
     first = Page(crn.report(folder, jobs=1))
     rows = first.tables["What would change the answer"]
-    assert [row[0] for row in rows[1:]] == [f"{what} {change}20%" for what in (
+    assert [row[0] for row in rows[1:]] == ["as planned"] + [f"{what} {change}20%" for what in (
         "cost of stock", "cost of delay", "demand", "lead times") for change in "+\u2212"]
-    assert float(rows[1][1].replace(",", "")) > float(rows[2][1].replace(",", "")) > 0
+    plain, more, less = (float(row[1].replace(",", "")) for row in rows[1:4])
+    assert more > plain > less > 0
     monkeypatch.setattr(swings, "swing_batch", None)
     assert Page(crn.report(folder, jobs=1)).source == first.source

@@ -54,8 +54,7 @@ def test_classes_are_those_of_pandas(large: Path) -> None:
     wanted.loc["all"] = wanted.loc[names].sum()
     heading, *shown = Page(large / "report.html").tables["By class"]
     assert heading[2:] == ["saved a year,thousands", "met at once,today \u2192 new", "stock, today \u2192 new,millions"]
-    named = wanted.loc[names[:5]].sort_values("saving", ascending=False).index
-    assert [row[0] for row in shown] == ["all", *named, "3 other classes"]
+    assert [row[0] for row in shown] == ["all", *sorted(names[:5]), "3 other classes"]
     for name, items, saved, met, value in shown:
         its = wanted.loc[name]
         assert int(items) == its["items"] and numbers(saved) == pytest.approx([YEAR * its.saving / 1e3], abs=0.51)
@@ -71,11 +70,15 @@ def test_what_would_change_the_answer(large: Path, tmp_path: Path) -> None:
         rows, page = pd.read_csv(folder / "decisions.csv"), Page(folder / "report.html")
         today, chosen = (YEAR * rows[name].sum() for name in ("cost_today", "cost_chosen"))
         met = float(page.tables["By class"][1][3].split("\u2192")[1].strip(" %")) - 1
-        for _, cost, saved, served, beyond in page.tables["What would change the answer"][1:]:
-            assert numbers(cost) == pytest.approx([1.1 * chosen], rel=1e-3)
-            assert numbers(beyond) == pytest.approx([0.1 * chosen], rel=1e-2)
+        heading, plain, *cases = page.tables["What would change the answer"]
+        unit = 1e3 if "thousand" in heading[1] else 1
+        assert numbers(" ".join(plain[1:])) == pytest.approx(
+            [chosen / unit, (today - chosen) / unit, met + 1, 0], rel=2e-3, abs=0.51)
+        for _, cost, saved, served, beyond in cases:
+            assert numbers(cost) == pytest.approx([1.1 * chosen / unit], rel=1e-3, abs=0.51)
+            assert numbers(beyond) == pytest.approx([0.1 * chosen / unit], rel=1e-2, abs=0.51)
             assert numbers(served) == pytest.approx([met], abs=0.11)
-            assert items == 600 or numbers(saved) == pytest.approx([today - 1.1 * chosen], abs=1)
+            assert items == 600 or numbers(saved) == pytest.approx([(today - 1.1 * chosen) / unit], rel=2e-3, abs=0.51)
         assert ("From 100 items; standard errors are up to" in page.words) == (items == 600)
 
 

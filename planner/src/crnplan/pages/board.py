@@ -20,8 +20,10 @@ MOST_CLASSES = 6
 MOST_REASONS = 3
 ALL, NO_CLASS = "all", "no class"
 BEFORE_AND_AFTER = TODAY, CHOSEN
-# What differs in a case, in words.
-WORDS = {"holding": "cost of stock", "backlog": "cost of delay", "demand": "demand", "lead": "lead times"}
+# What differs in a case, and by how much, in words.
+WORDS = {"": "as planned", "holding": "cost of stock", "backlog": "cost of delay", "demand": "demand",
+         "lead": "lead times"}
+PERCENTS = {8: f" {MINUS}20%", 10: "", 12: " +20%"}
 LEAST_SERVICE = 5.0  # percent, by which the axis of service begins below the least one
 
 
@@ -87,7 +89,7 @@ class Board(NamedTuple):
         """Returns what would change the answer, as rows of cells: the case, what the new levels cost then, serve and
         save beside today's, and what levels that are chosen anew would save beyond."""
         unit = self.case_unit
-        return [[f"{WORDS[case.what]} {'+' if case.tenths > 10 else MINUS}{10 * abs(case.tenths - 10)}%",
+        return [[WORDS[case.what] + PERCENTS[case.tenths],
                  *(unit.cell(self.periods * amount) for amount in (case.cost, case.saving)), percent(case.fill),
                  unit.cell(self.periods * case.beyond)] for case in (self.swings.cases if self.swings else ())]
 
@@ -131,11 +133,11 @@ def by_class(pairs: Iterable[tuple[Item, Answer | Remark]]) -> dict[str, Totals]
 
 
 def rows_of(sums: dict[str, Totals], periods: float, by_value: bool) -> list[Row]:
-    """Returns the classes that save or lose most, the greatest saving first, and all others as one row."""
+    """Returns the classes that save or lose most, in order of their names, and all others as one row."""
     names = sorted(sums, key=lambda name: (-abs(sums[name]["saving"]), name))
     most = MOST_CLASSES if len(names) <= MOST_CLASSES else MOST_CLASSES - 1
     shown = [row_of(name, [sums[name]], periods, by_value) for name in names[:most]]
-    shown.sort(key=lambda row: (-row.saving, row.name))
+    shown.sort(key=lambda row: row.name)
     others = [sums[name] for name in names[most:]]
     return [*shown, *[row_of(f"{len(others)} other classes", others, periods, by_value)] * bool(others)]
 

@@ -30,8 +30,8 @@ SWINGS = "swings.sqlite"
 VERSION = 1  # Answers of others are not used again.
 MOST_DRAWN = 100
 # What differs, and how many tenths of it there are.
-CASES = tuple((what, tenths) for what in ("holding", "backlog", "demand", "lead") for tenths in (12, 8))
-LEADS = "lead"
+BACKLOG, LEADS, NOTHING = "backlog", "lead", ""
+CASES = tuple((what, tenths) for what in ("holding", BACKLOG, "demand", LEADS) for tenths in (12, 8))
 # The figures of a case: what today's, the chosen and the best policy cost a period, and the shares that the last two
 # meet at once.
 TODAY, KEPT, BEST, KEPT_FILL, BEST_FILL = range(5)
@@ -109,7 +109,7 @@ def swing_of(question: Question, chosen: Levels) -> Swing:
     change."""
     question, today = replace(question, settings=replace(question.settings, confidence=None)), question.levels
     assert today is not None
-    cases = (question if what == "backlog" and not question.has_backlog else changed(question, what, tenths)
+    cases = (question if what == BACKLOG and not question.has_backlog else changed(question, what, tenths)
              for what, tenths in CASES)
     return Swing(tuple(figures_in(case, chosen, today) for case in cases))
 
@@ -168,23 +168,27 @@ def estimated(parts: Floats, sizes: Floats, total: float, items: int) -> tuple[f
 
 
 def swings_of(known: Sequence[tuple[Item, Answer, Swing]], totals: Totals) -> Swings | None:
-    """Returns all cases of a catalogue that some of the items have; None without such a case."""
-    items, cases, errors = totals.compared, list[CaseSum](), np.zeros(2)
+    """Returns the catalogue as it is, and all cases that some of the items have; None without such a case."""
+    items, errors, service = totals.compared, np.zeros(2), totals.service("chosen")
+    cases = [CaseSum(NOTHING, 10, totals["cost_chosen"], totals["saving"], 0.0, service, service, 0)]
     for place, (what, tenths) in enumerate(CASES):
         some = [(item, answer, swing.rows[place]) for item, answer, swing in known if swing.rows[place]]
-        if not some:
+        if not some or what == BACKLOG and all(item.backlog is None for item, *_ in some):
             continue
         costs = np.array([answer.cost_chosen for _, answer, _ in some])
         rows, fills = np.array([row for *_, row in some]), np.array([answer.chosen.fill for _, answer, _ in some])
+        saved = np.array([answer.saving or 0.0 for _, answer, _ in some])
         weights = np.array([float(item.price or 0) * answer.law.mean if totals["demand"] else 1.0
                             for item, answer, _ in some])
-        cost, saving, beyond = (estimated(part, costs, totals["cost_chosen"], items) for part in (
-            rows[:, KEPT], rows[:, TODAY] - rows[:, KEPT], rows[:, KEPT] - rows[:, BEST]))
-        fill, best = (shifted(rows[:, column] - fills, weights, totals.service("chosen"), items)
+        # What all items cost and save is known: what a case changes of that is estimated.
+        changes = (rows[:, KEPT] - costs, rows[:, TODAY] - rows[:, KEPT] - saved, rows[:, KEPT] - rows[:, BEST])
+        cost, saving, beyond = (estimated(part, costs, totals["cost_chosen"], items) for part in changes)
+        fill, best = (shifted(rows[:, column] - fills, weights, service, items)
                       for column in (KEPT_FILL, BEST_FILL))
-        cases.append(CaseSum(what, tenths, cost[0], saving[0], beyond[0], fill[0], best[0], len(known) - len(some)))
+        cases.append(CaseSum(what, tenths, totals["cost_chosen"] + cost[0], totals["saving"] + saving[0], beyond[0],
+                             fill[0], best[0], len(known) - len(some)))
         errors = np.maximum(errors, [max(cost[1], saving[1], beyond[1]), max(fill[1], best[1])])
-    return Swings(cases, len(known), *errors.tolist()) if cases else None
+    return Swings(cases, len(known), *errors.tolist()) if len(cases) > 1 else None
 
 
 def shifted(more: Floats, weights: Floats, share: float | None, items: int) -> tuple[float | None, float]:
