@@ -3,6 +3,7 @@ from __future__ import annotations
 
 import datetime
 import random
+import sqlite3
 import zipfile
 from dataclasses import replace
 from fractions import Fraction
@@ -17,6 +18,7 @@ import crnplan as crn
 from crnplan.curve.exchange_curve import kept_curve
 from crnplan.pages import workbook
 from crnplan.plan.catalogue import planned_folder
+from crnplan.records.catalogue_reading import READ
 from planner.tests.conftest import Command
 from planner.tests.pages.made_catalogue import made_folder, made_pair
 
@@ -110,13 +112,18 @@ def test_tables_in_a_style(folder: Path, crnplan: Command) -> None:
     assert styled.output.startswith("\ufeffitem;description;") and plain.output.startswith("item,description,")
 
 
-def test_plain_plans_and_too_many_rows(tmp_path: Path, monkeypatch: pytest.MonkeyPatch) -> None:
-    """A plan without currency, stock and curve has neither sheet; a table with more rows than a sheet is refused."""
+def test_plain_plans_and_those_that_are_refused(tmp_path: Path, monkeypatch: pytest.MonkeyPatch) -> None:
+    """A plan without currency, stock and curve has neither sheet. A plan that is not as its rows is refused, and so is a
+    table with more rows than a sheet."""
     plan = crn.Plan(made_folder(tmp_path / "plan", 5, has_curve=False))
     plan.to_excel(tmp_path / "plan.xlsx")
     book = openpyxl.load_workbook(tmp_path / "plan.xlsx")
     assert book.sheetnames == ["Summary", "Decisions", "Left out", "Classes", "Read me"]
     assert book["Decisions"]["K2"].number_format == "#,##0.00"
+    with sqlite3.connect(plan.path / READ) as base:
+        base.execute("UPDATE items SET setup = '1' WHERE name = 'P00000'")
+    with pytest.raises(crn.Refused, match="its plan is not as the rows that were read last"):
+        plan.to_excel(tmp_path / "stale.xlsx")
     monkeypatch.setattr(workbook, "MOST_ROWS", 50)
     with pytest.raises(crn.Refused, match="'Decisions' would have more than 50 rows.*decisions.csv"):
         crn.Plan(made_folder(tmp_path / "large", 50, has_curve=False)).to_excel(tmp_path / "more.xlsx")
