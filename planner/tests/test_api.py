@@ -165,7 +165,8 @@ def test_frames_and_files_give_the_same(plan: crn.Plan, paths: list[Path], progr
     assert (written.saving - plan.decisions.saving).abs().max() <= 0.005 + 1e-9
     assert other.report() == tmp_path / "plan/report.html" and crn.open_plan(tmp_path / "plan").totals == other.totals
     one, other = crn.plan(*paths, seed=7, program=program, **SETTINGS).decisions, plan.decisions
-    assert (one.saving == other.saving).all() and (one.run_saving != other.run_saving).any()
+    pd.testing.assert_series_equal(one.saving, other.saving)
+    assert (one.run_saving - other.run_saving).abs().max() > 0
 
 
 def test_nothing_is_written_elsewhere(few: list[pd.DataFrame], monkeypatch: pytest.MonkeyPatch, tmp_path: Path,
@@ -184,7 +185,8 @@ def test_decisions_are_typed(plan: crn.Plan) -> None:
     types, rows = plan.decisions.dtypes.astype(str), plan.tree["rows"]
     assert types["s_chosen"] == "Int64" and types["saving"] == "float64" and types["item"] == "object"
     assert plan.decisions.fill_wanted.isna().any() and plan.decisions.run_low.dtype == float
-    assert isinstance(rows, list) and [it["saving"] for it in rows] == list(plan.decisions.saving)
+    assert isinstance(rows, list) and [it["saving"] for it in rows] == list(
+        plan.decisions.saving.astype(object).where(plan.decisions.saving.notna(), None))
     assert [it["fill_wanted"] is None for it in rows] == list(plan.decisions.fill_wanted.isna())
     with pytest.raises(crn.Refused, match="K-122.*s = 6 is above S = 2; interchange them"):
         plan.item("K-122")

@@ -171,6 +171,10 @@ def _moved(facts: Facts) -> str:
 WORDS: dict[str, tuple[Say, Say]] = {
     **_templates("words.toml"), **_templates("record_words.toml"), "several": (_several(0), _several(1)),
     # Of the answer to an item (plan/one.py).
+    "new": (lambda it: f"new, with {counted(it['periods'], 'period')}: its law is that of "
+            + ("all items" if it["prior"] == "all" else f"class {it['prior']}")
+            + (f"; by 80% of the laws that this allows it meets {it['low']:.1%} to {it['high']:.1%} of demand at once"
+               if it["low"] is not None else ""), ""),
     "few demands": (lambda it: f"demand in {counted(it['demands'], 'period')} alone, so its law is " + (
         "nearly that of the catalogue" if it["learned"] else "hardly known"), ""),
     "no interval": (lambda it: "the run has no interval: " + (

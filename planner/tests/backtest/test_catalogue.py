@@ -157,14 +157,15 @@ def test_level_shift_is_seen(items: Mapping[str, Item], tmp_path: Path) -> None:
 
 def test_no_item_in_sums(items: Mapping[str, Item], tmp_path: Path) -> None:
     """An item of which all demand is in the record has a test, but none in a random order that puts it all after it.
-    The other one can't be planned, and is counted."""
+    Nobody has asked for the other one, which has none either."""
     ended = dataclasses.replace(items["I-000"], counts=(0, 9, 0, 0, 9) + (0,) * 495, returns=())
     nothing = dataclasses.replace(items["I-001"], counts=(0,) * 500, returns=())
     tables = write(tmp_path, {"I-000": ended, "I-001": nothing})
     tests = package.backtest(*tables, start=START, end=START + datetime.timedelta(7 * 500 - 1), **WALK)
     assert tests.verdict == tests.text.splitlines()[0] == "No item has a test on its own past."
-    assert "items: 2 named = 1 tested + 0 without a test" in tests.text and "1 that can't be planned" in tests.text
-    row, = csv.DictReader(tests.table.csv.splitlines())
+    assert "items: 2 named = 1 tested + 1 without a test" in tests.text and "0 that can't be planned" in tests.text
+    assert tests.frame.set_index("item").left_out["I-001"].startswith("nothing was asked for in 500 periods")
+    row, _ = csv.DictReader(tests.table.csv.splitlines())
     assert row["item"] == "I-000" and float(row["cost_kept"]) > 0 and row["S_shuffled"] == row["cost_shuffled"] == ""
     assert "No item has a test" in tests.page and "Met at once in time" not in tests.page
 

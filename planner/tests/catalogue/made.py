@@ -31,6 +31,8 @@ BAD_MASTERS: list[dict[str, str]] = [
 
 # An item that can be read, but not planned: its costs are too far apart.
 NO_PLAN = "A-042"
+# An item that is too new for a law of its own, and one that nobody has asked for.
+NEW, IDLE = "A-008", "A-900"
 NO_COSTS = {"Lagerkosten": "0,0001", "Fehlmengenkosten": "500", "Servicegrad": ""}
 
 
@@ -143,11 +145,9 @@ def _plant_masters(its: Made) -> None:
         its.masters[number] |= changes
         its.bad_items["master"].add(name_of(number))
     its.masters += [dict(its.masters[30]), {**its.masters[31], "Bezeichnung": "anders"},
-                    {**its.masters[35], "Artikel": "A-900"}]
+                    {**its.masters[35], "Artikel": IDLE}]
     its.bad_items["two masters"].add("A-031")
-    its.bad_items["no demand"].add("A-900")
     its.bad_items["missing master"].add("A-033")
     its.masters = [it for it in its.masters if it["Artikel"] != "A-033"]
     its.masters[34 - 1]["Bestand"] = "-4"
     next(it for it in its.masters if it["Artikel"] == NO_PLAN).update(NO_COSTS)
-    its.bad_items["short"].add("A-008")

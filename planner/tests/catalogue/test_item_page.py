@@ -17,7 +17,7 @@ from crnplan.errors import CrnplanError, Refused
 from crnplan.pages.catalogue_page import file_name, file_of, report
 from crnplan.records.catalogue_reading import read_catalogue
 from planner.tests.catalogue.conftest import FILES
-from planner.tests.catalogue.made import NO_PLAN, TODAY, made, teaching
+from planner.tests.catalogue.made import IDLE, NO_PLAN, TODAY, made, teaching
 from planner.tests.conftest import rows_of, script, shared
 from planner.tests.pages.page_reader import Page
 
@@ -65,7 +65,7 @@ def names(folder: Path) -> list[str]:
     """Returns an item of each verdict, with and without a backlog cost, with returns, and with several lead times."""
     rows = rows_of(folder / "decisions.csv")
     special = [name for name in ("A-000", "A-005", "A-006") if name in rows]
-    kinds = {(rows[name]["verdict"], bool(rows[name]["fill_wanted"])): name for name in [*rows, *special]}
+    kinds = {(rows[name]["verdict"], bool(rows[name]["fill_wanted"])): name for name in [*rows, *special] if name != IDLE}
     return sorted({*kinds.values(), *special})
 
 

@@ -20,7 +20,7 @@ import crnplan as crn
 from crnplan.plan.question import Question, Settings
 from planner.tests.catalogue.audit import audit
 from planner.tests.catalogue.conftest import FILES, REFUSED, SETTINGS, TABLES, WORDS, leave_few
-from planner.tests.catalogue.made import NO_PLAN, START, TITLES, WEEKS, Made, teaching
+from planner.tests.catalogue.made import IDLE, NEW, NO_PLAN, START, TITLES, WEEKS, Made, teaching
 from planner.tests.conftest import Command, rows_of
 
 ALONE = ("s_alone", "S_alone")
@@ -72,8 +72,10 @@ def test_figures_are_the_programs(planned: Path, files: Path, program: Path) -> 
 def test_decisions(planned: Path, planted: Made) -> None:
     """Wanted shares are reached, theory's cost is at most today's, and money has the decimals of the finest amount."""
     table, rejects = rows_of(planned / "decisions.csv"), rows_of(planned / "rejects.csv", kind="item")
-    bad = {*set.union(*planted.bad_items.values()), NO_PLAN}
+    bad = {*set.union(*planted.bad_items.values()), NO_PLAN, NEW}
     assert not set(table) & bad and bad <= set(rejects)
+    idle = table.pop(IDLE)
+    assert (idle["verdict"], idle["s_chosen"], idle["S_chosen"], idle["cost_today"]) == ("no demand", "0", "0", "")
     assert "too far apart" in rejects[NO_PLAN]["reason"] and int(rejects[NO_PLAN]["rows"]) > 0
     for name, row in table.items():
         its = {column: float(value) for column, value in row.items()
@@ -107,9 +109,26 @@ def test_summary_adds_up(planned: Path, planted: Made) -> None:
     # Half an interval is 2.365 standard errors with 7 degrees of freedom (Student's table), and 1.96 in the sum.
     errors = (table.run_high - table.run_low) / 2 / 2.365
     assert math.isclose(high - low, 2 * 1.96 * math.sqrt((errors**2).sum()), rel_tol=0.02)
-    bad = len({*set.union(*planted.bad_items.values()), NO_PLAN})
-    assert lines["items"].startswith(f"items: {len(table) + bad} named = {len(table)} planned + {bad} left out")
+    bad = len({*set.union(*planted.bad_items.values()), NO_PLAN, NEW})
+    assert lines["items"] == (f"items: {len(table) + bad} named = {len(table) - 1} planned + 1 no demand + {bad} left out "
+                              "(rejects.csv says why)")
     assert "LOST" not in text
+
+
+def test_no_item_is_outside_the_tables(planned: Path, files: Path) -> None:
+    """Each name in the files has a row of its own, in decisions.csv or in rejects.csv, with the value of its stock."""
+    names = {line.split(";")[column] for name, column in zip(FILES, (1, 0, 0))
+             for line in (files / name).read_text("utf-8").splitlines()[len(TITLES) * column:]} - {"", "Artikel", "Summe"}
+    table = rows_of(planned / "decisions.csv")
+    rejects = [row for row in csv.DictReader((planned / "rejects.csv").open()) if row["kind"] == "item"]
+    assert sorted([*table, *(row["item"] for row in rejects)]) == sorted(names)
+    masters, values = rows_of(files / FILES[1], "Artikel", delimiter=";"), {it["item"]: it["value"] for it in rejects}
+    for name in (NEW, NO_PLAN, "A-010", "A-020"):
+        stock, price = (Fraction(masters[name][column].replace(",", ".")) for column in ("Bestand", "Preis"))
+        assert values[name] == f"{float(stock * price):.2f}"
+    assert values["A-777"] == values["A-028"] == values["A-031"] == ""  # no master, no price, two masters
+    stock, price = (Fraction(masters[IDLE][column].replace(",", ".")) for column in ("Bestand", "Preis"))
+    assert float(table[IDLE]["value_today"]) == pytest.approx(float(stock * price))
 
 
 def test_processes_change_nothing(planned: Path, catalogue: crn.Catalogue, tmp_path: Path, program: Path) -> None:

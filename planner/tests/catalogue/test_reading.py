@@ -5,6 +5,7 @@ import copy
 import dataclasses
 import datetime
 import json
+import math
 import random
 from pathlib import Path
 from typing import Any
@@ -25,7 +26,7 @@ from crnplan.records.rows import far_above
 from crnplan.words import sentence
 from planner.tests.catalogue.audit import Audit, audit
 from planner.tests.catalogue.conftest import FILES, REFUSED
-from planner.tests.catalogue.made import ITEMS, START, TITLES, TODAY, WEEKS, Made, name_of
+from planner.tests.catalogue.made import IDLE, ITEMS, START, TITLES, TODAY, WEEKS, Made, name_of
 
 LAST = START + datetime.timedelta(days=7 * WEEKS - 3)
 
@@ -61,7 +62,7 @@ def test_planted_rows_are_rejected_or_named(planted: Made, rejects: pd.DataFrame
 
 
 REASONS = {"far": "times", "no master": "no master", "orders alone": "no master", "two masters": "masters that differ",
-           "no demand": "no row of demand", "missing master": "no master", "short": "is short", "master": ""}
+           "missing master": "no master", "master": ""}
 
 
 def test_planted_items_are_left_out(planted: Made, catalogue: Catalogue, rejects: pd.DataFrame) -> None:
@@ -69,7 +70,7 @@ def test_planted_items_are_left_out(planted: Made, catalogue: Catalogue, rejects
     found, bad = rejects[rejects.kind == "item"].set_index("item"), set.union(*planted.bad_items.values())
     for kind, reason in REASONS.items():
         assert all(reason in found.reason[name] for name in planted.bad_items[kind]), kind
-    named = {name_of(it) for it in range(ITEMS)} | {"A-777", "A-888", "A-900"}
+    named = {name_of(it) for it in range(ITEMS)} | {"A-777", "A-888", IDLE}
     assert set(found.index) == bad and set(items_of(catalogue)) == named - bad
     assert list(found[found.file == FILES[1]].column[[name_of(it) for it in range(20, 29)]]) == [
         "Bestellkosten", "Bestellpunkt", "Lagerkosten", "Lieferzeit", "Fehlmengenkosten", "Lieferzeit",
@@ -120,7 +121,7 @@ def test_what_was_found_is_stated(catalogue: Catalogue, files: Path) -> None:
     columns = {kind: found[kind] for kind in ("demand", "items", "orders")}
     again = read_catalogue(*(files / it for it in FILES), today=TODAY, columns=columns)
     assert again.counts == catalogue.counts and "# found by its name" not in again.found
-    assert [*again.rejects.itertuples()] == [*catalogue.rejects.itertuples()]
+    pd.testing.assert_frame_equal(again.rejects, catalogue.rejects)
 
 
 def test_limits_and_order_change_nothing(files: Path, catalogue: Catalogue, tmp_path: Path,
@@ -130,7 +131,7 @@ def test_limits_and_order_change_nothing(files: Path, catalogue: Catalogue, tmp_
     paths = dict(zip(("demand", "items", "orders"), (files / it for it in FILES)))
     again = Catalogue(read_alone(tmp_path, paths, Words(today=TODAY)))
     assert again.counts == catalogue.counts and items_of(again) == items_of(catalogue)
-    assert [*again.rejects.itertuples()] == [*catalogue.rejects.itertuples()]
+    pd.testing.assert_frame_equal(again.rejects, catalogue.rejects)
     assert {it.name for it in again.path.parent.iterdir()} == {again.path.name, MARKER}
     again.path.unlink()
     with pytest.raises(Refused, match="no catalogue was read"):
@@ -309,8 +310,57 @@ def test_decimals_of_money(tmp_path: Path, setup: str, holding: str, decimals: i
         assert read.fact("decimals") == decimals
 
 
-@pytest.mark.parametrize("asked, back, said", [(0, 0, "nothing was asked for"), (3, 3, "comes back (30) as is asked")])
-def test_demand_that_has_no_law(tmp_path: Path, asked: int, back: int, said: str) -> None:
-    """Leaves an item out of which nothing was asked for, or all of it came back: 3 in each of 10 months."""
-    rejects = read_text(tmp_path, "item,date,quantity,returned\n" + ROWS.replace(",3", f",{asked},{back}")).rejects
-    assert list(rejects.item) == ["A"] and said in rejects.reason[0]
+def test_demand_that_all_comes_back(tmp_path: Path) -> None:
+    """Leaves an item out of which all came back: 3 in each of 10 months."""
+    rejects = read_text(tmp_path, "item,date,quantity,returned\n" + ROWS.replace(",3", ",3,3")).rejects
+    assert list(rejects.item) == ["A"] and "comes back (30) as is asked" in rejects.reason[0]
+
+
+MONDAY, RECORD = datetime.date(2025, 1, 6), 60  # the first day of a record, and its weeks
+# By item: the weeks with rows, the amount of each, the day of its master since when there is the item, and the stock; then
+# its past and the weeks of its history, or why it is left out.
+PASTS: dict[str, tuple[range, str, int | None, str, str, int | str]] = {
+    "all": (range(60), "2", None, "1", "", 60), "few": (range(57, 60), "2", None, "1", "new", 3),
+    "never": (range(0), "", None, "4", "no demand", 60), "zeros": (range(60), "0", None, "4", "no demand", 60),
+    "made": (range(0), "", 55, "4", "new", 5), "made before": (range(0), "", -90, "4", "no demand", 60),
+    "made after": (range(0), "", 61, "4", "new", 0), "slow": (range(57, 60), "2", -90, "1", "", 60),
+    "slower": (range(57, 60), "2", 40, "1", "", 20), "earlier": (range(45, 60), "2", 55, "1", "", 15),
+    "just old": (range(58, 60), "2", 47, "1", "", 13), "just new": (range(58, 60), "2", 48, "1", "new", 12),
+    "owed": (range(60), "2", None, "-3", "", 60), "before": (range(-3, 0), "2", None, "4", "no demand", 60),
+    "wrong": (range(60), "x", None, "4", "all of its rows of demand are rejected", "10.00"),
+    "none left": (range(60), "x", None, "-4", "all of its rows of demand are rejected", "0.00"),
+    "unpriced": (range(60), "x", None, "", "all of its rows of demand are rejected", "")}
+
+
+def test_what_the_record_says_of_the_past(tmp_path: Path) -> None:
+    """An item is new by too few weeks, and has no demand by none that asks for it. Where its history begins is said by its
+    master, or else by its first row. Each item that is named is read or left out, then with the value of its stock."""
+    sales, masters = ["item,date,quantity"], ["item,setup,holding,backlog,lead,stock,price,price unit,created on"]
+    for name, (weeks, amount, since, stock, *_) in PASTS.items():
+        sales += [f"{name},{MONDAY + datetime.timedelta(7 * week)},{amount}" for week in weeks]
+        day = "" if since is None else (MONDAY + datetime.timedelta(7 * since)).strftime("%d.%m.%Y")
+        masters.append(f"{name},10,0.5,5,2,{stock},250,100,{day}")
+    read = read_text(tmp_path, "\n".join(sales), "\n".join(masters), least=13, start=MONDAY,
+                     end=MONDAY + datetime.timedelta(7 * RECORD - 1))
+    items, left = items_of(read), read.rejects[read.rejects.kind == "item"].set_index("item")
+    assert {*items} | {*left.index} == {*PASTS} and not {*items} & {*left.index}
+    for name, (*_, wanted, weeks) in PASTS.items():
+        if name in items:
+            item = items[name]
+            assert (item.past, len(item.counts), sum(item.counts)) == (wanted, weeks, 2 * sum(
+                week >= 0 for week in PASTS[name][0]) * (PASTS[name][1] == "2")), name
+            codes = {remark.code: remark for remark in item.remarks}
+            assert ("since" in codes, "late" in codes) == (PASTS[name][2] is not None and weeks != 60, name == "few"), name
+        else:
+            value = left.value[name]
+            assert left.reason[name] == wanted and ("" if math.isnan(value) else f"{value:.2f}") == weeks, name
+    owed, = (remark for remark in items["owed"].remarks if remark.code == "stock below 0")
+    assert sentence(owed) == "its stock is below 0: 3 are owed to customers" and items["owed"].value == 0
+    assert {name: read.counts["items"][name] for name in ("new", "no_demand", "late")} == {
+        name: sum(its[4] == past for its in PASTS.values()) for name, past in (("new", "new"), ("no_demand", "no demand"))
+    } | {"late": 1}
+
+
+def test_a_day_that_is_none(tmp_path: Path) -> None:
+    rejects = read_text(tmp_path, masters=master(since="soon")).rejects
+    assert list(rejects.column) == ["since"] and "'soon' is no date" in rejects.reason[0]

@@ -29,7 +29,8 @@ def history(seed: int, periods: int = 52, share: float = TRUE_SHARE, mean: float
 def logarithms(numbers: Sequence[int]) -> Floats:
     """Returns the logarithms of a history's likelihoods by scipy's laws: points of the share, points of the sizes."""
     sizes = np.array([it for it in numbers if it])[:, None, None] - 1
-    shares = stats.bernoulli.logpmf([[int(it > 0)] for it in numbers], grid.SHARES.ravel()).sum(axis=0)
+    is_asked = np.reshape([int(it > 0) for it in numbers], (-1, 1))
+    shares = stats.bernoulli.logpmf(is_asked, grid.SHARES.ravel()).sum(axis=0)
     chances = grid.SIZE_DISPERSIONS / (grid.SIZE_DISPERSIONS + grid.SIZE_MEANS)
     its: Floats = stats.nbinom.logpmf(sizes, grid.SIZE_DISPERSIONS, chances).sum(axis=0)
     return np.add.outer(shares, its.ravel())

@@ -97,7 +97,8 @@ def test_histories_in_groups_and_chunks(monkeypatch: pytest.MonkeyPatch, mixed: 
     assert marginal(parts, prior) == pytest.approx(marginal(whole, prior))
 
 
-@pytest.mark.parametrize(("seed", "numbers"), [(1, RARE), (2, [0] * 20), (3, [0, 4] + [0] * 10), (4, [3, 8, 1, 2, 9])])
+@pytest.mark.parametrize(("seed", "numbers"), [(1, RARE), (2, [0] * 20), (3, [0, 4] + [0] * 10), (4, [3, 8, 1, 2, 9]),
+                                                (5, [])])
 def test_posterior_on_few_cells(seed: int, numbers: list[int]) -> None:
     """Predictive law and Bayes factor are those of sums over all points of all cells, by scipy's laws."""
     random, prior = np.random.default_rng(seed), np.zeros(grid.FLAT.shape)
@@ -115,6 +116,19 @@ def test_posterior_on_few_cells(seed: int, numbers: list[int]) -> None:
     below = np.cumsum(law)[:len(found.predictive)] / weights.sum()
     assert np.allclose(np.cumsum(found.predictive), below, rtol=0, atol=2e-7)
     assert found.bayes == pytest.approx(weights.sum() / likelihoods.mean())
+
+
+@pytest.mark.parametrize("numbers", [(), (0, 0, 0), (40, 39, 41, 40, 40)], ids=str)
+def test_law_of_a_new_item(known: Prior, numbers: tuple[int, ...]) -> None:
+    """Its few periods count for which law is likely, and for nothing else: neither do they speak against what was learned,
+    nor is its law mixed with them. The laws that it allows have the same mean."""
+    assert known.whole
+    wanted = Posterior.of(Sample.of(numbers), known.whole.chances).predictive
+    law, laws = law_of(known, numbers, is_new=True), borrowed_laws(known, numbers, is_new=True)
+    assert law.table == crn.Law.of_chances(wanted) and borrowed(law).share == 1 and not borrowed(law).alone
+    mean = np.mean([float(it.mean) for it in laws.laws])
+    assert len(laws.laws) == 100 and mean == pytest.approx(float(law.mean), rel=0.05)
+    assert numbers[:1] != (40,) or law_of(known, numbers).family != law.family
 
 
 def test_known_law_is_learned(known: Prior) -> None:

@@ -27,6 +27,7 @@ from crnplan.pages.page import LARGE
 from crnplan.plan.answer import BOUNDED, CHEAPER, DEARER, RUN, SAME, SERVICE, UNCOMPARED, UNDECIDED, Answer
 from crnplan.plan.catalogue import ANSWERS, Totals
 from crnplan.records.catalogue_reading import CATALOGUE, READ, Writer
+from crnplan.records.item import NEW, NO_DEMAND
 from crnplan.records.items import Reject
 from crnplan.remarks import Remark
 from crnplan.stored import Store
@@ -157,7 +158,7 @@ def test_an_item_without_a_policy_today(tmp_path: Path) -> None:
     costs = [re.findall("deliveries cost (.*?) a year today, (.*?) with", page.words) for page in pages]
     assert costs[0] == costs[1] and len(costs[0]) == 1
     cost, value = f"{answer.cost_chosen:,.2f}", f"{3 * answer.chosen.stock:,.2f}"
-    assert "1 planned items have no levels today to compare with, and are in no other sum." in pages[1].words
+    assert "1 planned items are new or have no levels today to compare with, and are in no other sum." in pages[1].words
     assert f"1 items, in no sum above; chosen: {cost} a week, stock value {value}\n" in summary
     assert ["no policy today", "1", ""] == pages[1].tables["Verdicts"][-1][:3]
     alone = Page(crn.report(made_folder(tmp_path / "alone", 0, has_curve=False, change=(item, answer))))
@@ -176,6 +177,26 @@ def test_money_in_its_currency(tmp_path: Path) -> None:
     plan = crn.Plan(folder)
     assert plan.frame.attrs["units"]["saving"] == "KWD a week"
     assert crn.Plan(made_folder(tmp_path / "none", 12)).frame.attrs["units"]["saving"] == "money a week"
+
+
+def test_an_item_without_demand(tmp_path: Path) -> None:
+    """It stands in the tables with nothing to order and the value of its stock, and in no sum but that."""
+    item, _ = made_pair(random.Random(1), "it")
+    item = replace(item, past=NO_DEMAND, counts=(0, 0, 0), price=Fraction(3), stock=Fraction(4))
+    remark = Remark("no demand in record", {"periods": 3})
+    pages = [Page(crn.report(made_folder(tmp_path / name, 12, has_curve=False, change=change)))
+             for name, change in (("plain", None), ("more", (item, remark)))]
+    row, summary = [*pages[1].items.values()][-1], (tmp_path / "more/summary.txt").read_text("utf-8")
+    decision, = (its for its in rows_of(tmp_path / "more/decisions.csv") if its["item"] == "it")
+    cells = {"verdict": "no demand", "s_chosen": "0", "S_chosen": "0", "value_today": "12.00", "cost_chosen": ""}
+    assert {name: row[name] for name in cells} == {name: decision[name] for name in cells} == cells
+    assert decision["codes"] == "no demand in record" and decision["stock_today"] == "4"
+    assert "it" not in {its["item"] for its in rows_of(tmp_path / "more/rejects.csv")}
+    assert " = 12 planned + 1 no demand + 1 left out (rejects.csv says why)\n" in summary
+    assert "\nwithout demand in the record: 1 items, with a stock worth 12.00\n" in summary
+    assert "Nobody has asked for 1 items: nothing is ordered, and their stock is worth 12" in pages[1].words
+    assert ["no demand", "1", ""] == pages[1].tables["Verdicts"][-1][:3]
+    assert not any("LOST" in line or "ADD UP" in line for line in (summary, pages[1].words))
 
 
 @pytest.mark.parametrize("error, said", [(0.6, "The new reorder levels cost as much as today's, as far as can be told"),
@@ -225,7 +246,7 @@ def test_reasons_verdicts_and_service() -> None:
         ("theory counts in steps of \u2026 items", "day", 2, 2, {"A"}),
         ("theory counts in steps of \u2026 items", "amount", 1, 3, {"B"}),
         ("each item has the law of its own history", "day", 1, 4, {"B"})]
-    assert set(MEANING) == {CHEAPER, DEARER, SERVICE, SAME, UNDECIDED, UNCOMPARED, BOUNDED}
+    assert set(MEANING) == {CHEAPER, DEARER, SERVICE, SAME, UNDECIDED, UNCOMPARED, BOUNDED, NEW, NO_DEMAND}
     totals = Totals()
     for price, demand, fill in ((30, 3, 1.0), (2, 5, 0.5)):
         item, answer = made_pair(random.Random(1), "it")

@@ -17,6 +17,7 @@ import pytest
 import crnplan as crn
 from crnplan.demand.learning import Prior
 from crnplan.plan import one, question as questions
+from crnplan.money import Currency
 from crnplan.pages.item_page import ItemWords, item_summary
 from crnplan.plan.answer import CHEAPER, RUN, SAME, SERVICE, THEORY, UNCOMPARED, UNDECIDED, Answer
 from crnplan.plan.catalogue import planned_folder
@@ -133,7 +134,7 @@ def test_an_item_without_a_policy_today(program: Path, changed: dict[str, Any]) 
     policies = {row.name: row for row in depth.compared}
     assert "today" not in policies and policies["chosen"].verdict == "base" and not policies["chosen"].difference
     assert all(row.difference == row.figures.cost - answer.chosen.cost for row in policies.values())
-    words = item_summary(ItemWords(depth, "week", 2)).splitlines()
+    words = item_summary(ItemWords(depth, "week", Currency())).splitlines()
     assert words[0].endswith(": no policy today") and not any("today's" in line for line in words)
 
 

@@ -61,13 +61,11 @@ def test_rejects_in_a_call_and_in_a_command(crnplan: Callable[..., Any], tmp_pat
                            columns=["item", "setup", "holding", "backlog", "lead", "s", "S"])
     advice = crn.read_catalogue(demand, masters).rejects.advice
     assert list(advice) == [
-        "wait, or say least=2",
         "correct it, or say net to take it off the sale that it undoes, or negate if what is issued is below 0"]
     demand.to_csv(tmp_path / "demand.csv", index=False)
     masters.to_csv(tmp_path / "items.csv", index=False)
     crnplan("catalogue", tmp_path / "demand.csv", tmp_path / "items.csv", "--check", "--rejects", tmp_path / "out.csv")
     assert [*pd.read_csv(tmp_path / "out.csv").advice] == [
-        "wait, or say --least 2",
         "correct it, or say --net to take it off the sale that it undoes, or --negate if what is issued is below 0"]
 
 

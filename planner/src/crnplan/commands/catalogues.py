@@ -130,7 +130,7 @@ def catalogue(**asked: Any) -> int:
         for line in reason_lines(read):
             click.echo(line)
         counts = read.counts
-        no = ["no item can be planned"] * (not counts["items"]["ready"])
+        no = ["no item can be planned"] * (counts["items"]["ready"] == counts["items"]["no_demand"])
         no += [f"{rows['name']}: {rows['rejected']:,} of {rows['read']:,} rows were rejected, more than half"
                for rows in counts["files"].values() if 2 * rows["rejected"] > rows["read"]]
     no = [] if asked["anyway"] else [f"{line}; correct the files, or say --anyway" for line in no]

@@ -35,18 +35,20 @@ LEAST_CHANCE = 1e-12  # of a cell that counts in a predictive law
 @dataclass(frozen=True, eq=False)
 class Posterior:
     """What is known of an item under a prior (cells of the share, cells of sizes): its history, counted in packs, and
-    the likelihoods of that (cells, points) of both. No demand is above `most`."""
+    the likelihoods of that (cells, points) of both. No demand is above `most`. The history of a new item is too short
+    to speak against what was learned."""
 
     packs: Sample
     prior: Floats
     shares: Floats
     sizes: Floats
     most: int = MOST_DEMAND
+    is_new: bool = False
 
     @classmethod
-    def of(cls, packs: Sample, prior: Floats) -> Posterior:
+    def of(cls, packs: Sample, prior: Floats, is_new: bool = False) -> Posterior:
         """Computes the likelihoods of a history."""
-        return cls(packs, prior, share_likelihoods([packs])[0], size_likelihoods([packs])[0])
+        return cls(packs, prior, share_likelihoods([packs])[0], size_likelihoods([packs])[0], is_new=is_new)
 
     @cached_property
     def bayes(self) -> float:
@@ -73,7 +75,7 @@ class Posterior:
     @cached_property
     def share(self) -> float:
         """Returns the share of the predictive law in its mixture with the history."""
-        return share_of(self.packs, self.predictive)
+        return 1.0 if self.is_new else share_of(self.packs, self.predictive)
 
     @property
     def law(self) -> Floats:
@@ -110,22 +112,29 @@ def why_alone(prior: Prior, sample: Sample, box: int) -> Remark | None:
     return None
 
 
-def looked_at(prior: Prior, sample: Sample, item_class: str | None,
-              box: int) -> tuple[Borrowed, list[tuple[float, Posterior]]]:
+def sample_of(observed: Observed | Iterable[Any], box: int, is_new: bool) -> tuple[list[int], Sample]:
+    """Returns a history in boxes, and as a sample. That of a new item may have no periods."""
+    is_empty = is_new and isinstance(observed, tuple) and not observed
+    boxes = [] if is_empty else boxes_of(observed, box)
+    return boxes, Sample.of(boxes)
+
+
+def looked_at(prior: Prior, sample: Sample, item_class: str | None, box: int,
+              is_new: bool = False) -> tuple[Borrowed, list[tuple[float, Posterior]]]:
     """Returns what is known of an item, and the parts of its law; none if the law of the item alone is to be taken.
 
     The parts, by the learned prior and by the flat one, have the weights that they are likely with after the history,
     from even odds (Berger and Berliner, Robust Bayes and empirical Bayes analysis with epsilon-contaminated priors,
     1986). Under the flat prior, demands are at most as large as in `fit_demand`. An item with no or one demand has no
-    such part.
+    such part, nor has a new one.
     """
     name, learned = prior.of_item(item_class, sample.pack)
     known, packs = Borrowed(sample.demands, name, why_alone(prior, sample, box)), sample.packs
     if known.alone or not learned:
         return known, []
-    posterior = Posterior.of(packs, learned.chances)
+    posterior = Posterior.of(packs, learned.chances, is_new)
     known = replace(known, log10_bayes=math.log10(posterior.bayes))
-    if known.few:
+    if known.few or is_new:
         return replace(known, share=posterior.share), [(1.0, posterior)]
     guard = shares_of(packs, posterior.predictive)
     known = replace(known, guard=guard)
@@ -135,22 +144,22 @@ def looked_at(prior: Prior, sample: Sample, item_class: str | None,
     return replace(known, share=alike * posterior.share), [(alike, posterior), (1 - alike, flat)]
 
 
-def law_of(prior: Prior, observed: Observed | Iterable[Any], item_class: str | None = None, *,
-           box: int = 1) -> FittedLaw:
+def law_of(prior: Prior, observed: Observed | Iterable[Any], item_class: str | None = None, *, box: int = 1,
+           is_new: bool = False) -> FittedLaw:
     """Fits the law of demand to a history with few orders, by what its catalogue has learned (`learn`).
 
     It is the posterior predictive law under what the item's class, the catalogue, or all items in packs have learned,
     mixed with the history as far as this speaks against it. The item may be like no other, so the law under a flat
     prior has a part too. Drawn histories of the learned law must look like the real one (`LEVEL`), else the law is that
     of the item alone: `fit_demand(method="auto")`. So it is for boxes, for packs if few others have some, and for sizes
-    outside the grid. An item with no or one demand has the learned law in any case, since its history alone has none.
+    outside the grid. An item with no or one demand has the learned law in any case, since its history alone has none, and
+    so has one that is new: what it was seen to ask for, in perhaps no periods, only counts for which law is likely.
 
     `diagnostics.borrowed` has what is known. `observed` and `box` are as in `fit_demand`, and so is what is raised.
     Weights add up to 65,536.
     """
-    boxes = boxes_of(observed, box)
-    sample = Sample.of(boxes)
-    known, parts = looked_at(prior, sample, item_class, box)
+    boxes, sample = sample_of(observed, box, is_new)
+    known, parts = looked_at(prior, sample, item_class, box, is_new)
     if not parts:
         single = family_law(boxes, "auto", box)
         return replace(single, diagnostics=replace(single.diagnostics, borrowed=known))
@@ -159,7 +168,7 @@ def law_of(prior: Prior, observed: Observed | Iterable[Any], item_class: str | N
 
 
 def borrowed_laws(prior: Prior, observed: Observed | Iterable[Any], item_class: str | None = None, *, times: int = 100,
-                  box: int = 1, seed: int = 1) -> AllowedLaws:
+                  box: int = 1, seed: int = 1, is_new: bool = False) -> AllowedLaws:
     """Draws laws of demand that an item's history and its catalogue allow. The same seed gives the same laws.
 
     Their mean is the law of `law_of`, all but the end of its tail: each is drawn from the item's posterior under the
@@ -167,9 +176,8 @@ def borrowed_laws(prior: Prior, observed: Observed | Iterable[Any], item_class: 
     If the law of the item alone is taken, so is its `allowed_laws`. Arguments are as in `law_of`, and so is what is
     raised; `times` is the number of laws.
     """
-    random, boxes = random_of(times, seed), boxes_of(observed, box)
-    sample = Sample.of(boxes)
-    _, parts = looked_at(prior, sample, item_class, box)
+    random, (boxes, sample) = random_of(times, seed), sample_of(observed, box, is_new)
+    _, parts = looked_at(prior, sample, item_class, box, is_new)
     if not parts:
         return allowed_laws(boxes, times=times, seed=seed)
     *uniform, choice = stratified(random, ROWS, times)

@@ -25,7 +25,7 @@ ROUNDING = 1e-9  # Histories with the same counts vary as much and are as far, h
 
 @dataclass(frozen=True, eq=False)
 class Sample:
-    """Observed whole numbers from 0: the distinct ones, rising, and how often each was seen."""
+    """Observed whole numbers from 0, perhaps none: the distinct ones, rising, and how often each was seen."""
 
     values: Whole
     counts: Whole
@@ -46,7 +46,7 @@ class Sample:
 
     @property
     def most(self) -> int:
-        return int(self.values[-1])
+        return int(self.values[-1]) if self.size else 0
 
     @property
     def mean(self) -> float:
@@ -65,7 +65,7 @@ class Sample:
     @property
     def zeros(self) -> int:
         """Returns how many numbers are 0."""
-        return int(self.counts[0]) if self.values[0] == 0 else 0
+        return int(self.counts[0]) if self.size and self.values[0] == 0 else 0
 
     @property
     def demands(self) -> int:
@@ -92,7 +92,7 @@ class Sample:
     @property
     def law(self) -> Floats:
         """Returns the shares of 0, 1, 2 and so on."""
-        return np.asarray(np.bincount(self.values, self.counts) / self.size)
+        return np.asarray(np.bincount(self.values, self.counts) / max(self.size, 1))
 
 
 class Shares(NamedTuple):

@@ -11,7 +11,7 @@ from ..plan.answer import CHOSEN, COMPARED, SAME, TODAY, Answer
 from ..plan.catalogue import PlannedFolder, Totals
 from ..plan.swings import Swings, kept_swings
 from ..records.columns import periods_a_year
-from ..records.item import Item
+from ..records.item import NO_DEMAND, Item
 from ..remarks import Remark
 from .catalogue_tables import Reason
 from .page import MINUS, Money, Scale, Unit, percent
@@ -145,9 +145,10 @@ def rows_of(sums: dict[str, Totals], periods: float, by_value: bool) -> list[Row
 def left_out_of(folder: PlannedFolder, periods: float, reasons: Iterable[Reason]) -> LeftOut:
     """Returns what the items are worth that are left out, as far as their prices are known."""
     left = [reason for reason in reasons if reason.kind == "item"]
-    known = [item for item, answer in folder.answers() if isinstance(answer, Remark) and item.price is not None]
-    stock = math.fsum(float((item.stock or 0) * (item.price or 0)) for item in known)
-    demand = math.fsum(periods * float(item.price or 0) * sum(item.counts) / len(item.counts) for item in known)
+    known = [item for item, answer in folder.answers()
+             if isinstance(answer, Remark) and item.price is not None and item.past != NO_DEMAND]
+    stock = math.fsum(float(item.value or 0) for item in known)
+    demand = math.fsum(periods * float(item.price or 0) * sum(item.counts) / max(len(item.counts), 1) for item in known)
     return LeftOut(sum(reason.count for reason in left), sum(reason.rows for reason in left), len(known), stock, demand)
 
 

@@ -21,12 +21,12 @@ from ..plan.catalogue import PlannedFolder, Totals, planned_folder
 from ..plan.item import Depth
 from ..plan.swings import keep_swings
 from ..records.catalogue_reading import CATALOGUE, Catalogued, missing_of
-from ..records.item import Item
+from ..records.item import NEW, NO_DEMAND, Item
 from ..remarks import Remark
 from ..table import DataTable
 from .backtest_tables import past_line
 from .board import board_of
-from .catalogue_tables import (DECISION_COLUMNS, DECISIONS, EXACT, REJECTS, aims_of, catalogue_summary, decision_row,
+from .catalogue_tables import (DECISION_COLUMNS, DECISIONS, EXACT, REJECTS, aims_of, catalogue_summary, decided_of, decision_row,
                                decisions_of, exact_of, faults_of, planned_of, reasons_of, rejects_of)
 from .change_tables import CHANGES, change_lines, changes_of, moved_rows
 from .item_page import ItemWords, item_page
@@ -72,15 +72,22 @@ MEANING = {
     SAME: "Today's policy is the best one already.",
     DEARER: "The chosen policy costs more, though it is the best by theory. Look at these items.",
     BOUNDED: "No policy within the item's bounds meets the wanted share of demand at once. The chosen one meets most.",
-    UNCOMPARED: "The masters have no s and S, so nothing is compared. No sum of costs, savings or stock has these items."}
+    UNCOMPARED: "The masters have no s and S, so nothing is compared. No sum of costs, savings or stock has these items.",
+    NEW: "Its past is too short for a law of its own, so it has that of its class or of all items. No sum has it either.",
+    NO_DEMAND: "Nobody has asked for it in the record: order nothing, and see whether its stock is still of use."}
 
 
 class Shown(NamedTuple):
-    """A planned item in the table, with its cells as decisions.csv has them."""
+    """An item in the table, planned or without demand, with its cells as decisions.csv has them."""
 
     item: Item
-    answer: Answer
+    answer: Answer | Remark
     cells: Mapping[str, str]
+
+    @property
+    def remarks(self) -> tuple[Remark, ...]:
+        own = self.answer.remarks if isinstance(self.answer, Answer) else (self.answer,)
+        return *self.item.remarks, *own
 
 
 def catalogue_page(folder: PlannedFolder, totals: Totals) -> str:
@@ -94,30 +101,34 @@ def catalogue_page(folder: PlannedFolder, totals: Totals) -> str:
 
     reasons, money = reasons_of(folder.read.rejects(faults_of(folder))), Money(currency.code, currency.decimals)
     plot, points = exchange_plot(curve, money) if curve else (None, [])
-    codes = Counter(code for row in rows for code in {remark.code for remark in (
-        *row.item.remarks, *row.answer.remarks)})
+    codes = Counter(code for row in rows for code in {remark.code for remark in row.remarks})
     return rendered("catalogue.html", {
         "every": folder.every, "money": money.exact, "currency": currency, "settings": settings,
         "totals": totals, "sources": folder.counts["files"], "named": folder.counts["items"]["named"], "ends": ends,
         "aims": aims_of(folder, totals),
         "pages": {name: quote(f"{ITEMS}/{file}") for name, file in files.items() if file in there},
-        "rows": rows, "lost": missing_of(folder.counts, totals.planned + totals.faults), "meanings": MEANING,
+        "rows": rows, "lost": missing_of(folder.counts, totals.answered), "meanings": MEANING,
         "compared": COMPARED,
         "plot": plot, "points": points, "is_old": curve is not None, "headings": COLUMNS,
         "savings": savings(rows), "styles": VERDICT_STYLES, "most_reasons": MOST_REASONS,
         "reasons": reasons, "board": board_of(folder, totals, reasons, money), "columns": columns,
         "printed": PRINTED, "rows_a_group": ROWS_A_GROUP, "texts": TEXTS,
         "parts": [width(name, rows) for name in columns], "codes": sorted(codes.items()),
-        "choices": sorted(Counter(row.answer.verdict for row in rows).items()), "changes": change_lines(folder),
+        "choices": sorted(Counter(row.cells["verdict"] for row in rows).items()), "changes": change_lines(folder),
         "moved": moved_rows(folder), "past": past_line(past_of(folder)),
         "warned": sum(row.cells["warnings"] != "" for row in rows)})
+
+
+def saving_of(answer: Answer | Remark) -> float | None:
+    """Returns what an item saves that is compared with a policy of today; None for others."""
+    return answer.saving if isinstance(answer, Answer) and answer.verdict in COMPARED else None
 
 
 def shown_items(folder: PlannedFolder) -> list[Shown]:
     """Returns the items of the table, those with the greatest saving or loss if they are many, by falling saving; those
     without one come last."""
-    kept = heapq.nlargest(MOST_ROWS, planned_of(folder), key=lambda pair: abs(pair[1].saving or 0.0))
-    kept.sort(key=lambda pair: (pair[1].saving is None, -(pair[1].saving or 0.0), pair[0].name))
+    kept = heapq.nlargest(MOST_ROWS, decided_of(folder), key=lambda pair: abs(saving_of(pair[1]) or 0.0))
+    kept.sort(key=lambda pair: (saving_of(pair[1]) is None, -(saving_of(pair[1]) or 0.0), pair[0].name))
     table = DataTable(DECISION_COLUMNS, [decision_row(*pair) for pair in kept], folder.currency.digits, "")
     return [Shown(*pair, cells) for pair, cells in zip(kept, table.cells(is_shown=True))]
 
@@ -151,9 +162,9 @@ def exchange_plot(curve: Sequence[tuple[str, Point]], money: Money) -> tuple[Plo
 
 def savings(rows: Sequence[Shown]) -> dict[str, object]:
     """Returns the items with the greatest savings, each with the interval of its run, and the scale of their bars."""
-    bars, known = [], [(row, row.answer.saving) for row in rows if row.answer.saving is not None]
-    for row, saving in [(row, saving) for row, saving in known if saving > 0][:MOST_SAVINGS]:
-        run = row.answer.run
+    bars, known = [], [(row, row.answer.run, saving) for row in rows if isinstance(row.answer, Answer)
+                       for saving in [saving_of(row.answer) or 0.0]]
+    for row, run, saving in [one for one in known if one[-1] > 0][:MOST_SAVINGS]:
         bars.append((row, saving, saving if run.low is None else run.low, saving if run.high is None else run.high))
     ends = [end for _, *ends in bars for end in ends]
     return {"bars": bars, "scale": Scale.of([0.0, *ends]), "together": math.fsum(saving for _, saving, *_ in bars)}

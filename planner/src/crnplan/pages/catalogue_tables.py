@@ -2,7 +2,7 @@
 from __future__ import annotations
 
 from collections.abc import Iterable, Iterator, Mapping, Sequence
-from dataclasses import dataclass, field
+from dataclasses import astuple, dataclass, field
 from fractions import Fraction
 
 from ..plan.aims import CLASSES
@@ -11,7 +11,7 @@ from ..plan.catalogue import PlannedFolder, Totals
 from ..records.catalogue_reading import defaulted
 from ..records.classes import xyz_of
 from ..records.items import FileCounts, Reject
-from ..records.item import Item
+from ..records.item import NO_DEMAND, Item
 from ..remarks import Remark
 from ..table import MONEY, Cell, Column, DataTable, exact, number, text, whole
 from ..words import advice, pattern, sentence
@@ -29,8 +29,7 @@ def money(name: str, meaning: str) -> Column:
 DECISION_COLUMNS = (
     text("item", "the item"), text("description", "of the masters"),
     text("class", "of the masters; that of `abc` if no item has one there"),
-    text("verdict", "cheaper, more service, undecided, same, dearer, bounded, or no policy today, beside which cells are "
-         "empty"),
+    text("verdict", "cheaper, more service, undecided, same, dearer, bounded; no policy today; new; or no demand"),
     *(whole(f"{letter}_{policy}", "items", f"{letter} of {words}") for policy, words in (
         ("today", "today's policy"), ("chosen", "the chosen policy")) for letter in "sS"),
     money("cost_today", "what today's policy costs: by theory, or by crnsim (column by)"),
@@ -43,7 +42,8 @@ DECISION_COLUMNS = (
     number("fill_aimed", "share", "at which the plan aims by the catalogue's past, if that corrects it", ".4f"),
     number("fill_today", "share", "of demand met at once, by theory", ".4f"),
     number("fill_chosen", "share", "of demand met at once, by theory", ".4f"),
-    *(number(f"stock_{it}", "items", "the mean stock, by theory", ".5g") for it in ("today", "chosen")),
+    number("stock_today", "items", "the mean stock, by theory; without demand, that of the masters", ".5g"),
+    number("stock_chosen", "items", "the mean stock, by theory", ".5g"),
     number("stock_uncorrected", "items", "that of the policy that aims at the wanted fill, if it is corrected", ".5g"),
     *(number(f"value_{it}", "money", "that stock at the price of the masters", MONEY) for it in ("today", "chosen")),
     *(number(f"orders_{it}", "orders a period", "by theory", ".5g") for it in ("today", "chosen")),
@@ -62,6 +62,10 @@ DECISION_COLUMNS = (
          "Thomas, Inventory and Production Management in Supply Chains (2017), section 2.4"),
     text("xyz", "X, Y or Z by the standard deviation of demand by period over its mean: X up to 0.5, Y up to 1, else "
          "Z; these limits are a convention"),
+    number("fill_low", "share", "that a new item meets under all but a tenth of the laws that its class allows", ".4f"),
+    number("fill_high", "share", "that it meets under no more than a tenth", ".4f"),
+    money("cost_low", "what its chosen policy costs, under these laws, if it has a backlog cost"),
+    money("cost_high", "the same"),
     text("codes", "codes of all that must be said of the item"), text("warnings", "the same in words"))
 EXACT_COLUMNS = (
     text("item", "the item"),
@@ -86,7 +90,8 @@ REJECT_COLUMNS = (
     whole("line", "lines", "the line of the file, from 1"), text("item", "the item"),
     text("column", "the column of what is wrong"), text("text", "the cell as it stands in the file"),
     text("reason", "what is wrong"), text("advice", "what to do"),
-    whole("rows", "rows", "rows of demand that are left out"))
+    whole("rows", "rows", "rows of demand that are left out"),
+    number("value", "money", "of the stock of an item that is left out, by its master", MONEY))
 
 
 def level_cells(*policies: Figures | None) -> list[Cell]:
@@ -94,15 +99,34 @@ def level_cells(*policies: Figures | None) -> list[Cell]:
     return [level for policy in policies for level in (policy.levels if policy else (None, None))]
 
 
-def decision_row(item: Item, answer: Answer) -> list[Cell]:
-    """Returns the row of an item in decisions.csv, unrounded."""
+def idle_row(item: Item, why: Remark) -> list[Cell]:
+    """Returns the row of an item without demand: nothing is ordered."""
+    s, S = item.levels or (None, None)
+    cells: dict[str, Cell] = {
+        "item": item.name, "description": item.description, "class": item.category, "verdict": item.past, "s_today": s,
+        "S_today": S, "s_chosen": 0, "S_chosen": 0, "fill_wanted": None if item.fill is None else float(item.fill),
+        "stock_today": None if item.stock is None else float(item.stock),
+        "value_today": None if item.value is None else float(item.value), "demand": 0.0, "periods": len(item.counts),
+        "periods_with_demand": 0, **said_of(item, why)}
+    return [cells.get(column.name) for column in DECISION_COLUMNS]
+
+
+def said_of(item: Item, *more: Remark) -> dict[str, str]:
+    """Returns what must be said of an item, as codes and in words."""
+    remarks = *item.remarks, *more
+    return {"codes": "; ".join(it.code for it in remarks), "warnings": "; ".join(map(sentence, remarks))}
+
+
+def decision_row(item: Item, answer: Answer | Remark) -> list[Cell]:
+    """Returns the row of an item in decisions.csv, unrounded: of a planned one, or of one without demand."""
+    if isinstance(answer, Remark):
+        return idle_row(item, answer)
     today, chosen, alone, run, correction = (
         answer.today, answer.chosen, answer.alone, answer.run, answer.correction)
     fills, stocks, orders = ([getattr(policy, name) if policy else None for policy in (today, chosen)]
                              for name in ("fill", "stock", "orders"))
     values = [None if item.price is None or stock is None else float(item.price) * stock for stock in stocks]
-    remarks = *item.remarks, *answer.remarks
-    codes, words = "; ".join(it.code for it in remarks), "; ".join(map(sentence, remarks))
+    allowed = answer.allowed
     return [item.name, item.description, item.category, answer.verdict, *level_cells(today, chosen), answer.cost_today,
             answer.cost_chosen, answer.saving, PLANNED_BY[answer.source], run.saving,
             run.low, run.high, None if item.fill is None else float(item.fill),
@@ -110,7 +134,8 @@ def decision_row(item: Item, answer: Answer) -> list[Cell]:
             *values, *orders, answer.confidence_cost, answer.coverage_cost, *level_cells(alone),
             alone.cost if alone else None, alone.fill if alone else None, answer.law.mean, len(item.counts),
             sum(count > 0 for count in item.counts), answer.law.family, answer.law.share, answer.law.log10_bayes,
-            item.abc, xyz_of(item.counts), codes, words]
+            item.abc, xyz_of(item.counts), *(astuple(allowed) if allowed else [None] * 4),
+            *said_of(item, *answer.remarks).values()]
 
 
 def exact_row(item: Item, answer: Answer) -> list[Cell]:
@@ -132,9 +157,15 @@ def planned_of(folder: PlannedFolder) -> Iterator[tuple[Item, Answer]]:
     yield from ((item, answer) for item, answer in folder.answers() if isinstance(answer, Answer))
 
 
+def decided_of(folder: PlannedFolder) -> Iterator[tuple[Item, Answer | Remark]]:
+    """Yields the items that have a decision: planned ones with their answers, and those without demand with that."""
+    yield from ((item, answer) for item, answer in folder.answers()
+                if isinstance(answer, Answer) or item.past == NO_DEMAND)
+
+
 def decisions_of(folder: PlannedFolder) -> DataTable:
-    """Returns the decisions of a folder: a row for each planned item."""
-    rows = (decision_row(*pair) for pair in planned_of(folder))
+    """Returns the decisions of a folder: a row for each item that is planned or has no demand."""
+    rows = (decision_row(*pair) for pair in decided_of(folder))
     return DataTable(DECISION_COLUMNS, rows, folder.decimals, "", currency=folder.currency.code, every=folder.every)
 
 
@@ -147,8 +178,8 @@ def faults_of(folder: PlannedFolder) -> Iterator[Reject]:
     """Yields the items that can't be planned."""
     masters = folder.counts["files"]["items"]["name"]
     for item, fault in folder.answers():
-        if isinstance(fault, Remark):
-            yield Reject("item", masters, item.line, item.name, "", "", fault, item.rows)
+        if isinstance(fault, Remark) and item.past != NO_DEMAND:
+            yield Reject("item", masters, item.line, item.name, "", "", fault, item.rows, item.value)
 
 
 @dataclass
@@ -191,7 +222,8 @@ def reasons_of(rejects: Iterable[Reject]) -> list[Reason]:
 def rejects_of(rejects: Iterable[Reject]) -> DataTable:
     """Returns what was left out or named, with the reason and what to do."""
     rows = ([reject.kind, reject.file, reject.line or None, reject.item, reject.column, reject.text,
-             sentence(reject.remark), advice(reject.remark), reject.rows] for reject in rejects)
+             sentence(reject.remark), advice(reject.remark), reject.rows,
+             None if reject.value is None else float(reject.value)] for reject in rejects)
     return DataTable(REJECT_COLUMNS, rows, missing="")
 
 

@@ -26,6 +26,7 @@ from ..plan.item import Coming, Depth, Facts, planned, read_item
 from ..plan.question import Question
 from ..plan.settings import as_setting
 from ..records.cells import EVERY, period_name
+from ..records.item import NEW
 from ..remarks import Remark
 from ..table import MONEY, Cell, DataTable, number as numbers, text, whole
 from ..words import PREMISE, advised, exactness, sentence
@@ -36,7 +37,7 @@ from .page import (OF_CHOSEN, OF_TODAY, UNITS, Line, Plot, Scale, capital, marks
 VERDICTS = {CHEAPER: "cheaper than today's policy ({})", DEARER: "dearer than today's policy ({})",
             UNDECIDED: "not told apart from today's policy ({})", SAME: "keep today's policy",
             SERVICE: "for the fill rate that today's policy ({}) misses", UNCOMPARED: UNCOMPARED,
-            BOUNDED: "as near to the wanted fill rate as its bounds allow"}
+            BOUNDED: "as near to the wanted fill rate as its bounds allow", NEW: "a new item"}
 COMING = 64  # replications of the coming periods
 MOST_DECIMALS = 6
 ALONE = "the law of this item alone"
@@ -309,8 +310,10 @@ def laws_of(question: Question, single: FittedLaw | None) -> DataTable:
     for name, law in {"demand": question.demand, "returns": question.returns, "lead": question.lead}.items():
         if law is None:
             continue
-        seen, named = law.diagnostics.history, law_words(law)
-        titles = {named: seen} if law.family == EMPIRICAL else {"what was seen": seen, named: law.figures}
+        named, is_seen = law_words(law), law.family == EMPIRICAL
+        titles = {} if is_seen else {named: law.figures}
+        if law.diagnostics.seen.values:  # A new item may have no periods yet.
+            titles = {named if is_seen else "what was seen": law.diagnostics.history} | titles
         if name == "demand" and single is not None:
             titles[ALONE] = single.figures
         rows += [[name, title, figures.mean, figures.variance, *figures.quantiles.values(), figures.most]
@@ -389,14 +392,17 @@ def history_plot(words: ItemWords) -> Plot:
     levels = {f"mean of the law: {number(mean, 2)} a {every}": (MEAN, mean),
               f"99 of 100 {every}s by the law: at most {number(high)}": (HIGH, high)}
     shown, left_out = counts[-MOST_BARS:], max(len(counts) - MOST_BARS, 0)
-    scale, width = Scale.of([*shown, mean, high], is_whole=True), UNITS / len(shown)
+    scale, width = Scale.of([*shown, mean, high], is_whole=True), UNITS / max(len(shown), 1)
     bars = [(round(place * width, 3), scale.at(count)) for place, count in enumerate(shown) if count]
     lines = [Line(name, css, f"M0 {UNITS - scale.at(level):g}H{UNITS}") for name, (css, level) in levels.items()]
-    most = max(range(len(counts)), key=counts.__getitem__)
-    return Plot(f"Demand by {every}, and the law that it is planned by",
-                f"{len(counts):,} {every}s from {names[0]} to {names[-1]}, {sum(counts):,} items; "
+    said = f"no {every} of the record; "
+    if counts:
+        most = max(range(len(counts)), key=counts.__getitem__)
+        said = (f"{len(counts):,} {every}s from {names[0]} to {names[-1]}, {sum(counts):,} items; "
                 f"{counts.count(0):,} {every}s without demand; the greatest demand is {counts[most]:,}, in "
-                f"{names[most]}; {'; '.join(levels)}.", scale, marks_of(names[-MOST_BARS:]),
+                f"{names[most]}; ")
+    return Plot(f"Demand by {every}, and the law that it is planned by", f"{said}{'; '.join(levels)}.", scale,
+                marks_of(names[-MOST_BARS:]) if names else [],
                 every + f"; the {left_out:,} before are not drawn" * (left_out > 0), lines, bars,
                 round(0.85 * width, 3))
 
@@ -405,10 +411,11 @@ def law_plot(words: ItemWords) -> Plot:
     """Returns in how many periods demand is at least so large, as it was seen, by the law, and by that of the item
     alone, as lines with a step behind each value. Its words say it at the marks of the axis."""
     law, single, box, every = words.question.demand, words.depth.single, words.item.box, words.every
-    laws = {"what was seen": (OF_TODAY, sorted(Counter(-(-count // box) for count in words.item.counts).items()))}
+    seen = sorted(Counter(-(-count // box) for count in words.item.counts).items())
+    laws = {"what was seen": (OF_TODAY, seen)} if seen else {}
     for name, css, own in (("the law", OF_CHOSEN, law), (ALONE, OF_ALONE, single)):
         counts = [*zip(own.values, own.weights)] if own else []
-        if counts and counts != laws["what was seen"][1]:
+        if counts and counts != seen:
             laws[name] = css, counts
     scale = Scale.of_chances(min(counts[-1][1] / sum(count for _, count in counts) for _, counts in laws.values()))
     across = Scale.of([counts[-1][0] for _, counts in laws.values()], is_whole=True)

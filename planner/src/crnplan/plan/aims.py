@@ -75,6 +75,6 @@ class Aims:
         return cls(tree["speed"], tuple(Tried(tried["items"], tried["periods"], tuple(tried["unmet"]))
                                         for tried in tree["classes"]))
 
-    def aim(self, counts: Sequence[int], wanted: float) -> float:
+    def aim(self, counts: Sequence[float], wanted: float) -> float:
         """Returns the fill rate at which an item aims that wants one."""
         return self.classes[float(np.mean(counts)) > self.speed].aim(wanted)

@@ -19,6 +19,7 @@ UNCOMPARED = "no policy today"  # the verdict on an item without one, beside whi
 # Whose figures costs and savings are: those of theory where it is exact, else those of the run.
 THEORY, RUN = "theory", "run"
 OURS = "disagrees", "failed"  # codes of faults of ours
+IDLE = "no demand in record"  # the code of an item that nobody has asked for
 DAMPED = "damped"  # the code of an item whose policy of an earlier plan stays
 
 
@@ -47,6 +48,18 @@ class Correction:
 
     aim: float
     plain_stock: float
+
+
+@dataclass(frozen=True)
+class Allowed:
+    """What the chosen policy of a new item meets at once, and costs in money of a period if the item has a backlog cost,
+    under laws that what it has learned allows: a tenth of them gives less than the low end, a tenth more than the high.
+    """
+
+    fill_low: float
+    fill_high: float
+    cost_low: float | None
+    cost_high: float | None
 
 
 @dataclass(frozen=True)
@@ -113,7 +126,7 @@ class Answer:
     earlier plan, and `undamped`, which would be chosen if that one did not stay because a change gains too little.
     Theory counts in steps of `step` boxes. `confidence_cost` is what the confidence in a wanted fill costs a period,
     None without one; `coverage_cost` is what it costs that S covers no more periods of demand, None if that does not
-    bind. `correction` is None if the wanted fill is not corrected.
+    bind. `correction` is None if the wanted fill is not corrected, `allowed` unless the item is new.
     """
 
     verdict: str
@@ -134,3 +147,4 @@ class Answer:
     laws: Laws
     run: Run
     remarks: tuple[Remark, ...]
+    allowed: Allowed | None = None

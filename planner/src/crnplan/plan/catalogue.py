@@ -26,7 +26,7 @@ from ..jobs import Work, program_digest, workers_of
 from ..money import Currency
 from ..records.classes import xyz_of
 from ..records.catalogue_reading import CATALOGUE, READ, Catalogued, missing_of
-from ..records.item import Item
+from ..records.item import NO_DEMAND, USUAL, Item
 from ..remarks import Remark
 from ..stored import Damaged, Store, digest_of
 from ..words import advice, sentence
@@ -63,9 +63,10 @@ class Totals:
     and `value_chosen` of the mean stock; `saving VERDICT`; of those with a price, the value of the demand of a period,
     `demand`, and `met_today` and `met_chosen` of it at once; of shares of demand met at once, `fill_today` and
     `fill_chosen`, and of orders a period, `orders_today` and `orders_chosen`. Of the other planned items
-    `cost_uncompared` and `value_uncompared`, by the chosen policies. Of both `confidence_cost` and `coverage_cost` of a
-    period, and of items whose wanted fill is corrected, what it costs a period to hold the mean stock, `held`, and that
-    of the policies that aim at the wanted fill, `held_plain`.
+    `cost_uncompared` and `value_uncompared`, by the chosen policies, and of items without demand what their stock is
+    worth, `value_idle`. Of all planned ones `confidence_cost` and `coverage_cost` of a period, and of items whose
+    wanted fill is corrected, what it costs a period to hold the mean stock, `held`, and that of the policies that aim
+    at the wanted fill, `held_plain`.
 
     Counts of items: by verdict, those that are not planned (`faults`), those of them by a fault of ours (`broken`),
     with a confidence in their fill rate (`promised`), whose S may cover no more periods (`covered`), by the wanted
@@ -90,16 +91,24 @@ class Totals:
         """Adds up items with their answers, or their faults."""
         totals = cls()
         for item, answer in answers:
-            if isinstance(answer, Remark):
+            if isinstance(answer, Answer):
+                totals.add(item, answer)
+            elif item.past == NO_DEMAND:
+                totals.verdicts[NO_DEMAND] += 1
+                add_exactly(totals.parts["value_idle"], float(item.value or 0))
+            else:
                 totals.faults += 1
                 totals.broken += answer.code in OURS
-            else:
-                totals.add(item, answer)
         return totals
 
     @property
     def planned(self) -> int:
-        return self.verdicts.total()
+        return self.verdicts.total() - self.verdicts[NO_DEMAND]
+
+    @property
+    def answered(self) -> int:
+        """Returns how many items are planned, are known to have no demand, or have a fault."""
+        return self.verdicts.total() + self.faults
 
     @property
     def compared(self) -> int:
@@ -330,8 +339,9 @@ def drawn_from(names: Iterable[str], most: int) -> frozenset[str]:
 
 
 def items_of(read: Catalogued, most: int | None) -> Iterator[Item]:
-    """Yields so many items that are drawn, or all, but for those counted in boxes."""
-    drawn = frozenset(read.names()) if most is None else drawn_from(read.names(), most)
+    """Yields so many items with a past that are drawn, or all, but for those counted in boxes."""
+    names = read.names(USUAL)
+    drawn = frozenset(names) if most is None else drawn_from(names, most)
     yield from (item for item in read.items() if item.name in drawn and item.box == 1)
 
 
@@ -344,7 +354,7 @@ def learned_of(answers: Store[Any], read: Catalogued, settings: Settings, again:
     """
     if settings.fit != "auto":
         return own_laws(f"fit = {settings.fit}")
-    said = Counter(item.borrow for item in read.items())
+    said = Counter(item.borrow for item in read.items() if item.past != NO_DEMAND)
     asked = {settings.borrow, *said} & {ALL, CLASS}
     if settings.borrow == NONE and not asked:
         return own_laws(f"borrow = {NONE}")
@@ -440,6 +450,6 @@ def plan_into(folder: Folder, settings: Settings, *, after: Path | None = None, 
         if earlier:
             keep_changes(folder, catalogue.digest, changes_since(earlier, catalogue))
         totals = Totals.of(catalogue.answers())
-        missing = missing_of(catalogue.counts, totals.planned + totals.faults)
+        missing = missing_of(catalogue.counts, totals.answered)
         summary = write_catalogue(folder, catalogue, totals, remarks, missing)
         return Done(len(work.left), work.kept, totals, remarks, missing, summary)

@@ -26,7 +26,7 @@ from ..errors import Refused, argument
 from ..files import Folder
 from ..jobs import Work, Workers
 from ..records.catalogue_reading import Catalogued
-from ..records.item import Item
+from ..records.item import USUAL, Item
 from ..remarks import Remark
 from ..stored import Store
 from ..theory.long_run import LongRun
@@ -99,9 +99,9 @@ def try_batch(items: Sequence[Item], settings: Settings, prior: Prior) -> list[T
 
 
 def tried_names(read: Catalogued) -> frozenset[str]:
-    """Returns the names of the items with a wanted fill rate, of at most 1,000 with the least digests, which is as good
+    """Returns the names of the items with a past and a wanted fill rate, of at most 1,000 with the least digests, which is as good
     as at random."""
-    names = (item.name for item in read.items() if item.fill is not None)
+    names = (item.name for item in read.items() if item.fill is not None and item.past == USUAL)
     return frozenset(heapq.nsmallest(MOST_ITEMS, names, key=lambda name: hashlib.sha256(name.encode()).digest()))
 
 

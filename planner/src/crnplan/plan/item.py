@@ -110,7 +110,7 @@ class Depth:
     @cached_property
     def single(self) -> FittedLaw | None:
         """Returns the law of the item's own history alone, if another one was learned."""
-        return self.question.alone().demand if self.question.learned else None
+        return self.question.alone().demand if self.question.learned and not self.question.is_new else None
 
     @cached_property
     def allowed(self) -> tuple[tuple[Law, ...], tuple[Law, ...]]:
@@ -190,10 +190,9 @@ class Depth:
         """Returns what the policies cost, and how well they fill, under the laws that the item's history allows, and
         what it has learned. None if no such law has a long run. Without a backlog cost only fill rates mean something.
         """
-        (demands, leads), scenario, policies = self.allowed, self.scenario, tuple(self.policies)
+        (demands, leads), policies = self.allowed, tuple(self.policies)
         # Without a backlog cost it is that by which a newsvendor would meet the wanted share.
-        costs = replace(scenario.costs, backlog=self.question.implied_backlog)
-        scenario = replace(scenario, costs=costs)
+        scenario = replace(self.scenario, costs=self.question.for_theory().costs)
         try:
             figures = figures_of_laws(scenario, [*zip(demands, leads or repeat(scenario.lead))], policies,
                                       self.theory.feasible)

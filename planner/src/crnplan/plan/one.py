@@ -11,6 +11,7 @@ chapter 10).
 from __future__ import annotations
 
 import dataclasses
+import itertools
 import math
 from collections.abc import Callable, Iterator, Mapping, Sequence
 from dataclasses import dataclass
@@ -26,24 +27,25 @@ from ..demand.checks import remarks_of as checked
 from ..demand import EMPIRICAL
 from ..demand.fitted import FittedLaw
 from ..demand.posterior import allowed_laws, allowed_leads
-from ..errors import CrnplanError, Failed, Refused, worded
+from ..errors import Failed, Refused, worded
 from ..formats import MOST_ITEMS, MOST_REPLICATIONS
 from ..law import Law
-from ..records.item import Item
+from ..records.item import NEW, NO_DEMAND, Item
 from ..remarks import Remark, Value
 from ..scenario import Policy, Scenario, key_words
 from ..theory.long_run import LongRun
-from ..theory.many_laws import Promises
+from ..theory.lattice import NoTheory
+from ..theory.many_laws import Promises, figures_of_laws
 from ..theory.run_effects import start_bias
-from ..words import advice, sentence
-from .answer import (ALONE, BEFORE, BOUNDED, CHEAPER, CHOSEN, DAMPED, DEARER, RUN, SAME, SERVICE, THEORY, TODAY,
-                     UNDAMPED, UNCOMPARED, UNDECIDED, Answer, Correction, Figures, LawFacts, Laws, Run)
+from .answer import (ALONE, BEFORE, BOUNDED, CHEAPER, CHOSEN, DAMPED, DEARER, IDLE, RUN, SAME, SERVICE, THEORY, TODAY,
+                     UNDAMPED, UNCOMPARED, UNDECIDED, Allowed, Answer, Correction, Figures, LawFacts, Laws, Run)
 from .bounds import COVERAGE, binding
 from .packs import remarks_of_packs
-from .question import NONE, Levels, Question, Settings, question_of
+from .question import NONE, Levels, NoPolicy, Question, Settings, Unplanned, question_of
 
 Result = TypeVar("Result")
 LAWS = 100  # that are drawn
+TENTHS = 0.1, 0.9
 LEAST_DEMANDS = 10
 ROUGH_RATES = 0.001
 CLOSE = 1e-9  # Costs whose ratio differs from 1 by less are equal but for rounding.
@@ -51,19 +53,6 @@ CLOSE = 1e-9  # Costs whose ratio differs from 1 by less are equal but for round
 # theory. That run must agree: in a sound catalogue of a million items, the chance that one of its three million figures
 # does not is 3 in 1,000.
 SUSPECT, CHANCE = 1e-4, 1e-9
-
-
-class Unplanned(CrnplanError):
-    """An item that has no plan, by a fault that is a remark."""
-
-    def __init__(self, fault: Remark) -> None:
-        super().__init__(sentence(fault), advice(fault))
-        self.fault = fault
-
-
-class NoPolicy(Unplanned, Refused):
-    """There is no best policy within the ranges of s and S, or none with the wanted share of demand met at once, or
-    nothing to plan for."""
 
 
 class Disagreement(Unplanned, Failed):
@@ -96,7 +85,8 @@ def allowed_by(question: Question, laws: int = LAWS) -> tuple[tuple[Law, ...], t
     if question.borrow == NONE:
         drawn = allowed_laws(item.counts, times=laws, box=item.box, seed=seed)
     else:
-        drawn = borrowed_laws(question.prior, item.counts, question.group, times=laws, box=item.box, seed=seed)
+        drawn = borrowed_laws(question.prior, item.counts, question.group, times=laws, box=item.box, seed=seed,
+                              is_new=question.is_new)
     leads = allowed_leads(item.leads, times=laws, seed=seed).laws if len(item.leads) > 1 else ()
     return drawn.laws, leads
 
@@ -140,11 +130,11 @@ def damped(choice: Choice, theory: LongRun, question: Question, promises: Promis
 
 def levels_of(question: Question, choice: Choice) -> dict[str, Levels]:
     """Returns s and S of each policy that there is, in boxes. There is none of the item alone if its own law has no
-    best policy."""
-    levels = {CHOSEN: choice.levels, ALONE: choice.best}
+    best policy, or if it is new."""
+    levels = {CHOSEN: choice.levels} | ({} if question.is_new else {ALONE: choice.best})
     others = ((TODAY, question.levels), (BEFORE, question.before), (UNDAMPED, choice.undamped))
     levels |= {name: policy for name, policy in others if policy}
-    if question.learned:
+    if question.learned and not question.is_new:
         try:
             single = question.alone()
             levels[ALONE] = choice_of(single.theory(), single).best
@@ -273,10 +263,12 @@ def beside_today(question: Question, theory: LongRun, figures: Mapping[str, Figu
     the run. Both are None without a policy today."""
     today, chosen = figures.get(TODAY), figures[CHOSEN]
     if today is None:
-        return UNCOMPARED, None, None
+        return NEW if question.is_new else UNCOMPARED, None, None
     saving, near = today.cost - chosen.cost, CLOSE * today.cost
     cost, known, low, high = (today.cost, saving, saving - near, saving + near) if theory.exact else (
         run.cost_today, run.saving, run.low, run.high)
+    if question.is_new:
+        return NEW, cost, known
     is_same = chosen.levels == today.levels
     return SAME if is_same else verdict_of(question, today, known or 0.0, low, high), cost, known
 
@@ -294,6 +286,22 @@ def laws_of(question: Question) -> Laws:
     """Returns the laws of a question."""
     returns = question.returns and question.returns.table
     return Laws(question.item.box, question.demand.table, question.lead.table, returns)
+
+
+def allowed_of(question: Question, levels: Levels) -> Allowed | None:
+    """Returns what the chosen policy of a new item comes to under the laws that what it has learned allows. None for
+    other items, and if no such law has a long run."""
+    if not question.is_new:
+        return None
+    (demands, leads), scenario = allowed_by(question), question.for_theory()
+    try:
+        figures = figures_of_laws(scenario, [*zip(demands, leads or itertools.repeat(scenario.lead))],
+                                  [Policy(CHOSEN, *levels)])
+    except NoTheory:
+        return None
+    low, high = np.quantile(figures.fill, TENTHS).tolist()
+    costs = map(question.money, np.quantile(figures.cost, TENTHS).tolist()) if question.has_backlog else (None, None)
+    return Allowed(low, high, *costs)
 
 
 def damping_of(figures: Mapping[str, Figures]) -> Iterator[Remark]:
@@ -341,19 +349,29 @@ def remarks_of_bounds(question: Question, theory: LongRun, choice: Choice) -> It
             yield Remark("s of 0", {"cost": cost(waiting[1:]) - cost(choice.plain)})
 
 
-def remarks_of(question: Question, theory: LongRun, sample: Sample, choice: Choice) -> Iterator[Remark]:
-    """Yields what must be said of the history of an item, and of its figures."""
-    item, settings = question.item, question.settings
+def remarks_of_past(question: Question, allowed: Allowed | None) -> Iterator[Remark]:
+    """Yields what must be said of the history of an item."""
+    item, settings, learned = question.item, question.settings, question.learned
+    if question.is_new:
+        low, high = (allowed.fill_low, allowed.fill_high) if allowed else (None, None)
+        yield Remark("new", {"periods": len(item.counts), "prior": learned.prior if learned else "", "low": low,
+                             "high": high})
+        return
     yield from checked(item.counts, settings.every, item.first, settings.season)
     if question.demand.lower:
         yield question.demand.lower
-    borrowed, learned = question.demand.diagnostics.borrowed, question.learned
     demands = sum(count > 0 for count in item.counts)
     if demands < LEAST_DEMANDS:
         yield Remark("few demands", {"demands": demands, "learned": bool(learned and learned.few)})
+
+
+def remarks_of(question: Question, theory: LongRun, sample: Sample, choice: Choice) -> Iterator[Remark]:
+    """Yields what must be said of the law and of the figures of an item."""
+    item, settings = question.item, question.settings
+    borrowed, learned = question.demand.diagnostics.borrowed, question.learned
     if borrowed and borrowed.alone:
         yield borrowed.alone
-    elif learned and learned.unlike:
+    elif learned and learned.unlike and not question.is_new:
         yield Remark("unlike the catalogue")
     if not theory.exact:
         yield Remark("steps", {"items": theory.step * item.box})
@@ -374,6 +392,8 @@ def plan_one(question: Question, program: str) -> Answer:
     item = question.item
     if not any(question.demand.values):
         raise NoPolicy(Remark("no demand in window", {"periods": len(item.counts)}))
+    if question.is_new and not question.learned:
+        raise NoPolicy(Remark("new and unlike", {"periods": len(item.counts)}))
     theory = question.theory()
     choice = choice_of(theory, question)
     report = report_of(scenario_of(question, theory, choice.levels), program)
@@ -382,7 +402,7 @@ def plan_one(question: Question, program: str) -> Answer:
     check_run(question, theory, report, sample, figures, program)
     run, chosen = run_of(question, report, sample), figures[CHOSEN]
     verdict, cost_today, saving = beside_today(question, theory, figures, run)
-    if choice.is_bounded and verdict != UNCOMPARED:
+    if choice.is_bounded and verdict not in (UNCOMPARED, NEW):
         verdict = BOUNDED
     bounds = [*remarks_of_bounds(question, theory, choice), *remarks_of_packs(question, theory, choice.levels)]
     coverage = next((cost for remark in bounds if remark.code == f"bound of {COVERAGE}" and isinstance(
@@ -391,16 +411,20 @@ def plan_one(question: Question, program: str) -> Answer:
     if question.settings.confidence is not None and item.fill is not None:
         best, plain = (figures_of(question, theory, levels) for levels in (choice.best, choice.plain))
         confidence_cost = best.cost - plain.cost
+    allowed = allowed_of(question, choice.levels)
     source, cost = (THEORY, chosen.cost) if theory.exact else (RUN, run.cost_chosen)
     return Answer(verdict, source, cost_today, cost, saving, figures.get(TODAY), chosen, figures.get(ALONE),
                   figures.get(BEFORE), figures.get(UNDAMPED), theory.step, confidence_cost, coverage,
                   correction_of(question, theory), law_facts(question.demand, item.box), laws_of(question), run,
-                  (*remarks_of(question, theory, sample, choice), *bounds, *damping_of(figures)))
+                  (*remarks_of_past(question, allowed), *remarks_of(question, theory, sample, choice), *bounds,
+                   *damping_of(figures)), allowed)
 
 
 def or_fault(answer: Callable[[Item], Result], item: Item) -> Result | Remark:
     """Returns the answer to an item, or as a code and facts why there is none. Raises ProgramError, since then no item
     has one."""
+    if item.past == NO_DEMAND:
+        return Remark(IDLE, {"periods": len(item.counts)})
     try:
         return answer(item)
     except Unplanned as why:

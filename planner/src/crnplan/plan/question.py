@@ -14,14 +14,16 @@ from ..demand.fitting import fit_demand, fit_lead
 from ..demand.borrowing import law_of
 from ..demand.learning import Prior
 from ..demand import LEAD_METHODS, METHODS
-from ..errors import Refused, argument
+from ..errors import CrnplanError, Refused, argument
 from ..formats import MOST_ITEMS, MOST_PERIODS, MOST_REPLICATIONS, MOST_WEIGHT, limits
 from ..money import rounded_costs
 from ..records.bounds import Bounds
-from ..records.item import BORROW, Item
+from ..records.item import BORROW, NEW, Item
+from ..remarks import Remark
 from ..scenario import Scenario
 from ..theory.lattice import lattice_of, shape_of, theory_on
 from ..theory.long_run import LongRun
+from ..words import advice, sentence
 from .aims import Aims
 from .bounds import MOST_COVERAGE, feasible_of
 
@@ -29,6 +31,19 @@ VERSION = 8  # Answers of others are not used again.
 NONE, CLASS, ALL = BORROW
 MOST_GAPS = 4_000  # of a lattice: with 150 times as many, a search takes half a minute
 Levels = tuple[int, int]
+
+
+class Unplanned(CrnplanError):
+    """An item that has no plan, by a fault that is a remark."""
+
+    def __init__(self, fault: Remark) -> None:
+        super().__init__(sentence(fault), advice(fault))
+        self.fault = fault
+
+
+class NoPolicy(Unplanned, Refused):
+    """There is no best policy within the ranges of s and S, or none with the wanted share of demand met at once, or
+    nothing to plan for or by."""
 
 
 @dataclass(frozen=True)
@@ -157,7 +172,11 @@ class Question:
         wanted, aims = self.item.fill, self.settings.aims
         if wanted is None or aims is None:
             return None if wanted is None else float(wanted)
-        return aims.aim(self.item.counts, float(wanted))
+        return aims.aim((float(self.demand.mean),) if self.is_new else self.item.counts, float(wanted))
+
+    @property
+    def is_new(self) -> bool:
+        return self.item.past == NEW
 
     @property
     def bounds(self) -> Bounds:
@@ -190,6 +209,12 @@ class Question:
             key=f"{settings.seed}\n{self.item.name}")
         return scenario if self.levels else scenario.with_policies(())
 
+    def for_theory(self) -> Scenario:
+        """Returns the scenario with a backlog rate by which theory has policies that meet a wanted share: with hardly any
+        it would be far too coarse."""
+        scenario = self.scenario()
+        return dataclasses.replace(scenario, costs=dataclasses.replace(scenario.costs, backlog=self.implied_backlog))
+
     def alone(self) -> Question:
         """Returns the question of an item that learns its law from no other."""
         return dataclasses.replace(self, borrow=NONE, demand=fit_demand(self.item.counts, box=self.item.box))
@@ -198,13 +223,11 @@ class Question:
         """Returns the theory of the question. Raises Refused if there is none.
 
         Without a backlog cost only setup and stock cost something. The lattice is then chosen by the implied backlog
-        rate: with hardly any it would be far too coarse.
+        rate.
         """
-        scenario = self.scenario()
-        costs = dataclasses.replace(scenario.costs, backlog=self.implied_backlog)
-        feasible, (point, level) = feasible_of(self.bounds, self.item.box, self.demand.mean), self.levels or (0, 0)
-        shape = dataclasses.replace(shape_of(dataclasses.replace(scenario, costs=costs)),
-                                    least_gap=feasible.gap(1) - 1)
+        scenario, (point, level) = self.scenario(), self.levels or (0, 0)
+        feasible = feasible_of(self.bounds, self.item.box, self.demand.mean)
+        shape = dataclasses.replace(shape_of(self.for_theory()), least_gap=feasible.gap(1) - 1)
         return theory_on(scenario, shape, *lattice_of(scenario, shape, level - point, MOST_GAPS), feasible)
 
 
@@ -237,15 +260,24 @@ def rates_of(item: Item) -> tuple[dict[str, int], Fraction, float]:
     return (rates, scale, error) if item.backlog is not None else (*finest(rates, scale), error)
 
 
+def why_unknown(item: Item, prior: Prior, borrow: str) -> str | None:
+    """Returns the code for which a new item learns its law from no others; None if it does."""
+    if NONE in (borrow, prior.borrow):
+        return "new without learning"
+    return "new without class" if borrow == CLASS and not item.group else None
+
+
 def question_of(item: Item, settings: Settings, prior: Prior | None = None, before: Levels | None = None) -> Question:
     """Returns the question of an item, whose law is perhaps learned, and which has perhaps the s and S of an earlier
-    plan. Raises Refused if its numbers are none of a scenario."""
+    plan. Raises Refused if its numbers are none of a scenario, and NoPolicy for a new item without a law to learn."""
     prior, box = prior or Prior(NONE), item.box
-    rates, scale, error = rates_of(item)
     borrow = NONE if settings.fit != "auto" else item.borrow or settings.borrow or NONE
+    if item.past == NEW and (why := why_unknown(item, prior, borrow)):
+        raise NoPolicy(Remark(why, {"periods": len(item.counts)}))
+    rates, scale, error = rates_of(item)
     group = item.group if borrow == CLASS else None
     demand = fit_demand(item.counts, method=settings.fit, box=box) if borrow == NONE else \
-        law_of(prior, item.counts, group, box=box)
+        law_of(prior, item.counts, group, box=box, is_new=item.past == NEW)
     returns = fit_demand(item.returns, method=settings.fit, box=box) if item.returns else None
     lead = fit_lead(item.leads, method=settings.lead_fit)
     return Question(item, settings, prior, borrow, rates, scale, error, demand, lead, returns, in_boxes(before, box))

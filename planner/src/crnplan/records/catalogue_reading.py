@@ -75,8 +75,9 @@ class Catalogued:
         """Returns the digest of what the plan of an item depends on."""
         return digest_of(common, self._rows(quoted(PLANNED), name).fetchone())
 
-    def names(self) -> Iterator[str]:
-        yield from (name for (name,) in self._rows("name"))
+    def names(self, *pasts: str) -> Iterator[str]:
+        """Yields the names of the items with one of these pasts, or of all."""
+        yield from (name for name, past in self._rows("name, past") if not pasts or past in pasts)
 
     def whole_items(self) -> Iterator[Item]:
         """Yields the items by all their periods."""

@@ -10,8 +10,16 @@ from ..remarks import Remark
 from ..stored import Columns
 from .bounds import Bounds
 
+# What an item's record says of its past: enough; too little, so that others say what to expect; or that nothing was asked
+# for.
+USUAL, NEW, NO_DEMAND = "", "new", "no demand"
 # From whom an item may learn its law of demand: from no other, from those of its class, or from all.
 BORROW = ("none", "class", "all")
+
+
+def value_of(stock: Fraction | None, price: Fraction | None) -> Fraction | None:
+    """Returns what a stock is worth: nothing if it is below 0, None if it or the price is not known."""
+    return None if stock is None or price is None else max(stock, Fraction(0)) * price
 
 
 @dataclass(frozen=True)
@@ -22,7 +30,8 @@ class Item:
     seen, in periods, and `levels` today's s and S, None if no policy is in use. `setup` is money an order, `holding`
     and `backlog` money an item and period, `unit` money for each item ordered, which only counts over coming periods.
     `fill` is the share of demand that is wanted at once; an item has a `backlog`, a `fill`, or both. `group` is its
-    class, `borrow` from whom it learns its law, perhaps empty. `bounds` are those of its orders and levels.
+    class, `borrow` from whom it learns its law, perhaps empty. `bounds` are those of its orders and levels. `past` is
+    empty, NEW or NO_DEMAND.
 
     What follows is no part of the plan: `stock` is today's, `price` the money that an item of stock is worth,
     `supplier_min` the money that an order of all items of the `supplier` comes to at least, `first` the number of the
@@ -44,6 +53,7 @@ class Item:
     group: str = ""
     borrow: str = ""
     bounds: Bounds = Bounds()
+    past: str = USUAL
     stock: Fraction | None = None
     price: Fraction | None = None
     description: str = ""
@@ -59,7 +69,12 @@ class Item:
     @property
     def box(self) -> int:
         """Returns how many items are counted as one, so that the demand of a period is within the program's range."""
-        return max(1, -(-max((*self.counts, *self.returns)) // MOST_DEMAND))
+        return max(1, -(-max((*self.counts, *self.returns), default=0) // MOST_DEMAND))
+
+    @property
+    def value(self) -> Fraction | None:
+        """Returns what today's stock is worth: nothing if it is below 0, None if it or the price is not known."""
+        return value_of(self.stock, self.price)
 
     def part(self, start: int, stop: int) -> Item:
         """Returns the item as it is known by some of its periods alone: from one on, counted from 0, before another."""

@@ -20,13 +20,14 @@ from .cells import (EVERY, TOTAL, UNPRINTABLE, Cell, CellFault, Numbers, Unreada
 from .classes import abc_of
 from .columns import COLUMNS, ROLES, unit_fault
 from .defaults import Defaults, currency_in
-from .item import Item
+from .item import NEW, NO_DEMAND, USUAL, Item
 from .masters import MONEY, Master, Masters
 from .observed import Day, ends_of, record_of, summed
 from .rows import Flags, Rows, far_above
 from .sources import Rules, Sheet
 
 KEEP, LEAVE_OUT = "keep", "leave-out"
+OUTSIDE = ("before start", "far before", "after end", "late date")  # what is wrong with a date outside the record
 # The roles with amounts by table.
 AMOUNTS = {"items": ("setup", "holding", "backlog", "fill", "s", "S", "stock", "price", "price_for", "order_min",
                      "pack", "s_min", "supplier_min"),
@@ -36,7 +37,8 @@ AMOUNTS = {"items": ("setup", "holding", "backlog", "fill", "s", "S", "stock", "
 @dataclass(frozen=True)
 class Reject:
     """What is left out, or only named: a row, an item with its rows of demand, or a row that is suspicious. `remark`
-    says why, and `rows` how many rows of demand are left out."""
+    says why, `rows` how many rows of demand are left out, and `value` what the stock of an item is worth, if that is
+    known."""
 
     kind: str
     file: str
@@ -46,6 +48,7 @@ class Reject:
     text: str
     remark: Remark
     rows: int
+    value: Fraction | None = None
 
 
 @dataclass(frozen=True)
@@ -127,12 +130,13 @@ def joined(remarks: Sequence[Remark]) -> Remark:
                                        for name, value in it.facts.items()})
 
 
-def reject_of(what: str, sheet: Sheet, line: int, name: str, faults: Sequence[CellFault], rows: int = 0) -> Reject:
+def reject_of(what: str, sheet: Sheet, line: int, name: str, faults: Sequence[CellFault], rows: int = 0,
+              value: Fraction | None = None) -> Reject:
     """Returns what is left out or suspicious, with columns (by their roles if the table has none) and texts."""
     cells = [on_one_line(text_of(cell)) for _, cell, _ in faults]
     columns = [sheet.columns[role].name if role in sheet.columns else role for role, _, _ in faults]
     return Reject(what, sheet.file_name, line, name, ", ".join(columns), ", ".join(cells),
-                  joined([remark for _, _, remark in faults]), rows)
+                  joined([remark for _, _, remark in faults]), rows, value)
 
 
 class Reader:
@@ -145,7 +149,8 @@ class Reader:
         self.counts: Counts = {
             "files": {kind: {"name": its.sheet.file_name, "read": len(its), "blank": len(its.blank), "used": 0,
                              "rejected": 0, "with_item": 0} for kind, its in rows.items()},
-            "items": dict.fromkeys(("open_orders", "twice", "named", "ready", "left_out", "late"), 0)}
+            "items": dict.fromkeys(("open_orders", "twice", "named", "ready", "left_out", "late", "new", "no_demand"),
+                                   0)}
         self.names = [str(name) for name in rows["items"].columns["item"].distinct]
         for kind in rows:
             for row, wrong in rows[kind].nameless():
@@ -162,7 +167,8 @@ class Reader:
                 days[self.dates["demand"].read(cell)[0]] += count
         start, end = ends_of(words.start, words.end)
         self.record = record_of(days, words.every, start, end, words.today)
-        self.masters = Masters(self.amounts, rows["items"].sheet.columns, words.every, words.defaults, self.currencies)
+        self.masters = Masters(self.amounts, self.dates["items"], rows["items"].sheet.columns, words.every,
+                               words.defaults, self.currencies)
         self.sources = Counter[tuple[str, str]]()
         self.twice, self.master_twins = Counter[int](), rows["items"].twins()
         self.named = rows["demand"].by_item(rows["demand"].good)
@@ -190,8 +196,9 @@ class Reader:
             roles.setdefault(role, {})[source] = count
         return roles
 
-    def _reject(self, what: str, kind: str, line: int, name: str, faults: Sequence[CellFault], rows: int) -> None:
-        self.add(reject_of(what, self.rows[kind].sheet, line, name, faults, rows))
+    def _reject(self, what: str, kind: str, line: int, name: str, faults: Sequence[CellFault], rows: int,
+                value: Fraction | None = None) -> None:
+        self.add(reject_of(what, self.rows[kind].sheet, line, name, faults, rows, value))
 
     def _reject_row(self, kind: str, row: int, faults: Sequence[CellFault], is_named: bool = True) -> None:
         rows = self.rows[kind]
@@ -218,7 +225,7 @@ class Reader:
                 state = "used"
             except Left as left:
                 kind, line, *faults = left.args
-                self._reject("item", kind, line, self.names[item], faults, len(moves.lines))
+                self._reject("item", kind, line, self.names[item], faults, len(moves.lines), self._value(masters))
             self.counts["items"]["named"] += 1
             self.counts["items"]["ready" if state == "used" else "left_out"] += 1
             for kind, file in self.counts["files"].items():
@@ -240,6 +247,13 @@ class Reader:
     def _group(self, item: int, cells: Mapping[str, Cell]) -> str:
         """Returns the class of an item: that of its row, or the one by value if no row has a class."""
         return UNPRINTABLE.sub(" ", text_of(cells.get("class"))) if self.has_classes else self.letters.get(item, "")
+
+    def _value(self, masters: Sequence[int]) -> Fraction | None:
+        """Returns what the stock of an item is worth by its master; None if that is not known, or if masters differ."""
+        table = self.rows["items"]
+        if len({*self.master_twins[masters].tolist()}) != 1:
+            return None
+        return self.masters.value({role: table.cell(role, masters[0]) for role in table.columns})
 
     def _dates(self, kind: str, role: str) -> tuple[Numbers, Numbers, dict[int, Remark]]:
         """Returns the day, as an ordinal number, and the period of each row's date, and what is wrong with values."""
@@ -266,6 +280,8 @@ class Reader:
             units = rows.columns["measure"].distinct
             factors = np.array([self.words.factors.get(text_of(unit), 1) for unit in units], np.int64)
             amounts = {role: its * factors[rows.codes["measure"]] for role, its in amounts.items()}
+        outside = rows.having("date", [code for code, remark in dated.items() if remark.code in OUTSIDE])
+        self.inside = rows.by_item(rows.good & ~outside)
         bad = rows.faulty(faults)
         totals = self._reject_moves(np.flatnonzero(rows.good & bad), faults)
         rows_of = rows.by_item(self._without_twins(rows.good & ~bad))
@@ -325,32 +341,52 @@ class Reader:
 
     def _item(self, item: int, moves: Moves, masters: Sequence[int], leads: Sequence[int]) -> Item:
         self._check_measures(item)
-        master, decimals, sources = self._master(item, masters, leads, moves)
+        master, decimals, sources, since = self._master(item, masters, leads, moves)
         self._check_far(moves)
-        start = self.record.periods[0]
-        first = self.record.first_of(int(moves.periods.min()))
-        periods = len(self.record.periods) - (first - start)
+        start, first = self.record.periods[0], self._first(since, moves)
+        asked, back, netted = self._counts(moves, first)
+        past = NEW if len(asked) < self.words.least else USUAL if any(asked) else NO_DEMAND
+        its = replace(master, counts=tuple(asked), returns=tuple(back) if any(back) else (), past=past, first=first,
+                      rows=len(moves.lines), abc=self.letters.get(item, ""))
+        if its.levels and round(its.levels[1] / its.box) > MOST_ITEMS:
+            raise Left("items", its.line, fault("S", its.levels[1], "S too large", most=MOST_ITEMS))
+        for name, holds in (("late", first > start and since is None), ("new", past == NEW),
+                            ("no_demand", past == NO_DEMAND)):
+            self.counts["items"][name] += holds
+        self.decimals = max(self.decimals, decimals)
+        self.sources.update(sources.items())
+        remarks: list[tuple[str, bool, Mapping[str, float | str]]] = [
+            ("equal masters", len(masters) > 1, {"masters": len(masters)}),
+            ("late" if since is None else "since", first > start, {"period": period_name(first, self.words.every)}),
+            ("boxes", its.box > 1, {"items": its.box}), ("taken off earlier", netted > 0, {"amounts": netted}),
+            ("stock below 0", (its.stock or 0) < 0, {"owed": float(-(its.stock or 0))}),
+            ("rows twice", self.twice[item] > 0, {"rows": self.twice[item]})]
+        return replace(its, remarks=tuple(Remark(code, facts) for code, holds, facts in remarks if holds))
+
+    def _first(self, since: int | None, moves: Moves) -> int:
+        """Returns where the history of an item begins: in the period since when its master has it, which may be behind the
+        record, or earlier if it was seen then. Without that as it is seen first, and with the record if it never is."""
+        periods, seen = self.record.periods, int(moves.periods.min()) if len(moves.lines) else None
+        if since is None:
+            return periods[0] if seen is None else self.record.first_of(seen)
+        return min(max(since if seen is None else min(seen, since), periods.start), periods.stop)
+
+    def _counts(self, moves: Moves, first: int) -> tuple[list[int], list[int], int]:
+        """Returns demand and returns by period from one on, and how many amounts were taken off earlier periods. Raises
+        Left."""
+        periods = self.record.periods.stop - first
+        if not len(moves.lines):
+            return [0] * periods, [], 0
         asked, netted, unmet = summed(moves.periods - first, moves.asked, periods)
         if unmet is not None:
             amount, period = -int(moves.asked[unmet]), period_name(int(moves.periods[unmet]), self.words.every)
             raise Left("demand", int(moves.lines[unmet]), fault("quantity", -amount, "unmet return", amount=amount,
                                                                 period=period))
         back = np.bincount(moves.periods - first, moves.back, periods).astype(np.int64).tolist()
-        self._check_counts(asked, back)
-        its = replace(master, counts=tuple(asked), returns=tuple(back) if any(back) else (), first=first,
-                      rows=len(moves.lines), abc=self.letters.get(item, ""))
-        if its.levels and round(its.levels[1] / its.box) > MOST_ITEMS:
-            raise Left("items", its.line, fault("S", its.levels[1], "S too large", most=MOST_ITEMS))
-        self.counts["items"]["late"] += first > start
-        self.decimals = max(self.decimals, decimals)
-        self.sources.update(sources.items())
-        remarks: list[tuple[str, bool, Mapping[str, int | str]]] = [
-            ("equal masters", len(masters) > 1, {"masters": len(masters)}),
-            ("late", first > start, {"period": period_name(first, self.words.every)}),
-            ("boxes", its.box > 1, {"items": its.box}), ("taken off earlier", netted > 0, {"amounts": netted}),
-            ("stock below 0", its.stock is not None and its.stock < 0, {}),
-            ("rows twice", self.twice[item] > 0, {"rows": self.twice[item]})]
-        return replace(its, remarks=tuple(Remark(code, facts) for code, holds, facts in remarks if holds))
+        total, returned = sum(asked), sum(back)
+        if returned >= total and returned:
+            raise Left("demand", 0, fault("quantity", returned, "all comes back", back=returned, asked=total))
+        return asked, back, netted
 
     def _check_measures(self, item: int) -> None:
         """Raises Left if the rows of an item are in several units of measure."""
@@ -366,7 +402,7 @@ class Reader:
                 "measure", unit, "measures", measures=" and ".join(repr(it) for _, it in unknown), text=unit))
 
     def _master(self, item: int, rows: Sequence[int], leads: Sequence[int], moves: Moves) -> Master:
-        """Returns the master of an item that has demand. Raises Left."""
+        """Returns the master of an item. Raises Left."""
         table, name = self.rows["items"], self.names[item]
         if not rows:
             kind = "orders" if leads and not len(moves.lines) else "demand"
@@ -380,7 +416,7 @@ class Reader:
         read, faults = self.masters.read(cells, leads, group)
         if faults:
             raise Left("items", lines[0], *faults)
-        if not len(moves.lines):
+        if not len(moves.lines) and len(self.inside(item)):
             raise Left("items", lines[0], fault("item", name, "no rows"))
         return self.masters.item(name, lines[0], read, leads, group)
 
@@ -393,13 +429,3 @@ class Reader:
                 lines, (least, below) = moves.lines[ranked[:far]].tolist(), amounts[ranked[far - 1:far + 1]].tolist()
                 raise Left("demand", lines[0], fault(role, int(amounts[ranked[0]]), "far", lines=named_lines(lines),
                                                      times=least // below, next=below))
-
-    def _check_counts(self, asked: Sequence[int], back: Sequence[int]) -> None:
-        """Raises Left if demand by period is none that a law can be made of."""
-        total, returned, every = sum(asked), sum(back), self.words.every
-        if len(asked) < self.words.least:
-            raise Left("demand", 0, fault("quantity", len(asked), "short", periods=len(asked), every=every))
-        if not total:
-            raise Left("demand", 0, fault("quantity", 0, "nothing asked"))
-        if returned >= total:
-            raise Left("demand", 0, fault("quantity", returned, "all comes back", back=returned, asked=total))

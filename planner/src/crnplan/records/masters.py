@@ -12,10 +12,10 @@ from typing import Any, NamedTuple
 from ..formats import MOST_LEAD
 from ..money import MOST_DECIMALS
 from .bounds import Bounds
-from .cells import UNPRINTABLE, AmountReader, Cell, CellFault, Unreadable, fault, shown
+from .cells import UNPRINTABLE, AmountReader, Cell, CellFault, DateReader, Unreadable, fault, period_of, shown
 from .columns import DAYS, LEVELS, NEEDED, ROLES, UNITS, conversion, periods_of
 from .defaults import DEFAULT, MASTERS, Defaults, currency_in, distinct
-from .item import BORROW, Item
+from .item import BORROW, Item, value_of
 from .sources import Column
 
 # The roles with money, whose decimals say what the smallest unit is.
@@ -78,19 +78,20 @@ def level_faults(cells: Mapping[str, Cell], s: Fraction | None, S: Fraction | No
 
 
 class Master(NamedTuple):
-    """An item without its demand, the decimals of its money, and by role where a value that may have a default is
-    from."""
+    """An item without its demand, the decimals of its money, by role where a value that may have a default is from, and
+    the period since when there is the item, None if that is not said."""
 
     item: Item
     decimals: int
     sources: Mapping[str, str]
+    since: int | None
 
 
 class Masters:
     """Reads the rows of masters, with the unit of each column, and what holds if they say nothing. `currencies` has the
     first text of each currency in them."""
 
-    def __init__(self, amounts: Mapping[str, AmountReader], columns: Mapping[str, Column], every: str,
+    def __init__(self, amounts: Mapping[str, AmountReader], dates: DateReader, columns: Mapping[str, Column], every: str,
                  defaults: Defaults, currencies: Mapping[str, str]) -> None:
         units = {role: column.unit for role, column in columns.items() if column.unit}
         factors = {role: conversion(role, unit, every)[0] for role, unit in units.items()
@@ -106,7 +107,8 @@ class Masters:
             "holding": partial(self._holding, amounts["holding"]), "borrow": borrowed_from, "currency": currency_in,
             "lead": partial(leads_of, unit=units.get("lead", ""), every=every),
             **{role: partial(span_of, unit=units.get(role, ""), every=every) for role in ("coverage", "shelf_life")},
-            "fill": partial(amounts["fill"].share, in_percent="fill" in units)}
+            "fill": partial(amounts["fill"].share, in_percent="fill" in units),
+            "since": lambda cell: period_of(dates.read(cell)[0], every)}
 
     def _holding(self, reader: AmountReader, cell: Cell) -> Fraction:
         """Returns a holding cost: money, or a share of the price."""
@@ -122,6 +124,11 @@ class Masters:
     def price(self, cells: Mapping[str, Cell]) -> Fraction | None:
         """Returns the price of one item of a row; None if it has none that can be read."""
         return self._price({role: self._value(role, cells.get(role, ""), []) for role in ("price", "price_for")})
+
+    def value(self, cells: Mapping[str, Cell]) -> Fraction | None:
+        """Returns what the stock of a row is worth; None if its stock or its price is missing or can't be read."""
+        stock = self._value("stock", cells.get("stock", ""), [])
+        return value_of(None if stock is None else stock * self.factors.get("stock", 1), self.price(cells))
 
     def _price(self, read: Mapping[str, Any]) -> Fraction | None:
         """Returns the price of one item by the values of its row."""
@@ -177,7 +184,7 @@ class Masters:
                     fill, group=read["class"] or "", borrow=read["borrow"] or "", bounds=self._bounds(read, price),
                     stock=read["stock"], price=price, description=read["description"] or "",
                     supplier=read["supplier"] or "", supplier_min=read["supplier_min"], category=group, line=line)
-        return Master(item, decimals, sources)
+        return Master(item, decimals, sources, read["since"])
 
     def _bounds(self, read: Mapping[str, Any], price: Fraction | None) -> Bounds:
         """Returns the bounds of an item with a price, by the values of its row without units. A 0 of a system states

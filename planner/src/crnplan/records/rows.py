@@ -22,7 +22,7 @@ from .sources import Sheet
 Flags = npt.NDArray[np.bool_]
 Value = TypeVar("Value")
 MOST_KEPT = 100_000  # cells whose value is remembered
-DATES = ("date", "ordered", "received", "due")
+DATES = ("date", "ordered", "received", "due", "since")
 # An amount is far above all others if it is so many times the next largest; TIMES_OF_FEW times if it has fewer others
 # than LEAST_OTHERS. At most MOST_FAR are.
 TIMES_NEXT, TIMES_OF_FEW, LEAST_OTHERS, MOST_FAR = 30, 300, 4, 3
