@@ -90,6 +90,17 @@ def test_the_cheapest_of_feasible_pairs(seed: int) -> None:
 
 
 @pytest.mark.parametrize("lead", [[2], [1, 3]], ids=["one lead time", "several"])
+@pytest.mark.parametrize("feasible", [Feasible(0, 1, 4), Feasible(6, 2, 9), Feasible(3, 0, 8, 4), Feasible(0, 0, 11)],
+                         ids=str)
+def test_few_feasible_pairs_on_a_coarse_lattice(feasible: Feasible, lead: list[int]) -> None:
+    """Policies are found within bounds that are narrower than a cell, also the fullest."""
+    scenario = scenario_of((range(41), [1 + it % 5 for it in range(41)]), (lead, [1] * len(lead)))
+    theory = theory_on(scenario, shape_of(scenario), 10, False, feasible)
+    for found in (theory.best(), theory.fullest()):
+        assert found.cost < math.inf and feasible.allows(found.point, found.level)
+
+
+@pytest.mark.parametrize("lead", [[2], [1, 3]], ids=["one lead time", "several"])
 def test_feasible_pairs_by_a_chain(lead: list[int]) -> None:
     """Of packs of 2 from 4 on, with s of at least 2 and S of at most 10, the cheapest is that of a Markov chain."""
     scenario = scenario_of(([0, 1, 4], [3, 3, 1]), (lead, [1] * len(lead)), costs=Costs(9, 0, 2, 11))

@@ -97,12 +97,14 @@ def choice_of(theory: LongRun, question: Question) -> Choice:
     most. That of an earlier plan may stay: see `damped`. Raises NoPolicy if there is none."""
     confidence, fill = question.settings.confidence, question.aim
     best = theory.best(fill or 0.0)
-    if best.cost == math.inf and theory.free.best(fill or 0.0).cost < math.inf:
-        fullest = theory.fullest()
-        return Choice(fullest[1:], fullest[1:], is_bounded=True)
+    is_bounded = best.cost == math.inf and theory.free.best(fill or 0.0).cost < math.inf
+    if is_bounded:
+        best = theory.fullest()
     plain = best.point, best.level
     if best.cost == math.inf:
         raise NoPolicy(Remark("no policy", {"fill": fill}))
+    if is_bounded:
+        return Choice(plain, plain, is_bounded=True)
     if fill is None or confidence is None:
         return damped(Choice(plain, plain), theory, question)
     gap = theory.gap_of(*plain)

@@ -50,9 +50,10 @@ class Feasible:
 
     def gap_in(self, cell: Places, step: int, exact: bool) -> Places:
         """Returns S - s for cells of a lattice: the least in the cell; if the lattice is not exact, one from its middle
-        on if there is one. If there is none in the cell, it is beyond."""
-        low = cell * step
+        on if there is one, and room for it below the greatest S. If there is none in the cell, it is beyond."""
+        low, most = cell * step, self.top - self.least
         near = low + (0 if exact else (step - 1) // 2)
+        near -= (near - most) * (near > most) * (low <= most)
         if self.has_all_gaps:
             return near
         least, middle = self.gap(low), self.gap(near)
