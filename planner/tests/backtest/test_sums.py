@@ -41,10 +41,12 @@ def catalogue(share: float, by_chance: float, items: int = 40, seed: int = 1, **
     return [made(unmet(share), unmet(by_chance), place, **changed) for place in range(items)]
 
 
-def test_figures_by_hand() -> None:
-    """Of a demand of 10 in each of 52 periods, 1 is unmet: 10%, 5 points more than promised. In a random order it is
-    none. A period costs 5 for a promised 4, and 7.5 by today's policy."""
-    sums = Sums.of("", [made([1] * PERIODS, [0] * PERIODS, place) for place in range(12)])
+@pytest.mark.parametrize("asked", [(10, 10), (4, 16)], ids=["steady", "in turn"])
+def test_figures_by_hand(asked: tuple[int, int]) -> None:
+    """Of a mean demand of 10 in 52 periods, 1 is unmet: 10%, 5 points more than promised. In a random order it is none.
+    A period costs 5 for a promised 4, and 7.5 by today's policy."""
+    demands = {name: asked * (PERIODS // 2) for name in ("demands", "shuffled_demands")}
+    sums = Sums.of("", [made([1] * PERIODS, [0] * PERIODS, place, **demands) for place in range(12)])
     assert sums.promised == pytest.approx(0.95) and sums.unmet["kept"].value == pytest.approx(0.1)
     figures = {"missed": 0.05, "chance": -0.05, "time": 0.1, "dearer": 0.25}
     for name, value in figures.items():

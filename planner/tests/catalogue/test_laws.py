@@ -1,11 +1,13 @@
 """Tests by which law an item is planned: from whom it learns, its policy alone, and confidence in a fill rate."""
 from __future__ import annotations
 
+import contextlib
 from collections.abc import Iterator
 from dataclasses import replace
 from fractions import Fraction
 from pathlib import Path
 from typing import Any
+from unittest.mock import Mock
 
 import numpy as np
 import pytest
@@ -15,7 +17,7 @@ from crnplan.demand.borrowing import law_of
 from crnplan.demand.learning import Prior
 from crnplan.files import own_folder
 from crnplan.plan.answer import Answer
-from crnplan.plan.catalogue import PRIOR, learned_of
+from crnplan.plan.catalogue import PRIOR, PRIOR_WINDOW, learned_of, take_prior
 from crnplan.plan.one import allowed_by, plan_one
 from crnplan.plan.question import ALL, CLASS, NONE, Question, Settings, question_of
 from crnplan.records.catalogue_reading import CATALOGUE as FOLDER, Catalogued, Writer
@@ -133,6 +135,18 @@ def test_what_was_learned_is_kept(read: Catalogued, answers: Store[Answer]) -> N
         assert [it.facts for it in found.remarks] == [{"items": ITEMS, "classes": 0, "earlier": earlier}]
     answers.keep_facts({PRIOR: replace(found.prior, outside=ITEMS - 99).text})
     assert [it.facts["earlier"] for it in learned_of(answers, read, Settings(), False).remarks] == [False]
+
+
+@pytest.mark.parametrize("again", [False, True])
+@pytest.mark.parametrize("read", [(40, {})], indirect=True)
+def test_an_earlier_plan_has_taught(read: Catalogued, answers: Store[Answer], prior: Prior, tmp_path: Path,
+                                    again: bool) -> None:
+    """A plan after an earlier one has what more items learned there, unless it is to be learned again."""
+    with contextlib.closing(Store(tmp_path / "earlier", Answer)) as earlier:
+        earlier.keep_facts({PRIOR: prior.text, PRIOR_WINDOW: str(read.window)})
+        take_prior(answers, Mock(store=earlier), again)
+    remark, = learned_of(answers, read, Settings(borrow=CLASS), again).remarks
+    assert (remark.facts["items"], remark.facts["earlier"]) == ((40, False) if again else (ITEMS, True))
 
 
 @pytest.mark.parametrize("read", [(20, {"I-001": "all"})], indirect=True)
