@@ -19,11 +19,12 @@ import crnplan as crn
 from crnplan.files import MARKER
 from crnplan.law import Law
 from crnplan.pages.today_tables import OrdersToday, orders_today
-from crnplan.plan.answer import Answer, Laws
+from crnplan.plan.answer import IDLE, Answer, Laws
 from crnplan.plan.catalogue import ANSWERS, PLANNED
 from crnplan.plan.today import Group, Lying, Standing, Today, minimums_of, quiet_periods
 from crnplan.records.bounds import Bounds
 from crnplan.records.catalogue_reading import READ
+from crnplan.records.item import NO_DEMAND
 from crnplan.records.items import Words
 from crnplan.records.stock import Arrival, OnHand
 from crnplan.remarks import Remark
@@ -216,14 +217,16 @@ def test_stock_of_the_masters_and_dead_stock(tmp_path: Path, crnplan: Command, m
     quiet, answer = made_pair(random.Random(3), "Q-1")
     quiet = replace(quiet, counts=(7, *[0] * 53), stock=Fraction(-4), price=Fraction(3, 2), supplier="Bosch",
                     supplier_min=Fraction(10**6))
-    for name, its, stock, orders in (("planned", answer, Fraction(-4), 1),
+    idle = Remark(IDLE, {"periods": 54})
+    for name, its, stock, orders in (("planned", answer, Fraction(-4), 1), ("idle", idle, Fraction(6), 0),
                                      ("left", Remark("no demand"), Fraction(6), 0)):
-        item: Any = replace(quiet, stock=stock), its
+        item: Any = replace(quiet, stock=stock, past=NO_DEMAND if its == idle else ""), its
         made_folder(tmp_path / name, 12, has_curve=False, change=item)
         with contextlib.closing(Store(tmp_path / name / ANSWERS, Answer)) as store:
             store.keep_facts({PLANNED: (store.fact(PLANNED) or "").replace('"window": null', '"window": 5')})
         today = crn.open_plan(tmp_path / name).orders_today(date="2026-11-27")
         assert today.frame[today.frame.item == "Q-1"].placed.notna().sum() == orders
+        assert ("Q-1" in {*today.frame.item}) == (name != "idle")
         assert list(today.dead.value) == [6 * 1.5] * (orders == 0) and "The plan is old" in today.text
         if orders:
             assert list(today.suppliers.short) == [10**6 - today.frame.value[0]]

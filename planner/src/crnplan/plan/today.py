@@ -19,7 +19,7 @@ from functools import cached_property
 from ..errors import Refused, argument
 from ..records.cells import first_day
 from ..records.columns import DAYS
-from ..records.item import Item
+from ..records.item import NO_DEMAND, Item
 from ..records.items import FileCounts, Reject, Words
 from ..records.observed import YEAR, Day
 from ..records.sources import Table
@@ -327,13 +327,13 @@ def today_of(folder: PlannedFolder, tables: Mapping[str, Table | None], words: W
     if holdings.on_hand is None and all(hand is None for _, _, hand in known):
         raise Refused(f"{folder.path}: no item has a stock in its masters", f"name a table by {argument('stock')}")
     for item, answer, hand in known:
+        quiet = quiet_periods(item, folder.every)
         if hand is None:
             unknown.append((item, Remark("unread stock" if item.name in holdings.unread else "no stock")))
-        elif isinstance(answer, Remark):
-            unknown.append((item, answer))
-        else:
+        elif isinstance(answer, Answer):
             standings.append(Standing(item, answer, hand, holdings.arrivals.get(item.name, ()), day, folder.every))
-        quiet = quiet_periods(item, folder.every)
+        elif item.past != NO_DEMAND or hand.owed or not quiet:
+            unknown.append((item, answer))
         if quiet and hand and hand.stock:
             dead.append(Lying(item, hand.stock, quiet))
     standings.sort(key=lambda it: it.urgency if it.is_due else (math.inf, 0.0, it.item.name))
