@@ -68,12 +68,14 @@ def test_sums_of_todays_policies_are_of_the_items_that_have_one() -> None:
 
 def test_demand_counts_in_units_of_the_item() -> None:
     """An item of a hundred times the demand weighs no more than another one."""
-    small, large = made([1] * PERIODS, [0] * PERIODS, 0), made([3] * PERIODS, [0] * PERIODS, 1)
+    small, large = made([1] * PERIODS, [2] * PERIODS, 0), made([3] * PERIODS, [1] * PERIODS, 1)
     times = {name: tuple(100 * it for it in getattr(large, name)) for name in ("demands", "shuffled_demands")}
-    kept = outcome([300] * PERIODS)
-    larger = made([3] * PERIODS, [0] * PERIODS, 1, mean=100.0 * DEMAND, kept=kept, **times)
+    runs = {"kept": outcome([300] * PERIODS), "shuffled": outcome([100] * PERIODS)}
+    larger = made([3] * PERIODS, [1] * PERIODS, 1, mean=100.0 * DEMAND, **times, **runs)
     for tests in ([small, large], [small, larger]):
-        assert Group(tests).unmet("kept").value == pytest.approx(0.2)
+        sums = Sums.of("", tests)
+        found = [sums.unmet["kept"].value, sums.missed.value, sums.chance.value, sums.time.value]
+        assert found == pytest.approx([0.2, 0.15, 0.1, 0.05])
 
 
 def test_error_of_independent_items() -> None:
