@@ -245,7 +245,6 @@ def test_outliers() -> None:
     assert outliers_of([4, 5, 6, 5] * 10 + [90, 80, 85], 1) == [90, 85, 80]
     assert outliers_of([24, 30, 36, 30] * 10 + [540], 6) == [540]
     assert outliers_of([1] * 60 + [2], 1) == [] and outliers_of([12] * 60 + [24], 12) == []
-    assert outliers_of([1] * 8 + [900], 1) == []  # too few
     assert outliers_of([4, 5, 6, 5] * 10 + [90, 80, 85, 95], 1) == [95, 90, 85]  # at most three
 
 
@@ -260,8 +259,15 @@ def test_largest_demands() -> None:
     assert [remark.facts[f"period_{rank}"] for rank in (1, 2, 3)] == weeks
     line = "demand: the largest demands (9 in period 18, 6 in period 8, 3 in period 17) make "
     assert [it.startswith(line) for it in check_history(numbers).lines].count(True) == 1
-    assert largest_periods([*[0] * 40, *range(1, 10)]) == ()
 
+
+@pytest.mark.parametrize("count, is_few", [(9, True), (10, False)])
+def test_nine_demands_are_few(count: int, is_few: bool) -> None:
+    """Nothing is said of the largest of nine demands, nor of one far above all others; of ten it is."""
+    numbers = [0, 0, *[1] * (count - 1), 900]
+    codes = {it.code for it in check_history(numbers).notes}
+    assert ("few demands in record" in codes) == ("far demands" not in codes) == is_few
+    assert (outliers_of(numbers, 1) == []) == (largest_periods(numbers) == ()) == is_few
 
 
 @pytest.mark.parametrize("numbers", [*([4, 5, 6, 5] * 4 + [most] for most in range(7, 20)), [1] * 11 + [2], [3] * 12],
