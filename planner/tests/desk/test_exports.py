@@ -9,7 +9,7 @@ import pytest
 
 from crnplan.plan.catalogue import planned_folder
 from planner.tests.conftest import Command
-from planner.tests.desk.exports import PARTS, SYSTEMS, WEEKS
+from planner.tests.desk.exports import NEW, PARTS, SYSTEMS, WEEKS
 
 CENT = 0.005
 TODAY = "2026-11-27"
@@ -36,7 +36,9 @@ def test_from_two_files_to_orders_and_a_workbook(system: str, crnplan: Command, 
     listed = crnplan("today", plan, "--date", TODAY, "--out", today)
     orders, decisions = (pd.read_csv(path, dtype={"item": str}, index_col="item") for path in (
         today / "today_orders.csv", plan / "decisions.csv"))
-    parts = parts.loc[decisions.index]
+    unknown = orders.index[orders.order.isna()]
+    assert [int(name[-3:]) for name in unknown] == [NEW]
+    parts, orders = parts.loc[decisions.index], orders.drop(unknown)
     due = parts.stock < decisions.s_chosen
     assert {*orders.index} == {*parts.index[due]} and decisions.periods.max() == WEEKS
     wanted = (decisions.S_chosen - parts.stock)[orders.index]

@@ -2,8 +2,7 @@
 of a column together decide its decimal sign, and all dates of a table whether the day or the month comes first.
 
 A cell that could mean two things is rejected, never guessed: 1,234 is read only if its column has a number such as 0.05
-or 1,234,567, which has one reading alone, or else the other columns of a catalogue's table have some, or if the sign is
-stated. The time of day and its zone are read over.
+or 1,234,567, which has one reading alone, or if the sign is stated. The time of day and its zone are read over.
 """
 from __future__ import annotations
 
@@ -199,16 +198,6 @@ class AmountReader:
         if not 0 < number < 1:
             raise Unreadable("no share", cell)
         return number
-
-
-def decide_together(readers: Iterable[AmountReader]) -> None:
-    """Gives the decimal sign that the columns of a table agree on to those whose texts may be two numbers, and in which
-    no number decides."""
-    known = [*readers]
-    signs = {sign: text for reader in reversed(known) for sign, text in reader.sides.items()}
-    for reader in known:
-        if reader.is_doubtful and not reader.sides and len(signs) == 1:
-            reader.sides = signs
 
 
 def other_reading(text: str, decimal: str) -> str | None:

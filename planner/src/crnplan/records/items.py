@@ -15,8 +15,8 @@ import numpy.typing as npt
 from ..errors import Refused, argument
 from ..formats import MOST_ITEMS, MOST_LEAD
 from ..remarks import Remark
-from .cells import (EVERY, TOTAL, UNPRINTABLE, Cell, CellFault, Numbers, Unreadable, decide_together, fault,
-                    named_lines, on_one_line, period_name, periods_of_days, text_of)
+from .cells import (EVERY, TOTAL, UNPRINTABLE, Cell, CellFault, Numbers, Unreadable, fault, named_lines, on_one_line,
+                    period_name, periods_of_days, text_of)
 from .classes import abc_of
 from .columns import COLUMNS, ROLES, unit_fault
 from .defaults import Defaults, currency_in
@@ -159,8 +159,6 @@ class Reader:
         self.currencies = self._currencies()
         self.amounts = {role: rows[kind].amount_reader(role, self.currencies if role in MONEY else None)
                         for kind in rows for role in AMOUNTS[kind]}
-        for kind in rows:
-            decide_together(self.amounts[role] for role in AMOUNTS[kind])
         days = Counter[Day]()
         for cell, count in rows["demand"].counts("date"):
             with contextlib.suppress(Unreadable):
