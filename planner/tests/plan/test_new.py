@@ -12,6 +12,7 @@ import pytest
 from crnplan.demand.learning import CLASS, Learned, Prior, learn
 from crnplan.money import Currency
 from crnplan.pages.item_page import ItemWords, item_page, item_summary
+from crnplan.plan import one
 from crnplan.plan.answer import Answer
 from crnplan.plan.correction import tried_names
 from crnplan.plan.item import Depth
@@ -19,6 +20,8 @@ from crnplan.plan.one import allowed_by, plan_batch, plan_one
 from crnplan.plan.question import Settings, question_of
 from crnplan.records.item import NEW, NO_DEMAND, Item
 from crnplan.remarks import Remark
+from crnplan.theory.lattice import NoTheory
+from crnplan.words import sentence
 from planner.tests.plan.items import SHORT, item_of
 from planner.tests.theory.long_run_costs import cost_of, shortfall_of
 
@@ -91,3 +94,12 @@ def test_only_items_with_a_past_are_tried() -> None:
         def items(self) -> list[Item]:
             return items
     assert tried_names(Read()) == {"0"}  # type: ignore[arg-type]
+
+
+def test_a_new_item_whose_laws_have_no_long_run(prior: Prior, program: Path, monkeypatch: pytest.MonkeyPatch) -> None:
+    """It has a plan by its own law, and no range."""
+    def none(*_: object) -> None:
+        raise NoTheory("no law of demand has a long run")
+    monkeypatch.setattr(one, "figures_of_laws", none)
+    answer = plan_one(question_of(new(0, 2), ALL, prior), str(program))
+    assert answer.allowed is None and sentence(answer.remarks[0]) == "new, with 2 periods: its law is that of all items"
