@@ -127,7 +127,8 @@ def test_value_of_what_is_left_out(tmp_path: Path) -> None:
     fault = Remark("no policy", {"fill": 0.99})
     words = Page(crn.report(made_folder(tmp_path / "plan", 12, has_curve=False, change=(item, fault)))).words
     assert "2 of 14 items have no plan" in words
-    assert "1 of them have a price: their stock is worth 150, and a year's demand for them 2,090." in words
+    assert "The stock of 1 of them is worth 150." in words
+    assert "A year's demand for them, as far as it is known, is worth 2,090." in words
     assert "1: no policy meets" in words
 
 

@@ -143,13 +143,14 @@ def rows_of(sums: dict[str, Totals], periods: float, by_value: bool) -> list[Row
 
 
 def left_out_of(folder: PlannedFolder, periods: float, reasons: Iterable[Reason]) -> LeftOut:
-    """Returns what the items are worth that are left out, as far as their prices are known."""
+    """Returns what the items are worth that are left out, as far as that is known: a year's demand is if a policy alone
+    is missing."""
     left = [reason for reason in reasons if reason.kind == "item"]
     known = [item for item, answer in folder.answers()
              if isinstance(answer, Remark) and item.price is not None and item.past != NO_DEMAND]
-    stock = math.fsum(float(item.value or 0) for item in known)
     demand = math.fsum(periods * float(item.price or 0) * sum(item.counts) / max(len(item.counts), 1) for item in known)
-    return LeftOut(sum(reason.count for reason in left), sum(reason.rows for reason in left), len(known), stock, demand)
+    return LeftOut(sum(reason.count for reason in left), sum(reason.rows for reason in left),
+                   sum(reason.valued for reason in left), float(sum(reason.value for reason in left)), demand)
 
 
 def board_of(folder: PlannedFolder, totals: Totals, reasons: Sequence[Reason], money: Money) -> Board:

@@ -184,13 +184,16 @@ def faults_of(folder: PlannedFolder) -> Iterator[Reject]:
 
 @dataclass
 class Reason:
-    """Why rows or items were left out or named: how often, the items and the rows of demand, and the first of them."""
+    """Why rows or items were left out or named: how often, the items and the rows of demand, and the first of them. Of
+    `valued` items it is known what their stock is worth, together `value`."""
 
     kind: str
     column: str
     first: Reject
     count: int = 0
     rows: int = 0
+    valued: int = 0
+    value: Fraction = Fraction(0)
     items: set[str] = field(default_factory=set)
 
     @property
@@ -214,6 +217,8 @@ def reasons_of(rejects: Iterable[Reject]) -> list[Reason]:
         reason = reasons.setdefault(key, Reason(reject.kind, reject.column, reject))
         reason.count += 1
         reason.rows += reject.rows
+        reason.valued += reject.value is not None
+        reason.value += reject.value or 0
         reason.items.add(reject.item)
     return sorted(reasons.values(), key=lambda reason: (reason.kind, -reason.count, reason.column,
                                                         reason.first.remark.code))
