@@ -104,6 +104,14 @@ def test_what_a_bound_costs(name: str, bounds: Bounds, settings: Mapping[str, An
     assert [code for code in remarks if code.startswith("bound of")] == [f"bound of {name}"]
 
 
+def test_a_smallest_order_beyond_what_s_may_cover(program: Path) -> None:
+    """A smallest order lets S cover more. No bound is said to save something by that."""
+    for smallest in (12, 20, 30):
+        _, facts = answer_of(asked(Bounds(order_min=smallest, coverage=Fraction(3)), setup=Fraction(900)), program)
+        costs = [its["cost"] for code, its in facts.items() if code.startswith("bound of")]
+        assert costs and all(isinstance(cost, float) and cost >= 0 for cost in costs)
+
+
 def test_bounds_that_leave_no_policy_for_a_fill(program: Path) -> None:
     """No policy within the bounds has the wanted fill: of all these the chosen one meets most. That is a verdict."""
     aims = Aims(1.0, (Tried(20, 20, tuple(1 - fill for fill in FILLS)),) * 2)  # which correct nothing

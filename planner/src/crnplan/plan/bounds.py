@@ -36,11 +36,14 @@ def feasible_of(bounds: Bounds, box: int, mean: Fraction) -> Feasible:
 
 def binding(theory: LongRun, bounds: Bounds, box: int, mean: Fraction, share: float) -> Iterator[tuple[str, Candidate]]:
     """Yields the bounds that the best policy with a share of demand met at once would leave if it could, each by its
-    name with the best policy without it. Nothing binds if the best of all policies is feasible."""
+    name with the best policy without it. Nothing binds if the best of all policies is feasible. S that a bound lets
+    cover more may do so without it too: else a policy without that bound could be dearer."""
     if theory.has(theory.free.best(share)):
         return
+    most = feasible_of(bounds, box, mean).most_level
     for name, value in LEFT_OUT.items():
         others: dict[str, Any] = {name: value}
-        best = theory.within(feasible_of(replace(bounds, **others), box, mean)).best(share)
+        feasible = feasible_of(replace(bounds, **others), box, mean)
+        best = theory.within(replace(feasible, most_level=max(most, feasible.most_level))).best(share)
         if best.cost < math.inf and not theory.has(best):
             yield name, best
