@@ -26,8 +26,8 @@ from ..remarks import Remark
 from ..table import DataTable
 from .backtest_tables import past_line
 from .board import board_of
-from .catalogue_tables import (DECISION_COLUMNS, DECISIONS, EXACT, REJECTS, aims_of, catalogue_summary, decided_of, decision_row,
-                               decisions_of, exact_of, faults_of, planned_of, reasons_of, rejects_of)
+from .catalogue_tables import (DECISION_COLUMNS, DECISIONS, EXACT, REJECTS, aims_of, catalogue_summary, decided_of,
+                               decision_row, decisions_of, exact_of, faults_of, planned_of, reasons_of, rejects_of)
 from .change_tables import CHANGES, change_lines, changes_of, moved_rows
 from .item_page import ItemWords, item_page
 from .page import OF_CHOSEN, UNITS, Line, Money, Plot, Scale, curve_ends, percent, rendered

@@ -99,8 +99,8 @@ def try_batch(items: Sequence[Item], settings: Settings, prior: Prior) -> list[T
 
 
 def tried_names(read: Catalogued) -> frozenset[str]:
-    """Returns the names of the items with a past and a wanted fill rate, of at most 1,000 with the least digests, which is as good
-    as at random."""
+    """Returns the names of the items with a past and a wanted fill rate, of at most 1,000 with the least digests, which
+    is as good as at random."""
     names = (item.name for item in read.items() if item.fill is not None and item.past == USUAL)
     return frozenset(heapq.nsmallest(MOST_ITEMS, names, key=lambda name: hashlib.sha256(name.encode()).digest()))
 

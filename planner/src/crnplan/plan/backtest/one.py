@@ -54,10 +54,10 @@ class Walk:
 @dataclass(frozen=True)
 class Backtest:
     """An item's test on its past. `first` is the number of the first later period, `demands` what was asked in these,
-    and `mean` the mean demand of all its periods. `today` is None without a policy today. `kept` and `refitted` are the plan, and `damped` is the refitted one
-    with a least gain, None without. `smoothed` is the rule of thumb, and `shuffled` the plan that is kept with all
-    periods in a random order; None if that has none. `above` is the largest later demand over the largest before, with
-    nothing before None."""
+    and `mean` the mean demand of all its periods. `today` is None without a policy today. `kept` and `refitted` are the
+    plan, and `damped` is the refitted one with a least gain, None without. `smoothed` is the rule of thumb, and
+    `shuffled` the plan that is kept with all periods in a random order; None if that has none. `above` is the largest
+    later demand over the largest before, with nothing before None."""
 
     name: str
     group: str
