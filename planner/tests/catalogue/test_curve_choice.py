@@ -41,7 +41,8 @@ def test_hull(points: list[tuple[int, int, int]]) -> None:
 
 @pytest.mark.parametrize("name", ["A-036", "A-041", "A-054"])
 def test_candidates_are_the_best_of_all(planned: Path, name: str) -> None:
-    """Has for each variant and some prices the least of setup, holding and unmet demand of all (s,S) nearby."""
+    """Has for each variant and some prices the least of setup, holding and unmet demand of all (s,S) nearby that may be
+    chosen: with a wanted fill rate s is at least 1."""
     with planned_folder(planned) as folder:
         item, price = dataclasses.replace(folder.item(name)[0], price=Fraction(7)), 7.0
         question = folder.question(item)
@@ -49,7 +50,8 @@ def test_candidates_are_the_best_of_all(planned: Path, name: str) -> None:
     assert theory.exact and item.box == 1 and answer.demand == pytest.approx(np.mean(item.counts))
     costs = variants_of(answer.setup, answer.holding, answer.demand)
     most = int(max(row[3] for row in answer.rows if PRICES[int(row[1])] < 30))
-    every = [(s, S, theory.figures(s, S)) for S in range(0, most + 3) for s in range(max(0, S - 60), S + 1)]
+    least = int(item.fill is not None)
+    every = [(s, S, theory.figures(s, S)) for S in range(least, most + 3) for s in range(max(least, S - 60), S + 1)]
     found = np.array([(it.orders, it.stock, answer.demand * (1 - it.fill)) for _, _, it in every])
     for variant, (order, holding) in enumerate(costs):
         rows = [row for row in answer.rows if row[0] == variant]
