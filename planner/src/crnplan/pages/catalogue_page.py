@@ -35,7 +35,7 @@ from .page import OF_CHOSEN, UNITS, Line, Money, Plot, Scale, curve_ends, percen
 SUMMARY, PAGE, FOUND = "summary.txt", "report.html", "found.toml"
 CATALOGUE_FILES = (DECISIONS, EXACT, REJECTS, SUMMARY, PAGE, FOUND)
 MOST_ROWS = 5_000  # items in the table
-ROWS_A_GROUP = 60  # which are laid out together; the first group is printed
+ROWS_A_GROUP = 45  # which are laid out together; the first group is printed
 MOST_SAVINGS = 15
 MOST_REASONS = 12  # of each kind
 # Forms that differ without colour, in pixels around their point, for the named points in their order.
