@@ -43,6 +43,19 @@ def test_no_demand_above_the_range(name: str) -> None:
     assert len(predictive_of(name, Sample.of([0, 1, 5_000, 10_000] * 5))) <= 10_001
 
 
+def test_demand_in_two_of_the_most_periods() -> None:
+    """The size of a negative binomial law is then far below 1, and none beside it is likelier."""
+    numbers = [0] * 65_534 + [2, 2]
+    size, rest = families.REGISTRY["negative-binomial"].likeliest(Sample.of(numbers)) or (0, 0)
+
+    def likelihood(other: float) -> float:
+        """Returns the logarithm of the likelihood of another size with the same mean."""
+        law = stats.nbinom(other, other / (other + 4 / 65_536))
+        return float(65_534 * law.logpmf(0) + 2 * law.logpmf(2))
+    assert 0 < size < 1e-4 and size * rest / (1 - rest) == pytest.approx(4 / 65_536)
+    assert likelihood(size) > max(likelihood(size * 0.9), likelihood(size * 1.1))
+
+
 @HISTORIES
 def test_fits_are_the_most_likely(numbers: Sequence[int]) -> None:
     """Likelihoods are as great as a general search finds. BIC counts parameters, and the least comes first."""

@@ -171,7 +171,8 @@ class NegativeBinomial(Family):
         low, high = math.log(1e-4), math.log(MOST_SIZE)
         if sample.squares <= sample.total or score(high) >= 0:
             return None
-        size = math.exp(optimize.brentq(score, low, high))
+        # Of a single demand in as many periods as there may be, the size is 1e-6.
+        size = math.exp(optimize.brentq(score, low if score(low) > 0 else math.log(1e-9), high))
         return size, sample.mean / (size + sample.mean)
 
     def logarithms(self, values: Whole, *parameters: Any) -> Floats:
