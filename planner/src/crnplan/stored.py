@@ -102,8 +102,6 @@ class Columns(Generic[Row]):
         have none."""
         if cells[0] is None:
             return typing.cast(Row, None)
-        if not self.parts:
-            return typing.cast(Row, self.read(cells[0]))
         # A catalogue has a hundred cells an item, most of them without parts: these are read here, which is fast.
         return self.kind(*[part.value(cells[start:stop]) if part.parts else
                            None if cells[start] is None else part.read(cells[start])

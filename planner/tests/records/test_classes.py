@@ -9,6 +9,7 @@ import pytest
 
 from crnplan.money import Currency
 from crnplan.records.classes import abc_of, xyz_of
+from crnplan.records.defaults import cuts_of
 
 
 @pytest.mark.parametrize("seed, cuts", [(1, (80, 95)), (2, (50, 60)), (3, (1, 99))])
@@ -26,6 +27,10 @@ def test_equal_values_have_one_class() -> None:
     assert set(abc_of(dict.fromkeys(range(10), Fraction(3)), (80, 95)).values()) == {"A"}
     values = {name: Fraction(value) for name, value in zip("abcde", (50, 30, 14, 1, 5))}
     assert abc_of(values, (80, 95)) == {"a": "A", "b": "A", "c": "B", "e": "B", "d": "C"}
+
+
+def test_cuts_as_people_write_them() -> None:
+    assert cuts_of("70, 90") == cuts_of((70, 90)) == (70, 90)
 
 
 @pytest.mark.parametrize("counts, letter", [
