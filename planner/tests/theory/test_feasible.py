@@ -66,11 +66,11 @@ def check(found: Candidate, pairs: np.ndarray, share: float = 0.0) -> None:
         assert found.cost <= allowed[:, 0].min() + 1e-6 * max(1, found.cost)
 
 
-@pytest.mark.parametrize("seed", range(3))
+@pytest.mark.parametrize("seed", range(5))
 def test_the_cheapest_of_feasible_pairs(seed: int) -> None:
-    """No feasible pair costs less: with a share of demand, with s, and with S. The fullest meets most."""
+    """No feasible pair costs less, in 200 cases: with a share of demand, with s, and with S. The fullest meets most."""
     source = random.Random(seed)
-    for _ in range(2):
+    for _ in range(5):
         scenario, bounds = drawn_scenario(source), [drawn_bounds(source) for _ in range(8)]
         theories = [theory_within(scenario, feasible) for feasible in bounds]
         founds = [[theory.best(share) for share in SHARES] + [theory.best_with_point(point) for point in POINTS]
