@@ -60,6 +60,17 @@ def costs_of(program: Path, text: str, key: str, replications: int) -> dict[str,
     return {name: [after[name] - before.get(name, 0) for before, after in pairs] for name in totals[1]}
 
 
+def test_an_earlier_check_is_replaced(part: Path, program: Path, crnplan: Command, tmp_path: Path) -> None:
+    """Nothing of an earlier check with more keys stays beside a new one; a file of the user does."""
+    for count in (2, 1):
+        its = crnplan("check", part, "both", "--keys", str(count), "--replications", "2", "--out", tmp_path / "check",
+                      "--program", program)
+        assert its.status == 0
+        (tmp_path / "check/mine.txt").touch()
+    names = {path.name for path in (tmp_path / "check").iterdir()}
+    assert {"key_1.toml", "key_1.csv", "mine.txt"} <= names and not {"key_2.toml", "key_2.csv", "pooled.csv"} & names
+
+
 def test_two_keys_are_all_their_replications(part: Path, room: Path, program: Path, crnplan: Command) -> None:
     text, count = part.read_text("utf-8"), 10
     parts = [costs_of(program, text, key, count // 2) for key in KEYS]
