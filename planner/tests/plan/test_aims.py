@@ -16,7 +16,7 @@ from crnplan.chances import Floats
 from crnplan.demand.learning import Prior
 from crnplan.errors import Refused
 from crnplan.plan.aims import FILLS, Aims, Trial, Tried
-from crnplan.plan.correction import BLOCKS, blocks_of, levels_of, trial_of, without
+from crnplan.plan.correction import BLOCKS, blocks_of, levels_of, trial_of
 from crnplan.plan.question import NONE, Levels, Settings
 from crnplan.records.item import Item
 from crnplan.theory.long_run import Candidate, LongRun
@@ -61,7 +61,7 @@ def test_classes_by_hand() -> None:
 
 def test_blocks_by_hand() -> None:
     assert [*blocks_of(10)] == [(0, 2), (2, 5), (5, 8), (8, 10)]
-    item = without(item_of(counts=(1, 2, 3, 4), returns=(0, 1, 0, 0)), 1, 3)
+    item = item_of(counts=(1, 2, 3, 4), returns=(0, 1, 0, 0)).without(range(1, 3))
     assert (item.counts, item.returns) == ((1, 4), ())
 
 

@@ -64,13 +64,6 @@ def unmet_by(policies: Sequence[Levels], past: Past, start: float) -> Floats:
     return np.array(columns, float).T
 
 
-def without(item: Item, start: int, stop: int) -> Item:
-    """Returns an item as it was known without some of its periods."""
-    returns = item.returns[:start] + item.returns[stop:]
-    return dataclasses.replace(item, counts=item.counts[:start] + item.counts[stop:],
-                               returns=returns if any(returns) else ())
-
-
 def blocks_of(periods: int) -> Iterator[tuple[int, int]]:
     """Yields the first period of each block of a record, and the one after it."""
     yield from itertools.pairwise(round(periods * place / BLOCKS) for place in range(BLOCKS + 1))
@@ -84,7 +77,7 @@ def trial_of(item: Item, settings: Settings, prior: Prior) -> Trial:
     if not mean:
         raise Refused("it has no demand")
     for first, end in blocks_of(periods):
-        question = question_of(without(item, first, end), settings, prior)
+        question = question_of(item.without(range(first, end)), settings, prior)
         box, lead, random = question.item.box, question.lead, np.random.default_rng(question.seed("trial"))
         leads = random.choice(lead.values, 2 * periods, p=np.array(lead.weights) / lead.size).tolist()
         past = Past(2 * item.counts, 2 * (item.returns or (0,) * periods), leads)
