@@ -20,7 +20,7 @@ from crnplan.curve.exchange import Budget, chosen_by, with_more_orders
 from crnplan.curve.exchange_curve import CANDIDATES, CURVE, LEFT_OUT, POLICIES, Drawn, exchange_curve, points_of
 from crnplan.plan.catalogue import ANSWERS, planned_folder
 from crnplan.plan.one import figures_of
-from crnplan.plan.question import Question
+from crnplan.plan.question import Terms
 from crnplan.records.catalogue_reading import READ
 from crnplan.words import advice, sentence
 from planner.tests.catalogue.conftest import FILES, REFUSED, SETTINGS, leave_few
@@ -183,10 +183,10 @@ def test_items_that_are_left_out(twenty: Path, planned: Path, tmp_path: Path) ->
 
 
 def test_an_item_without_candidates(plan: Path, monkeypatch: pytest.MonkeyPatch) -> None:
-    def failing(question: Question) -> Candidates:
-        if question.item.name == "A-050":
+    def failing(terms: Terms) -> Candidates:
+        if terms.item.name == "A-050":
             raise MemoryError("no room for a table")
-        return candidates_of(question)
+        return candidates_of(terms)
     monkeypatch.setattr(candidates, "candidates_of", failing)
     (plan / CANDIDATES).unlink()
     its = drawn(plan).gathered

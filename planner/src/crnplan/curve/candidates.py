@@ -8,16 +8,16 @@ dearer orders too, of which fewer are then bought, and for dearer stock.
 """
 from __future__ import annotations
 
-from collections.abc import Iterator, Sequence
+from collections.abc import Callable, Iterator, Sequence
 from dataclasses import dataclass
 
 import numpy as np
 import numpy.typing as npt
 
 from ..chances import Floats, Whole
-from ..demand.learning import Prior
+from ..plan.answer import Laws
 from ..plan.one import or_fault
-from ..plan.question import Question, Settings, question_of
+from ..plan.question import Settings, Terms, rates_of
 from ..records.item import Item
 from ..remarks import Remark
 from ..theory.long_run import STOCK_LEFT, UNMET, LongRun, Means, gap_grid
@@ -179,12 +179,12 @@ class Candidates:
     rows: tuple[tuple[float, ...], ...]
 
 
-def candidates_of(question: Question) -> Candidates:
+def candidates_of(terms: Terms) -> Candidates:
     """Returns the candidates of an item with a price. Raises Refused if it has no theory."""
-    item, demand = question.item, float(question.demand.table.mean)
-    setup, holding = (question.money(question.rates[name]) for name in ("setup", "holding"))
+    item, demand = terms.item, float(terms.demand.mean)
+    setup, holding = (terms.money(terms.rates[name]) for name in ("setup", "holding"))
     assert item.price is not None
-    theory, box = question.theory(), item.box
+    theory, box = terms.theory(), item.box
     gaps, figures = Policies(theory, holding, float(item.price) * box).search(variants_of(setup, holding, demand))
     rows: list[tuple[float, ...]] = []
     for variant, (gap, (level, stock, unmet, orders)) in enumerate(zip(gaps, figures)):
@@ -196,6 +196,14 @@ def candidates_of(question: Question) -> Candidates:
     return Candidates(demand * box, setup, holding / box, tuple(rows))
 
 
-def candidates_batch(batch: Sequence[Item], settings: Settings, prior: Prior) -> list[Candidates | Remark]:
-    """Returns the candidates of items, or why an item has none."""
-    return [or_fault(lambda asked: candidates_of(question_of(asked, settings, prior)), item) for item in batch]
+def terms_of(item: Item, laws: Laws, settings: Settings) -> Terms:
+    """Returns the terms of an item with the laws of its plan."""
+    rates, scale, _ = rates_of(item)
+    return Terms(item, settings, rates, scale, laws.demand, laws.lead, laws.returns)
+
+
+def candidates_batch(batch: Sequence[tuple[Item, Laws]], settings: Settings) -> list[Candidates | Remark]:
+    """Returns the candidates of items with the laws of their plans, or why an item has none."""
+    def candidates(laws: Laws) -> Callable[[Item], Candidates]:
+        return lambda item: candidates_of(terms_of(item, laws, settings))
+    return [or_fault(candidates(laws), item) for item, laws in batch]

@@ -24,10 +24,11 @@ from ..crnsim.report import counting
 from ..errors import Refused
 from ..files import Folder, own_folder
 from ..jobs import Work, workers_of
-from ..plan.answer import CHOSEN, TODAY, Answer
+from ..plan.answer import CHOSEN, TODAY, Answer, Laws
 from ..plan.catalogue import PlannedFolder, planned_folder
 from ..plan.question import Levels, Question
 from ..records.catalogue_reading import CATALOGUE
+from ..records.item import Item
 from ..remarks import Remark
 from ..scenario import Policy
 from ..stored import Store, digest_of
@@ -103,10 +104,14 @@ def gather(own: Folder, folder: PlannedFolder, jobs: int | None, address: str | 
             digests[name] = digest_of(digest, VERSION, item.price)
         else:
             left_out.append((name, answer if isinstance(answer, Remark) else Remark(NO_PRICE)))
+
+    def asked(name: str) -> tuple[Item, Laws]:
+        item, answer = folder.read.item(name), folder.store.answer(name)
+        assert item is not None and isinstance(answer, Answer)
+        return item, answer.laws
     with contextlib.closing(Store(own.store(CANDIDATES), Candidates)) as kept:
         work = Work(kept, digests)
-        work.finish(candidates_batch, folder.read.item, folder.planned.settings, folder.planned.prior,
-                    workers=workers_of(jobs, address), shown=shown)
+        work.finish(candidates_batch, asked, folder.planned.settings, workers=workers_of(jobs, address), shown=shown)
         return added_up(folder, kept, digests, left_out, len(work.left))
 
 

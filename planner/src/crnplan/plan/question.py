@@ -16,6 +16,7 @@ from ..demand.learning import Prior
 from ..demand import LEAD_METHODS, METHODS
 from ..errors import CrnplanError, Refused, argument
 from ..formats import MOST_ITEMS, MOST_PERIODS, MOST_REPLICATIONS, MOST_WEIGHT, limits
+from ..law import Law
 from ..money import rounded_costs
 from ..records.bounds import Bounds
 from ..records.item import BORROW, NEW, Item
@@ -123,25 +124,17 @@ class Settings:
 
 
 @dataclass(frozen=True, eq=False)
-class Question:
-    """What is asked for an item: its facts, its laws in boxes, its costs as whole rates of a box with their scale, and
-    the settings.
-
-    `borrow` says from whom its law is learned, and `prior` what was learned. `rate_error` is by which share a rate is
-    rounded. `before` is the policy of an earlier plan in boxes; None if there is none, or not in whole boxes.
-    """
+class Terms:
+    """What theory takes of an item: its facts, its costs as whole rates of a box with their scale, its laws in boxes,
+    and the settings."""
 
     item: Item
     settings: Settings
-    prior: Prior = field(repr=False)
-    borrow: str
     rates: Mapping[str, int]
     scale: Fraction
-    rate_error: float
-    demand: FittedLaw
-    lead: FittedLaw
-    returns: FittedLaw | None
-    before: Levels | None = None
+    demand: Law
+    lead: Law
+    returns: Law | None
 
     @property
     def levels(self) -> Levels | None:
@@ -150,13 +143,74 @@ class Question:
         return None if levels is None else (round(levels[0] / box), round(levels[1] / box))
 
     @property
+    def has_backlog(self) -> bool:
+        return self.item.backlog is not None
+
+    @property
+    def bounds(self) -> Bounds:
+        """Returns the bounds of the item's policies, in items."""
+        return self.settings.bounds_of(self.item)
+
+    @property
+    def implied_backlog(self) -> int:
+        """Returns the backlog rate; without one, that by which the wanted share would be best for a newsvendor."""
+        fill = self.item.fill
+        if fill is None or self.has_backlog:
+            return self.rates["backlog"]
+        return max(1, round(self.rates["holding"] * fill / (1 - fill)))
+
+    def money(self, amount: float) -> float:
+        return amount / float(self.scale)
+
+    def scenario(self, backlog: int | None = None, initial: int = 0) -> Scenario:
+        """Returns the scenario of today's policy, or of none, with a backlog rate, by default that of the rates or else
+        1, without which theory finds no best policy. Its key follows from the item's name and the seed."""
+        settings, rates = self.settings, {name: self.rates[name] for name in ("setup", "holding")}
+        backlog = self.rates.get("backlog", 1) if backlog is None else backlog
+        scenario = Scenario.of(
+            self.demand, self.lead, **rates, backlog=backlog, returns=self.returns, today=self.levels or (0, 0),
+            initial=initial, periods=settings.periods, replications=settings.replications,
+            key=f"{settings.seed}\n{self.item.name}")
+        return scenario if self.levels else scenario.with_policies(())
+
+    def for_theory(self) -> Scenario:
+        """Returns the scenario with a backlog rate by which theory has policies that meet a wanted share: with hardly any
+        it would be far too coarse."""
+        scenario = self.scenario()
+        return dataclasses.replace(scenario, costs=dataclasses.replace(scenario.costs, backlog=self.implied_backlog))
+
+    def theory(self) -> LongRun:
+        """Returns the theory of the item. Raises Refused if there is none.
+
+        Without a backlog cost only setup and stock cost something. The lattice is then chosen by the implied backlog
+        rate.
+        """
+        scenario, (point, level) = self.scenario(), self.levels or (0, 0)
+        feasible = feasible_of(self.bounds, self.item.box, self.demand.mean)
+        shape = dataclasses.replace(shape_of(self.for_theory()), least_gap=feasible.gap(1) - 1)
+        return theory_on(scenario, shape, *lattice_of(scenario, shape, level - point, MOST_GAPS), feasible)
+
+
+@dataclass(frozen=True, eq=False)
+class Question(Terms):
+    """What is asked for an item: its terms, with laws that are fitted.
+
+    `borrow` says from whom its law is learned, and `prior` what was learned. `rate_error` is by which share a rate is
+    rounded. `before` is the policy of an earlier plan in boxes; None if there is none, or not in whole boxes.
+    """
+
+    demand: FittedLaw
+    lead: FittedLaw
+    returns: FittedLaw | None
+    prior: Prior = field(repr=False)
+    borrow: str
+    rate_error: float
+    before: Levels | None = None
+
+    @property
     def group(self) -> str | None:
         """Returns the class from which the law is learned; None if that is all."""
         return self.item.group if self.borrow == CLASS else None
-
-    @property
-    def has_backlog(self) -> bool:
-        return self.item.backlog is not None
 
     @property
     def learned(self) -> Borrowed | None:
@@ -178,57 +232,13 @@ class Question:
     def is_new(self) -> bool:
         return self.item.past == NEW
 
-    @property
-    def bounds(self) -> Bounds:
-        """Returns the bounds of the item's policies, in items."""
-        return self.settings.bounds_of(self.item)
-
-    @property
-    def implied_backlog(self) -> int:
-        """Returns the backlog rate; without one, that by which the wanted share would be best for a newsvendor."""
-        fill = self.item.fill
-        if fill is None or self.has_backlog:
-            return self.rates["backlog"]
-        return max(1, round(self.rates["holding"] * fill / (1 - fill)))
-
-    def money(self, amount: float) -> float:
-        return amount / float(self.scale)
-
     def seed(self, purpose: str) -> int:
         """Returns the seed of random numbers for a purpose."""
         return self.settings.seed_of(purpose, self.item.name)
 
-    def scenario(self, backlog: int | None = None, initial: int = 0) -> Scenario:
-        """Returns the scenario of today's policy, or of none, with a backlog rate, by default that of the rates or else
-        1, without which theory finds no best policy. Its key follows from the item's name and the seed."""
-        settings, rates = self.settings, {name: self.rates[name] for name in ("setup", "holding")}
-        backlog = self.rates.get("backlog", 1) if backlog is None else backlog
-        scenario = Scenario.of(
-            self.demand, self.lead, **rates, backlog=backlog, returns=self.returns, today=self.levels or (0, 0),
-            initial=initial, periods=settings.periods, replications=settings.replications,
-            key=f"{settings.seed}\n{self.item.name}")
-        return scenario if self.levels else scenario.with_policies(())
-
-    def for_theory(self) -> Scenario:
-        """Returns the scenario with a backlog rate by which theory has policies that meet a wanted share: with hardly any
-        it would be far too coarse."""
-        scenario = self.scenario()
-        return dataclasses.replace(scenario, costs=dataclasses.replace(scenario.costs, backlog=self.implied_backlog))
-
     def alone(self) -> Question:
         """Returns the question of an item that learns its law from no other."""
         return dataclasses.replace(self, borrow=NONE, demand=fit_demand(self.item.counts, box=self.item.box))
-
-    def theory(self) -> LongRun:
-        """Returns the theory of the question. Raises Refused if there is none.
-
-        Without a backlog cost only setup and stock cost something. The lattice is then chosen by the implied backlog
-        rate.
-        """
-        scenario, (point, level) = self.scenario(), self.levels or (0, 0)
-        feasible = feasible_of(self.bounds, self.item.box, self.demand.mean)
-        shape = dataclasses.replace(shape_of(self.for_theory()), least_gap=feasible.gap(1) - 1)
-        return theory_on(scenario, shape, *lattice_of(scenario, shape, level - point, MOST_GAPS), feasible)
 
 
 def finest(rates: Mapping[str, int], scale: Fraction) -> tuple[dict[str, int], Fraction]:
@@ -280,4 +290,4 @@ def question_of(item: Item, settings: Settings, prior: Prior | None = None, befo
         law_of(prior, item.counts, group, box=box, is_new=item.past == NEW)
     returns = fit_demand(item.returns, method=settings.fit, box=box) if item.returns else None
     lead = fit_lead(item.leads, method=settings.lead_fit)
-    return Question(item, settings, prior, borrow, rates, scale, error, demand, lead, returns, in_boxes(before, box))
+    return Question(item, settings, rates, scale, demand, lead, returns, prior, borrow, error, in_boxes(before, box))
