@@ -9,9 +9,10 @@ import pytest
 from hypothesis import example, given, settings, strategies as st
 from scipy import integrate, optimize, special, stats
 
-from crnplan.chances import DEMANDS, Floats
+from crnplan.chances import DEMANDS, Floats, scaled
 from crnplan.demand import families, sample as guard
-from crnplan.demand.families import beta_negative_binomial, fits_of, greatest_mean, parts_of, predictive_of
+from crnplan.demand.families import (beta_negative_binomial, cells_of, fits_of, greatest_mean, parts_of,
+                                             predictive_of)
 from crnplan.demand.fitting import fit_demand
 from crnplan.demand.posterior import allowed_laws
 from crnplan.demand.sample import Sample
@@ -101,7 +102,7 @@ def test_lognormal_sizes(numbers: Sequence[int]) -> None:
     share = np.mean(data == 0)
     fit = fits_of(Sample.of(numbers))["hurdle-lognormal"]
     chances = (1 - share) * np.diff([0, *law.cdf(np.arange(1, 41) + 0.5)])
-    assert fit.chances[1:41] == pytest.approx(chances, rel=1e-9)
+    assert fit.law(max(numbers))[1:21] == pytest.approx(chances[:20], rel=2e-7)
     seen = [share if it == 0 else chances[it - 1] for it in numbers]
     assert fit.log_likelihood == pytest.approx(np.log(seen).sum())
     data = np.array(numbers)
@@ -193,7 +194,7 @@ def test_bulk() -> None:
     share = count / len(BULKY)
     law = share * sizes + (1 - share) * stats.poisson.pmf(np.arange(41), np.mean(ordinary))
     fit = fits_of(Sample.of(BULKY))["bulk"]
-    assert fit.chances[:41] == pytest.approx(law)
+    assert fit.law(max(BULKY))[:31] == pytest.approx(law[:31])
     assert fit.log_likelihood == pytest.approx(np.log(law[BULKY]).sum())
     assert fit.bic == pytest.approx(4 * math.log(len(BULKY)) - 2 * fit.log_likelihood)
     assert [*fits_of(Sample.of(BULKY))][0] == "bulk"
@@ -210,6 +211,20 @@ def test_bulk() -> None:
         assert law[:value + 1].sum() == pytest.approx(share * below + (1 - share) * base[:value + 1].sum(), abs=1e-5)
 
 
+@pytest.mark.parametrize("name", families.REGISTRY)
+@pytest.mark.parametrize("numbers, width, most", [
+    (BULKY, 40, 10_000), (BULKY, 20, 200), ([0] * 40 + [1, 2, 8], 25, 10_000), ([0, 0, 3, 900, 40, 0, 9], 2_000, 10_000),
+    ([0, 1, 90, 30, 0, 0, 12], 101, 100)], ids=["light", "packs", "rare", "heavy", "all"])
+def test_cells(name: str, numbers: list[int], width: int, most: int) -> None:
+    """The last cell has the chance of all its numbers, as a law with a cell for each of them says."""
+    sample = Sample.of(numbers)
+    if name in fits_of(sample):
+        law = scaled(families.REGISTRY[name].predictive(sample, DEMANDS[:most + 1]))
+        expected = [*law[:width], law[width:].sum()] if width <= most else law
+        found = scaled(families.REGISTRY[name].predictive(sample, cells_of(width, most)))
+        assert found == pytest.approx(expected, rel=1e-7, abs=1e-12)
+
+
 @settings(max_examples=10, deadline=None)
 @given(numbers=st.lists(st.integers(0, 400), min_size=2, max_size=60).filter(lambda it: sum(map(bool, it)) > 1))
 def test_any_history(numbers: list[int]) -> None:
@@ -220,7 +235,8 @@ def test_any_history(numbers: list[int]) -> None:
     for name, fit in fits_of(sample).items():
         law = predictive_of(name, sample)
         assert (law >= 0).all() and law.sum() == pytest.approx(1) and len(law) <= len(DEMANDS)
-        assert (fit.chances >= 0).all() and fit.chances.sum() <= 1 + 1e-9
+        own = fit.law(max(numbers))
+        assert (own >= 0).all() and own.sum() == pytest.approx(1)
         if name.startswith("hurdle"):
             assert law[0] == pytest.approx((sample.zeros + 0.5) / (len(numbers) + 1) if sample.zeros else 0, abs=1e-6)
 
@@ -229,10 +245,10 @@ def test_any_history(numbers: list[int]) -> None:
     (0.05, 30, 12, 3.0), (2.5, 104, 300, 4.1), (900.0, 52, 5_000, 120.0), (0.15, 14, 92, 40.0)])
 def test_beta_negative_binomial(size: float, periods: int, total: int, most_mean: float) -> None:
     """Each chance is an integral of negative binomial chances over p, up to the bound."""
-    chances = beta_negative_binomial(size, periods * size, total, most_mean)
+    chances, = beta_negative_binomial(np.array([[size]]), np.array([[periods * size]]), total, most_mean, np.arange(61))
     law, least = stats.beta(periods * size, total), size / (size + most_mean)
     middle = min(max(float(law.mean()), least), 1.0)
-    for value in (0, 1, 7, min(60, len(chances) - 1)):
+    for value in (0, 1, 7, 60):
         expected = sum(integrate.quad(lambda p, value=value: law.pdf(p) * stats.nbinom.pmf(value, size, p), *ends,
                                       limit=400)[0] for ends in [(least, middle), (middle, 1)])
         assert chances[value] == pytest.approx(expected, rel=1e-6, abs=1e-12)

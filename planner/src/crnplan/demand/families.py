@@ -9,6 +9,9 @@ A law is an array of chances: those of 0, 1, 2 and so on. All figures are rounde
 - flat in the logarithm of the share of bulks, which may have any order of magnitude, and in their mean; their variance
   has a scaled inverse chi-square law.
 
+A predictive law has cells of numbers, of which the last may hold many: `ends` has the last number of each, which are 0, 1,
+2 and so on, and that of the last cell. The number is at most that.
+
 A new family is a class, its name in `demand.FAMILIES` and an entry in `REGISTRY`; docs/GUIDE.md says what it is for.
 """
 from __future__ import annotations
@@ -38,6 +41,7 @@ MOST_SIZE = 1e4  # With it, such a law is all but a Poisson law.
 SIZES = 48  # over which the posterior is summed
 LEAST_RATIO, MOST_RATIO, LARGE_MEAN = 0.02, 50.0, 20.0  # of mean to size k; it may be larger for means above LARGE_MEAN
 LEAST_SHARE = 1e-6  # of a size in the posterior
+LEAST_BEYOND = 1e-9  # of a law; a smaller part beyond its cells counts in the last one
 # The greatest mean: so many standard errors above the one seen, and at most so much above it in the logarithm, since a
 # mean that is flat in its logarithm has too heavy a tail after few demands.
 MOST_ERRORS, MOST_LOGARITHM = 4.0, 2.5
@@ -61,9 +65,9 @@ class Fit(NamedTuple):
     log_likelihood: float
     bic: float
 
-    @property
-    def chances(self) -> Floats:
-        return self.family.chances(DEMANDS, *self.member)
+    def law(self, most: int) -> Floats:
+        """Returns the law of the member, without the end of its tail. `most` is the largest number that was seen."""
+        return cut(self.family.laws(tuple(np.array([[it]]) for it in self.member), most)[0])
 
 
 class Family(ABC):
@@ -78,8 +82,9 @@ class Family(ABC):
         """Returns the member with the greatest likelihood; None if the sample does not allow the family."""
 
     @abstractmethod
-    def predictive(self, sample: Sample) -> Floats:
-        """Returns the posterior predictive law: with the doubt about the parameters, from a weak prior of them."""
+    def predictive(self, sample: Sample, ends: Whole) -> Floats:
+        """Returns the posterior predictive law of cells: with the doubt about the parameters, from a weak prior of them.
+        Its sum may be below 1 by the chance of numbers beyond the cells."""
 
     @abstractmethod
     def drawn(self, sample: Sample, uniform: Floats, counted: float = 1.0) -> Parameters:
@@ -126,9 +131,11 @@ class Poisson(Family):
     def logarithms(self, values: Whole, *parameters: Any) -> Floats:
         return np.asarray(special.xlogy(values, parameters[0]) - special.gammaln(values + 1) - parameters[0])
 
-    def predictive(self, sample: Sample) -> Floats:
+    def predictive(self, sample: Sample, ends: Whole) -> Floats:
         """Returns the law of a number whose mean has a gamma law: it is negative binomial."""
-        return NEGATIVE_BINOMIAL.chances(DEMANDS, sample.total + 0.5, 1 / (sample.size + 1))
+        size, rest = sample.total + 0.5, 1 / (sample.size + 1)
+        chances = NEGATIVE_BINOMIAL.chances(DEMANDS[:len(ends)], size, rest)
+        return with_rest(chances, ends, special.betainc(size, ends[-1] + 1, 1 - rest))
 
     def drawn(self, sample: Sample, uniform: Floats, counted: float = 1.0) -> Parameters:
         """Draws means, whose posterior is a gamma law."""
@@ -144,10 +151,11 @@ class Geometric(Family):
     def logarithms(self, values: Whole, *parameters: Any) -> Floats:
         return np.asarray(np.log(parameters[0]) + special.xlog1py(values, -parameters[0]))
 
-    def predictive(self, sample: Sample) -> Floats:
+    def predictive(self, sample: Sample, ends: Whole) -> Floats:
         """Returns the law of a number whose p has a beta law, from a flat prior of p."""
         first, second = sample.size + 1.0, sample.total + 1.0
-        return np.asarray(np.exp(special.betaln(first + 1, second + DEMANDS) - special.betaln(first, second)))
+        at_least = np.exp(special.betaln(first, second + np.append(0, ends + 1)) - special.betaln(first, second))
+        return -np.diff(at_least)
 
     def drawn(self, sample: Sample, uniform: Floats, counted: float = 1.0) -> Parameters:
         """Draws p, whose posterior is a beta law."""
@@ -179,16 +187,22 @@ class NegativeBinomial(Family):
         size, rest = parameters
         return np.asarray(ways(values, size) + special.xlog1py(size, -rest) + special.xlogy(values, rest))
 
-    def predictive(self, sample: Sample) -> Floats:
+    def predictive(self, sample: Sample, ends: Whole) -> Floats:
         """Returns the posterior predictive law. For a given size p has a beta law, so only the sizes are summed."""
         sizes, likelihoods = self._posterior(sample, 1.0)
-        shares = np.exp(likelihoods - likelihoods.max())
-        chances, most_mean = np.zeros(len(DEMANDS)), greatest_mean(sample)
-        for size, share in zip(sizes, shares / shares.sum()):
-            if share > LEAST_SHARE:
-                law = beta_negative_binomial(size, sample.size * size, sample.total, most_mean)
-                chances[:len(law)] += share * law
-        return scaled(chances)
+        shares = scaled(np.exp(likelihoods - likelihoods.max()))
+        sizes, shares = sizes[shares > LEAST_SHARE], shares[shares > LEAST_SHARE]
+        most_mean = greatest_mean(sample)
+        above, first = most_mean / (sizes + most_mean), sample.size * sizes
+        total = float(shares @ special.betainc(sample.total, first, above))
+        # Numbers beyond the cells are at most as likely as with the greatest mean.
+        beyond = float(shares @ special.betainc(ends[-1] + 1, sizes, above))
+        is_narrow = beyond < LEAST_BEYOND * total
+        numbers = DEMANDS[:len(ends)] if is_narrow else DEMANDS[:ends[-1] + 1]
+        chances = shares @ beta_negative_binomial(sizes[:, None], first[:, None], sample.total, most_mean, numbers)
+        if not is_narrow:
+            return scaled(np.add.reduceat(chances, np.append(0, ends[:-1] + 1)))
+        return scaled(with_rest(chances, ends, total))
 
     def drawn(self, sample: Sample, uniform: Floats, counted: float = 1.0) -> Parameters:
         """Draws sizes and 1 - p. For a given size, p has a beta law that is cut at the greatest mean."""
@@ -221,20 +235,25 @@ def ways(values: Any, size: Any) -> Floats:
     return np.asarray(special.gammaln(values + size) - special.gammaln(size) - special.gammaln(values + 1))
 
 
-def beta_negative_binomial(size: float, first: float, second: float, most_mean: float) -> Floats:
-    """Returns the chances of a negative binomial number whose p has a beta law, and that its mean is at most so much.
-    Without the bound it is the beta negative binomial law (Johnson, Kemp and Kotz, Univariate Discrete Distributions,
-    third edition, section 6.2.3)."""
+def beta_negative_binomial(size: Floats, first: Floats, second: float, most_mean: float, values: Whole) -> Floats:
+    """Returns the chances of 0, 1 and so on, the `values`, of negative binomial numbers whose p has a beta law, and that
+    their mean is at most so much: a row for each size. Without the bound it is the beta negative binomial law (Johnson,
+    Kemp and Kotz, Univariate Discrete Distributions, third edition, section 6.2.3)."""
     above = most_mean / (size + most_mean)  # the greatest value of 1 - p
-    variance = most_mean * (1 + most_mean / size)
-    width = min(MOST_DEMAND, int(most_mean + 12 * math.sqrt(variance) + 20 * variance / most_mean + 30)) + 1
-    values = DEMANDS[:width]
     (a, b), scale = (second + values, first + size), special.betaln(first + size, second + values)
     # The chance that a beta number is below the bound falls from one a to the next one by what is known (Abramowitz and
     # Stegun, Handbook of Mathematical Functions, 26.5.16). It is summed from the last one on, so nothing cancels.
-    steps = np.exp(a * math.log(above) + b * math.log1p(-above) - scale) / a
-    within = special.betainc(a[-1], b, above) + np.append(np.cumsum(steps[-2::-1])[::-1], 0.0)
+    steps = np.exp(a * np.log(above) + b * np.log1p(-above) - scale) / a
+    steps[:, -1:] = special.betainc(a[-1], b, above)
+    within = np.cumsum(steps[:, ::-1], axis=1)[:, ::-1]
     return np.asarray(np.exp(ways(values, size) + scale - special.betaln(first, second)) * within)
+
+
+def with_rest(chances: Floats, ends: Whole, total: float) -> Floats:
+    """Returns chances of 0, 1 and so on with that of the last cell, by the chance of all cells."""
+    if ends[-1] >= len(ends):
+        chances[-1] = max(total - chances[:-1].sum(), 0.0)
+    return chances
 
 
 @dataclass(frozen=True)
@@ -249,10 +268,10 @@ class Hurdle(Family):
         member = self.sizes.likeliest(sample.excess)
         return None if member is None else (sample.zeros / sample.size, *member)
 
-    def predictive(self, sample: Sample) -> Floats:
+    def predictive(self, sample: Sample, ends: Whole) -> Floats:
         """Returns the predictive law. If each period had demand, none is taken to have none."""
         share = (sample.zeros + 0.5) / (sample.size + 1) if sample.zeros else 0.0
-        above = scaled(self.sizes.predictive(sample.excess)[:len(DEMANDS) - 1])
+        above = scaled(self.sizes.predictive(sample.excess, ends[1:] - 1))
         return np.concatenate([[share], (1 - share) * above])
 
     def drawn(self, sample: Sample, uniform: Floats, counted: float = 1.0) -> Parameters:
@@ -277,11 +296,11 @@ class Lognormal(Family):
         mean, deviation = self._moments(sample)
         return None if deviation < LEAST_DEVIATION else (mean, deviation)
 
-    def predictive(self, sample: Sample) -> Floats:
+    def predictive(self, sample: Sample, ends: Whole) -> Floats:
         """Returns the predictive law: the logarithm has Student's law, but for the bound of the deviation."""
         mean, deviations = self._drawn_moments(sample, (np.arange(DEVIATIONS)[:, None] + 0.5) / DEVIATIONS, 1.0)
         deviations *= math.sqrt(1 + 1 / sample.size)
-        below = special.ndtr((np.log(DEMANDS[1:] + 0.5) - mean) / deviations).mean(axis=0)
+        below = special.ndtr((np.log(ends + 1.5) - mean) / deviations).mean(axis=0)
         return np.asarray(np.diff(below, prepend=0.0))
 
     def drawn(self, sample: Sample, uniform: Floats, counted: float = 1.0) -> Parameters:
@@ -340,16 +359,16 @@ class Bulk(Family):
         deviation = math.sqrt(parts.squares() / (bulks.size + BULK_FREEDOM))
         return bulks.size / sample.size, bulks.mean, deviation, *parts.fit.member
 
-    def predictive(self, sample: Sample) -> Floats:
+    def predictive(self, sample: Sample, ends: Whole) -> Floats:
         """Returns the predictive law of ordinary demand and of bulks, whose size has Student's law."""
         parts = parts_of(sample)
         assert parts is not None
         bulks, freedom = parts.bulks, parts.bulks.size - 1 + BULK_FREEDOM
         deviation = math.sqrt(parts.squares() / freedom * (1 + 1 / bulks.size))
         share = bulks.size / (sample.size + 1)
-        below = special.stdtr(freedom, (DEMANDS[1:] + 0.5 - bulks.mean) / deviation)
+        below = special.stdtr(freedom, (ends[1:] + 0.5 - bulks.mean) / deviation)
         sizes = np.append(0.0, np.diff(below, prepend=0.0))
-        return np.asarray(share * sizes + (1 - share) * scaled(parts.fit.family.predictive(parts.ordinary)))
+        return np.asarray(share * sizes + (1 - share) * scaled(parts.fit.family.predictive(parts.ordinary, ends)))
 
     def drawn(self, sample: Sample, uniform: Floats, counted: float = 1.0) -> Parameters:
         parts = parts_of(sample)
@@ -415,6 +434,12 @@ def near_of(fits: Mapping[str, Fit]) -> dict[str, Fit]:
     return {name: fit for name, fit in fits.items() if fit.bic <= min(fit.bic for fit in fits.values()) + WORSE}
 
 
-def predictive_of(name: str, sample: Sample) -> Floats:
-    """Returns the posterior predictive law of a family that the sample allows, without the end of its tail."""
-    return cut(REGISTRY[name].predictive(sample))
+def cells_of(width: int, most: int) -> Whole:
+    """Returns the last numbers of cells: one for each number below a width, and one for all from there to `most`."""
+    return np.append(DEMANDS[:width], most) if width <= most else DEMANDS[:most + 1]
+
+
+def predictive_of(name: str, sample: Sample, ends: Whole = DEMANDS) -> Floats:
+    """Returns the posterior predictive law of a family that the sample allows, without the end of its tail. Numbers are
+    at most the last one of `ends`, which has the last one of each cell."""
+    return cut(REGISTRY[name].predictive(sample, ends))

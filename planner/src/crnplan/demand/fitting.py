@@ -13,14 +13,14 @@ from typing import TYPE_CHECKING
 import numpy as np
 from scipy import special
 
-from ..chances import Floats, blurred, cut, in_items, mixture, scaled
+from ..chances import DEMANDS, Floats, blurred, in_items, mixture, scaled
 from ..errors import Refused, argument
 from ..formats import MOST_DEMAND, MOST_LEAD
 from ..law import Law
 from ..money import Number
 from ..records.observed import Observed
 from . import EMPIRICAL, LEAD_METHODS, METHODS
-from .families import REGISTRY, fits_of, near_of, parts_of, predictive_of
+from .families import REGISTRY, cells_of, fits_of, near_of, parts_of, predictive_of
 from .fitted import LEAST_MEAN, LEAST_VARIANCE, Diagnostics, FittedLaw, numbers_of
 from .sample import Sample, shares_of
 
@@ -110,18 +110,21 @@ def family_law(boxes: Sequence[int], method: str, box: int = 1) -> FittedLaw:
     fits = fits_of(packs)
     if method in REGISTRY and method not in fits:
         raise Refused(f"the history does not allow the family {method}; it allows {', '.join(fits) or 'none'}")
-    guard = {name: shares_of(packs, cut(fit.chances)) for name, fit in near_of(fits).items()}
+    guard = {name: shares_of(packs, fit.law(packs.most)) for name, fit in near_of(fits).items()}
     names = [method] if method in REGISTRY else [name for name, shares in guard.items() if shares.passes]
     known = Diagnostics(Law.of_numbers(boxes), method, pack, {name: fit.bic for name, fit in fits.items()}, guard)
     if not names:
         return FittedLaw.made(known.seen, EMPIRICAL, known, box)
-    laws = (in_items(predictive_of(name, packs), pack) for name in names)
+    # Above the cap the law of `auto` has nothing, so all that is there counts in one cell.
+    cap, most = cap_of(sample), MOST_DEMAND // pack
+    ends = cells_of(cap // pack + 1, most) if method == "auto" else DEMANDS
+    laws = (in_items(predictive_of(name, packs, ends), pack) for name in names)
     if method != "auto":
         return FittedLaw.made(Law.of_chances(next(laws)), names[0], known, box)
     # Posterior chances of families that are as likely beforehand (Raftery, Bayesian model selection in social research,
     # 1995, section 4.1).
     likely = [math.exp((fits[names[0]].bic - fits[name].bic) / 2) for name in names]
-    weights, cap = [value / sum(likely) for value in likely], cap_of(sample)
+    weights = [value / sum(likely) for value in likely]
     law = scaled(mixture(zip(weights, laws))[:cap + 1])
     share = min(share_of(sample, law), 1 - seen_share(sample, law))
     parts = parts_of(packs) if "bulk" in names else None
