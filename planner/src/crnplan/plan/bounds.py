@@ -2,14 +2,14 @@
 from __future__ import annotations
 
 import math
-from collections.abc import Iterator
+from collections.abc import Iterable, Iterator
 from dataclasses import replace
 from fractions import Fraction
 from typing import Any
 
 from ..formats import MOST_ITEMS
 from ..records.bounds import Bounds
-from ..theory.feasible import Feasible
+from ..theory.feasible import ALL, Feasible
 from ..theory.long_run import Candidate, LongRun
 
 # The periods of demand that S covers at most, if nothing else is stated: two years.
@@ -34,16 +34,20 @@ def feasible_of(bounds: Bounds, box: int, mean: Fraction) -> Feasible:
     return replace(feasible, most_level=min(most, MOST_ITEMS))
 
 
-def binding(theory: LongRun, bounds: Bounds, box: int, mean: Fraction, share: float) -> Iterator[tuple[str, Candidate]]:
-    """Yields the bounds that the best policy with a share of demand met at once would leave if it could, each by its
-    name with the best policy without it. Nothing binds if the best of all policies is feasible. S that a bound lets
-    cover more may do so without it too: else a policy without that bound could be dearer."""
+def binding(theory: LongRun, bounds: Bounds, box: int, mean: Fraction, share: float,
+            names: Iterable[str] = LEFT_OUT) -> Iterator[tuple[str, Candidate]]:
+    """Yields those of some bounds that the best policy with a share of demand met at once would leave if it could, each
+    by its name with the best policy without it. Nothing binds if the best of all policies is feasible. S that a bound
+    lets cover more may do so without it too: else a policy without that bound could be dearer."""
     if theory.has(theory.free.best(share)):
         return
     most = feasible_of(bounds, box, mean).most_level
-    for name, value in LEFT_OUT.items():
-        others: dict[str, Any] = {name: value}
+    for name in names:
+        others: dict[str, Any] = {name: LEFT_OUT[name]}
         feasible = feasible_of(replace(bounds, **others), box, mean)
-        best = theory.within(replace(feasible, most_level=max(most, feasible.most_level))).best(share)
+        feasible = replace(feasible, most_level=max(most, feasible.most_level))
+        if feasible == theory.feasible:  # as for a bound that is not stated
+            continue
+        best = (theory.free if feasible == ALL else theory.within(feasible)).best(share)
         if best.cost < math.inf and not theory.has(best):
             yield name, best

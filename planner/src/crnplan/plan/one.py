@@ -39,7 +39,7 @@ from ..theory.many_laws import Promises, figures_of_laws
 from ..theory.run_effects import start_bias
 from .answer import (ALONE, BEFORE, BOUNDED, CHEAPER, CHOSEN, DAMPED, DEARER, IDLE, RUN, SAME, SERVICE, THEORY, TODAY,
                      UNDAMPED, UNCOMPARED, UNDECIDED, Allowed, Answer, Correction, Figures, LawFacts, Laws, Run)
-from .bounds import COVERAGE, binding
+from .bounds import COVERAGE, LEFT_OUT, binding
 from .packs import remarks_of_packs
 from .question import NONE, Levels, NoPolicy, Question, Settings, Unplanned, question_of
 
@@ -341,10 +341,10 @@ def remarks_of_bounds(question: Question, theory: LongRun, choice: Choice) -> It
         yield Remark(BOUNDED, {**in_items(free), "cost": cost(free), "wanted": share, "fill": fill})
         return
     is_usual = question.item.bounds.s_min is None and question.settings.s_min is None
-    for name, best in binding(theory, question.bounds, box, question.demand.mean, share):
-        if name != "s_min" or not is_usual:
-            yield Remark(f"bound of {name}", {**in_items(best[1:]), "cost": cost(choice.plain) - cost(best[1:]),
-                                              "bound": float(getattr(question.bounds, name))})
+    named = [name for name in LEFT_OUT if not (is_usual and name == "s_min")]
+    for name, best in binding(theory, question.bounds, box, question.demand.mean, share, named):
+        yield Remark(f"bound of {name}", {**in_items(best[1:]), "cost": cost(choice.plain) - cost(best[1:]),
+                                          "bound": float(getattr(question.bounds, name))})
     if choice.plain[0] == 0:
         waiting = theory.within(dataclasses.replace(feasible, least_point=1)).best(share)
         if waiting.cost < math.inf:

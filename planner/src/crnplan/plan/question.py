@@ -7,6 +7,7 @@ import json
 from collections.abc import Mapping
 from dataclasses import dataclass, field
 from fractions import Fraction
+from functools import cached_property
 
 from .. import __version__
 from ..demand.fitted import Borrowed, FittedLaw
@@ -162,22 +163,27 @@ class Terms:
     def money(self, amount: float) -> float:
         return amount / float(self.scale)
 
+    @cached_property
+    def _scenario(self) -> Scenario:
+        """Returns the scenario of today's policy, or of none, with the rates. Raises Refused, and ScenarioError."""
+        settings, rates = self.settings, {name: self.rates[name] for name in ("setup", "holding")}
+        scenario = Scenario.of(
+            self.demand, self.lead, **rates, backlog=self.rates.get("backlog", 1), returns=self.returns,
+            today=self.levels or (0, 0), initial=0, periods=settings.periods, replications=settings.replications,
+            key=f"{settings.seed}\n{self.item.name}")
+        return scenario if self.levels else scenario.with_policies(())
+
     def scenario(self, backlog: int | None = None, initial: int = 0) -> Scenario:
         """Returns the scenario of today's policy, or of none, with a backlog rate, by default that of the rates or else
         1, without which theory finds no best policy. Its key follows from the item's name and the seed."""
-        settings, rates = self.settings, {name: self.rates[name] for name in ("setup", "holding")}
-        backlog = self.rates.get("backlog", 1) if backlog is None else backlog
-        scenario = Scenario.of(
-            self.demand, self.lead, **rates, backlog=backlog, returns=self.returns, today=self.levels or (0, 0),
-            initial=initial, periods=settings.periods, replications=settings.replications,
-            key=f"{settings.seed}\n{self.item.name}")
-        return scenario if self.levels else scenario.with_policies(())
+        scenario = self._scenario
+        costs = scenario.costs if backlog is None else dataclasses.replace(scenario.costs, backlog=backlog)
+        return dataclasses.replace(scenario, costs=costs, initial=initial)
 
     def for_theory(self) -> Scenario:
         """Returns the scenario with a backlog rate by which theory has policies that meet a wanted share: with hardly any
         it would be far too coarse."""
-        scenario = self.scenario()
-        return dataclasses.replace(scenario, costs=dataclasses.replace(scenario.costs, backlog=self.implied_backlog))
+        return self.scenario(self.implied_backlog)
 
     def theory(self) -> LongRun:
         """Returns the theory of the item. Raises Refused if there is none.
