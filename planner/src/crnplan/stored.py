@@ -40,7 +40,9 @@ def quoted(names: Iterable[str]) -> str:
 
 
 def _tuples(value: Any) -> Any:
-    return tuple(map(_tuples, value)) if isinstance(value, list) else value
+    if not isinstance(value, list):
+        return value
+    return tuple(map(_tuples, value)) if list in {*map(type, value)} else tuple(value)  # mostly numbers
 
 
 # How values of a type are kept in a cell, and read again. Fractions, tuples and remarks are texts.

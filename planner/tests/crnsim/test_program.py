@@ -2,7 +2,10 @@
 from __future__ import annotations
 
 import hashlib
+import multiprocessing
+import os
 import re
+from concurrent.futures import ProcessPoolExecutor
 from fractions import Fraction
 from pathlib import Path
 
@@ -79,6 +82,20 @@ def test_outputs_in_order(tmp_path: Path) -> None:
     path = script(tmp_path / "slow", 'read number; sleep 0.0$number; echo "$1 $number"')
     runs = [(f"{number}\n", f"word{number}") for number in (9, 1, 5, 0, 3, 7)]
     assert run_all(path, runs) == [f"{word} {text}" for text, word in runs]
+
+
+def test_processors_of_a_run(tmp_path: Path, monkeypatch: pytest.MonkeyPatch) -> None:
+    """Alone a run has all processors. In a process beside others it has one, and the process keeps its own."""
+    path, allowed = script(tmp_path / "counting", "env -u OMP_NUM_THREADS nproc"), os.sched_getaffinity(0)
+    assert run_program(path, "") == f"{len(allowed)}\n"
+    with ProcessPoolExecutor(1) as pool:
+        assert pool.submit(run_program, path, "").result() == "1\n"
+        assert pool.submit(os.sched_getaffinity, 0).result() == allowed
+    monkeypatch.setattr(multiprocessing, "parent_process", multiprocessing.current_process)
+    assert run_program(path, "") == "1\n" and os.sched_getaffinity(0) == allowed
+    with pytest.raises(ProgramError, match="No such file"):
+        run_program(tmp_path / "missing", "")
+    assert os.sched_getaffinity(0) == allowed
 
 
 def test_where(program: Path, crnplan: Command, tmp_path: Path, top: Path) -> None:

@@ -5,12 +5,14 @@ there. What the program writes is exact and proved for its stream; this module i
 """
 from __future__ import annotations
 
+import contextlib
+import ctypes
 import os
 import shutil
 import subprocess
 import tempfile
 import tomllib
-from collections.abc import Iterable, Mapping, Sequence
+from collections.abc import Iterable, Iterator, Mapping, Sequence
 from concurrent.futures import ThreadPoolExecutor
 from dataclasses import dataclass, field
 from pathlib import Path
@@ -90,10 +92,27 @@ def program_for(named: str | Path | None, cluster: str | None) -> str:
     return os.path.abspath(named) if os.sep in str(named) else str(named)
 
 
+@contextlib.contextmanager
+def own_processor() -> Iterator[None]:
+    """Starts programs on the processor of this thread alone, if this is one of several processes that plan side by
+    side: on several processors the threads of a short run wait for one another, which takes twice as long."""
+    from multiprocessing import parent_process
+    if parent_process() is None or not hasattr(os, "sched_setaffinity"):
+        yield
+        return
+    allowed = os.sched_getaffinity(0)
+    os.sched_setaffinity(0, {ctypes.CDLL(None).sched_getcpu()})
+    try:
+        yield
+    finally:
+        os.sched_setaffinity(0, allowed)
+
+
 def run_program(program: Path, text: str, *words: str) -> str:
     """Runs the program with words on a text, and returns its standard output. Raises ProgramError with its line."""
     try:
-        ran = subprocess.run([program, *words], input=text.encode(), capture_output=True)
+        with own_processor():
+            ran = subprocess.run([program, *words], input=text.encode(), capture_output=True)
     except OSError as fault:
         raise ProgramError(f"{program}: {fault.strerror}; build crnsim, or name it with "
                            f"{argument('program')}") from fault
