@@ -12,7 +12,7 @@ from scipy import integrate, optimize, special, stats
 from crnplan.chances import DEMANDS, Floats, scaled
 from crnplan.demand import families, sample as guard
 from crnplan.demand.families import (beta_negative_binomial, cells_of, fits_of, greatest_mean, parts_of,
-                                             predictive_of)
+                                     predictive_of, root_of)
 from crnplan.demand.fitting import fit_demand
 from crnplan.demand.posterior import allowed_laws
 from crnplan.demand.sample import Sample
@@ -263,7 +263,33 @@ def test_distances_by_definition(weights: list[int], histories: list[list[int]])
     chances, rows, cells = np.array(weights) / sum(weights), np.sort(histories), np.arange(8)
     shares = [(row[:, None] <= cells).mean(axis=0) for row in rows]
     expected = [len(rows[0]) * float(chances @ (share - np.cumsum(chances))**2) for share in shares]
-    assert guard.distances(rows, chances) == pytest.approx(expected, abs=1e-12)
+    common = len(rows[0]) * float(chances @ np.cumsum(chances)**2)
+    assert guard.distances(rows, guard.Summed.of(chances)) + common == pytest.approx(expected, abs=1e-12)
+
+
+@pytest.mark.parametrize("chances", [[0.5, 0.5], [0.6, 0.0, 0.3, 0.1, 0.0], [0.1] * 10], ids=["two", "gaps", "even"])
+@pytest.mark.parametrize("way", ["loop", "plain", "__call__"])
+def test_figures_of_drawn_histories(way: str, chances: list[float]) -> None:
+    """Each way draws each number by its uniform number, none above the last that has a chance."""
+    law, random = np.array(chances), np.random.default_rng(7)
+    uniform, last = np.sort(random.random((6, 12)), axis=1), int(np.flatnonzero(law)[-1])
+    uniform[0, -1] = 1 - 1e-16
+    drawn = [[next((it for it in range(last) if uniform < sum(chances[:it + 1])), last) for uniform in row]
+             for row in uniform.tolist()]
+    squares, far = getattr(guard.drawn_figures, way)(uniform, last, *guard.Summed.of(law))
+    assert squares == pytest.approx(144 * np.var(drawn, axis=1))
+    shares = (np.array(drawn)[:, :, None] <= np.arange(len(law))).mean(axis=1)
+    below = np.cumsum(law)
+    assert far == pytest.approx([12 * float(law @ ((share - below)**2 - below**2)) for share in shares])
+
+
+@pytest.mark.parametrize("slope", [1e-4, 1.0, 50.0])
+def test_root(slope: float) -> None:
+    """A root is found though Newton's method would leave the range, and where the function is flat."""
+    def function(place: float) -> tuple[float, float]:
+        distance = slope * (place - 3)
+        return -math.atan(distance), -slope / (1 + distance**2) * (place != 5)
+    assert root_of(function, -10, 20) == pytest.approx(3, abs=1e-11)
 
 
 def test_guard() -> None:

@@ -37,7 +37,10 @@ LEAST_CHANCE = 1e-300
 FIRST_WIDTH = 128  # of drawn laws; ever more until all but a tail is there
 
 # Negative binomial laws.
-MOST_SIZE = 1e4  # With it, such a law is all but a Poisson law.
+# With the greatest size, such a law is all but a Poisson law. Of a single demand in as many periods as there may be, the
+# size is 1e-6.
+LEAST_SIZE, MOST_SIZE = 1e-9, 1e4
+ROOT = 1e-12  # how exact the logarithm of a size is
 SIZES = 48  # over which the posterior is summed
 LEAST_RATIO, MOST_RATIO, LARGE_MEAN = 0.02, 50.0, 20.0  # of mean to size k; it may be larger for means above LARGE_MEAN
 LEAST_SHARE = 1e-6  # of a size in the posterior
@@ -169,18 +172,20 @@ class NegativeBinomial(Family):
         """Returns the parameters; None if the numbers vary no more than under a Poisson law. The score has a single
         root if the variance with the divisor n is above the mean, else none (Levin and Reeds, Compound multinomial
         likelihood functions are unimodal, 1977)."""
-        from scipy import optimize
-
-        def score(logarithm: float) -> float:
-            """Returns the derivative of the likelihood's logarithm by k."""
-            size = math.exp(logarithm)
-            rises = special.digamma(sample.values + size) - special.digamma(size)
-            return float(sample.counts @ rises - sample.size * math.log1p(sample.mean / size))
-        low, high = math.log(1e-4), math.log(MOST_SIZE)
-        if sample.squares <= sample.total or score(high) >= 0:
+        if sample.squares <= sample.total:
             return None
-        # Of a single demand in as many periods as there may be, the size is 1e-6.
-        size = math.exp(optimize.brentq(score, low if score(low) > 0 else math.log(1e-9), high))
+        places, above = DEMANDS[:sample.most], sample.above  # digamma(n + k) - digamma(k) is a sum over 0 to n - 1
+
+        def score(logarithm: float) -> tuple[float, float]:
+            """Returns the derivative of the likelihood's logarithm by k, and its own by the logarithm of k."""
+            size = math.exp(logarithm)
+            parts = above / (places + size)
+            fall = sample.size * sample.mean / (size + sample.mean) - size * float(parts @ (1 / (places + size)))
+            return float(parts.sum()) - sample.size * math.log1p(sample.mean / size), fall
+        low, high = math.log(LEAST_SIZE), math.log(MOST_SIZE)
+        if score(high)[0] >= 0:
+            return None
+        size = math.exp(root_of(score, low, high))
         return size, sample.mean / (size + sample.mean)
 
     def logarithms(self, values: Whole, *parameters: Any) -> Floats:
@@ -222,6 +227,20 @@ class NegativeBinomial(Family):
         rises = special.gammaln(sample.values + sizes[:, None]) - special.gammaln(sizes)[:, None]
         likelihoods = counted * (rises @ sample.counts)
         return sizes, likelihoods + special.betaln(counted * sample.size * sizes, counted * sample.total)
+
+
+def root_of(function: Callable[[float], tuple[float, float]], low: float, high: float) -> float:
+    """Returns where a function falls below 0 between two places, by Newton's method, which halves the range if it would
+    leave it. The function returns its slope too."""
+    place = (low + high) / 2
+    while True:
+        value, slope = function(place)
+        low, high = (place, high) if value > 0 else (low, place)
+        step = place - value / slope if slope else low
+        step = step if low < step < high else (low + high) / 2
+        if abs(step - place) <= ROOT:
+            return step
+        place = step
 
 
 def greatest_mean(sample: Sample) -> float:

@@ -16,6 +16,7 @@ from typing import NamedTuple
 import numpy as np
 
 from ..chances import Floats, Whole
+from ..compiled import compiled
 
 # A pack is recognised after so many demands above 0, if they all have its divisor by luck with a chance of 2^-8.
 PACKED, PACK_BITS = 3, 8.0
@@ -61,6 +62,11 @@ class Sample:
     def variance(self) -> float:
         """Returns the unbiased variance; 0 for a single number."""
         return self.squares / max(self.size - 1, 1)
+
+    @cached_property
+    def above(self) -> Whole:
+        """Returns how many numbers are above 0, 1 and so on, below the largest one."""
+        return self.size - np.cumsum(np.bincount(self.values, self.counts))[:-1]
 
     @property
     def zeros(self) -> int:
@@ -114,16 +120,59 @@ class Shares(NamedTuple):
 LEAST = Shares(0.05, 0.05, 0.30, 0.10, 0.05)
 
 
-def distances(histories: Whole, chances: Floats) -> Floats:
-    """Returns how far histories are from a law, by Cramer and von Mises. Each row has the rising numbers of a history.
+class Summed(NamedTuple):
+    """A law, summed up: the chances up to each number, and from each on those and their products with the former."""
+
+    below: Floats
+    tails: Floats
+    means: Floats
+
+    @classmethod
+    def of(cls, chances: Floats) -> Summed:
+        below = np.cumsum(chances)
+        return cls(below, *(np.cumsum(its[::-1])[::-1] for its in (chances, chances * below)))
+
+
+def distances(histories: Whole, law: Summed) -> Floats:
+    """Returns how far histories are from a law, by Cramer and von Mises, but for what all have in common: their size
+    times the mean of the squared chances below. Each row has the rising numbers of a history.
 
     Source: Choulakian, Lockhart and Stephens, Cramer-von Mises statistics for discrete distributions, 1994. The sum
     over all cells of the squared distance is split by the numbers, each of which counts from its cell on.
     """
-    size, below = histories.shape[1], np.cumsum(chances)
-    tails, means = (np.cumsum((chances * below**power)[::-1])[::-1] for power in (0, 1))
+    size = histories.shape[1]
     weights = (2 * np.arange(size) + 1) / size
-    return np.asarray(size * (chances @ below**2) + tails[histories] @ weights - 2 * means[histories].sum(axis=1))
+    return np.asarray(law.tails[histories] @ weights - 2 * law.means[histories].sum(axis=1))
+
+
+def figures_of_histories(uniform: Floats, last: int, below: Floats, tails: Floats,
+                         means: Floats) -> tuple[Floats, Floats]:
+    """Returns of histories that are drawn by rows of rising uniform numbers their squared size times their variance, and
+    their `distances`. No number is above the last one."""
+    drawn = np.minimum(np.searchsorted(below, uniform, side="right"), last)
+    squares = (drawn * drawn).sum(axis=1) * drawn.shape[1] - drawn.sum(axis=1)**2
+    return squares.astype(float), distances(drawn, Summed(below, tails, means))
+
+
+@compiled(figures_of_histories)
+def drawn_figures(uniform: Floats, last: int, below: Floats, tails: Floats, means: Floats) -> tuple[Floats, Floats]:
+    """Returns what `figures_of_histories` does, without the numbers."""
+    times, size = uniform.shape
+    squares, far = np.empty(times), np.empty(times)
+    for row in range(times):
+        number = place = total = square = 0
+        distance = 0.0
+        while place < size:
+            first = place
+            while place < size and (number == last or uniform[row, place] < below[number]):
+                place += 1
+            if place > first:
+                total += (place - first) * number
+                square += (place - first) * number * number
+                distance += (place * place - first * first) / size * tails[number] - 2 * (place - first) * means[number]
+            number += 1
+        squares[row], far[row] = size * square - total * total, distance
+    return squares, far
 
 
 @functools.lru_cache(maxsize=8)
@@ -136,13 +185,13 @@ def shares_of(sample: Sample, chances: Floats) -> Shares:
     """Returns the shares of a sample under a law. The same sample and law have the same shares."""
     law = np.zeros(max(len(chances), sample.most + 1))
     law[:len(chances)] = chances / chances.sum()
-    below = np.cumsum(law)
-    drawn = np.minimum(np.searchsorted(below, uniforms(sample.size), side="right"), len(chances) - 1)
-    variances = drawn.var(axis=1, ddof=1)
-    far = distances(np.vstack([drawn, np.repeat(sample.values, sample.counts)]), law)
-
-    alike = (variances >= sample.variance * (1 - ROUNDING), variances <= sample.variance * (1 + ROUNDING),
-             far[:-1] >= far[-1] * (1 - ROUNDING))
+    summed, size = Summed.of(law), sample.size
+    below = summed.below
+    squares, far = drawn_figures(uniforms(size), len(chances) - 1, *summed)
+    own, common = size * sample.squares, size * float(law @ below**2)
+    own_far = float(distances(np.repeat(sample.values, sample.counts)[None], summed)[0])
+    alike = (squares >= own * (1 - ROUNDING), squares <= own * (1 + ROUNDING),
+             far + common >= (own_far + common) * (1 - ROUNDING))
     as_much, as_little, as_far = (float((holds.sum() + 1) / (TIMES + 1)) for holds in alike)  # with the history itself
     before = below[sample.most - 1] if sample.most else 0.0
     return Shares(as_much, as_little, as_far, float(below[sample.most]**sample.size), float(1 - before**sample.size))
