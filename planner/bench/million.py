@@ -16,8 +16,8 @@ from typing import Any
 
 import click
 
-from crnplan.curve.exchange import Items
 from crnplan.curve.exchange_curve import CANDIDATES, gather
+from crnplan.curve.parts import Part
 from crnplan.pages.catalogue_page import PAGE
 from crnplan.pages.catalogue_tables import DECISIONS, EXACT, planned_of
 from crnplan.plan.catalogue import ANSWERS, PlannedFolder, planned_folder
@@ -41,9 +41,9 @@ def row_bytes(path: Path, table: str) -> float:
     return float(mean)
 
 
-def array_bytes(items: Items) -> int:
-    """Returns the bytes of the arrays of all candidates."""
-    return sum(getattr(its, "nbytes", 0) for its in vars(items).values())
+def array_bytes(part: Part) -> int:
+    """Returns the bytes of the arrays of the candidates of a part."""
+    return sum(getattr(its, "nbytes", 0) for its in vars(part).values())
 
 
 def bytes_of(plan: PlannedFolder, items: int) -> Iterator[Measured]:
@@ -79,7 +79,7 @@ def measured_of(folder: Path) -> Iterator[Measured]:
         with own_folder(plan.path, CATALOGUE) as own:
             gathered = gather(own, plan, 1, None, False)
     yield "reading all candidates", 1e6 * (time.process_time() - start) / items, "µs an item"
-    yield ARRAYS, array_bytes(gathered.items) / len(gathered.items.names), "bytes an item"
+    yield ARRAYS, sum(gathered.items.over(array_bytes)) / gathered.items.count, "bytes an item"
 
 
 def rounded(number: float) -> float | int:

@@ -190,7 +190,7 @@ def test_an_item_without_candidates(plan: Path, monkeypatch: pytest.MonkeyPatch)
     monkeypatch.setattr(candidates, "candidates_of", failing)
     (plan / CANDIDATES).unlink()
     its = drawn(plan).gathered
-    assert len(its.items.names) == ITEMS - len(NO_PRICE) - 1
+    assert its.items.count == ITEMS - len(NO_PRICE) - 1
     assert "no room for a table" in sentence(dict(its.left_out)["A-050"])
 
 

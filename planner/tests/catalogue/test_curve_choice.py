@@ -3,6 +3,7 @@ from __future__ import annotations
 
 import dataclasses
 import itertools
+from collections.abc import Sequence
 from fractions import Fraction
 from pathlib import Path
 from typing import Any
@@ -11,9 +12,11 @@ import numpy as np
 import pytest
 from hypothesis import given, settings, strategies as st
 
+from crnplan.curve import exchange
 from crnplan.curve.candidates import (DEARER, PRICES, VARIANTS, Candidates, candidates_of, lower_hull, slopes,
                                       variants_of)
-from crnplan.curve.exchange import Budget, Dearer, Items, Ladder, Point, chosen_by, gap_of
+from crnplan.curve.exchange import AS_IS, Budget, Items, chosen_by, gap_of
+from crnplan.curve.parts import UNMET, Dearer, Part, Point
 from crnplan.errors import Refused
 from crnplan.plan.catalogue import planned_folder
 
@@ -79,6 +82,12 @@ def made_item(source: np.random.Generator, count: int) -> tuple[Candidates, Any]
     return Candidates(demand, setup, holding, tuple(rows)), points
 
 
+def in_parts(answers: Sequence[tuple[str, float, Candidates, Any]], size: int) -> Items:
+    """Returns items in parts of a size."""
+    parts = [Part.of(answers[place:place + size]) for place in range(0, len(answers), size)]
+    return Items(lambda function, *columns: map(function, parts, *columns))
+
+
 def every_choice(seed: int) -> tuple[Items, Any]:
     """Returns four items, and stock value, unmet value, orders and costs of all choices of policies, one by one."""
     source = np.random.default_rng(seed)
@@ -87,17 +96,23 @@ def every_choice(seed: int) -> tuple[Items, Any]:
     for policies in itertools.product(*points):
         cost = sum(answer.setup * policy[2] + answer.holding * policy[0] for answer, policy in zip(answers, policies))
         choices.append((*np.sum(policies, axis=0), cost))
-    return Items.of((str(place), 1.0, answer) for place, answer in enumerate(answers)), np.array(choices).T
+    items = [(str(place), 1.0, answer, points[place][:2]) for place, answer in enumerate(answers)]
+    return in_parts(items, 1 + seed % 4), np.array(choices).T
+
+
+def asked_of(items: Items) -> float:
+    """Returns the value of demand."""
+    return items.asked * items.units[UNMET]
 
 
 @pytest.mark.parametrize("seed", range(6))
 def test_bound_against_every_choice(seed: int) -> None:
     """Loses no more against the best of all choices than it says, and keeps what was asked for."""
     items, (values, unmet, orders, cost) = every_choice(seed)
-    ladder, tested = Ladder(items), 0
-    low, high = ladder.along(items.value).min(), ladder.along(items.value).max()
+    curve, tested = [items.point(stretch.after) for stretch in items.ladder().grid], 0
+    low, high = min(point.value for point in curve), max(point.value for point in curve)
     budgets = [Budget(value=float(low + share * (high - low))) for share in (0.2, 0.5, 0.8)]
-    budgets += [Budget(fill=1 - float(it) / items.asked) for it in np.quantile(ladder.along(items.unmet), (0.2, 0.6))]
+    budgets += [Budget(fill=float(np.quantile([point.fill for point in curve], it))) for it in (0.4, 0.8)]
     budgets += [Budget(value, fill, share * chosen_by(items, Budget(value, fill)).point.orders)
                 for value, fill in [(it.value, it.fill) for it in budgets] for share in (0.95, 0.85)]
     budgets += [Budget(value=0.9 * float(low), orders=it) for it in (2.0, 2.5, 3.0)]
@@ -110,7 +125,7 @@ def test_bound_against_every_choice(seed: int) -> None:
         assert budget.value is None or its.value <= budget.value * (1 + 1e-9)
         assert budget.fill is None or its.fill >= budget.fill - 1e-9
         assert budget.orders is None or its.orders <= budget.orders * (1 + 1e-9)
-        kept = unmet <= (1 - its.fill) * items.asked * (1 + 1e-9)
+        kept = unmet <= (1 - its.fill) * asked_of(items) * (1 + 1e-9)
         kept &= (orders <= its.orders * (1 + 1e-9)) | (found.dearer.orders == 0)
         kept &= (values <= its.value * (1 + 1e-9)) | (found.dearer.stock == 0)
         best = cost[kept].min()
@@ -127,11 +142,11 @@ def test_each_bound_against_every_choice(seed: int, scarce: str) -> None:
     used = {"nothing": None, "orders": orders, "stock": values}[scarce]
     bounds = []
     for place in np.random.default_rng(seed).integers(len(cost), size=60):
-        point = Point(values[place], 1 - unmet[place] / items.asked, orders[place], cost[place])
+        point = Point(values[place], 1 - unmet[place] / asked_of(items), orders[place], cost[place])
         kept = unmet <= unmet[place] * (1 + 1e-9)
         kept &= True if used is None else used <= used[place] * (1 + 1e-9)
         asked = [Dearer()] if used is None else [Dearer(**{scarce: it}) for it in np.geomspace(0.01, 4, 12)]
-        bounds.append(max(items.least_cost(point, it) for it in asked) / cost[kept].min())
+        bounds.append(items.least_cost(point, *asked) / cost[kept].min())
     assert max(bounds) <= 1 + 1e-9 and np.median(bounds) > 0.94
 
 
@@ -139,13 +154,79 @@ def test_each_bound_against_every_choice(seed: int, scarce: str) -> None:
 def test_the_curve_is_the_best(seed: int) -> None:
     """Has no gap at the prices of the grid, and no choice of all is as good for less there. Other points have a gap."""
     items, (_, unmet, _, cost) = every_choice(100 + seed)
-    ladder = Ladder(items)
-    for price in PRICES[::6]:
-        point = items.at(ladder.with_price(float(price)))
+    for place in range(0, len(PRICES), 6):
+        point = items.ladder().with_price(place).point
         assert gap_of(items, point) < 1e-9
-        assert cost[unmet <= (1 - point.fill) * items.asked * (1 + 1e-9)].min() >= point.cost * (1 - 1e-9)
+        assert cost[unmet <= (1 - point.fill) * asked_of(items) * (1 + 1e-9)].min() >= point.cost * (1 - 1e-9)
         assert gap_of(items, point._replace(cost=1.2 * point.cost)) == pytest.approx(0.2)
-    for variants, extra in zip(DEARER, np.moveaxis(items.extra, 2, 0)):
-        assert {*np.nonzero(extra > 0)[1].tolist()} == {*variants[1:]}
     assert {*itertools.chain(*DEARER)} == {*range(len(VARIANTS))}
-    assert items.least_cost(point, Dearer(orders=0.0)) == items.least_cost(point)
+    for which, variants in enumerate(DEARER):
+        extra = np.array(variants_of(10, 0.1, 2))[:, which] > (10, 0.1)[which]
+        assert {*np.flatnonzero(extra).tolist()} == {*variants[1:]}
+    assert items.least_cost(point, Dearer(orders=0.0)) == items.least_cost(point, AS_IS)
+
+
+def walked(answers: Sequence[tuple[str, float, Candidates, Any]], budget: Budget) -> dict[str, tuple[float, float]]:
+    """Returns s and S of each item, step by step along the whole ladder, as a simple program would."""
+    vertices, steps = [], []
+    for place, (_, price, candidates, _) in enumerate(answers):
+        rows = np.array(candidates.rows)
+        cost = candidates.setup * rows[:, 6] + candidates.holding * rows[:, 4]
+        unmet = price * rows[:, 5]
+        kept = lower_hull(np.zeros(len(rows), int), cost, unmet)
+        prices = slopes(np.zeros(len(kept), int), cost[kept], unmet[kept])
+        vertices.append([(*rows[row, 2:4].tolist(), price * rows[row, 4], unmet[row]) for row in kept])
+        steps += [(slope, place) for slope in prices[:-1].tolist()]
+    figure, at = (2 if budget.value is not None else 3), [0] * len(answers)
+    total, totals, steps = sum(vertex[0][figure] for vertex in vertices), [], sorted(steps)
+    for _, place in steps:
+        totals.append(total)
+        at[place] += 1
+        total += vertices[place][at[place]][figure] - vertices[place][at[place] - 1][figure]
+    totals.append(total)
+    most = budget.value if budget.value is not None else (1 - (budget.fill or 0)) * sum(
+        price * candidates.demand for _, price, candidates, _ in answers)
+    fits = [place for place, each in enumerate(totals) if each <= most * (1 + 1e-12)]
+    count = fits[-1] if figure == 2 else fits[0]
+    way, spare = (1 if figure == 2 else -1), most * (1 + 1e-12) - totals[count]
+    at = [sum(owner == place for _, owner in steps[:count]) for place in range(len(answers))]
+    further, stays = steps[count:] if way > 0 else steps[:count][::-1], set[int]()
+    for price, place in further:
+        if 0.5 <= price / further[0][0] <= 2:
+            uses = vertices[place][at[place] + way][figure] - vertices[place][at[place]][figure]
+            if place in stays or uses > spare:
+                stays.add(place)
+            else:
+                at[place], spare = at[place] + way, spare - uses
+    return {answer[0]: vertices[place][at[place]][:2] for place, answer in enumerate(answers)}
+
+
+@pytest.mark.parametrize("most, cuts", [(200_000, 64), (20, 4), (1, 2)])
+@pytest.mark.parametrize("size", [1, 7, 256])
+def test_any_parts(size: int, most: int, cuts: int, monkeypatch: pytest.MonkeyPatch) -> None:
+    """Has the same policies, sums and bounds in any parts, with any rounds, also if prices are equal: those of a walk
+    along all steps."""
+    monkeypatch.setattr(exchange, "MOST_STEPS", most)
+    monkeypatch.setattr(exchange, "CUTS", cuts)
+    source = np.random.default_rng(7)
+    answers = [(f"{place:02}-{twin}", (3.0, 0.5, 3.0)[twin], answer, points[:2])
+               for place in range(10) for answer, points in [made_item(source, 12)] for twin in range(3)]
+    items, whole = in_parts(answers, size), in_parts(answers, len(answers))
+    start, end = (items.point(sums) for sums in (items.ladder().start, items.ladder().end))
+    assert items.now == whole.now and items.count == len(answers)
+    for share in (0.02, 0.3, 0.5, 0.8, 0.97):
+        for budget in (Budget(value=start.value + share * (end.value - start.value)),
+                       Budget(fill=start.fill + share * (end.fill - start.fill))):
+            found = chosen_by(items, budget)
+            assert found.point == chosen_by(whole, budget).point
+            assert {it.name: (it.point, it.level) for it in items.policies(found)} == walked(answers, budget)
+            assert gap_of(items, found.point) == gap_of(whole, found.point)
+            some = [*items.policies(found)]
+            assert [*items.policies(found, [0, 5, 27])] == [some[0], some[5], some[27]]
+            assert sum(it.value for it in some) == pytest.approx(found.point.value, rel=1e-12)
+            assert sum(it.orders for it in some) == pytest.approx(found.point.orders, rel=1e-12)
+    budget = Budget(value=0.98 * start.value, orders=1.6 * start.orders)
+    one, two = chosen_by(items, budget), chosen_by(whole, budget)
+    assert one.dearer == two.dearer and one.point == two.point and one.dearer.stock > 0
+    assert [*items.policies(one)] == [*whole.policies(two)]
+    assert items.drawn("seed", 5) == whole.drawn("seed", 5)

@@ -10,7 +10,7 @@ from fractions import Fraction
 from pathlib import Path
 from typing import Any
 
-from crnplan.curve.exchange import Point
+from crnplan.curve.parts import Point
 from crnplan.curve.exchange_curve import keep_curve
 from crnplan.demand.learning import Prior
 from crnplan.files import Folder, own_folder

@@ -18,7 +18,7 @@ from hypothesis import example, given, strategies as st
 from matplotlib.backends.backend_agg import FigureCanvasAgg
 
 from crnplan.crnsim.trajectory import Period
-from crnplan.curve.exchange import Point
+from crnplan.curve.parts import Point
 from crnplan.demand.fitting import fit_demand
 from crnplan.pages.item_page import history_plot
 from crnplan.pages.page import UNITS, Money, Scale, curve_ends, number, percent, rendered, source, tick

@@ -9,16 +9,21 @@ beside its holding cost buys less stock with more orders.
 """
 from __future__ import annotations
 
+import heapq
+import itertools
 import math
-from collections.abc import Callable, Iterable
+from collections import Counter
+from collections.abc import Callable, Iterator, Mapping, Sequence
 from dataclasses import dataclass
-from typing import NamedTuple
+from typing import Any, NamedTuple
 
 import numpy as np
 
 from ..chances import Floats, Whole
 from ..errors import Refused, argument
-from .candidates import DEARER, PRICES, Candidates, lower_hull, slopes, variants_of
+from .candidates import PRICES
+from .parts import (AS_IS, COST, FIGURES, ORDERS, UNMET, VALUE, Choice, Dearer, Point, Steps, Chosen, bounds_of,
+                    drawn_of, fitting, measured, policies_of, steps_of, stretches_of, summed, units_of)
 
 # A budget that is not used up is filled with steps whose price is at most so many times that of the step too many.
 FILL = 2.0
@@ -26,192 +31,257 @@ FILL = 2.0
 NEAR = 1e-12
 # Costs of an order are doubled until there are few enough orders, then halved between the last two.
 DOUBLINGS, HALVINGS = 13, 16
+# Steps that are looked at one by one, at most, unless more have the same price; and into how many stretches more steps
+# are cut.
+MOST_STEPS, CUTS = 200_000, 64
+# Calls a function with each part, in order, and with words from further columns, as `map` does.
+Over = Callable[..., Iterator[Any]]
 
 
-class Point(NamedTuple):
-    """What a choice of policies amounts to in a period of the long run: the value of the mean stock, the share of
-    demand by value that is met at once, orders, and setup and holding costs."""
-
-    value: float
-    fill: float
-    orders: float
-    cost: float
+def always(*words: Any) -> list[Iterator[Any]]:
+    """Returns columns that have the same words for each part."""
+    return [itertools.repeat(word) for word in words]
 
 
-class Dearer(NamedTuple):
-    """What an order costs beside its setup, and a unit of the value of stock beside its holding. One of them is 0."""
-
-    orders: float = 0.0
-    stock: float = 0.0
-
-
-AS_IS = Dearer()
-
-
-@dataclass(frozen=True)
 class Items:
-    """The candidates of all items: arrays with a row for each, by item, variant of costs, and price.
+    """The candidates of all items, part by part: each question is sent to all parts, which return sums."""
 
-    `owner` is the item's place; `first` and `end` are the prices for which it is best. `cost` is setup and holding;
-    `value` and `unmet` are values of stock and of demand that is not met at once. By item are `demand`, in value, and
-    `extra`: what each variant adds to the costs of an order and of a unit of value of stock.
-    """
+    def __init__(self, over: Over) -> None:
+        """Asks for what all items have in common. Raises ValueError if there is no part."""
+        counts, most, extra = zip(*over(measured))
+        *starts, self.count = itertools.accumulate(counts, initial=0)
+        self.over, self.starts = over, starts
+        self.units = units_of(np.max(most, axis=0).tolist(), self.count)
+        self.most_extra = Dearer(*np.max(extra, axis=0).tolist())
+        asked, now = zip(*self.each(summed))
+        self.asked = sum(asked)
+        self.now = [self.point(sums) for sums in np.sum(now, axis=0)]
+        self.known: dict[Dearer, Ladder] = {}
+        self.bounds: dict[tuple[Dearer, ...], tuple[Floats, Floats]] = {}
 
-    names: tuple[str, ...]
-    demand: Floats
-    extra: Floats
-    owner: Whole
-    variant: Whole
-    first: Whole
-    end: Whole
-    point: Whole
-    level: Whole
-    value: Floats
-    unmet: Floats
-    orders: Floats
-    cost: Floats
+    def each(self, function: Callable[..., Any], *words: Any) -> Iterator[Any]:
+        """Yields what a function returns for each part, the units, and further words."""
+        return self.over(function, *always(self.units, *words))
 
-    @classmethod
-    def of(cls, answers: Iterable[tuple[str, float, Candidates]]) -> Items:
-        """Takes the candidates of items, each with its name and price. They are not kept as they come."""
-        names, demand, extra, parts = list[str](), list[float](), [], []
-        for place, (name, price, candidates) in enumerate(answers):
-            setup, holding, rows = candidates.setup, candidates.holding, np.array(candidates.rows, float)
-            variant, first, point, level = rows[:, :4].astype(int).T
-            stock, unmet, orders = rows[:, 4:].T
-            end = np.where(np.append(variant[1:] != variant[:-1], True), len(PRICES), np.append(first[1:], 0))
-            parts.append((np.full(len(rows), place), variant, first, end, point, level, price * stock, price * unmet,
-                          orders, setup * orders + holding * stock))
-            names.append(name)
-            demand.append(price * candidates.demand)
-            extra.append((np.array(variants_of(setup, holding, candidates.demand)) - (setup, holding)) / (1, price))
-        columns = (np.concatenate(column) for column in zip(*parts))
-        return cls(tuple(names), np.array(demand), np.array(extra), *columns)
+    def point(self, sums: Whole) -> Point:
+        """Returns the point of sums of figures, in units."""
+        value, _, orders, cost = (int(sums[figure]) * self.units[figure] for figure in FIGURES)
+        return Point(value, 1 - int(sums[UNMET]) / self.asked, orders, cost)
 
-    @property
-    def asked(self) -> float:
-        return float(self.demand.sum())
+    def policies(self, choice: Choice, places: Sequence[int] | None = None) -> Iterator[Chosen]:
+        """Yields the policies of the items at some rising places, or of all, in a choice."""
+        ends = [*self.starts[1:], self.count]
+        choices = (choice.of_part(start, end - start) for start, end in zip(self.starts, ends))
+        some = (None if places is None else np.array([it - start for it in places if start <= it < end], int)
+                for start, end in zip(self.starts, ends))
+        return itertools.chain.from_iterable(self.over(policies_of, choices, some))
 
-    def at(self, chosen: Whole) -> Point:
-        """Returns the point of a choice of rows, one for each item."""
-        return Point(float(self.value[chosen].sum()), 1 - float(self.unmet[chosen].sum()) / self.asked,
-                     float(self.orders[chosen].sum()), float(self.cost[chosen].sum()))
+    def drawn(self, seed: str, count: int) -> list[tuple[int, str]]:
+        """Returns the places and names of so many items, or of all if there are fewer, drawn as at random: the same in
+        each run."""
+        drawn = itertools.chain.from_iterable(self.over(drawn_of, self.starts, *always(seed, count)))
+        return sorted((place, name) for _, place, name in heapq.nsmallest(count, drawn))
 
-    def least_cost(self, point: Point, dearer: Dearer = AS_IS) -> float:
+    def ladder(self, dearer: Dearer = AS_IS) -> Ladder:
+        """Returns the steps from the least service to the most, perhaps with dearer orders or stock."""
+        if dearer not in self.known:
+            self.known[dearer] = Ladder(self, dearer)
+        return self.known[dearer]
+
+    def least_cost(self, point: Point, *asked: Dearer) -> float:
         """Returns a bound: no choice of policies with the service of a point has less setup and holding; if orders or
-        stock are dearer, none with no more of them than the point.
+        stock are dearer, none with no more of them than the point. Each extra cost gives such a bound: the best is
+        returned.
 
         It is Lagrange's bound at the best of the grid's prices, at which each item's best policy is known. For costs
         between two variants, the least is no less than what lies between theirs, since it is a concave function.
         """
-        shares, extra = self._shares(dearer), self.extra[self.owner, self.variant]
-        fixed, slope = np.zeros((2, len(PRICES) + 1))
-        costs = self.cost + extra[:, 0] * self.orders + extra[:, 1] * self.value
-        for total, each in ((fixed, costs), (slope, self.unmet)):
-            np.add.at(total, self.first, shares * each)
-            np.add.at(total, self.end, -shares * each)
-        least = np.cumsum(fixed)[:-1] + PRICES * np.cumsum(slope)[:-1]
-        unmet = (1 - point.fill) * self.asked
-        return float((least - PRICES * unmet).max()) - dearer.orders * point.orders - dearer.stock * point.value
+        if asked not in self.bounds:
+            costs, unmet = np.moveaxis(sum(self.each(bounds_of, asked)), 1, 0)
+            self.bounds[asked] = costs * self.units[COST], unmet * self.units[UNMET]
+        costs, unmet = self.bounds[asked]
+        least = costs + PRICES * (unmet - (1 - point.fill) * self.asked * self.units[UNMET])
+        used = np.array([dearer.orders * point.orders + dearer.stock * point.value for dearer in asked])
+        return float((least.max(axis=1) - used).max())
 
-    def _shares(self, dearer: Dearer) -> Floats:
-        """Returns how much each row counts for costs between those of two variants."""
-        which = 1 if dearer.stock else 0
-        amount, variants, places = dearer[which], np.array(DEARER[which]), np.arange(len(self.names))
-        extra = self.extra[:, variants, which]
-        above = np.minimum((extra <= amount).sum(axis=1), len(variants) - 1)
-        low, high = extra[places, above - 1], extra[places, above]
-        share, shares = np.clip((amount - low) / (high - low), 0, 1), np.zeros(self.extra.shape[:2])
-        shares[places, variants[above - 1]], shares[places, variants[above]] = 1 - share, share
-        counted: Floats = shares[self.owner, self.variant]
-        return counted
+
+def grid(low: float, high: float) -> Floats:
+    """Returns prices that cut the range from one to another into many stretches, each with the price at its end."""
+    prices: Floats = np.unique([np.nextafter(low, 0), *np.geomspace(low, high, CUTS)])
+    return prices
+
+
+class Stretch(NamedTuple):
+    """Steps of a ladder above a price, up to another one: how many, sums of figures before and after them, in units,
+    and what those add to the stock value that lower it; the least and the greatest price of a step."""
+
+    low: float
+    high: float
+    steps: int
+    before: Whole
+    after: Whole
+    falls: int
+    least: float
+    most: float
+
+    @property
+    def is_small(self) -> bool:
+        """Returns whether its steps are looked at one by one."""
+        return self.steps <= MOST_STEPS or self.least == self.most
 
 
 class Ladder:
-    """The steps from the least service to the most, by rising price, perhaps with dearer orders or stock."""
+    """The steps from the least service to the most, by rising price and by item, perhaps with dearer orders or stock.
+
+    A step between two prices is found in rounds: of stretches of it sums are known, and those that may hold it are cut,
+    until there are few enough steps.
+    """
 
     def __init__(self, items: Items, dearer: Dearer = AS_IS) -> None:
-        """Finds the vertices of each item's hull."""
-        cost = items.cost + dearer.orders * items.orders + dearer.stock * items.value
-        kept = lower_hull(items.owner, cost, items.unmet)
-        owner = items.owner[kept]
-        prices = slopes(owner, cost[kept], items.unmet[kept])
-        steps = np.flatnonzero(np.isfinite(prices))
-        steps = steps[np.lexsort((steps, prices[steps]))]
-        self.items = items
-        self.start = kept[np.append(True, owner[1:] != owner[:-1])]
-        self.prices, self.owner = prices[steps], owner[steps]
-        self.below, self.above = kept[steps], kept[steps + 1]
+        self.items, self.dearer = items, dearer
+        self.grid = self.stretches(np.array([-np.inf, *PRICES, np.inf]))
+        self.start, self.end = self.grid[0].before, self.grid[-1].after
+        self.whole = [stretch for stretch in self.grid if stretch.steps]
 
-    def after(self, count: int) -> Whole:
-        """Returns the choice after so many steps."""
-        chosen: Whole = self.start.copy()
-        # Steps of an item come in order, so the last one stands.
-        chosen[self.owner[:count]] = self.above[:count]
-        return chosen
+    def stretches(self, edges: Floats, before: Whole | None = None) -> list[Stretch]:
+        """Returns the stretches between prices. The figures `before` are those of the start, if they are not known."""
+        counts, sums, start, span = np.zeros(1, int), np.zeros(1, int), np.zeros(1, int), np.full(1, -np.inf)
+        for its in self.items.each(stretches_of, self.dearer, edges):
+            counts, sums, start, span = counts + its[0], sums + its[1], start + its[2], np.maximum(span, its[3])
+        *changes, falls = sums
+        first = start if before is None else before
+        places = np.column_stack([first, first[:, None] + np.cumsum(changes, axis=1)]).T
+        return [Stretch(*row) for row in zip(edges.tolist(), edges[1:].tolist(), counts.tolist(), places, places[1:],
+                                             falls.tolist(), (-span[0]).tolist(), span[1].tolist())]
 
-    def _changes(self, figure: Floats) -> Floats:
-        changes: Floats = figure[self.above] - figure[self.below]
-        return changes
+    def steps(self, function: Callable[..., Steps], *words: Any) -> Steps:
+        """Returns the steps that a function returns for each part, the place of its first item, and further words."""
+        parts = self.items.over(function, self.items.starts, *always(self.items.units, self.dearer, *words))
+        prices, owner, changes = (np.concatenate(part, axis=-1) for part in zip(*parts))
+        order = np.argsort(prices, kind="stable")
+        return Steps(prices[order], owner[order], changes[:, order])
 
-    def along(self, figure: Floats) -> Floats:
-        """Returns the sum of a figure after 0 steps, 1 step, and so on."""
-        return np.append(0.0, np.cumsum(self._changes(figure))) + float(figure[self.start].sum())
+    def places(self, stretch: Stretch) -> tuple[Steps, Whole]:
+        """Returns the steps of a stretch, and the sums of figures before the first, after it, and so on."""
+        steps = self.steps(steps_of, stretch.low, stretch.high)
+        return steps, np.column_stack([stretch.before, stretch.before[:, None] + np.cumsum(steps.changes, axis=1)])
 
-    def with_price(self, price: float) -> Whole:
-        """Returns the best choice for a price."""
-        return self.after(int(np.searchsorted(self.prices, price, "right")))
+    def cut(self, stretch: Stretch) -> list[Stretch]:
+        return self.stretches(grid(stretch.least, stretch.most), stretch.before)
 
-    def with_fill(self, fill: float) -> Whole | None:
-        """Returns a choice that meets a share of demand by value; None if no choice does."""
-        allowed = (1 - fill + NEAR) * self.items.asked
-        unmet = self.along(self.items.unmet)
-        if unmet[-1] > allowed:
-            return None
-        count = int(np.argmax(unmet <= allowed))
-        # Steps that are not needed are taken back, the dearest first, each item's last one first.
-        first = int(np.searchsorted(self.prices * FILL, self.prices[count - 1])) if count else 0
-        return self._changed(self.after(count), range(count - 1, first - 1, -1), self.below,
-                             -self._changes(self.items.unmet), allowed - float(unmet[count]))
+    def extreme(self, way: int, stretches: Sequence[Stretch] = ()) -> int:
+        """Returns the greatest stock value along the ladder, or the least if `way` is -1, in units. It may fall."""
+        some = stretches or self.grid
+        best = max(way * int(place[VALUE]) for stretch in some for place in (stretch.before, stretch.after))
+        for stretch in some:
+            rises = int(stretch.after[VALUE] - stretch.before[VALUE]) - stretch.falls
+            if way * int(stretch.before[VALUE]) + (rises if way > 0 else -stretch.falls) > best:
+                best = max(best, int((way * self.places(stretch)[1][VALUE]).max()) if stretch.is_small else
+                           way * self.extreme(way, self.cut(stretch)))
+        return way * best
 
-    def with_value(self, most: float) -> Whole | None:
-        """Returns the choice with the best service whose stock is worth no more; None if no choice is."""
-        value, allowed = self.along(self.items.value), most * (1 + NEAR)
-        fits = np.flatnonzero(value <= allowed)
+    def crossing(self, figure: int, way: int, most: int, stretches: Sequence[Stretch]) -> Crossing | None:
+        """Returns the last step before which a figure, times `way`, is at most so much; None if it is always more. At
+        the end it is more."""
+        for stretch in reversed(stretches):
+            if way * int(stretch.before[figure]) + (stretch.falls if figure == VALUE else 0) > most:
+                continue
+            found = self._last(figure, way, most, stretch) if stretch.is_small else \
+                self.crossing(figure, way, most, self.cut(stretch))
+            if found:
+                return found
+        return None
+
+    def _last(self, figure: int, way: int, most: int, stretch: Stretch) -> Crossing | None:
+        """Returns the last step of a stretch before which a figure is at most so much."""
+        steps, places = self.places(stretch)
+        fits = np.flatnonzero(way * places[figure, :-1] <= most)
         if not len(fits):
             return None
-        count = int(fits[-1])
+        last = int(fits[-1])
+        return Crossing(float(steps.prices[last]), int(steps.owner[last]), places[:, last], places[:, last + 1])
+
+    def choice(self, price: float, owner: int, sums: Whole, moved: Mapping[int, int] | None = None) -> Choice:
+        """Returns the choice with all steps up to that of a price and an item, and what it amounts to."""
+        return Choice(self.dearer, price, owner, np.array(sorted((moved or {}).items()), int).reshape(-1, 2).T,
+                      self.items.point(sums))
+
+    def with_price(self, place: int) -> Choice:
+        """Returns the best choice for a price of the grid."""
+        return self.choice(self.grid[place].high, self.items.count, self.grid[place].after)
+
+    def with_fill(self, fill: float) -> Choice | None:
+        """Returns a choice that meets a share of demand by value; None if no choice does."""
+        allowed = math.floor((1 - fill + NEAR) * self.items.asked)
+        if self.end[UNMET] > allowed:
+            return None
+        border = self.crossing(UNMET, -1, -allowed - 1, self.whole)
+        if border is None:
+            return self.choice(0.0, 0, self.start)
+        # Steps that are not needed are taken back, the dearest first, each item's last one first.
+        return self._moved(border, UNMET, -1, allowed - int(border.after[UNMET]))
+
+    def with_value(self, most: float) -> Choice | None:
+        """Returns the choice with the best service whose stock is worth no more; None if no choice is."""
+        allowed = math.floor(most * (1 + NEAR) / self.items.units[VALUE])
+        if self.end[VALUE] <= allowed:
+            return self.choice(math.inf, 0, self.end)
+        border = self.crossing(VALUE, 1, allowed, self.whole)
         # Further steps are taken that the budget allows, the cheapest first, each item's next one first.
-        end = int(np.searchsorted(self.prices, FILL * self.prices[count], "right")) if count < len(self.prices) else 0
-        return self._changed(self.after(count), range(count, end), self.above, self._changes(self.items.value),
-                             allowed - float(value[count]))
+        return border and self._moved(border, VALUE, 1, allowed - int(border.before[VALUE]))
 
-    def _changed(self, chosen: Whole, places: Iterable[int], rows: Whole, used: Floats, spare: float) -> Whole:
-        """Returns a choice in which owners of steps get the rows beside these, step by step, each of which uses some of
-        what is to spare. An owner for whom there is too little stays as it is."""
-        stays: set[int] = set()
-        for place in places:
-            owner = int(self.owner[place])
-            if owner not in stays and used[place] <= spare:
-                chosen[owner], spare = rows[place], spare - used[place]
+    def _moved(self, border: Crossing, figure: int, way: int, spare: int) -> Choice:
+        """Returns a choice at a border, in which steps beside it are taken, or taken back, one by one, each of which
+        uses some of what is to spare of a figure. An item for whose step there is too little stays as it is."""
+        windows = self.windows(border.price, way)
+        falls = -sum(window.falls for window in windows) if figure == VALUE else 0
+        moved, stays = Counter[int](), np.zeros(self.items.count, bool)
+        sums = (border.before if way > 0 else border.after).copy()
+        for window in windows:
+            steps = self.steps(fitting, window.low, window.high, (border.price, border.owner), figure, way,
+                               spare + falls)
+            taken = []
+            for place, (owner, use) in [*enumerate(zip(steps.owner.tolist(), (way * steps.changes[figure]).tolist()))
+                                        ][::way]:
+                if use > spare or stays[owner]:
+                    stays[owner] = True
+                    continue
+                spare -= use
+                moved[owner] += way
+                taken.append(place)
+            sums += way * steps.changes[:, taken].sum(axis=1)
+            falls += window.falls if figure == VALUE else 0
+        return self.choice(border.price, border.owner - (way > 0), sums, moved)
+
+    def windows(self, price: float, way: int) -> list[Stretch]:
+        """Returns stretches from a price on, upwards or downwards, to that at which a budget is no longer filled: each
+        with few steps, if they have different prices."""
+        low, high = (price, FILL * price) if way > 0 else (price / FILL, price)
+        windows = list[Stretch]()
+        for stretch in self.stretches(grid(low, high)):
+            last = windows[-1] if windows else None
+            if last and last.steps + stretch.steps <= MOST_STEPS:
+                windows[-1] = last._replace(high=stretch.high, steps=last.steps + stretch.steps,
+                                            falls=last.falls + stretch.falls)
             else:
-                stays.add(owner)
-        return chosen
+                windows.append(stretch)
+        return windows[::way]
 
 
-class Choice(NamedTuple):
-    """A choice of policies: rows of the candidates, one for each item, what they amount to, and what is dearer."""
+class Crossing(NamedTuple):
+    """A step of a ladder, by its price and its item, and the sums of figures before and after it, in units."""
 
-    rows: Whole
-    point: Point
-    dearer: Dearer
+    price: float
+    owner: int
+    before: Whole
+    after: Whole
 
 
 def gap_of(items: Items, point: Point, dearer: Dearer = AS_IS) -> float:
     """Returns the share by which setup and holding of a point are at most above the best with its service, and with no
-    more orders or stock, if these are dearer. Each extra cost gives such a bound, so the best bound is taken."""
+    more orders or stock, if these are dearer."""
     parts = [0.0, *(2.0**-np.arange(DOUBLINGS)).tolist()] if dearer != AS_IS else [0.0]
-    least = max(items.least_cost(point, Dearer(part * dearer.orders, part * dearer.stock)) for part in parts)
+    least = items.least_cost(point, *(Dearer(part * dearer.orders, part * dearer.stock) for part in parts))
     return max(0.0, point.cost / least - 1) if least > 0 else math.inf
 
 
@@ -245,9 +315,8 @@ class Budget:
 
     def choice(self, items: Items, dearer: Dearer = AS_IS) -> Choice | None:
         """Returns the choice that keeps the stock value or the share; None if none does."""
-        ladder = Ladder(items, dearer)
-        rows = ladder.with_value(self.value) if self.value is not None else ladder.with_fill(self.fill or 0.0)
-        return None if rows is None else Choice(rows, items.at(rows), dearer)
+        ladder = items.ladder(dearer)
+        return ladder.with_value(self.value) if self.value is not None else ladder.with_fill(self.fill or 0.0)
 
     def kept(self, choice: Choice | None) -> Choice | None:
         """Returns a choice that has no more orders than are allowed; None if it has more."""
@@ -261,19 +330,20 @@ def chosen_by(items: Items, budget: Budget) -> Choice:
     If the stock value or the share lies below the curve, stock is made dearer: there is less of it, with more orders,
     up to those that are allowed. If orders are too many, they are made dearer.
     """
-    ladder = Ladder(items)
-    values, fills = ladder.along(items.value), 1 - ladder.along(items.unmet) / items.asked
-    if budget.value is not None and budget.value > values.max() * (1 + NEAR):
+    ladder = items.ladder()
+    start, end = items.point(ladder.start), items.point(ladder.end)
+    if budget.value is not None and budget.value > end.value and budget.value > (
+            most := ladder.extreme(1) * items.units[VALUE]) * (1 + NEAR):
         raise OffCurve(argument("stock_value", f"{budget.value:,.10g}"),
-                       f"the most stock on the curve is worth {values.max():,.2f}", "name less")
-    if budget.fill is not None and budget.fill > fills[-1] + NEAR:
+                       f"the most stock on the curve is worth {most:,.2f}", "name less")
+    if budget.fill is not None and budget.fill > end.fill + NEAR:
         raise OffCurve(argument("fill", f"{budget.fill:g}"),
-                       f"the curve ends with {fills[-1]:.8f} of demand by value", "name less")
+                       f"the curve ends with {end.fill:.8f} of demand by value", "name less")
     first = budget.choice(items)
-    is_below = first is None or (budget.fill is not None and budget.fill < fills[0] * (1 - NEAR))
+    is_below = first is None or (budget.fill is not None and budget.fill < start.fill * (1 - NEAR))
     if is_below and budget.orders is None:
-        what, least = ("fill", f"begins with {fills[0]:.4f} of demand by value") if first else \
-            ("stock_value", f"has stock worth {values.min():,.2f} at least")
+        what, least = ("fill", f"begins with {start.fill:.4f} of demand by value") if first else \
+            ("stock_value", f"has stock worth {ladder.extreme(-1) * items.units[VALUE]:,.2f} at least")
         raise OffCurve(argument(what, f"{budget.fill or budget.value:,.10g}"), f"the curve {least}",
                        f"name more, or allow more orders than it has there, by {argument('orders')}")
     if first is None or is_below:
@@ -284,7 +354,7 @@ def chosen_by(items: Items, budget: Budget) -> Choice:
 def with_more_orders(items: Items, budget: Budget) -> Choice:
     """Returns the choice with the greatest extra cost of stock with which there are few enough orders: it uses all that
     are allowed. Raises OffCurve if no choice keeps the budget."""
-    choice = _border(items.extra[:, :, 1], lambda amount: budget.kept(budget.choice(items, Dearer(stock=amount))),
+    choice = _border(items.most_extra.stock, lambda amount: budget.kept(budget.choice(items, Dearer(stock=amount))),
                      budget.kept(budget.choice(items)), is_least=False)
     if choice is None:
         least = "stock of so little value" if budget.value is not None else "this service"
@@ -303,19 +373,19 @@ def with_fewer_orders(items: Items, budget: Budget, first: Choice) -> Choice:
         choice = budget.choice(items, Dearer(orders=amount))
         fewest = min(fewest, choice.point.orders) if choice else fewest
         return budget.kept(choice)
-    choice = _border(items.extra[:, :, 0], choice_of, None, is_least=True)
+    choice = _border(items.most_extra.orders, choice_of, None, is_least=True)
     if choice is None:
         raise OffCurve(argument("orders", f"{budget.orders:g}"), f"with this stock or service there are {fewest:.4g} "
                        "orders a period or more", "name more")
     return choice
 
 
-def _border(extras: Floats, choice_of: Callable[[float], Choice | None], first: Choice | None,
+def _border(most: float, choice_of: Callable[[float], Choice | None], first: Choice | None,
             is_least: bool) -> Choice | None:
     """Returns the choice with the least extra cost, or the greatest, with which a budget is kept; None if there is
     none. `choice_of` has the choice for an extra cost, `first` is that for none."""
     low, last = 0.0, first
-    for high in (float(extras.max()) / 2.0**np.arange(DOUBLINGS, -1, -1)).tolist():
+    for high in (most / 2.0**np.arange(DOUBLINGS, -1, -1)).tolist():
         choice = choice_of(high)
         best, beyond = (choice, last) if is_least else (last, choice)
         if best and not beyond:

@@ -6,8 +6,6 @@ sample of items crnsim counts the stock of the named points beside theory.
 from __future__ import annotations
 
 import contextlib
-import hashlib
-import heapq
 import itertools
 import json
 import math
@@ -18,7 +16,7 @@ from typing import TYPE_CHECKING
 
 import numpy as np
 
-from ..chances import Floats, Whole
+from ..chances import Floats
 from ..crnsim.long_run import long_run_of
 from ..crnsim.report import counting
 from ..errors import Refused
@@ -34,8 +32,9 @@ from ..scenario import Policy
 from ..stored import Store, digest_of
 from ..table import Cell, Column, DataTable, MONEY, Result, aligned, number, text, whole
 from ..words import PREMISE, advice, sentence
-from .candidates import PRICES, VERSION, Candidates, candidates_batch
-from .exchange import NEAR, Budget, Choice, Items, Ladder, OffCurve, Point, chosen_by, gap_of, with_more_orders
+from .candidates import VERSION, Candidates, candidates_batch
+from .exchange import NEAR, Budget, Items, OffCurve, chosen_by, gap_of, with_more_orders
+from .parts import Choice, Part, Point
 
 if TYPE_CHECKING:
     import pandas as pd
@@ -61,6 +60,7 @@ ON_CURVE, SAME_STOCK, SAME_SERVICE, BUDGET = "curve", "same stock", "same servic
 # What each point is, for a reader.
 SAID = {TODAY: "today", CHOSEN: "chosen item by item", SAME_STOCK: "today's stock, best service",
         SAME_SERVICE: "today's service, least stock", BUDGET: "your budget"}
+PART = 256  # items of a part
 DRAWN = "curve"  # the fact with the points, beside the answers of a plan
 # Codes of remarks on items that are not on the curve.
 NO_PRICE, NO_PLAN = "no price", "not planned"
@@ -119,23 +119,20 @@ def added_up(folder: PlannedFolder, kept: Store[Candidates], names: Iterable[str
              new: int) -> Gathered:
     """Returns what is kept of some items beside those that are left out. Raises Refused if no item can be on the
     curve."""
-    # Of today's and of the chosen policies: the value of the stock, the demand that is not met, orders and costs.
-    sums, shown = np.zeros((2, 4)), list[tuple[str, int | None, int | None]]()
+    shown = list[tuple[str, int | None, int | None]]()
 
-    def on_curve() -> Iterator[tuple[str, float, Candidates]]:
+    def on_curve() -> Iterator[tuple[str, float, Candidates, Floats]]:
         for name in names:
             item, answer, candidates = folder.read.item(name), folder.store.answer(name), kept.answer(name)
             if isinstance(candidates, Remark):
                 left_out.append((name, candidates))
                 continue
             assert item is not None and item.price is not None and isinstance(answer, Answer)
-            price, setup, holding = float(item.price), candidates.setup, candidates.holding
-            sums[...] += [(price * policy.stock, price * candidates.demand * (1 - policy.fill), policy.orders,
-                           setup * policy.orders + holding * policy.stock)
-                          for policy in (answer.today or answer.chosen, answer.chosen)]
             s, S = item.levels or (None, None)
             shown.append((item.description, s, S))
-            yield name, price, candidates
+            policies = np.array([(policy.stock, candidates.demand * (1 - policy.fill), policy.orders)
+                                 for policy in (answer.today or answer.chosen, answer.chosen)])
+            yield name, float(item.price), candidates, policies
     first = next(rest := on_curve(), None)
     if first is None:
         why, what = "no item is in the plan", ""
@@ -143,16 +140,11 @@ def added_up(folder: PlannedFolder, kept: Store[Candidates], names: Iterable[str
             name, remark = left_out[0]
             why, what = f"{len(left_out):,} items are left out; the first, {name}: {sentence(remark)}", advice(remark)
         raise Refused(f"{folder.path}: no item can be on the curve: {why}", what)
-    items = Items.of(itertools.chain([first], rest))
-    points = {policy: Point(value, 1 - unmet / items.asked, orders, cost)
-              for policy, (value, unmet, orders, cost) in zip((TODAY, CHOSEN), sums.tolist())}
+    every = itertools.chain([first], rest)
+    parts = [*map(Part.of, iter(lambda: [*itertools.islice(every, PART)], []))]
+    items = Items(lambda function, *columns: map(function, parts, *columns))
+    points = dict(zip((TODAY, CHOSEN), items.now))
     return Gathered(folder, items, points, shown, sorted(left_out, key=lambda pair: pair[0]), new)
-
-
-def sample_of(names: Sequence[str], seed: str, count: int) -> list[int]:
-    """Returns the places of so many names, chosen by a digest of the seed and the name: the same in each run."""
-    return sorted(heapq.nsmallest(count, range(len(names)), key=lambda place: hashlib.sha256(
-        f"{seed}\nconfirm\n{names[place]}".encode()).digest()))
 
 
 def stocks_by_run(question: Question, asked: Iterable[Levels], program: str | Path | None) -> dict[Levels, Floats]:
@@ -168,22 +160,23 @@ def confirmed(gathered: Gathered, choices: Mapping[str, Choice], said: Mapping[s
               program: str | Path | None) -> list[str]:
     """Returns a line on each named point, of which `said` says what it is for a reader: the value of the mean stock of
     a sample of items by theory, and by crnsim with its standard error. Raises Refused and ProgramError."""
-    items, sample = gathered.items, sample_of(gathered.items.names, gathered.folder.settings.seed, count)
+    items, sample = gathered.items, gathered.items.drawn(gathered.folder.settings.seed, count)
+    policies = {name: items.policies(choice, [place for place, _ in sample]) for name, choice in choices.items()}
     sums = {name: np.zeros(3) for name in said}  # by theory, by runs, and the variance of these
-    for place in sample:
-        item, answer = gathered.folder.item(items.names[place])
+    for _, drawn in sample:
+        item, answer = gathered.folder.item(drawn)
         price = float(item.price or 0)
         stocks = {name: (figures.levels, price * figures.stock)
                   for name, figures in ((TODAY, answer.today or answer.chosen), (CHOSEN, answer.chosen))}
-        for name, choice in choices.items():
-            row = choice.rows[place]
-            stocks[name] = (int(items.point[row]), int(items.level[row])), float(items.value[row])
+        for name, chosen in policies.items():
+            its = next(chosen)
+            stocks[name] = (its.point, its.level), its.value
         counted = stocks_by_run(gathered.folder.question(item), (levels for levels, _ in stocks.values()), program)
         for name, (levels, value) in stocks.items():
             runs = price * counted[levels]
             sums[name] += value, runs.mean(), runs.var(ddof=1) / KEYS
     money = gathered.folder.currency.text
-    lines = [f"crnsim: the stock of {len(sample):,} of {len(items.names):,} items, taken at random, is worth"]
+    lines = [f"crnsim: the stock of {len(sample):,} of {items.count:,} items, taken at random, is worth"]
     wide, shares = max(map(len, said.values())), dict[str, float]()
     for name, (theory, run, variance) in sums.items():
         shares[said[name]] = share = run / theory - 1 if theory else 0.0
@@ -196,7 +189,7 @@ def confirmed(gathered: Gathered, choices: Mapping[str, Choice], said: Mapping[s
 @dataclass(frozen=True)
 class Drawn(Result):
     """The curve: its points by price, the points that have a name with their gaps, what each is for a reader, and why
-    others are missing. `written` names the point whose policies are written: `rows` of the candidates. `confirmed` has
+    others are missing. `written` names the point whose policies are written: those of the `choice`. `confirmed` has
     lines on what crnsim counts."""
 
     gathered: Gathered
@@ -205,7 +198,7 @@ class Drawn(Result):
     said: dict[str, str]
     missing: dict[str, str]
     written: str
-    rows: Whole
+    choice: Choice
     confirmed: list[str]
 
     @property
@@ -229,7 +222,7 @@ class Drawn(Result):
                  "above the best"],
                 *([self.said[name], f"{point.value:,.{money}f}", f"{point.fill:.2%}", f"{point.orders:,.4g}",
                    f"{point.cost:,.{money}f}", gap_text(gap)] for name, (point, gap) in self.points.items())]
-        lines = [f"{len(self.gathered.items.names):,} items are on the curve"]
+        lines = [f"{self.gathered.items.count:,} items are on the curve"]
         if left:
             lines[0] += f"; {len(left):,} are left out, as {left[0][0]}: {sentence(left[0][1])} ({LEFT_OUT} names all)"
         without = sum(s is None for _, s, _ in self.gathered.shown)
@@ -251,11 +244,8 @@ class Drawn(Result):
 
     @property
     def policy_table(self) -> DataTable:
-        items, rows = self.gathered.items, self.rows
-        columns = (column.tolist() for column in (items.point[rows], items.level[rows], items.value[rows],
-                                                  1 - items.unmet[rows] / items.demand, items.orders[rows],
-                                                  items.cost[rows]))
-        cells = ([name, *shown, *row] for name, shown, *row in zip(items.names, self.gathered.shown, *columns))
+        policies = self.gathered.items.policies(self.choice)
+        cells = ([its.name, *shown, *its[1:]] for its, shown in zip(policies, self.gathered.shown))
         return self._table(POLICY_COLUMNS, cells)
 
     def _table(self, columns: Sequence[Column], rows: Iterable[Sequence[Cell]]) -> DataTable:
@@ -307,9 +297,9 @@ def _as_today(items: Items, today: Point, asked: Budget) -> Choice:
 
 def curve_points(items: Items) -> list[tuple[float, Point]]:
     """Returns the points of the curve: for each price of the grid at which some item's policy changes."""
-    ladder, points = Ladder(items), list[tuple[float, Point]]()
-    for price in PRICES.tolist():
-        point = items.at(ladder.with_price(price))
+    points = list[tuple[float, Point]]()
+    for stretch in items.ladder().grid[:-1]:
+        price, point = stretch.high, items.point(stretch.after)
         if not points or point != points[-1][1]:
             points.append((price, point))
     return points
@@ -323,12 +313,12 @@ def draw(gathered: Gathered, budget: Budget, confirm: int, program: str | Path |
     points |= {name: (choice.point, gap_of(items, choice.point, choice.dearer)) for name, choice in choices.items()}
     written = next((name for name in (BUDGET, SAME_SERVICE, SAME_STOCK) if name in choices), ON_CURVE)
     # If neither of today's figures is on the curve, the policies are those of its beginning.
-    rows = Ladder(items).with_price(float(PRICES[0])) if not choices else choices[written].rows
+    choice = choices[written] if choices else items.ladder().with_price(0)
     said = {name: SAID[name] for name in points}
     for name, choice in choices.items():
         said[name] += " (more orders)" * bool(choice.dearer.stock) + " (fewer orders)" * bool(choice.dearer.orders)
     sample = confirmed(gathered, choices, said, confirm, program) if confirm else []
-    return Drawn(gathered, curve_points(items), points, said, missing, written, rows, sample)
+    return Drawn(gathered, curve_points(items), points, said, missing, written, choice, sample)
 
 
 def gap_text(gap: float) -> str:

@@ -12,7 +12,7 @@ from typing import NamedTuple
 from urllib.parse import quote
 
 from ..crnsim.program import find_program
-from ..curve.exchange import Point
+from ..curve.parts import Point
 from ..curve.exchange_curve import kept_curve
 from ..files import Folder, own_folder
 from ..plan.answer import BOUNDED, CHEAPER, COMPARED, DEARER, SAME, SERVICE, UNCOMPARED, UNDECIDED, Answer

@@ -20,7 +20,7 @@ from ..words import PREMISE, sentence
 if TYPE_CHECKING:
     from markupsafe import Markup
 
-    from ..curve.exchange import Point
+    from ..curve.parts import Point
 
 UNITS = 1000
 MOST_TICKS = 5

@@ -15,7 +15,7 @@ import numpy as np
 
 from ..chances import Floats
 from ..crnsim.trajectory import Period
-from ..curve.exchange import Point
+from ..curve.parts import Point
 from ..decide.doubt import MOST, Doubt
 from ..decide.verdicts import Compared, Decision
 from ..errors import Refused

@@ -13,7 +13,7 @@ from collections.abc import Iterator, Sequence
 from pathlib import Path
 from typing import TYPE_CHECKING
 
-from ..curve.exchange import Point
+from ..curve.parts import Point
 from ..curve.exchange_curve import FIGURES, kept_curve
 from ..errors import Refused
 from ..files import new_bytes

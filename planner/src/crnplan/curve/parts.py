@@ -1,0 +1,295 @@
+"""Holds the candidates of a part of the items and the hulls of these, and adds up figures over them.
+
+A worker holds a part. Figures are added up as whole numbers of a unit, which is the same for all parts: such sums are
+exact, so they are the same for any parts in any order.
+"""
+from __future__ import annotations
+
+import hashlib
+import heapq
+import math
+from collections.abc import Iterable, Sequence
+from dataclasses import dataclass, field
+from typing import NamedTuple
+
+import numpy as np
+
+from ..chances import Floats, Whole
+from .candidates import DEARER, PRICES, Candidates, lower_hull, slopes, variants_of
+
+# The figures of a period that are added up: the value of the mean stock, that of demand that is not met at once,
+# orders, and setup and holding costs.
+VALUE, UNMET, ORDERS, COST = FIGURES = range(4)
+# Sums have less than so many binary digits, so that the sum of two of them is a whole number of numpy.
+BITS = 62
+
+
+class Dearer(NamedTuple):
+    """What an order costs beside its setup, and a unit of the value of stock beside its holding. One of them is 0."""
+
+    orders: float = 0.0
+    stock: float = 0.0
+
+
+AS_IS = Dearer()
+
+
+class Point(NamedTuple):
+    """What a choice of policies amounts to in a period of the long run: the value of the mean stock, the share of
+    demand by value that is met at once, orders, and setup and holding costs."""
+
+    value: float
+    fill: float
+    orders: float
+    cost: float
+
+
+Units = tuple[float, ...]
+
+
+def units_of(most: Iterable[float], count: int) -> Units:
+    """Returns the unit of each figure, a power of 2, of which so many items have no more than `most` each."""
+    return tuple(2.0**(math.frexp(each * count)[1] - BITS) for each in most)
+
+
+def in_units(figures: Floats, units: Units) -> Whole:
+    """Returns figures, the first axis of an array, as whole numbers of their units."""
+    whole: Whole = np.rint(figures / np.reshape(units, (-1, *[1] * (figures.ndim - 1)))).astype(np.int64)
+    return whole
+
+
+@dataclass(frozen=True)
+class Part:
+    """The candidates of some items: arrays with a row for each, by item, variant of costs, and price.
+
+    `owner` is the item's place in the part; `first` and `end` are the prices for which it is best. `figures` has a row
+    for each of `FIGURES`. By item are the `names`, the `demand`, in value, and `extra`: what each variant adds to the
+    costs of an order and of a unit of value of stock. `now` has the figures of today's policies and of the chosen ones.
+    """
+
+    names: tuple[str, ...]
+    demand: Floats
+    extra: Floats
+    now: Floats
+    owner: Whole
+    variant: Whole
+    first: Whole
+    end: Whole
+    point: Whole
+    level: Whole
+    figures: Floats
+    known: dict[Dearer, Hulls] = field(default_factory=dict, compare=False)
+
+    @classmethod
+    def of(cls, answers: Iterable[tuple[str, float, Candidates, Floats]]) -> Part:
+        """Takes the candidates of items, each with its name, its price, and the figures of today's policy and of the
+        chosen one: stock, unmet demand and orders. They are not kept as they come."""
+        names, demand, extra, parts = list[str](), list[float](), [], []
+        figures, now = list[Floats](), list[Floats]()
+        for place, (name, price, candidates, policies) in enumerate(answers):
+            setup, holding, rows = candidates.setup, candidates.holding, np.array(candidates.rows, float)
+            variant, first, point, level = rows[:, :4].astype(int).T
+            end = np.where(np.append(variant[1:] != variant[:-1], True), len(PRICES), np.append(first[1:], 0))
+            parts.append(np.array([np.full(len(rows), place), variant, first, end, point, level]))
+            for some, (stock, unmet, orders) in ((figures, rows[:, 4:].T), (now, policies.T)):
+                some.append(np.array([price * stock, price * unmet, orders, setup * orders + holding * stock]))
+            names.append(name)
+            demand.append(price * candidates.demand)
+            extra.append((np.array(variants_of(setup, holding, candidates.demand)) - (setup, holding)) / (1, price))
+        owner, variant, first, end, point, level = np.concatenate(parts, axis=1)
+        return cls(tuple(names), np.array(demand), np.array(extra), np.array(now).T, owner, variant, first, end, point,
+                   level, np.concatenate(figures, axis=1))
+
+    def hulls(self, dearer: Dearer = AS_IS) -> Hulls:
+        """Returns the hulls of the items. Those of the last costs are kept, and those of costs as they are."""
+        if dearer not in self.known:
+            for other in self.known.keys() - {AS_IS}:
+                del self.known[other]
+            self.known[dearer] = Hulls.of(self, dearer)
+        return self.known[dearer]
+
+    def shares(self, dearer: Dearer) -> Floats:
+        """Returns how much each row counts for costs between those of two variants."""
+        which = 1 if dearer.stock else 0
+        amount, variants, places = dearer[which], np.array(DEARER[which]), np.arange(len(self.names))
+        extra = self.extra[:, variants, which]
+        above = np.minimum((extra <= amount).sum(axis=1), len(variants) - 1)
+        low, high = extra[places, above - 1], extra[places, above]
+        share, shares = np.clip((amount - low) / (high - low), 0, 1), np.zeros(self.extra.shape[:2])
+        shares[places, variants[above - 1]], shares[places, variants[above]] = 1 - share, share
+        counted: Floats = shares[self.owner, self.variant]
+        return counted
+
+    def variant_costs(self) -> Floats:
+        """Returns what each row costs in its variant."""
+        extra = self.extra[self.owner, self.variant]
+        costs: Floats = self.figures[COST] + extra[:, 0] * self.figures[ORDERS] + extra[:, 1] * self.figures[VALUE]
+        return costs
+
+
+@dataclass(frozen=True)
+class Hulls:
+    """The lower hulls of the items of a part, perhaps with dearer orders or stock.
+
+    `rows` are the vertices, by item from the least service to the most, and `start` the place of each item's first one.
+    Steps lead from a vertex to the next: `below` is the place of the one that they leave. They are by rising price, and
+    by `owner` if prices are equal.
+    """
+
+    rows: Whole
+    start: Whole
+    figures: Floats
+    prices: Floats
+    owner: Whole
+    below: Whole
+
+    @classmethod
+    def of(cls, part: Part, dearer: Dearer) -> Hulls:
+        value, unmet, orders, cost = part.figures
+        cost = cost + dearer.orders * orders + dearer.stock * value
+        rows = lower_hull(part.owner, cost, unmet)
+        owner = part.owner[rows]
+        prices = slopes(owner, cost[rows], unmet[rows])
+        below = np.flatnonzero(np.isfinite(prices))
+        below = below[np.lexsort((below, prices[below]))]
+        return cls(rows, np.flatnonzero(np.append(True, owner[1:] != owner[:-1])), part.figures[:, rows],
+                   prices[below], owner[below], below)
+
+    def changes(self, units: Units) -> Whole:
+        """Returns what each step adds to the figures, in whole units."""
+        whole = in_units(self.figures, units)
+        changes: Whole = whole[:, self.below + 1] - whole[:, self.below]
+        return changes
+
+    def before(self, price: float, owner: int) -> int:
+        """Returns how many steps come before that of a price and an item."""
+        first, end = np.searchsorted(self.prices, price, "left"), np.searchsorted(self.prices, price, "right")
+        return int(first + np.searchsorted(self.owner[int(first):int(end)], owner))
+
+
+def measured(part: Part) -> tuple[int, Floats, Floats]:
+    """Returns how many items there are, the greatest of each figure, and the greatest extra costs of orders and stock.
+    """
+    most = np.maximum(part.figures.max(axis=1), part.now.max(axis=(0, 2)))
+    most[UNMET] = max(most[UNMET], part.demand.max())
+    most[COST] = max(most[COST], part.variant_costs().max())
+    return len(part.names), most, part.extra.max(axis=(0, 1))
+
+
+def summed(part: Part, units: Units) -> tuple[int, Whole]:
+    """Returns the demand, in units of unmet demand, and the figures of today's policies and of the chosen ones."""
+    asked = in_units(part.demand[None], units[UNMET:UNMET + 1]).sum()
+    return int(asked), np.array([in_units(figures, units).sum(axis=1) for figures in part.now])
+
+
+def bounds_of(part: Part, units: Units, asked: Sequence[Dearer]) -> Whole:
+    """Returns for each of some extra costs and each price the least costs without those of unmet demand, and the unmet
+    demand, in units."""
+    sums = np.zeros((len(asked), 2, len(PRICES) + 1), np.int64)
+    each = np.array([part.variant_costs(), part.figures[UNMET]])
+    for total, dearer in zip(sums, asked):
+        rows = in_units(part.shares(dearer) * each, (units[COST], units[UNMET]))
+        for its, row in zip(total, rows):
+            np.add.at(its, part.first, row)
+            np.subtract.at(its, part.end, row)
+    least: Whole = np.cumsum(sums, axis=-1)[..., :-1]
+    return least
+
+
+def stretches_of(part: Part, units: Units, dearer: Dearer,
+                 edges: Floats) -> tuple[Whole, Whole, Whole, Floats]:
+    """Returns sums over the steps between edges of price, each with the edge at its end: how many there are, what they
+    add to each figure, and to the stock value those that lower it; the figures before all steps; and the least and the
+    greatest price of each stretch that has steps."""
+    hulls = part.hulls(dearer)
+    changes, ends = hulls.changes(units), np.searchsorted(hulls.prices, edges, "right")
+    changes = np.vstack([changes, np.minimum(changes[VALUE], 0)])
+    sums = np.diff(np.pad(np.cumsum(changes, axis=1), ((0, 0), (1, 0)))[:, ends], axis=1)
+    # Where a stretch has no step, these are of one beside it, which other parts surpass.
+    least, most = np.append(hulls.prices, np.inf)[ends[:-1]], np.append(-np.inf, hulls.prices)[ends[1:]]
+    start = in_units(hulls.figures[:, hulls.start], units).sum(axis=1)
+    return np.diff(ends), sums, start, np.array([-least, most])
+
+
+class Steps(NamedTuple):
+    """Steps of a ladder by rising price, and by item if prices are equal: what each adds to the figures, in units."""
+
+    prices: Floats
+    owner: Whole
+    changes: Whole
+
+
+def steps_of(part: Part, start: int, units: Units, dearer: Dearer, low: float, high: float) -> Steps:
+    """Returns the steps above a price, up to another one. `start` is the place of the part's first item."""
+    hulls = part.hulls(dearer)
+    some = slice(*np.searchsorted(hulls.prices, (low, high), "right"))
+    return Steps(hulls.prices[some], hulls.owner[some] + start, hulls.changes(units)[:, some])
+
+
+def fitting(part: Part, start: int, units: Units, dearer: Dearer, low: float, high: float, border: tuple[float, int],
+            figure: int, way: int, spare: int) -> Steps:
+    """Returns the steps above a price, up to another one, that may be taken from a border on, if there is so much of a
+    figure to spare: upwards, or back downwards if `way` is -1. The border is a step, by its price and its item.
+
+    An item for whose step there is too little takes no further one.
+    """
+    hulls, (price, owner) = part.hulls(dearer), border
+    first, end = (hulls.before(price, owner - start), int(np.searchsorted(hulls.prices, high, "right"))) if way > 0 \
+        else (int(np.searchsorted(hulls.prices, low, "right")), hulls.before(price, owner - start + 1))
+    places = np.arange(first, end)[::way]
+    changes, owners = hulls.changes(units), hulls.owner[places]
+    stays = np.full(len(part.names), len(places))
+    too_much = np.flatnonzero(way * changes[figure, places] > spare)
+    np.minimum.at(stays, owners[too_much], too_much)
+    places = np.sort(places[np.arange(len(places)) < stays[owners]])
+    places = places[(hulls.prices[places] > low) & (hulls.prices[places] <= high)]
+    return Steps(hulls.prices[places], hulls.owner[places] + start, changes[:, places])
+
+
+class Choice(NamedTuple):
+    """A choice of policies: with what is dearer, each item takes the steps up to that of a price and an item, and so
+    many more, or fewer, as `moved` says of some items: their places, rising, and the numbers of steps."""
+
+    dearer: Dearer
+    price: float
+    owner: int
+    moved: Whole
+    point: Point
+
+    def of_part(self, start: int, count: int) -> Choice:
+        """Returns the choice of so many items from a place on, with places in their part."""
+        some = self.moved[:, slice(*np.searchsorted(self.moved[0], (start, start + count)))]
+        return self._replace(owner=self.owner - start, moved=some - [[start], [0]])
+
+
+class Chosen(NamedTuple):
+    """The policy of an item in a choice, with its figures of a period."""
+
+    name: str
+    point: int
+    level: int
+    value: float
+    fill: float
+    orders: float
+    cost: float
+
+
+def policies_of(part: Part, choice: Choice, places: Whole | None = None) -> list[Chosen]:
+    """Returns the policies of the items at some places of the part, or of all, in its choice."""
+    if places is not None and not len(places):
+        return []
+    hulls = part.hulls(choice.dearer)
+    taken = np.bincount(hulls.owner[:hulls.before(choice.price, choice.owner + 1)], minlength=len(part.names))
+    taken[choice.moved[0]] += choice.moved[1]
+    some = np.arange(len(part.names)) if places is None else places
+    rows = hulls.rows[hulls.start + taken][some]
+    value, unmet, orders, cost = part.figures[:, rows]
+    columns = (part.point[rows], part.level[rows], value, 1 - unmet / part.demand[some], orders, cost)
+    return [*map(Chosen, (part.names[place] for place in some), *(column.tolist() for column in columns))]
+
+
+def drawn_of(part: Part, start: int, seed: str, count: int) -> list[tuple[bytes, int, str]]:
+    """Returns so many items at most, which are drawn by a digest of the seed and the name: digests, places and names.
+    """
+    return heapq.nsmallest(count, ((hashlib.sha256(f"{seed}\nconfirm\n{name}".encode()).digest(), start + place, name)
+                                   for place, name in enumerate(part.names)))
