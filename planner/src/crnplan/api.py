@@ -16,13 +16,14 @@ from .errors import Refused, argument
 from .files import Folder, own_folder
 from .money import Amount, Number
 from .pages.catalogue_page import CATALOGUE_FILES, report
-from .pages.catalogue_tables import catalogue_summary, decisions_of, faults_of, rejects_of
+from .pages.catalogue_tables import catalogue_summary, decisions_of, rejects_of
 from .pages.change_tables import change_lines, changes_of
 from .pages.today_tables import OrdersToday, orders_today
 from .pages.item_page import ItemWords, item_page, item_summary, plan_item as plan_one_item, policies_of
 from .plan.catalogue import Lost, Totals, check_earlier, plan_into, planned_folder
 from .plan.item import Depth
 from .plan.question import Settings
+from .plan.survey import Survey
 from .records.catalogue_reading import CATALOGUE, READ, Catalogue, read_into
 from .records.defaults import Defaults
 from .records.items import KEEP, LEAVE_OUT, Words
@@ -135,7 +136,7 @@ class Plan(Result):
     def rejects(self) -> pd.DataFrame:
         """Returns what was left out or is suspicious: kind, file, line, item, column, text, reason, advice, rows."""
         with planned_folder(self.path) as folder:
-            return rejects_of(folder.read.rejects(faults_of(folder))).frame
+            return rejects_of(folder.read.rejects(self._survey.faults)).frame
 
     @cached_property
     def changes(self) -> pd.DataFrame:
@@ -145,10 +146,14 @@ class Plan(Result):
             return changes_of(folder).frame
 
     @cached_property
+    def _survey(self) -> Survey:
+        with planned_folder(self.path) as folder:
+            return Survey(folder)
+
+    @property
     def totals(self) -> Totals:
         """Returns the sums over all items, as `totals["saving"]`, and counts of items."""
-        with planned_folder(self.path) as folder:
-            return Totals.of(folder.answers())
+        return self._survey.totals
 
     @cached_property
     def text(self) -> str:

@@ -19,6 +19,7 @@ from crnplan.pages.catalogue_page import CATALOGUE_FILES, write_catalogue
 from crnplan.plan.answer import CHEAPER, RUN, SAME, SERVICE, THEORY, UNDECIDED, Answer, Figures, LawFacts, Laws, Run
 from crnplan.plan.catalogue import ANSWERS, Planned, PlannedFolder, Totals
 from crnplan.plan.question import Settings
+from crnplan.plan.survey import Survey
 from crnplan.plan.swings import CASES, SWINGS, Swing, drawn_items
 from crnplan.records.catalogue_reading import CATALOGUE, READ, Catalogued, Writer
 from crnplan.records.items import Reject
@@ -74,7 +75,7 @@ def keep_made(folder: Folder, planned: PlannedFolder) -> None:
     """Keeps what would change the answer: of each drawn item a tenth more cost in each case, and one point less service
     than planned."""
     with contextlib.closing(Store(folder.store(SWINGS), Swing)) as kept:
-        for name, digest in drawn_items(planned).items():
+        for name, digest in drawn_items(planned, Survey(planned)).items():
             answer = planned.answer(name)
             assert isinstance(answer, Answer)
             today, cost, fill = answer.cost_today, 1.1 * answer.cost_chosen, answer.chosen.fill - 0.01

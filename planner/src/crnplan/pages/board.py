@@ -3,16 +3,14 @@ before and after, in all and by class, and what was left out."""
 from __future__ import annotations
 
 import math
-from collections import defaultdict
-from collections.abc import Iterable, Sequence
+from collections.abc import Iterable, Mapping, Sequence
 from typing import NamedTuple
 
-from ..plan.answer import CHOSEN, COMPARED, SAME, TODAY, Answer
+from ..plan.answer import CHOSEN, SAME, TODAY
 from ..plan.catalogue import PlannedFolder, Totals
+from ..plan.survey import Survey
 from ..plan.swings import Swings, kept_swings
 from ..records.columns import periods_a_year
-from ..records.item import NO_DEMAND, Item
-from ..remarks import Remark
 from .catalogue_tables import Reason
 from .page import MINUS, Money, Scale, Unit, percent
 
@@ -123,42 +121,31 @@ def row_of(name: str, sums: Sequence[Totals], periods: float, by_value: bool) ->
                tuple(added(f"value_{policy}") for policy in BEFORE_AND_AFTER))
 
 
-def by_class(pairs: Iterable[tuple[Item, Answer | Remark]]) -> dict[str, Totals]:
-    """Returns the sums of each class of planned items with a policy today."""
-    sums: defaultdict[str, Totals] = defaultdict(Totals)
-    for item, answer in pairs:
-        if isinstance(answer, Answer) and answer.verdict in COMPARED:
-            sums[item.category or NO_CLASS].add(item, answer)
-    return sums
-
-
-def rows_of(sums: dict[str, Totals], periods: float, by_value: bool) -> list[Row]:
+def rows_of(sums: Mapping[str, Totals], periods: float, by_value: bool) -> list[Row]:
     """Returns the classes that save or lose most, in order of their names, and all others as one row."""
     names = sorted(sums, key=lambda name: (-abs(sums[name]["saving"]), name))
     most = MOST_CLASSES if len(names) <= MOST_CLASSES else MOST_CLASSES - 1
-    shown = [row_of(name, [sums[name]], periods, by_value) for name in names[:most]]
+    shown = [row_of(name or NO_CLASS, [sums[name]], periods, by_value) for name in names[:most]]
     shown.sort(key=lambda row: row.name)
     others = [sums[name] for name in names[most:]]
     return [*shown, *[row_of(f"{len(others)} other classes", others, periods, by_value)] * bool(others)]
 
 
-def left_out_of(folder: PlannedFolder, periods: float, reasons: Iterable[Reason]) -> LeftOut:
+def left_out_of(survey: Survey, reasons: Iterable[Reason]) -> LeftOut:
     """Returns what the items are worth that are left out, as far as that is known: a year's demand is if a policy alone
     is missing."""
     left = [reason for reason in reasons if reason.kind == "item"]
-    known = [item for item, answer in folder.answers()
-             if isinstance(answer, Remark) and item.price is not None and item.past != NO_DEMAND]
-    demand = math.fsum(periods * float(item.price or 0) * sum(item.counts) / max(len(item.counts), 1) for item in known)
     return LeftOut(sum(reason.count for reason in left), sum(reason.rows for reason in left),
-                   sum(reason.valued for reason in left), float(sum(reason.value for reason in left)), demand)
+                   sum(reason.valued for reason in left), float(sum(reason.value for reason in left)),
+                   math.fsum(survey.asked))
 
 
-def board_of(folder: PlannedFolder, totals: Totals, reasons: Sequence[Reason], money: Money) -> Board:
+def board_of(folder: PlannedFolder, survey: Survey, reasons: Sequence[Reason], money: Money) -> Board:
     """Returns the first screen of a plan, whose items are left out for some reasons."""
-    periods, by_value = float(periods_a_year(folder.every)), totals["demand"] > 0
-    rows = rows_of(by_class(folder.answers()), periods, by_value)
+    totals, periods = survey.totals, float(periods_a_year(folder.every))
+    by_value = totals["demand"] > 0
+    rows = rows_of(survey.classes, periods, by_value)
     everything = row_of(ALL, [totals], periods, by_value)
     return Board(money, periods, by_value, everything, rows, money.unit([row.saving for row in (everything, *rows)]),
-                 money.unit(everything.values), totals.compared - totals.verdicts[SAME],
-                 left_out_of(folder, periods, reasons),
-                 [reason for reason in reasons if reason.kind == "item"][:MOST_REASONS], kept_swings(folder, totals))
+                 money.unit(everything.values), totals.compared - totals.verdicts[SAME], left_out_of(survey, reasons),
+                 [reason for reason in reasons if reason.kind == "item"][:MOST_REASONS], kept_swings(folder, survey))

@@ -3,7 +3,6 @@ writes all that a plan exports. None of it is read again, but by people."""
 from __future__ import annotations
 
 import hashlib
-import heapq
 import math
 from collections import Counter
 from collections.abc import Iterable, Mapping, Sequence
@@ -19,6 +18,7 @@ from ..plan.answer import BOUNDED, CHEAPER, COMPARED, DEARER, SAME, SERVICE, UNC
 from ..plan.backtest.catalogue import past_of
 from ..plan.catalogue import PlannedFolder, Totals, planned_folder
 from ..plan.item import Depth
+from ..plan.survey import Decided, Survey, saving_of
 from ..plan.swings import keep_swings
 from ..records.catalogue_reading import CATALOGUE, Catalogued, missing_of
 from ..records.item import NEW, NO_DEMAND, Item
@@ -26,8 +26,8 @@ from ..remarks import Remark
 from ..table import DataTable
 from .backtest_tables import past_line
 from .board import board_of
-from .catalogue_tables import (DECISION_COLUMNS, DECISIONS, EXACT, REJECTS, aims_of, catalogue_summary, decided_of,
-                               decision_row, decisions_of, exact_of, faults_of, planned_of, reasons_of, rejects_of)
+from .catalogue_tables import (DECISION_COLUMNS, DECISIONS, EXACT, REJECTS, aims_of, catalogue_summary, decision_row,
+                               decisions_of, exact_of, planned_of, reasons_of, rejects_of)
 from .change_tables import CHANGES, change_lines, changes_of, moved_rows
 from .item_page import ItemWords, item_page
 from .page import OF_CHOSEN, UNITS, Line, Money, Plot, Scale, curve_ends, percent, rendered
@@ -90,16 +90,16 @@ class Shown(NamedTuple):
         return *self.item.remarks, *own
 
 
-def catalogue_page(folder: PlannedFolder, totals: Totals) -> str:
+def catalogue_page(folder: PlannedFolder, survey: Survey) -> str:
     """Returns the page of a planned catalogue, with a link to the page of each item that has one."""
-    rows, curve, settings, currency = shown_items(folder), kept_curve(folder.store), folder.settings, folder.currency
-    half = totals.half_width(settings.level)
+    totals, settings, currency, curve = survey.totals, folder.settings, folder.currency, kept_curve(folder.store)
+    rows, half = shown_items(survey.greatest, currency.digits), totals.half_width(settings.level)
     ends = totals["run_saving"] - half, totals["run_saving"] + half
     there = {path.name for path in (folder.path / ITEMS).glob("*.html")}
     files = {row.item.name: file_name(row.item.name) for row in rows} if there else {}
     columns = [name for name in COLUMNS if name not in OPTIONAL or any(row.cells[name] for row in rows)]
 
-    reasons, money = reasons_of(folder.read.rejects(faults_of(folder))), Money(currency.code, currency.decimals)
+    reasons, money = reasons_of(folder.read.rejects(survey.faults)), Money(currency.code, currency.decimals)
     plot, points = exchange_plot(curve, money) if curve else (None, [])
     codes = Counter(code for row in rows for code in {remark.code for remark in row.remarks})
     return rendered("catalogue.html", {
@@ -111,7 +111,7 @@ def catalogue_page(folder: PlannedFolder, totals: Totals) -> str:
         "compared": COMPARED,
         "plot": plot, "points": points, "is_old": curve is not None, "headings": COLUMNS,
         "savings": savings(rows), "styles": VERDICT_STYLES, "most_reasons": MOST_REASONS,
-        "reasons": reasons, "board": board_of(folder, totals, reasons, money), "columns": columns,
+        "reasons": reasons, "board": board_of(folder, survey, reasons, money), "columns": columns,
         "printed": PRINTED, "rows_a_group": ROWS_A_GROUP, "texts": TEXTS,
         "parts": [width(name, rows) for name in columns], "codes": sorted(codes.items()),
         "choices": sorted(Counter(row.cells["verdict"] for row in rows).items()), "changes": change_lines(folder),
@@ -119,17 +119,10 @@ def catalogue_page(folder: PlannedFolder, totals: Totals) -> str:
         "warned": sum(row.cells["warnings"] != "" for row in rows)})
 
 
-def saving_of(answer: Answer | Remark) -> float | None:
-    """Returns what an item saves that is compared with a policy of today; None for others."""
-    return answer.saving if isinstance(answer, Answer) and answer.verdict in COMPARED else None
-
-
-def shown_items(folder: PlannedFolder) -> list[Shown]:
-    """Returns the items of the table, those with the greatest saving or loss if they are many, by falling saving; those
-    without one come last."""
-    kept = heapq.nlargest(MOST_ROWS, decided_of(folder), key=lambda pair: abs(saving_of(pair[1]) or 0.0))
-    kept.sort(key=lambda pair: (saving_of(pair[1]) is None, -(saving_of(pair[1]) or 0.0), pair[0].name))
-    table = DataTable(DECISION_COLUMNS, [decision_row(*pair) for pair in kept], folder.currency.digits, "")
+def shown_items(decided: Iterable[Decided], digits: int) -> list[Shown]:
+    """Returns the items of the table by falling saving; those without one come last. Money has so many digits."""
+    kept = sorted(decided, key=lambda it: (saving_of(it[1]) is None, -(saving_of(it[1]) or 0.0), it[0].name))
+    table = DataTable(DECISION_COLUMNS, [decision_row(*pair) for pair in kept], digits, "")
     return [Shown(*pair, cells) for pair, cells in zip(kept, table.cells(is_shown=True))]
 
 
@@ -209,13 +202,14 @@ def write_catalogue(folder: Folder, planned: PlannedFolder, totals: Totals, lear
     """Writes the tables, the summary and the page of a planned catalogue, and returns the summary."""
     folder.write(DECISIONS, decisions_of(planned).lines)
     folder.write(EXACT, exact_of(planned_of(planned)).lines)
-    folder.write(REJECTS, rejects_of(planned.read.rejects(faults_of(planned))).lines)
+    survey = Survey(planned, MOST_ROWS)
+    folder.write(REJECTS, rejects_of(planned.read.rejects(survey.faults)).lines)
     folder.remove(CHANGES)
     if planned.planned.earlier:
         folder.write(CHANGES, changes_of(planned).lines)
     summary = catalogue_summary(planned, totals, learned, change_lines(planned), missing)
     folder.write(SUMMARY, summary)
-    folder.write(PAGE, catalogue_page(planned, totals))
+    folder.write(PAGE, catalogue_page(planned, survey))
     return summary
 
 
@@ -245,6 +239,7 @@ def report(folder: str | Path, items: Iterable[str] = (), *, jobs: int | None = 
             depth = Depth(planned.question(item), answer, str(find_program(program)))
             words = ItemWords(depth, planned.every, planned.currency)
             own.write(f"{ITEMS}/{file_name(name)}", item_page(words))
-        keep_swings(own, planned, jobs=jobs, address=cluster, shown=progress)
-        own.write(PAGE, catalogue_page(planned, Totals.of(planned.answers())))
+        survey = Survey(planned, MOST_ROWS)
+        keep_swings(own, planned, survey, jobs=jobs, address=cluster, shown=progress)
+        own.write(PAGE, catalogue_page(planned, survey))
     return Path(folder) / PAGE

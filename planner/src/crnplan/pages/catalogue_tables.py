@@ -174,14 +174,6 @@ def exact_of(planned: Iterable[tuple[Item, Answer]]) -> DataTable:
     return DataTable(EXACT_COLUMNS, (exact_row(*pair) for pair in planned), missing="")
 
 
-def faults_of(folder: PlannedFolder) -> Iterator[Reject]:
-    """Yields the items that can't be planned."""
-    masters = folder.counts["files"]["items"]["name"]
-    for item, fault in folder.answers():
-        if isinstance(fault, Remark) and item.past != NO_DEMAND:
-            yield Reject("item", masters, item.line, item.name, "", "", fault, item.rows, item.value)
-
-
 @dataclass
 class Reason:
     """Why rows or items were left out or named: how often, the items and the rows of demand, and the first of them. Of

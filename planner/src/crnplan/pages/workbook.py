@@ -20,12 +20,13 @@ from ..files import new_bytes
 from ..money import Currency
 from ..plan.answer import CHOSEN, TODAY
 from ..plan.catalogue import PlannedFolder, Totals, planned_folder
+from ..plan.survey import Survey
 from ..plan.today import today_of
 from ..records.cells import first_day
 from ..records.items import Words
 from ..table import MONEY, Cell, Column, DataTable, is_missing, number, text, whole
-from .board import by_class
-from .catalogue_tables import DECISIONS, catalogue_summary, decisions_of, faults_of, money, rejects_of
+from .board import NO_CLASS
+from .catalogue_tables import DECISIONS, catalogue_summary, decisions_of, money, rejects_of
 from .change_tables import change_lines
 from .page import curve_ends
 from .today_tables import OrdersToday
@@ -178,40 +179,37 @@ def sums_of(folder: PlannedFolder, totals: Totals) -> Iterator[tuple[list[Cell],
     yield ["items planned", None, totals.planned], whole("", "items", "")
 
 
-def class_rows(folder: PlannedFolder) -> Iterator[list[Cell]]:
+def class_rows(survey: Survey) -> Iterator[list[Cell]]:
     """Yields what each class comes to."""
-    for name, totals in sorted(by_class(folder.answers()).items()):
+    for name, totals in sorted((name or NO_CLASS, totals) for name, totals in survey.classes.items()):
         yield [name, totals.planned, totals["saving"], *map(totals.fill, POLICIES),
                *(totals[f"value_{it}"] for it in POLICIES)]
 
 
-def orders_of(folder: PlannedFolder) -> OrdersToday | None:
-    """Returns the orders on the day after the record by the stock of the masters; None if they have none."""
-    if all(item.stock is None for item in folder.read.items()):
-        return None
+def orders_of(folder: PlannedFolder) -> OrdersToday:
+    """Returns the orders on the day after the record by the stock of the masters."""
     day = first_day(folder.read.fact("periods")[1], folder.every)
     return OrdersToday(today_of(folder, {}, Words(every=folder.every), day, {}), folder.every, folder.currency)
 
 
 def fill_book(book: Book, folder: PlannedFolder) -> None:
     """Writes all sheets of a planned folder. Raises Refused if one has too many rows."""
-    totals, currency, curve = Totals.of(folder.answers()), folder.currency, kept_curve(folder.store)
+    survey, currency, curve = Survey(folder), folder.currency, kept_curve(folder.store)
 
     def table_of(columns: Sequence[Column], rows: Sequence[list[Cell]]) -> DataTable:
         return DataTable(columns, rows, folder.decimals, "", currency=currency.code, every=folder.every)
-    sums = [*sums_of(folder, totals)]
-    lines = catalogue_summary(folder, totals, (), change_lines(folder)).splitlines()
+    sums = [*sums_of(folder, survey.totals)]
+    lines = catalogue_summary(folder, survey.totals, (), change_lines(folder)).splitlines()
     summary = table_of(SUM_COLUMNS, [row for row, _ in sums] + [[line, None, None] for line in ["", *lines]])
     styles = [[TEXT, *[number_format(column, summary)] * 2] for _, column in sums] + [[TEXT] * 3] * (len(lines) + 1)
     book.add(SUMMARY, summary, styles)
     book.add("Decisions", decisions_of(folder))
-    orders = orders_of(folder)
-    if orders:
-        book.add("Today", orders.table)
-    book.add("Left out", rejects_of(folder.read.rejects(faults_of(folder))))
+    if survey.has_stock:
+        book.add("Today", orders_of(folder).table)
+    book.add("Left out", rejects_of(folder.read.rejects(survey.faults)))
     if curve:
         book.add_curve(curve, table_of(CURVE_COLUMNS, [[name, *point] for name, point in curve]), currency.code)
-    book.add("Classes", table_of(CLASS_COLUMNS, [*class_rows(folder)]))
+    book.add("Classes", table_of(CLASS_COLUMNS, [*class_rows(survey)]))
     book.add("Read me", table_of(READ_ME_COLUMNS, book.meanings[:]), widest=MEANING_WIDTH)
 
 

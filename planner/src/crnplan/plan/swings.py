@@ -4,7 +4,7 @@ from __future__ import annotations
 
 import contextlib
 import math
-from collections.abc import Iterable, Sequence
+from collections.abc import Sequence
 from dataclasses import dataclass, replace
 from fractions import Fraction
 from typing import NamedTuple
@@ -21,14 +21,14 @@ from ..law import Law
 from ..records.item import Item
 from ..remarks import Remark
 from ..stored import Store, digest_of
-from .answer import COMPARED, Answer
-from .catalogue import PlannedFolder, Totals, drawn_from
+from .answer import Answer
+from .catalogue import PlannedFolder, Totals
 from .one import choice_of, figures_of, or_fault
 from .question import Levels, Question, Settings, question_of, rates_of
+from .survey import Survey
 
 SWINGS = "swings.sqlite"
 VERSION = 1  # Answers of others are not used again.
-MOST_DRAWN = 100
 # What differs, and how many tenths of it there are.
 BACKLOG, LEADS, NOTHING = "backlog", "lead", ""
 CASES = tuple((what, tenths) for what in ("holding", BACKLOG, "demand", LEADS) for tenths in (12, 8))
@@ -122,37 +122,33 @@ def swing_batch(batch: Sequence[tuple[Item, Answer]], settings: Settings, prior:
     return [or_fault(lambda item: asked(item, answer), item) for item, answer in batch]
 
 
-def drawn_items(folder: PlannedFolder) -> dict[str, str]:
-    """Returns the planned items with a policy of today that are drawn, each with the digest of all that its figures
-    depend on."""
-    names = drawn_from((item.name for item, answer in folder.answers()
-                        if isinstance(answer, Answer) and answer.verdict in COMPARED), MOST_DRAWN)
-    digests = folder.store.digests()
-    return {name: digest_of(digests[name], VERSION) for name in sorted(names)}
+def drawn_items(folder: PlannedFolder, survey: Survey) -> dict[str, str]:
+    """Returns the items of a survey that are drawn, each with the digest of all that its figures depend on."""
+    return {name: digest_of(folder.store.digest(name), VERSION) for name in survey.drawn}
 
 
-def keep_swings(own: Folder, folder: PlannedFolder, *, jobs: int | None = None, address: str | None = None,
+def keep_swings(own: Folder, folder: PlannedFolder, survey: Survey, *, jobs: int | None = None, address: str | None = None,
                 shown: bool = False) -> None:
     """Computes the figures of a planned folder that are not kept yet, and keeps them."""
     def asked(name: str) -> tuple[Item | None, Answer | Remark]:
         return folder.read.item(name), folder.store.answer(name)
     with contextlib.closing(Store(own.store(SWINGS), Swing)) as kept:
-        Work(kept, drawn_items(folder)).finish(swing_batch, asked, folder.settings, folder.planned.prior,
+        Work(kept, drawn_items(folder, survey)).finish(swing_batch, asked, folder.settings, folder.planned.prior,
                                                workers=workers_of(jobs, address), shown=shown)
 
 
-def kept_swings(folder: PlannedFolder, totals: Totals) -> Swings | None:
+def kept_swings(folder: PlannedFolder, survey: Survey) -> Swings | None:
     """Returns what is kept for a planned folder; None if that is not of its plan."""
     path = folder.path / SWINGS
     if not path.is_file():
         return None
     with contextlib.closing(Store(path, Swing)) as kept:
-        digests, drawn = kept.digests(), drawn_items(folder)
+        digests, drawn = kept.digests(), drawn_items(folder, survey)
         if not drawn or any(digests.get(name) != digest for name, digest in drawn.items()):
             return None
         pairs = [(folder.read.item(name), folder.store.answer(name), kept.answer(name)) for name in drawn]
     return swings_of([(item, answer, swing) for item, answer, swing in pairs
-                      if item and isinstance(answer, Answer) and isinstance(swing, Swing)], totals)
+                      if item and isinstance(answer, Answer) and isinstance(swing, Swing)], survey.totals)
 
 
 def estimated(parts: Floats, sizes: Floats, total: float, items: int) -> tuple[float, float]:
