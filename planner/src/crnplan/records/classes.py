@@ -9,8 +9,6 @@ from collections.abc import Hashable, Mapping, Sequence
 from fractions import Fraction
 from typing import TypeVar
 
-import numpy as np
-
 Name = TypeVar("Name", bound=Hashable)
 LETTERS, VARIED = "ABC", "XYZ"
 # The coefficients of variation up to which an item is X, and Y.
@@ -36,5 +34,5 @@ def xyz_of(counts: Sequence[int]) -> str:
     the periods over their mean: X up to 0.5, Y up to 1, else Z. It is empty without demand."""
     if not any(counts):
         return ""
-    variation = float(np.std(counts) / np.mean(counts))
-    return VARIED[sum(variation > most for most in MOST_VARIED)]
+    total, variance = sum(counts), len(counts) * sum(count**2 for count in counts) - sum(counts)**2
+    return VARIED[sum(variance > (most * total)**2 for most in MOST_VARIED)]
