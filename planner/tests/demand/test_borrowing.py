@@ -87,6 +87,10 @@ def test_histories_in_groups_and_chunks(monkeypatch: pytest.MonkeyPatch, mixed: 
     prior = np.random.default_rng(3).dirichlet(np.ones(grid.FLAT.size)).reshape(grid.FLAT.shape)
     alone = [float(Cells.of([samples[place]]).marginal(prior)[0]) for place in (3, 0, 2, 1, 4)]
     assert cells.marginal(prior) == pytest.approx(alone)
+    expected = sum(np.outer(cells.shares[group], sizes) / chance
+                   for group, sizes, chance in zip(cells.groups, cells.sizes, [alone[it] for it in range(5)]))
+    for way in ("loop", "plain", "__call__"):
+        assert np.allclose(getattr(grid.expected_of, way)(*cells, prior), expected, rtol=1e-9, atol=0)
     samples = [Sample.of(it) for it in mixed.values()]
     whole = chunks_of(samples)
     monkeypatch.setattr("crnplan.demand.learning.CHUNK", 7)
@@ -435,11 +439,16 @@ def test_any_history(numbers: list[int], known: Prior) -> None:
 
 @pytest.mark.parametrize("cell", [0, 5, 90, 188, 191])
 def test_size_laws(cell: int) -> None:
-    """The laws of sizes are negative binomial from 1 on, all but a tail."""
+    """The laws of sizes are negative binomial from 1 on, all but a tail. What is left of them falls with the width."""
     law, size = grid.size_laws()[cell], grid.SIZE_DISPERSIONS[cell, 0]
     for row, mean in zip(law, grid.SIZE_MEANS[cell]):
         expected = stats.nbinom.pmf(np.arange(len(row)), size, size / (size + mean))
         assert np.allclose(row, expected, rtol=0, atol=1e-8) and 1 - expected.sum() < 1.01e-9
+    mean, widths = grid.SIZE_MEANS[cell, -1], grid.size_widths()[cell]
+    for level, width in enumerate(widths[1:8], 1):
+        left = [stats.nbinom.sf(its, size, size / (size + mean)) for its in (width - 2, width - 1)]
+        assert left[0] > 10.0**-level * 0.99 and left[1] < 10.0**-level * 1.01
+    assert widths[0] == 1 and widths[9] <= law.shape[1]
 
 
 @settings(max_examples=25)

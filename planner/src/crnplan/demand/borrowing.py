@@ -21,15 +21,16 @@ from ..records.observed import Observed
 from ..remarks import Remark
 from .fitted import Borrowed, Diagnostics, FittedLaw
 from .fitting import boxes_of, cap_of, family_law, share_of
-from .learning import (FLAT, MOST_SIZE, NONE, SHARES, SIZE_CELLS, Prior, is_outside, share_likelihoods, size_laws,
-                       size_likelihoods)
+from .learning import (FLAT, LEVELS, MOST_SIZE, NONE, SHARES, SIZE_CELLS, Prior, is_outside, share_likelihoods, size_laws,
+                       size_likelihoods, size_widths)
 from .posterior import AllowedLaws, allowed_laws, law_of_chances, random_of, round_history, stratified
 from .sample import Sample, shares_of
 
 FAMILY = "borrowed"
 LEVEL = 0.05  # Each share of the guard is above it, else the law of the single item is taken.
 ROWS = 4  # of uniform numbers for a drawn law; the last one chooses its part
-LEAST_CHANCE = 1e-12  # of a cell that counts in a predictive law
+# What each cell may lack of a predictive law: all 192 cells together a hundredth of the least weight, 1 / 65,536.
+LEAST_CHANCE = 1e-9
 
 
 @dataclass(frozen=True, eq=False)
@@ -65,12 +66,14 @@ class Posterior:
         share = float(demand @ means / (self.shares.mean(axis=1) @ self.prior @ means))
         weights = demand[:, None] * self.sizes
         weights /= weights.sum()
-        laws = size_laws()
-        cells = np.flatnonzero(weights.sum(axis=1) > LEAST_CHANCE)
-        chances = np.zeros(max(laws[cell].shape[1] for cell in cells))
-        for cell in cells:
-            chances[:laws[cell].shape[1]] += weights[cell] @ laws[cell]
-        return scaled(cut(np.concatenate([[1 - share], share * scaled(chances)]))[:self.most + 1])
+        laws, own = size_laws(), weights.sum(axis=1)
+        cells = np.flatnonzero(own > LEAST_CHANCE)
+        levels = np.minimum(np.ceil(np.log10(own[cells] / LEAST_CHANCE)).astype(int), LEVELS - 1)
+        widths = np.minimum(size_widths()[cells, levels], self.most)
+        chances = np.zeros(widths.max())
+        for cell, width in zip(cells, widths):
+            chances[:width] += weights[cell] @ laws[cell][:, :width]
+        return cut(np.concatenate([[1 - share], share * chances]))
 
     @cached_property
     def share(self) -> float:

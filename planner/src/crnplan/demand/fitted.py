@@ -152,13 +152,14 @@ def numbers_of(observed: Observed | Iterable[Any], what: str,
     """Returns observed whole numbers of any kind, also floats that are whole. A Series of pandas by period has 0 in
     each period that it lacks.
 
-    `wrong` says by a number and the largest one why a scenario can't have it. Raises RefusedFiles with the places of
-    all such numbers, and Refused for a Series by dates whose periods are not known, are not in order, or stand twice.
+    `wrong` says by a number and the largest one why a scenario can't have it; it is nothing between two numbers that a
+    scenario can have. Raises RefusedFiles with the places of all such numbers, and Refused for a Series by dates whose
+    periods are not known, are not in order, or stand twice.
     """
     numbers = [*observed.counts] if isinstance(observed, Observed) else _whole_numbers(_dense(observed, what), what)
     most = max(numbers, default=0)
-    reasons = [wrong(number, most) for number in numbers]
-    if any(reasons):
+    if numbers and (wrong(most, most) or wrong(min(numbers), most)):
+        reasons = [wrong(number, most) for number in numbers]
         places = observed.places if isinstance(observed, Observed) else (
             Fault(f"column {what!r}: entry {place}, {number},") for place, number in enumerate(numbers, 1))
         faults = [replace(place, what=f"{place.what} {reason}") for place, reason in zip(places, reasons)
@@ -187,8 +188,9 @@ def _dense(observed: Any, what: str) -> Iterable[Any]:
 
 
 def _whole_numbers(observed: Iterable[Any], what: str) -> list[int]:
-    numbers = [number if type(number) is int else whole(number, f"{what}: entry {place}")
-               for place, number in enumerate(observed, 1)]
+    numbers = [*observed]
+    if {*map(type, numbers)} != {int}:
+        numbers = [whole(number, f"{what}: entry {place}") for place, number in enumerate(numbers, 1)]
     if not 1 <= len(numbers) <= MOST_WEIGHT:
         raise Refused(f"there are {len(numbers):,} numbers of {what}; give 1 to {MOST_WEIGHT:,}")
     return numbers

@@ -29,6 +29,7 @@ if TYPE_CHECKING:
 
 DEMANDS_OF_CAP = 300
 LEAST_TIMES, MOST_TIMES = 2.0, 3.0  # the cap of `auto`, in largest demands seen
+PERIODS = np.logspace(-2, 2, 41)  # for which a law counts beside each of the history
 LIKELIHOOD_RATIO = 0.5  # of logarithms, by which the history must speak against a law to be mixed with it
 FEW = 20  # lead times: with so many, what was seen stays as it is
 LEAST_LEADS = 2  # one lead time is what a supplier says, not a sample
@@ -64,7 +65,7 @@ def share_of(sample: Sample, base: Floats) -> float:
     chances = np.zeros(max(len(base), sample.most + 1))
     chances[:len(base)] = base
     seen = np.maximum(chances[sample.values], 1e-9)
-    periods = sample.size * np.logspace(-2, 2, 41)
+    periods = sample.size * PERIODS
     likelihood = special.gammaln(periods) - special.gammaln(periods + sample.size)
     weights = periods[:, None] * seen
     likelihood += (special.gammaln(weights + sample.counts) - special.gammaln(weights)).sum(axis=1)

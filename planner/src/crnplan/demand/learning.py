@@ -27,6 +27,7 @@ import numpy as np
 from scipy import special
 
 from ..chances import DEMANDS, Floats, Whole, blurred
+from ..compiled import compiled
 from ..errors import Fault, Refused, RefusedFaults
 from ..formats import MOST_DEMAND
 from ..records.item import BORROW
@@ -45,9 +46,9 @@ SHARE_POINTS, MEAN_POINTS = 10, 8  # in a cell
 SHAPE = (SHARE_CELLS, MEAN_CELLS, len(DISPERSIONS))
 FLAT: Floats = np.full((SHARE_CELLS, SIZE_CELLS), 1 / (SHARE_CELLS * SIZE_CELLS))
 MOST_SIZE = 1 + MEANS[1]  # the greatest mean size of a demand
-LEAST_TAIL = 1e-9  # what is cut off the law of a size
+LEAST_TAIL, LEVELS = 1e-9, 10  # what is cut off the law of a size, and the powers of ten from 1 to that
 CHUNK = 250  # histories that are computed with at once: as many as a processor's cache has room for
-LEAST_LIKELIHOOD = 1e-100  # Products of smaller ones are denormal numbers, which are slow.
+LEAST_LIKELIHOOD = 1e-30  # Smaller ones count for nothing; their products would be denormal numbers, which are slow.
 STEPS = 100
 BLUR = 0.05  # the part of a cell that goes to each neighbour along each axis
 VERSION = 2  # of the text; another grid is another version
@@ -97,6 +98,14 @@ def size_laws() -> tuple[Floats, ...]:
         logarithms = rises()[:width, cell % len(DISPERSIONS)] + np.outer(SLOPES[cell], DEMANDS[:width])
         laws.append(special.softmax(logarithms, axis=1))
     return tuple(laws)
+
+
+@cache
+def size_widths() -> Whole:
+    """Returns after how many sizes what is left of the laws of each cell is at most 1, 0.1 and so on to 1e-9: of its
+    greatest mean, of which most is left."""
+    tails = [1 - np.cumsum(law[-1]) for law in size_laws()]
+    return np.array([[np.argmax(its <= 10.0**-level) + 1 for level in range(LEVELS)] for its in tails])
 
 
 def _scaled(logarithms: Floats) -> Floats:
@@ -150,6 +159,39 @@ class Cells(NamedTuple):
         rows = np.einsum("ij,jk->ik", self.shares, prior)
         return np.asarray(np.einsum("ij,ij->i", rows[self.groups], self.sizes))
 
+    def expected(self, prior: Floats) -> Floats:
+        """Returns the sum of the likelihoods of each cell, each over that of its history under a prior."""
+        return expected_of(self.shares, self.sizes, self.starts, self.groups, prior)
+
+
+def summed_likelihoods(shares: Floats, sizes: Floats, starts: Whole, groups: Whole, prior: Floats) -> Floats:
+    """Returns `Cells.expected`."""
+    marginal = Cells(shares, sizes, starts, groups).marginal(prior)
+    return np.asarray(np.einsum("ij,ik->jk", shares, np.add.reduceat(sizes * (1 / marginal)[:, None], starts)))
+
+
+@compiled(summed_likelihoods)
+def expected_of(shares: Floats, sizes: Floats, starts: Whole, groups: Whole, prior: Floats) -> Floats:
+    """Returns `Cells.expected`."""
+    cells, own, likely = np.zeros(prior.shape), np.empty(prior.shape[1]), np.empty(prior.shape[1])
+    for group in range(len(starts)):
+        possible = np.flatnonzero(shares[group])
+        own[:] = likely[:] = 0.0
+        for share in possible:
+            for cell in range(len(own)):
+                own[cell] += shares[group, share] * prior[share, cell]
+        for history in range(starts[group], starts[group + 1] if group + 1 < len(starts) else len(sizes)):
+            marginal = 0.0
+            for cell in range(len(own)):
+                marginal += own[cell] * sizes[history, cell]
+            weight = 1 / marginal
+            for cell in range(len(own)):
+                likely[cell] += sizes[history, cell] * weight
+        for share in possible:
+            for cell in range(len(own)):
+                cells[share, cell] += shares[group, share] * likely[cell]
+    return cells
+
 
 def group_of(sample: Sample) -> tuple[int, int]:
     """Returns the periods of a history, and those with demand."""
@@ -175,8 +217,7 @@ def estimated(chunks: Sequence[Cells], start: Floats, pull: Floats, *, steps: in
     for _ in range(steps):
         expected = pull.copy()
         for cells in chunks:
-            likely = np.add.reduceat(cells.sizes / cells.marginal(prior)[:, None], cells.starts)
-            expected += prior * np.einsum("ij,ik->jk", cells.shares, likely)
+            expected += prior * cells.expected(prior)
         shaped = (expected / expected.sum()).reshape(SHAPE)
         for axis in range(len(SHAPE)):
             shaped = blurred(shaped, blur, axis)
