@@ -1,6 +1,7 @@
 """Keeps frozen dataclasses in the columns of SQLite: what is kept of a class, and where, follows from its fields."""
 from __future__ import annotations
 
+import base64
 import dataclasses
 import hashlib
 import itertools
@@ -45,10 +46,11 @@ def _tuples(value: Any) -> Any:
     return tuple(map(_tuples, value)) if list in {*map(type, value)} else tuple(value)  # mostly numbers
 
 
-# How values of a type are kept in a cell, and read again. Fractions, tuples and remarks are texts.
+# How values of a type are kept in a cell, and read again. Fractions, tuples, bytes and remarks are texts.
 KINDS: dict[Any, tuple[Callable[[Any], Cell], Callable[[Any], Any]]] = {
     int: (lambda number: number if -LARGEST <= number < LARGEST else str(number), int), float: (float, float),
     str: (str, str), bool: (int, bool), Fraction: (str, Fraction),
+    bytes: (lambda data: base64.b64encode(data).decode(), base64.b64decode),
     tuple: (lambda values: json.dumps(values, separators=(",", ":")), lambda text: _tuples(json.loads(text))),
     Remark: (lambda remark: json.dumps([remark.code, remark.facts]), lambda text: Remark(*json.loads(text))),
     tuple[Remark, ...]: (lambda remarks: json.dumps([[remark.code, remark.facts] for remark in remarks]),

@@ -79,7 +79,7 @@ def made_item(source: np.random.Generator, count: int) -> tuple[Candidates, Any]
             if best != last:
                 rows.append((variant, place, best, best, *points[best]))
                 last = best
-    return Candidates(demand, setup, holding, tuple(rows)), points
+    return Candidates.of(demand, setup, holding, rows), points
 
 
 def in_parts(answers: Sequence[tuple[str, float, Candidates, Any]], size: int) -> Items:
@@ -170,7 +170,7 @@ def walked(answers: Sequence[tuple[str, float, Candidates, Any]], budget: Budget
     """Returns s and S of each item, step by step along the whole ladder, as a simple program would."""
     vertices, steps = [], []
     for place, (_, price, candidates, _) in enumerate(answers):
-        rows = np.array(candidates.rows)
+        rows = np.array(candidates.rows.tolist())
         cost = candidates.setup * rows[:, 6] + candidates.holding * rows[:, 4]
         unmet = price * rows[:, 5]
         kept = lower_hull(np.zeros(len(rows), int), cost, unmet)

@@ -247,7 +247,7 @@ def test_candidates_of_the_curve(bounds: Bounds, size: int) -> None:
             unmet = (1 - fills_of(scenario, short, levels)) * mean
             pairs += [(level - gap, level) for level in levels.tolist()]
             figures += [[*row, short.orders] for row in np.transpose([stock, unmet]).tolist()]
-    costs, rows = np.array(figures), [row for row in candidates_of(question).rows if row[0] == 0]
+    costs, rows = np.array(figures), [row for row in candidates_of(question).rows.tolist() if row[0] == 0]
     for place, price in enumerate(PRICES):
         found = [row for row in rows if row[1] <= place][-1]
         by_pair = costs @ [1, 5 * price, 30]

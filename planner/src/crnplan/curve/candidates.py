@@ -23,7 +23,7 @@ from ..remarks import Remark
 from ..theory.long_run import STOCK_LEFT, UNMET, LongRun, Means, gap_grid
 
 # Answers of other versions are not used again.
-VERSION = 3
+VERSION = 4
 # Prices of a unit of value that is not met at once, in units of value: eight a decade.
 PRICES: Floats = 10.0**(np.arange(-40, 33) / 8)
 DIGITS = 10  # of a figure that is kept
@@ -165,18 +165,31 @@ def variants_of(setup: float, holding: float, demand: float) -> list[tuple[float
     return [(setup + (orders - 1) * (setup or holding * demand), holding * stock) for orders, stock in VARIANTS]
 
 
+# A row of candidates: the place of the variant, the place of the first price that it is best for, s and S, stock and
+# unmet demand in items, and orders, of a period.
+ROW = np.dtype([("variant", "<u1"), ("first", "<u1"), ("point", "<i8"), ("level", "<i8"), ("stock", "<f8"),
+                ("unmet", "<f8"), ("orders", "<f8")])
+
+
 @dataclass(frozen=True)
 class Candidates:
-    """The candidates of an item, with its mean demand and what an order and an item of stock cost.
-
-    Each row has the place of the variant, the place of the first price that it is best for, s and S, stock and
-    unmet demand in items, and orders, of a period.
-    """
+    """The candidates of an item, with its mean demand and what an order and an item of stock cost. `data` has a ROW of
+    each."""
 
     demand: float
     setup: float
     holding: float
-    rows: tuple[tuple[float, ...], ...]
+    data: bytes
+
+    @classmethod
+    def of(cls, demand: float, setup: float, holding: float, rows: Sequence[tuple[float, ...]]) -> Candidates:
+        """Takes the rows as tuples."""
+        return cls(demand, setup, holding, np.array([(*row,) for row in rows], ROW).tobytes())
+
+    @property
+    def rows(self) -> npt.NDArray[np.void]:
+        """Returns the candidates as an array of ROW."""
+        return np.frombuffer(self.data, ROW)
 
 
 def candidates_of(terms: Terms) -> Candidates:
@@ -193,7 +206,7 @@ def candidates_of(terms: Terms) -> Candidates:
         for place in np.flatnonzero(is_new).tolist():
             some = (stock[place] * box, unmet[place] * box, orders[place])
             rows.append((variant, place, *levels[place].tolist(), *(float(f"{it:.{DIGITS}g}") for it in some)))
-    return Candidates(demand * box, setup, holding / box, tuple(rows))
+    return Candidates.of(demand * box, setup, holding / box, rows)
 
 
 def terms_of(item: Item, laws: Laws, settings: Settings) -> Terms:

@@ -83,22 +83,25 @@ class Part:
     @classmethod
     def of(cls, answers: Iterable[tuple[str, float, Candidates, Floats]]) -> Part:
         """Takes the candidates of items, each with its name, its price, and the figures of today's policy and of the
-        chosen one: stock, unmet demand and orders. They are not kept as they come."""
-        names, demand, extra, parts = list[str](), list[float](), [], []
-        figures, now = list[Floats](), list[Floats]()
-        for place, (name, price, candidates, policies) in enumerate(answers):
-            setup, holding, rows = candidates.setup, candidates.holding, np.array(candidates.rows, float)
-            variant, first, point, level = rows[:, :4].astype(int).T
-            end = np.where(np.append(variant[1:] != variant[:-1], True), len(PRICES), np.append(first[1:], 0))
-            parts.append(np.array([np.full(len(rows), place), variant, first, end, point, level]))
-            for some, (stock, unmet, orders) in ((figures, rows[:, 4:].T), (now, policies.T)):
-                some.append(np.array([price * stock, price * unmet, orders, setup * orders + holding * stock]))
-            names.append(name)
-            demand.append(price * candidates.demand)
-            extra.append((np.array(variants_of(setup, holding, candidates.demand)) - (setup, holding)) / (1, price))
-        owner, variant, first, end, point, level = np.concatenate(parts, axis=1)
-        return cls(tuple(names), np.array(demand), np.array(extra), np.array(now).T, owner, variant, first, end, point,
-                   level, np.concatenate(figures, axis=1))
+        chosen one: stock, unmet demand and orders."""
+        names, prices, candidates, policies = zip(*answers)
+        count, rows = len(names), np.concatenate([its.rows for its in candidates])
+        price, (demand, setup, holding) = np.array(prices), np.array(
+            [(its.demand, its.setup, its.holding) for its in candidates]).T
+        extra = np.array([variants_of(its.setup, its.holding, its.demand) for its in candidates])
+        extra = (extra - np.column_stack([setup, holding])[:, None]) / np.column_stack([np.ones(count), price])[:, None]
+
+        def figures(owner: Whole, stock: Floats, unmet: Floats, orders: Floats) -> Floats:
+            """Returns the figures of policies of some items."""
+            return np.array([price[owner] * stock, price[owner] * unmet, orders,
+                             setup[owner] * orders + holding[owner] * stock])
+        owner, variant, first = np.repeat(np.arange(count), [len(its.rows) for its in candidates]), rows["variant"], \
+            rows["first"]
+        is_last = np.append((owner[1:] != owner[:-1]) | (variant[1:] != variant[:-1]), True)
+        now = [figures(np.arange(count), *some) for some in np.transpose(policies, (1, 2, 0))]
+        return cls(names, price * demand, extra, np.array(now), owner, variant, first,
+                   np.where(is_last, len(PRICES), np.append(first[1:], 0)), rows["point"], rows["level"],
+                   figures(owner, rows["stock"], rows["unmet"], rows["orders"]))
 
     def hulls(self, dearer: Dearer = AS_IS) -> Hulls:
         """Returns the hulls of the items. Those of the last costs are kept, and those of costs as they are."""
@@ -188,10 +191,12 @@ def bounds_of(part: Part, units: Units, asked: Sequence[Dearer]) -> Whole:
     sums = np.zeros((len(asked), 2, len(PRICES) + 1), np.int64)
     each = np.array([part.variant_costs(), part.figures[UNMET]])
     for total, dearer in zip(sums, asked):
-        rows = in_units(part.shares(dearer) * each, (units[COST], units[UNMET]))
+        shares = part.shares(dearer)
+        some = np.flatnonzero(shares)
+        rows = in_units(shares[some] * each[:, some], (units[COST], units[UNMET]))
         for its, row in zip(total, rows):
-            np.add.at(its, part.first, row)
-            np.subtract.at(its, part.end, row)
+            np.add.at(its, part.first[some], row)
+            np.subtract.at(its, part.end[some], row)
     least: Whole = np.cumsum(sums, axis=-1)[..., :-1]
     return least
 
