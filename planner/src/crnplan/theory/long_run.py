@@ -25,10 +25,11 @@ from numpy.lib.stride_tricks import sliding_window_view
 from scipy import fft
 
 from ..chances import Floats, Whole
+from ..compiled import compiled
 from ..formats import MOST_ITEMS
 from ..scenario import Scenario
 from .feasible import ALL, Feasible, Places
-from .shortfalls import lateness, renewed, transforms_of, work_of
+from .shortfalls import LEAST_CHANCE, falling, lateness, moving, transforms_of, work_of
 from .walk import LatticeLaw, Surplus, Walk, power_of, room_for, sum_of
 
 GRID_GROWTH = 1.15
@@ -36,7 +37,6 @@ SMALL_GAP = 8
 FEW = 4  # Of the gaps of a grid, one in so many is looked at for a first policy.
 MOST_CELLS = 50_000  # of tables with a row for each of many gaps
 MOST_WORK = 20_000_000  # for all gaps of a search, by `work_of`
-LEAST_CHANCE = 1e-16  # Transforms round chances by about as much.
 CLOSE = 1 + 1e-9  # Costs whose ratio is at most this are equal but for rounding.
 UNMET, STOCK_LEFT = 1, 3  # rows of `LongRun.figures_from`
 NEAR = 1e-12  # Shares, and costs by their ratio, that differ by less are equal but for rounding.
@@ -92,7 +92,8 @@ class Means:
         self.width = self.chances.shape[1]
         self.top = max(int(theory.floor(gaps[-1])), low + self.width + theory.after.high) + 1
         self.figures = theory.figures_from(theory.step * np.arange(-self.width - low, self.top - low + 1))
-        self.windows = sliding_window_view(self.figures[:, ::-1].copy(), self.width, axis=1)
+        self.turned = self.figures[:, ::-1].copy()
+        self.windows = sliding_window_view(self.turned, self.width, axis=1)
 
     def at(self, levels: Whole, figures: slice) -> Floats:
         """Returns the means of some figures, a row for each figure, with a level for each gap."""
@@ -117,6 +118,40 @@ def least_levels(low: Whole, high: Whole, is_enough: Callable[[Whole], Any]) -> 
         enough = is_enough(middle)
         low, high = np.where(enough, low, np.minimum(middle + 1, high)), np.where(enough, middle, high)
     return low
+
+
+def least_by_halving(turned: Floats, chances: Floats, floors: Whole, highest: Whole, allowed: float, ratio: float
+                     ) -> Whole:
+    """Returns the least level of each gap, from a floor on, with a mean unmet demand of at most `allowed` and a mean
+    chance of no backlog of at least `ratio`; the highest if none below it has. `turned` and `chances` are those of
+    `Means`, whose top is the highest."""
+    windows, top = sliding_window_view(turned, chances.shape[1], axis=1), highest
+
+    def is_enough(levels: Whole) -> Any:
+        unmet, held = np.einsum("fgx,gx->fg", windows[UNMET:STOCK_LEFT, top - levels], chances)
+        return (unmet <= allowed) & (held >= ratio)
+    return least_levels(floors, highest, is_enough)
+
+
+@compiled(least_by_halving)
+def least_enough(turned: Floats, chances: Floats, floors: Whole, highest: Whole, allowed: float, ratio: float) -> Whole:
+    levels, level, width = floors.copy(), 0, chances.shape[1]
+    for gap in range(len(chances)):
+        low, high, stride = floors[gap], highest[gap], 1
+        while low < high:  # from the level of the gap before on, in strides that double until they are too long
+            level = min(max(level, low), high - 1)
+            first = highest[gap] - level
+            is_enough = np.dot(turned[2, first:first + width], chances[gap]) >= ratio and np.dot(
+                turned[1, first:first + width], chances[gap]) <= allowed
+            if is_enough:
+                high, level = level, level - stride
+            else:
+                low, level = level + 1, level + stride
+            stride *= 2
+            if not low <= level < high:
+                level = (low + high) // 2
+        levels[gap] = level = low
+    return levels
 
 
 def place_of_least(costs: Floats) -> int:
@@ -228,13 +263,17 @@ class LongRun(Walk):
         """Returns the chances of the shortfalls of rising gaps, a row each, from the cell -above on."""
         most = int(gaps[-1])
         room = room_for(most + self.beside + 1)
-        lows = fft.rfft(np.where(np.arange(most + 1) <= gaps[:, None], self.lows_of(most), 0.0), room)
-        begun = np.stack([np.ones_like(lows), lows * transforms_of([self.above_low], room)])
-        *_, last = renewed(begun, gaps, self.net, self.late, room, self.above)
-        rows = np.roll(fft.irfft(last[0], room), self.above, axis=1)
-        rows = np.where(rows > LEAST_CHANCE, rows, 0)
-        chances: Floats = rows / rows.sum(axis=1, keepdims=True)
-        return chances
+        (move, above), lows = transforms_of([self.net, self.above_low], room), self.lows_of(most)
+        if self.net.low < 0:
+            begun = fft.rfft(np.where(np.arange(most + 1) <= gaps[:, None], lows, 0.0), room) * above
+            last = moving(np.stack([np.ones_like(begun), begun]), gaps, move, self.late, room, self.above)
+        else:
+            begun = fft.rfft(lows, room)
+            last = falling(np.stack([np.ones_like(begun), begun]), gaps, move, self.late, room)
+        rows: Floats = fft.irfft(last, room)
+        rows[rows <= LEAST_CHANCE] = 0.0
+        rows /= rows.sum(axis=1, keepdims=True)
+        return np.roll(rows, self.above, axis=1) if self.above else rows
 
     def below(self, gap: int) -> LatticeLaw:
         """Returns the law of how far the stock at the end of a period is below S, in cells."""
@@ -338,10 +377,8 @@ class LongRun(Walk):
         higher."""
         allowed, highest = self.allowed(share), np.full(len(means.gaps), means.top)
 
-        def is_enough(levels: Whole) -> Any:
-            unmet, held = means.at(levels, slice(1, 3))
-            return (unmet <= allowed) & (held >= self.ratio)
-        places = self.places(means, least_levels(self.floor(means.gaps), highest, is_enough))
+        levels = least_enough(means.turned, means.chances, self.floor(means.gaps), highest, allowed, self.ratio)
+        places = self.places(means, levels)
         spare = self.spare_of(places, allowed)
         if self.feasible.has_all_levels:
             return self.costs_of(places, spare)

@@ -40,7 +40,7 @@ from ..chances import Floats, Whole
 from ..scenario import Policy, Scenario
 from .lattice import MOST_GAPS, NoTheory, lattice_of, shape_of, theory_on
 from .long_run import LongRun
-from .shortfalls import renewed, transforms_of
+from .shortfalls import LEAST_CHANCE, renewed, transforms_of, waiting
 from .walk import NOTHING, LatticeLaw, Surplus, convolved, power_of, room_for, sum_of
 
 if TYPE_CHECKING:
@@ -49,7 +49,6 @@ if TYPE_CHECKING:
 MOST_WORK = 40_000_000  # for late orders of all policies, by `work_of`
 MOST_BIAS_GAPS = 17_000  # with one lead time: the reviews of a run take longer than figures
 MOST_SUMS = 2_000_000  # cells of the laws of all reviews at once: more would take too much memory
-LEAST_CHANCE = 1e-16  # Transforms round chances by about as much.
 LEAST_MASS = 1e-14  # Laws are left out whose chance to be within the width is less.
 # A chain whose law is as close to that of the long run stays there. It is compared once in so many reviews.
 SETTLED, LOOK_EVERY = 1e-12, 8
@@ -268,8 +267,9 @@ class Runs:
             return [deviation]
         above = max(0, -start.low, -deviation.low) + last * max(0, -net.low)
         room = room_for(above + gap + max(net.high, power_of(net, last).high) + 1)
-        begun = transforms_of([NOTHING, start, deviation], room)[:, None]
-        transforms = [tables[-1, 0] for tables in renewed(begun, np.array([gap]), net, self.late, room, above)]
+        begun, (move,) = transforms_of([NOTHING, start, deviation], room)[:, None], transforms_of([net], room)
+        kept = waiting(begun, np.array([gap]), move, last, room, above)
+        transforms = [laws[-1, 0] for laws in renewed(kept, move, self.late)]
         return [start, *(LatticeLaw(-above, row) for row in np.roll(fft.irfft(transforms, room), above, axis=1))]
 
 

@@ -1,0 +1,47 @@
+"""Tests the loops of theory with several lead times, as they are written and as numpy stands in for them."""
+from __future__ import annotations
+
+import numpy as np
+import pytest
+
+from crnplan.theory import long_run, shortfalls
+from crnplan.theory.long_run import Means
+from crnplan.theory.shortfalls import FAR
+from planner.tests.theory.long_run_costs import shortfall_of
+from planner.tests.theory.scenarios import Pair, scenario_of, theory_of
+
+WAYS = ["loop", "plain"]
+
+
+@pytest.mark.parametrize("way", WAYS)
+@pytest.mark.parametrize("back, leads", [(None, [1, 2, 4]), (None, [2, 3]), (([0, 1], [3, 1]), [1, 2, 4])],
+                         ids=["three lead times", "two", "returns"])
+def test_shortfalls_are_those_of_a_chain(way: str, back: Pair | None, leads: list[int],
+                                         monkeypatch: pytest.MonkeyPatch) -> None:
+    """Some gaps follow one another, and some are far from the one before."""
+    monkeypatch.setattr(shortfalls, "last_shortfalls", getattr(shortfalls.last_shortfalls, way))
+    scenario, gaps = scenario_of(([0, 1, 3], [3, 2, 1]), (leads, [1] * len(leads)), back), [0, 1, 2, FAR + 1, FAR + 8]
+    theory = theory_of(scenario)
+    theory.rows_of(np.array(gaps))
+    for gap in gaps:
+        found, wanted = theory.below(gap), shortfall_of(scenario, gap)
+        low, high = min(found.low, wanted.least), max(found.high, wanted.least + len(wanted.chances) - 1)
+        chances = np.pad(wanted.chances, (wanted.least - low, high - wanted.least - len(wanted.chances) + 1))
+        assert found.between(low, high) == pytest.approx(chances, abs=1e-9)
+
+
+@pytest.mark.parametrize("way", WAYS)
+@pytest.mark.parametrize("leads", [[2], [1, 4]], ids=["one lead time", "two"])
+@pytest.mark.parametrize("share", [0.0, 0.6, 0.99])
+def test_least_levels_that_are_enough(way: str, leads: list[int], share: float) -> None:
+    """They are the first ones in a table of all levels, from the floor on."""
+    theory = theory_of(scenario_of(([0, 1, 3], [3, 2, 1]), (leads, [1] * len(leads))))
+    means, allowed = Means(theory, np.array([0, 1, 2, 9, 25])), theory.allowed(share)
+    tables = [means.of_all_levels(figure) for figure in (long_run.UNMET, 2)]
+    enough = (tables[0] <= allowed + 1e-9) & (tables[1] >= theory.ratio - 1e-9)
+    for floors in ([0, 0, 0, 0, 0], [3, 2, means.top - 3, 9, 0], [means.top] * 5):
+        found = getattr(long_run.least_enough, way)(means.turned, means.chances, np.array(floors),
+                                                    np.full(5, means.top), allowed, theory.ratio)
+        wanted = [next((it for it in range(floor, means.top) if row[it]), means.top)
+                  for floor, row in zip(floors, enough)]
+        assert found.tolist() == wanted
