@@ -15,7 +15,6 @@ from typing import Any
 
 import numpy as np
 import numpy.typing as npt
-import pandas as pd
 
 Whole = npt.NDArray[np.int64]
 Short = npt.NDArray[np.int32]
@@ -144,6 +143,7 @@ def demand_rows(random: Random, made: Made, items: Short, days: Short, amounts: 
 
 def make(folder: Path, items: int, seed: int = 1) -> Made:
     """Makes a catalogue of so many items in a folder, with some 133 rows of demand for each."""
+    import pandas as pd  # Parts that are measured need the paths alone.
     random, made = np.random.default_rng([items, seed]), Made(folder)
     folder.mkdir(parents=True, exist_ok=True)
     kinds = random.choice([*KINDS], items, p=[*KINDS.values()])

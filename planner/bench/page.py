@@ -14,11 +14,12 @@ from planner.studies.page import markdown, page_with
 
 PAGE = Path(__file__).with_name("README.md")
 MILLION = 1_000_000
+ITEM = "item"  # the part that plans one item, of examples/case
 # What some stored figures are.
 FIRST_PASS, LOOP = "reading, the first pass", "the loop of the main process"
 TRANSACTIONS, ARRAYS = "SQLite: transactions of 8 answers", "candidates, as arrays"
 SENT = ("an item's facts, to a worker", "the answer of a plan, back", "candidates of the curve, back")
-SUMS, MOSTS = ("wall", "processor", "bytes"), ("own", "all")
+SUMS, MOSTS = ("wall", "processor", "bytes"), ("own", "all", "load")
 Rows = Sequence[Mapping[str, Any]]
 
 
@@ -35,23 +36,37 @@ def compared_table(rows: Rows) -> str:
     return str(markdown(pd.DataFrame(lines)))
 
 
+def summed(rows: Rows) -> dict[str, Any]:
+    """Returns what some parts take together: memory is that of the largest."""
+    return {**{name: sum(row[name] for row in rows) for name in SUMS},
+            **{name: max(row[name] for row in rows) for name in MOSTS if all(name in row for row in rows)}}
+
+
 def with_sums(rows: Rows) -> list[Mapping[str, Any]]:
     """Returns the parts of catalogues, with what all parts of each take."""
     lines: list[Mapping[str, Any]] = []
     for _, parts in itertools.groupby(rows, itemgetter("items")):
         its = [*parts]
-        whole = {**its[0], "part": "**all**", **{name: sum(row[name] for row in its) for name in SUMS},
-                 **{name: max(row[name] for row in its) for name in MOSTS}}
-        lines += [*its, *([whole] if len(its) > 1 else [])]
+        several = [row for row in its if row["part"] != ITEM]
+        before = [row["before"] for row in several if "before" in row]
+        whole = {**its[0], "part": "**all**", **summed(several), **({"before": summed(before)} if before else {})}
+        lines += [*its, *([whole] if len(several) > 1 else [])]
     return lines
 
 
 def whole_table(rows: Rows) -> str:
-    """Returns the table of the parts of catalogues as Markdown."""
-    lines = [{"items": f"{row['items']:,}", "rows": f"{row['rows']:,}", "part": row["part"], "s": f"{row['wall']:.1f}",
-              "processor s": f"{row['processor']:.1f}", "ms an item": f"{1000 * row['processor'] / row['items']:.1f}",
-              "MB, main process": f"{row['own']:.0f}", "MB, all processes": f"{row['all']:.0f}",
-              "kB kept an item": f"{row['bytes'] / 1000 / row['items']:.1f}"} for row in with_sums(rows)]
+    """Returns the table of the parts of catalogues as Markdown, beside another checkout if that was measured."""
+    lines = []
+    for row in with_sums(rows):
+        before, items = row.get("before"), 1 if row["part"] == ITEM else row["items"]
+        lines.append({
+            "items": f"{items:,}", "rows": f"{row['rows']:,}", "part": row["part"], "s": f"{row['wall']:.1f}",
+            "processor s": f"{row['processor']:.1f}",
+            **({"before": f"{before['processor']:.1f}", "share": f"{row['processor'] / before['processor']:.2f}"}
+               if before else {}),
+            "ms an item": f"{1000 * row['processor'] / items:.1f}",
+            "MB, main process": f"{row['own']:.0f}", "MB, all processes": f"{row['all']:.0f}",
+            "kB kept an item": f"{row['bytes'] / 1000 / items:.1f}", "load": row.get("load", "-")})
     return str(markdown(pd.DataFrame(lines)))
 
 

@@ -50,10 +50,10 @@ def with_children(process: int) -> float:
     return proportional(process) + sum(proportional(it.pid) for it in below)
 
 
-def usage_of(words: Sequence[str]) -> Usage:
-    """Runs a command, and returns what it takes. Raises CalledProcessError if it fails."""
+def usage_of(words: Sequence[str], folder: Path | None = None) -> Usage:
+    """Runs a command, perhaps in a folder, and returns what it takes. Raises CalledProcessError if it fails."""
     start, own, most = time.perf_counter(), 0.0, 0.0
-    process = subprocess.Popen(words)
+    process = subprocess.Popen(words, cwd=folder)
     while True:
         ended, status, used = os.wait4(process.pid, os.WNOHANG)
         if ended:

@@ -81,6 +81,12 @@ def test_figures_of_parts(tmp_path: Path) -> None:
     rows = [part, {**part, "part": "plan", "own": 20.0, "all": 50.0}, {**part, "items": 3}]
     whole_row = {**part, "part": "**all**", "wall": 2.0, "processor": 4.0, "bytes": 10, "own": 30.0, "all": 50.0}
     assert page.with_sums(rows) == [*rows[:2], whole_row, rows[2]]
+    # Beside another checkout what both take is added up, without the plan of one item.
+    beside = [{**row, "load": 2.0, "before": {**part, "processor": 8.0}} for row in rows[:2]]
+    table = page.whole_table([*beside, {**beside[0], "part": page.ITEM}]).splitlines()
+    assert [[cell.strip() for cell in line.split("|")][3:8] for line in table[2:]] == [
+        ["read", "1.0", "2.0", "8.0", "0.25"], ["plan", "1.0", "2.0", "8.0", "0.25"], ["item", "1.0", "2.0", "8.0", "0.25"],
+        ["**all**", "2.0", "4.0", "16.0", "0.25"]]
     text, tables = page.PAGE.read_text(encoding="utf-8"), page.all_tables()
     assert page_with(text, tables) == text, "run python -m planner.bench.page"
     assert sorted(it["name"] for it in PLACE.finditer(text)) == sorted(tables)
