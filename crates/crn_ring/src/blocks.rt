@@ -66,7 +66,9 @@ impl Ring {
         words
     }
 
-    // Loads `count` blocks, from n on, into the first places of `out`.
+    // Loads `count` blocks, from n on, into the first places of `out`. A call of it stays a call: inlined into the loop that
+    // runs blocks, it would have too few registers for itself, and a run takes a twentieth longer.
+    #[inline(never)]
     pub(crate) fn load_rows(&self, seat: &mut Place, n: u64, out: &mut [Block], count: usize)
         requires own { IsReaderSeat self.now seat.old }
         requires at { ((reader_in seat.old).left ≡ false) × ((reader_in seat.old).taken ≡ n) × ((reader_in seat.old).read ≡ []) × (n + count ≤ (reader_in seat.old).seen) }
