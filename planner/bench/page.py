@@ -15,6 +15,8 @@ from planner.studies.page import markdown, page_with
 PAGE = Path(__file__).with_name("README.md")
 MILLION = 1_000_000
 ITEM = "item"  # the part that plans one item, of examples/case
+MACHINES = 10
+FAR = (10_000, 100_000, MILLION, 10 * MILLION)  # items of catalogues of which the hours are extrapolated
 # What some stored figures are.
 FIRST_PASS, LOOP = "reading, the first pass", "the loop of the main process"
 TRANSACTIONS, ARRAYS = "SQLite: transactions of 8 answers", "candidates, as arrays"
@@ -97,6 +99,25 @@ def needs_of(figures: Mapping[str, Any]) -> Iterator[tuple[str, float, str]]:
     yield "the curve's candidates as arrays", its[ARRAYS] / 1000, "GB of memory"
 
 
+def long(hours: float) -> str:
+    """Returns how long something takes, in hours, or else in minutes."""
+    return f"{hours:.1f} h" if hours >= 1 else f"{60 * hours:.1f} min"
+
+
+def far_lines(figures: Mapping[str, Any]) -> Iterator[dict[str, str]]:
+    """Yields how long catalogues take on one machine, in proportion to what was measured on its processors, and on ten:
+    these share planning and the curve. One of them reads."""
+    read, = figures["reading"]["rows"]
+    parts = {row["part"]: row for row in figures["four"]["rows"]}
+    measured = parts["plan"]["items"]
+    for items in (measured, *FAR):
+        reading, plan, curve = (items * row["wall"] / row["items"] / 3600
+                                for row in (read, parts["plan"], parts["curve"]))
+        yield {"items": f"{items:,}", "reading": long(reading), "plan": long(plan), "curve": long(curve),
+               "one machine": long(reading + plan + curve),
+               f"{MACHINES} machines": long(reading + (plan + curve) / MACHINES)}
+
+
 TABLES: dict[str, Callable[[Rows], str]] = {"compared": compared_table, "whole": whole_table, "four": whole_table,
                                             "reading": whole_table, "million": million_table}
 
@@ -114,7 +135,7 @@ def all_tables() -> dict[str, str]:
     figures = stored()
     needs = [{"at a million items": what, "amount": f"{amount:.3g}", "unit": unit}
              for what, amount, unit in needs_of(figures)]
-    return {"needs": str(markdown(pd.DataFrame(needs))),
+    return {"far": str(markdown(pd.DataFrame(far_lines(figures)))), "needs": str(markdown(pd.DataFrame(needs))),
             **{name: f"{measured_line(part['measured'])}\n\n{TABLES[name](part['rows'])}"
                for name, part in figures.items()}}
 

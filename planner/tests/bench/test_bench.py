@@ -113,6 +113,16 @@ def test_needs_of_a_million() -> None:
         "the curve's candidates as arrays": (2.0, "GB of memory")}
 
 
+def test_hours_of_many_items() -> None:
+    """They are in proportion: 36 s for 1,000 items are 10 h for a million. Ten machines share all but reading."""
+    four = [{"part": part, "items": 1_000, "wall": wall} for part, wall in (("plan", 36.0), ("curve", 72.0))]
+    lines = [*page.far_lines({"reading": {"rows": [{"items": 10_000, "wall": 36.0}]}, "four": {"rows": four}})]
+    assert lines[3] == {"items": "1,000,000", "reading": "1.0 h", "plan": "10.0 h", "curve": "20.0 h",
+                        "one machine": "31.0 h", "10 machines": "4.0 h"}
+    assert [line["items"] for line in lines] == ["1,000", "10,000", "100,000", "1,000,000", "10,000,000"]
+    assert lines[0]["plan"] == "0.6 min"
+
+
 def chances(weights: list[int]) -> Floats:
     return np.array(weights) / sum(weights)
 
