@@ -105,7 +105,7 @@ def batches_of(read: Catalogued, prior: Prior) -> Iterator[tuple[int, tuple[list
 def compare(folder: Path, items: int, jobs: int) -> list[Compared]:
     """Makes a catalogue in a folder, and compares both on all items that can be compared."""
     made, plan = make(folder / "files", items), folder / "plan"
-    path = read_alone(plan, made.paths, Words())
+    path = read_alone(plan, made.paths, Words(), jobs)
     with (own_folder(plan, CATALOGUE) as own, contextlib.closing(Catalogued(path)) as read,
           contextlib.closing(Store(own.store(ANSWERS), Answer)) as answers, processes(jobs) as workers):
         prior = learned_of(answers, read, SETTINGS, False).prior

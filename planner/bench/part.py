@@ -23,7 +23,7 @@ FILES, PLAN = "files", "plan"
 
 def read(folder: Path, jobs: int) -> None:
     """Reads the files."""
-    read_alone(folder / PLAN, Made(folder / FILES).paths, Words())
+    read_alone(folder / PLAN, Made(folder / FILES).paths, Words(), jobs)
 
 
 def learn(folder: Path, jobs: int) -> None:

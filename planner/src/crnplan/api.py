@@ -218,10 +218,10 @@ def check_masters(sales: Table | Catalogue, masters: Table | None) -> None:
 
 
 def take_tables(folder: Folder, sales: Table | Catalogue, masters: Table | None, orders: Table | None,
-                words: Words) -> None:
-    """Reads a catalogue into a folder, or copies one that was read elsewhere."""
+                words: Words, jobs: int | None) -> None:
+    """Reads a catalogue into a folder by so many processes, or copies one that was read elsewhere."""
     if not isinstance(sales, Catalogue):
-        read_into(folder, {"demand": sales, "items": masters, "orders": orders}, words)
+        read_into(folder, {"demand": sales, "items": masters, "orders": orders}, words, jobs)
     elif sales.path.resolve() != folder.store(READ).resolve():
         part = folder.room() / READ
         shutil.copyfile(sales.path, part)
@@ -301,7 +301,7 @@ def plan(sales: str | Path | pd.DataFrame | Catalogue, masters: str | Path | pd.
     room = tempfile.TemporaryDirectory(prefix="crnplan-") if out is None else None
     path = Path(room.name if room else out or "")
     with own_folder(path, CATALOGUE, CATALOGUE_FILES) as folder:
-        take_tables(folder, sales, masters, orders, words)
+        take_tables(folder, sales, masters, orders, words, jobs)
         done = plan_into(folder, settings, after=earlier, jobs=jobs, address=cluster, program=program,
                          again=learn_again, shown=progress)
     if done.missing:

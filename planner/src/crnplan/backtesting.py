@@ -107,5 +107,5 @@ def backtest(sales: str | Path | pd.DataFrame | Catalogue, masters: str | Path |
                   today=datetime.date.today(), date_formats=tuple(date_formats))
     check_masters(sales, masters)
     with tempfile.TemporaryDirectory(prefix="crnplan-") as room, own_folder(Path(out or room), CATALOGUE) as folder:
-        take_tables(folder, sales, masters, orders, words)
+        take_tables(folder, sales, masters, orders, words, jobs)
         return write_backtest(folder, settings, walk, jobs=jobs, address=cluster, shown=progress)

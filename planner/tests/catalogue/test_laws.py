@@ -20,8 +20,9 @@ from crnplan.plan.answer import Answer
 from crnplan.plan.catalogue import PRIOR, PRIOR_WINDOW, learned_of, take_prior
 from crnplan.plan.one import allowed_by, plan_one
 from crnplan.plan.question import ALL, CLASS, NONE, Question, Settings, question_of
-from crnplan.records.catalogue_reading import CATALOGUE as FOLDER, Catalogued, Writer
+from crnplan.records.catalogue_reading import ADD_ITEM, CATALOGUE as FOLDER, Catalogued, Writer
 from crnplan.records.item import Item
+from crnplan.records.parts import ITEM
 from crnplan.stored import Store
 from crnplan.theory.long_run import NO_POLICY
 from crnplan.theory.many_laws import Promises
@@ -61,7 +62,8 @@ def read(tmp_path: Path, request: pytest.FixtureRequest) -> Iterator[Catalogued]
     count, said = request.param
     with own_folder(tmp_path / "read", FOLDER) as folder:
         writer = Writer(folder)
-        writer.add(*(replace(item, borrow=said.get(name, "")) for name, item in [*CATALOGUE.items()][:count]))
+        writer.add_rows(ADD_ITEM, (ITEM.cells(replace(item, borrow=said.get(name, "")))
+                                   for name, item in [*CATALOGUE.items()][:count]))
         found = Catalogued(writer.finish({}))
     yield found
     found.close()

@@ -16,7 +16,7 @@ import pytest
 
 from crnplan.errors import Refused, RefusedFaults
 from crnplan.files import MARKER
-from crnplan.records import rows
+from crnplan.records.blocks import Sizes
 from crnplan.records.catalogue_reading import Catalogue, read_alone, read_catalogue
 from crnplan.records.cells import period_of
 from crnplan.records.item import Item
@@ -124,12 +124,11 @@ def test_what_was_found_is_stated(catalogue: Catalogue, files: Path) -> None:
     pd.testing.assert_frame_equal(again.rejects, catalogue.rejects)
 
 
-def test_limits_and_order_change_nothing(files: Path, catalogue: Catalogue, tmp_path: Path,
-                                         monkeypatch: pytest.MonkeyPatch, planted: Made) -> None:
-    """Reads the same if few cells are remembered, and from rows and masters in another order."""
-    monkeypatch.setattr(rows, "MOST_KEPT", 3)
+def test_ranges_and_order_change_nothing(files: Path, catalogue: Catalogue, tmp_path: Path, planted: Made) -> None:
+    """Reads the same in many ranges and parts, by pandas and by two processes, and from rows and masters in another
+    order."""
     paths = dict(zip(("demand", "items", "orders"), (files / it for it in FILES)))
-    again = Catalogue(read_alone(tmp_path, paths, Words(today=TODAY)))
+    again = Catalogue(read_alone(tmp_path, paths, Words(today=TODAY), 2, Sizes(10_000, 20_000, plain=0)))
     assert again.counts == catalogue.counts and items_of(again) == items_of(catalogue)
     pd.testing.assert_frame_equal(again.rejects, catalogue.rejects)
     assert {it.name for it in again.path.parent.iterdir()} == {again.path.name, MARKER}

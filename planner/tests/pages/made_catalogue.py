@@ -21,9 +21,10 @@ from crnplan.plan.catalogue import ANSWERS, Planned, PlannedFolder, Totals
 from crnplan.plan.question import Settings
 from crnplan.plan.survey import Survey
 from crnplan.plan.swings import CASES, SWINGS, Swing, drawn_items
-from crnplan.records.catalogue_reading import CATALOGUE, READ, Catalogued, Writer
+from crnplan.records.catalogue_reading import ADD_ITEM, ADD_REJECT, CATALOGUE, READ, Catalogued, Writer
 from crnplan.records.items import Reject
 from crnplan.records.item import Item
+from crnplan.records.parts import ITEM, REJECT
 from crnplan.remarks import Remark
 from crnplan.stored import Store
 
@@ -53,7 +54,8 @@ def made_folder(path: Path, items: int, names: Sequence[str] = (), has_curve: bo
     with own_folder(path, CATALOGUE, CATALOGUE_FILES) as folder:
         writer = Writer(folder)
         rejects = made_rejects(source, items)
-        writer.add(*(item for item, _ in pairs), *rejects)
+        writer.add_rows(ADD_ITEM, (ITEM.cells(item) for item, _ in pairs))
+        writer.add_rows(ADD_REJECT, map(REJECT.cells, rejects))
         writer.finish({"counts": made_counts(len(pairs), rejects), "every": "week", "decimals": DECIMALS,
                        "periods": [1000, 1003], "currency": currency, "abc": [80, 95], "sources": {}})
         planned = Planned(Settings(), Prior("none"), "made")

@@ -26,9 +26,10 @@ from crnplan.pages.catalogue_tables import reasons_of
 from crnplan.pages.page import LARGE
 from crnplan.plan.answer import BOUNDED, CHEAPER, DEARER, RUN, SAME, SERVICE, UNCOMPARED, UNDECIDED, Answer
 from crnplan.plan.catalogue import ANSWERS, Totals
-from crnplan.records.catalogue_reading import CATALOGUE, READ, Writer
+from crnplan.records.catalogue_reading import ADD_ITEM, CATALOGUE, READ, Writer
 from crnplan.records.item import NEW, NO_DEMAND
 from crnplan.records.items import Reject
+from crnplan.records.parts import ITEM
 from crnplan.remarks import Remark
 from crnplan.stored import Store
 from planner.tests.catalogue.conftest import FILES, SETTINGS, leave_few
@@ -340,7 +341,7 @@ def test_lost_items_and_other_rows(folder: Path) -> None:
     assert "THE COUNTS DO NOT ADD UP. items: 66 are named" in Page(crn.report(folder)).words
     with own_folder(folder, CATALOGUE) as own:
         writer = Writer(own)
-        writer.add(replace(made_pair(random.Random(1), "P00020")[0], counts=(1,)))
+        writer.add_rows(ADD_ITEM, [ITEM.cells(replace(made_pair(random.Random(1), "P00020")[0], counts=(1,)))])
         writer.finish({"counts": {}, "every": "week", "decimals": 2, "currency": ""})
     with pytest.raises(crn.Refused, match="its plan is not as the rows that were read last; run crnplan catalogue"):
         crn.report(folder)

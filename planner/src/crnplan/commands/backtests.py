@@ -52,7 +52,7 @@ def backtest(tables: Sequence[Path], orders: str | None, out: Path | None, recor
         stated: dict[str, Any] = {"columns": {}, "units": {}, "factors": {}, "date_formats": ()}
         words, settings = words_of(stated, read_config(config))
         with own_folder(out, CATALOGUE) as folder:
-            read_into(folder, {"demand": tables[0], "items": tables[1], "orders": orders}, words)
+            read_into(folder, {"demand": tables[0], "items": tables[1], "orders": orders}, words, jobs)
             tests = write_backtest(folder, settings, walk_of(settings), jobs=jobs, address=cluster, shown=True)
     else:
         raise Refused("name a folder of crnplan catalogue, or two tables and --out")

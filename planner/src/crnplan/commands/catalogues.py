@@ -120,7 +120,8 @@ def catalogue(**asked: Any) -> int:
     check_earlier(asked["after"], asked["out"], settings)
     with (tempfile.TemporaryDirectory(prefix="crnplan-") as room, own_folder(
             Path(room) if asked["only_read"] else asked["out"], CATALOGUE, CATALOGUE_FILES) as folder):
-        read = Catalogue(read_into(folder, {kind: asked[kind] for kind in ("demand", "items", "orders")}, words))
+        tables = {kind: asked[kind] for kind in ("demand", "items", "orders")}
+        read = Catalogue(read_into(folder, tables, words, asked["jobs"]))
         folder.write(FOUND, read.found)
         if not any(name in config for name in ("demand", "items")) and not asked["columns"]:
             click.echo(read.found, err=True)

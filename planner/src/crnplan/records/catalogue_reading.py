@@ -4,29 +4,35 @@ from __future__ import annotations
 
 import contextlib
 import datetime
+import heapq
 import json
 import os
 import sqlite3
 import tempfile
+from collections import Counter
 from collections.abc import Iterable, Iterator, Mapping, Sequence
 from dataclasses import dataclass, field
+from operator import itemgetter
 from pathlib import Path
 from typing import TYPE_CHECKING, Any, cast
 
 from ..errors import Fault, Refused, RefusedFaults, argument, worded
 from ..files import Folder, faults_of, own_folder
+from ..jobs import workers_of
 from ..money import Amount, Currency, Number
 from ..remarks import Remark
-from ..stored import Columns, check_whole, digest_of, quoted
+from ..stored import Cell, Columns, check_whole, digest_of, quoted
 from ..table import Json
 from ..words import message, sentence
+from .blocks import DATES, Sizes
 from .cells import NAMES, Unreadable, on_one_line, text_of
 from .columns import ROLES, converted, find_columns
-from .defaults import SOURCES, Defaults
+from .defaults import SOURCES, Defaults, distinct
+from .filed import AMOUNTS, FiledTable, Whole, read_tables
 from .item import PLANNED, Item
-from .items import AMOUNTS, KEEP, LEAVE_OUT, Counts, Reader, Reject, Words
+from .items import KEEP, LEAVE_OUT, Counts, FileCounts, Reject, Words
 from .observed import Day
-from .rows import DATES, Rows, read_rows
+from .parts import ITEM, REJECT, PartRead, read_parts, rows_in
 from .sources import Sheet, Table, opened
 
 if TYPE_CHECKING:
@@ -34,7 +40,6 @@ if TYPE_CHECKING:
 
 CATALOGUE = "catalogue"  # the kind of the folder
 READ = "catalogue.sqlite"
-ITEM, REJECT = Columns(Item), Columns(Reject)
 ADD_ITEM, ADD_REJECT = ITEM.insert("items"), REJECT.insert("rejects")
 
 
@@ -105,13 +110,9 @@ class Writer:
                                 "CREATE TABLE facts (name TEXT PRIMARY KEY, value TEXT);"
                                 f"CREATE TABLE rejects ({quoted(REJECT.names)});")
 
-    def add(self, *values: Item | Reject) -> None:
-        """Adds items, and what is left out or named."""
-        for value in values:
-            if isinstance(value, Item):
-                self.base.execute(ADD_ITEM, ITEM.cells(value))
-            else:
-                self.base.execute(ADD_REJECT, REJECT.cells(value))
+    def add_rows(self, insert: str, rows: Iterable[Sequence[Cell]]) -> None:
+        """Adds the cells of items, or of what is left out or named."""
+        self.base.executemany(insert, rows)
 
     def close(self) -> None:
         """Removes what is not finished."""
@@ -209,7 +210,7 @@ def read_catalogue(demand: Table, items: Table, orders: Table | None = None, *,
                    service: Mapping[str, Amount] | None = None, currency: str | None = None,
                    abc: str | Sequence[Number] | None = None, today: Day | None = None,
                    delimiter: str | None = None, encoding: str | None = None, decimal: str | None = None,
-                   date_formats: Sequence[str] = ()) -> Catalogue:
+                   date_formats: Sequence[str] = (), jobs: int | None = None) -> Catalogue:
     """Reads a catalogue from CSV files of any size, sheets of workbooks (FILE.xlsx!SHEET) or DataFrames.
 
     `demand` has a row for each movement (item, date, quantity, perhaps returned), `items` one for each item (item,
@@ -221,7 +222,8 @@ def read_catalogue(demand: Table, items: Table, orders: Table | None = None, *,
     their period, and with `negate` too, by which all have the other sign. Rows that stand `twice` and items with
     amounts `far` above all others are kept or left out ("keep", "leave-out"). An item needs a history of `least`
     periods. `factors` says how many items one of a unit of measure is. `setup` to `abc` are what masters need not say:
-    see `plan`. `delimiter`, `encoding`, `decimal` sign and `date_formats` are found if they can be.
+    see `plan`. `delimiter`, `encoding`, `decimal` sign and `date_formats` are found if they can be. `jobs` processes
+    read large files, by default one for each processor.
 
     Raises Refused and RefusedFaults for files that can't be read. Rows and items with faults are in `rejects`.
     """
@@ -231,14 +233,15 @@ def read_catalogue(demand: Table, items: Table, orders: Table | None = None, *,
                   date_formats=tuple(date_formats), defaults=Defaults.of(
                       setup=setup, holding_rate=holding_rate, fill=fill, service=service, currency=currency, abc=abc))
     room = tempfile.TemporaryDirectory(prefix="crnplan-")
-    path = read_alone(Path(room.name), {"demand": demand, "items": items, "orders": orders}, words)
+    path = read_alone(Path(room.name), {"demand": demand, "items": items, "orders": orders}, words, jobs)
     return Catalogue(path, room)
 
 
-def read_alone(path: Path, tables: Mapping[str, Table | None], words: Words) -> Path:
-    """Reads a catalogue into a folder that no other run uses, and returns the file of what was read."""
+def read_alone(path: Path, tables: Mapping[str, Table | None], words: Words, jobs: int | None = 1,
+               sizes: Sizes = Sizes()) -> Path:
+    """Reads a catalogue into a folder that no other run uses, as `read_into` does."""
     with own_folder(path, CATALOGUE) as folder:
-        return read_into(folder, tables, words)
+        return read_into(folder, tables, words, jobs, sizes)
 
 
 @contextlib.contextmanager
@@ -260,43 +263,75 @@ def open_sources(tables: Mapping[str, Table | None], words: Words,
         yield sheets
 
 
-def read_into(folder: Folder, tables: Mapping[str, Table | None], words: Words) -> Path:
-    """Reads a catalogue into a folder, and returns the file of what was read. Raises as `read_catalogue` does."""
+def read_into(folder: Folder, tables: Mapping[str, Table | None], words: Words, jobs: int | None = 1,
+              sizes: Sizes = Sizes()) -> Path:
+    """Reads a catalogue into a folder by so many processes, by default one for each processor, and returns the file of
+    what was read, which is the same for any number. Raises as `read_catalogue` does."""
     with (faults_of(folder.path), open_sources(tables, words, folder.room()) as sheets,
           contextlib.closing(Writer(folder)) as writer):
-        reader = Reader(read_rows(sheets), words, writer.add)
-        reader.read()
-        periods = reader.record.periods
-        return writer.finish({"counts": reader.counts, "every": words.every,
-                              "decimals": max(reader.decimals, Currency(reader.currency, 0).places),
-                              "currency": reader.currency, "abc": words.defaults.abc, "sources": reader.sources_by_role,
-                              "periods": [periods.start, periods.stop], "found": found_of(reader),
+        parts, room = sizes.parts_of(sheets.values()), folder.room()
+        with workers_of(1 if parts == 1 else jobs, None) as workers:
+            filed = read_tables(sheets, workers, room, parts, sizes)
+            whole = Whole.of(filed, words)
+            read = read_parts(filed, whole, words, workers, room, parts)
+        for its in read:
+            writer.add_rows(ADD_REJECT, rows_in(its.rejects))
+        writer.add_rows(ADD_ITEM, heapq.merge(*(rows_in(its.items) for its in read), key=itemgetter(0)))
+        currency = next(iter(distinct(whole.currencies)), "")
+        periods = whole.record.periods
+        return writer.finish({"counts": counts_of(filed, read), "every": words.every,
+                              "decimals": max(Currency(currency, 0).places, *(its.decimals for its in read)),
+                              "currency": currency, "abc": words.defaults.abc, "sources": sources_by_role(read),
+                              "periods": [periods.start, periods.stop], "found": found_of(filed, whole),
                               "said": [f"{sheet.file_name}: {converted(column, role, words.every)}"
                                        for sheet in sheets.values() for role, column in sheet.columns.items()
                                        if column.unit]})
 
 
-def found_of(reader: Reader) -> dict[str, Any]:
+def counts_of(tables: Mapping[str, FiledTable], parts: Iterable[PartRead]) -> Counts:
+    """Returns what became of all rows and items, by what became of those of each part."""
+    files: dict[str, FileCounts] = {kind: {"name": its.sheet.file_name, "read": its.rows, "blank": its.blank, "used": 0,
+                                           "rejected": 0, "with_item": 0} for kind, its in tables.items()}
+    items = Counter[str]()
+    for part in parts:
+        items.update(part.counts["items"])
+        for kind, its in part.counts["files"].items():
+            mine = files[kind]
+            mine["used"] += its["used"]
+            mine["rejected"] += its["rejected"]
+            mine["with_item"] += its["with_item"]
+    return {"files": files, "items": dict(items)}
+
+
+def sources_by_role(parts: Iterable[PartRead]) -> dict[str, dict[str, int]]:
+    """Returns of how many items a value that may have a default is from where, by role."""
+    roles: dict[str, dict[str, int]] = {}
+    for (role, source), count in sorted(sum((part.sources for part in parts), Counter[tuple[str, str]]()).items()):
+        roles.setdefault(role, {})[source] = count
+    return roles
+
+
+def found_of(tables: Mapping[str, FiledTable], whole: Whole) -> dict[str, Any]:
     """Returns what was found in the tables, of which `Catalogue.found` makes lines of crnplan.toml."""
-    record = reader.record
+    record = whole.record
     return {"every": record.every, "first": str(record.first), "last": str(record.last), "periods": len(record.periods),
-            "tables": [_table_facts(reader, kind) for kind in reader.rows]}
+            "tables": [_table_facts(table, whole, kind) for kind, table in tables.items()]}
 
 
-def _table_facts(reader: Reader, kind: str) -> dict[str, Any]:
+def _table_facts(table: FiledTable, whole: Whole, kind: str) -> dict[str, Any]:
     """Returns how a table is written, its columns, its first rows, its dates, and the signs of its amounts."""
-    rows, dates, amounts = reader.rows[kind], reader.dates[kind], {role: reader.amounts[role] for role in AMOUNTS[kind]}
-    sheet, used = rows.sheet, {column.place for column in rows.sheet.columns.values()}
+    dates, amounts = whole.dates[kind], {role: whole.amounts[role] for role in AMOUNTS[kind]}
+    sheet, used = table.sheet, {column.place for column in table.sheet.columns.values()}
     forms, unclear = dict[str, list[Any]](), 0
-    for cell, count in (pair for role in DATES for pair in rows.counts(role)):
+    for cell, count in (pair for role in DATES for pair in table.counts(role)):
         try:
             form = dates.read(cell)[1]
             forms.setdefault(form, [form, 0, text_of(cell)])[1] += count
         except Unreadable as why:
             unclear += count * (why.remark.code in ("day or month", "day and month"))
     return {
-        "kind": kind, "file": sheet.file_name, "written": sheet.written, "line": sheet.line, "rows": len(rows),
-        "blank": len(rows.blank), "titles": [on_one_line(" ".join(filter(None, cells))) for _, cells in sheet.titles],
+        "kind": kind, "file": sheet.file_name, "written": sheet.written, "line": sheet.line, "rows": table.rows,
+        "blank": table.blank, "titles": [on_one_line(" ".join(filter(None, cells))) for _, cells in sheet.titles],
         "columns": {role: vars(sheet.columns[role]) if role in sheet.columns else None for role in ROLES[kind]},
         "unused": [on_one_line(name) for place, name in enumerate(sheet.heading) if name and place not in used],
         "first_rows": [[*map(on_one_line, cells)] for _, cells in sheet.first_rows],

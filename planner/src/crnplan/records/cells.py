@@ -46,11 +46,12 @@ FORMS = {sign: re.compile(
     for sign, other in ((".", ","), (",", "."))}
 # What a number must be, by the code of one that is not.
 RULES: dict[str, Callable[[Fraction], Any]] = {
-    "digits": lambda number: abs(number) < 10**MOST_DIGITS, "not whole": lambda number: number.denominator == 1,
-    "decimals": lambda number: (number * 10**MOST_DECIMALS).denominator == 1,
+    "digits": lambda number: abs(number.numerator) < 10**MOST_DIGITS * number.denominator,
+    "not whole": lambda number: number.denominator == 1,
+    "decimals": lambda number: 10**MOST_DECIMALS % number.denominator == 0,
     "no whole items": lambda number: number >= 0 and number.denominator == 1, "zero": bool,
     "below 1": lambda number: number >= 1, **dict.fromkeys(
-        ("below 0", "negative", "negative sale", "negative period", "negative movement"), lambda number: number >= 0)}
+        ("below 0", "negative", "negative sale", "negative period", "negative movement"), lambda number: number.numerator >= 0)}
 # Kinds of numbers: the code of an empty cell, none if that is 0, and which of RULES a number meets beside the digits.
 KINDS = {
     "number": ("no amount",), "money": ("no amount", "below 0", "decimals"),
@@ -99,6 +100,8 @@ def named_lines(lines: Sequence[int]) -> str:
 def readings(text: str) -> dict[str, Fraction]:
     """Returns the numbers that a text may be, by decimal sign."""
     numbers = {}
+    if text.isascii() and text.isdecimal() and len(text) <= MOST_LETTERS:
+        return dict.fromkeys(DECIMALS, Fraction(int(text)))
     for sign in DECIMALS if len(text) <= MOST_LETTERS else ():
         form = FORMS[sign].fullmatch(text)
         if form is None or form["sign"] and form["after"]:
@@ -152,7 +155,7 @@ class AmountReader:
                 numbers = readings(unwrapped(bare.rstrip("% ")))
                 if len(numbers) == 1:
                     self.sides.setdefault(next(iter(numbers)), text)
-                self.is_doubtful |= len({*numbers.values()}) > 1
+                self.is_doubtful |= len(numbers) > 1 and numbers["."] != numbers[","]
         return self
 
     @property
@@ -176,7 +179,7 @@ class AmountReader:
     def _read(self, text: str) -> Fraction:
         """Returns the number of a text. Raises Unreadable."""
         numbers = readings(unwrapped(text) if self.currencies is None else split_money(text)[0])
-        is_doubtful = len({*numbers.values()}) > 1
+        is_doubtful = len(numbers) > 1 and numbers["."] != numbers[","]
         if is_doubtful and self.sign is None:
             small, large = (f"{float(number):.15g}" for number in sorted(numbers.values(), key=abs))
             signs = " and ".join(repr(shown(it)) for it in self.sides.values())

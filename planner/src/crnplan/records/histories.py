@@ -16,12 +16,13 @@ from ..formats import MOST_WEIGHT
 from ..remarks import Remark, Value
 from ..table import DataTable, text, whole
 from ..words import message
+from .blocks import DATES
 from .cells import (DECIMALS, EVERY, KINDS, MOST_NAMED, NAMES, NEED_PERIOD, TOTAL, Numbers, first_day,
                     named_lines, other_reading, period_name, period_of, periods_of_days,
                     shown, text_of)
 from .columns import NO_ROW, conversion, converted, periods_of, stated_columns
 from .observed import Day, History, LeadTimes, ends_of, summed
-from .rows import DATES, TIMES_NEXT, Rows, far_above
+from .rows import TIMES_NEXT, far_above, rows_of
 from .sources import Rules, Sheet, Table, opened, sample
 
 # What is said: the line of a row, 0 for the file, the place of a cell in the row, -1 for the row, and a text.
@@ -158,7 +159,7 @@ class Reading:
         try:
             if wrong:
                 raise RefusedFaults([Fault(what, sheet.name, sheet.line) for what in wrong])
-            self.rows = Rows(sheet)
+            self.rows = rows_of(sheet)
             if not len(self.rows):
                 raise RefusedFaults([Fault(NO_ROW, sheet.name, sheet.line + 1)])
         except RefusedFaults as refused:

@@ -1,7 +1,6 @@
 """Makes items of the rows of a catalogue: their demand by period, lead times and masters, or why they are left out."""
 from __future__ import annotations
 
-import contextlib
 import datetime
 from collections import Counter
 from collections.abc import Callable, Mapping, Sequence
@@ -10,29 +9,24 @@ from fractions import Fraction
 from typing import Literal, NamedTuple, TypedDict
 
 import numpy as np
-import numpy.typing as npt
 
 from ..errors import Refused, argument
 from ..formats import MOST_ITEMS, MOST_LEAD
 from ..remarks import Remark
-from .cells import (EVERY, TOTAL, UNPRINTABLE, Cell, CellFault, Numbers, Unreadable, fault, named_lines, on_one_line,
-                    period_name, periods_of_days, text_of)
-from .classes import abc_of
+from .blocks import Flags
+from .cells import (EVERY, TOTAL, UNPRINTABLE, Cell, CellFault, Numbers, fault, named_lines, on_one_line, period_name,
+                    periods_of_days, text_of)
 from .columns import COLUMNS, ROLES, unit_fault
-from .defaults import Defaults, currency_in
+from .defaults import Defaults
+from .filed import Whole
 from .item import NEW, NO_DEMAND, USUAL, Item
-from .masters import MONEY, Master, Masters
-from .observed import Day, ends_of, record_of, summed
-from .rows import Flags, Rows, far_above
+from .masters import Master, Masters
+from .observed import Day, summed
+from .rows import Rows, far_above
 from .sources import Rules, Sheet
 
 KEEP, LEAVE_OUT = "keep", "leave-out"
 OUTSIDE = ("before start", "far before", "after end", "late date")  # what is wrong with a date outside the record
-# The roles with amounts by table.
-AMOUNTS = {"items": ("setup", "holding", "backlog", "fill", "s", "S", "stock", "price", "price_for", "order_min",
-                     "pack", "s_min", "supplier_min"),
-           "demand": ("quantity", "returned"), "orders": ()}
-
 
 @dataclass(frozen=True)
 class Reject:
@@ -118,7 +112,7 @@ class Left(Exception):
 class Moves(NamedTuple):
     """The movements of an item in the order of their rows: lines, periods, amounts asked for and back."""
 
-    lines: npt.NDArray[np.int32]
+    lines: Numbers
     periods: Numbers
     asked: Numbers
     back: Numbers
@@ -140,12 +134,12 @@ def reject_of(what: str, sheet: Sheet, line: int, name: str, faults: Sequence[Ce
 
 
 class Reader:
-    """Makes the items of a catalogue, and hands them on with what is left out."""
+    """Makes the items of a catalogue, or of a part of it, and hands them on with what is left out."""
 
-    def __init__(self, rows: Mapping[str, Rows], words: Words, add: Callable[[Item | Reject], None]) -> None:
-        """Looks at all dates and amounts, which decide how they are read, and at the ends of the record. Raises
-        Refused."""
-        self.rows, self.words, self.add, self.decimals = rows, words, add, 0
+    def __init__(self, rows: Mapping[str, Rows], words: Words, whole: Whole,
+                 add: Callable[[Item | Reject], None] = lambda its: None) -> None:
+        """Finds the movements of items in the rows, which may be those of a part of them, but whole ones."""
+        self.rows, self.words, self.whole, self.add, self.decimals = rows, words, whole, add, 0
         self.counts: Counts = {
             "files": {kind: {"name": its.sheet.file_name, "read": len(its), "blank": len(its.blank), "used": 0,
                              "rejected": 0, "with_item": 0} for kind, its in rows.items()},
@@ -155,44 +149,16 @@ class Reader:
         for kind in rows:
             for row, wrong in rows[kind].nameless():
                 self._reject_row(kind, row, [wrong], is_named=False)
-        self.dates = {kind: its.date_reader() for kind, its in rows.items()}
-        self.currencies = self._currencies()
-        self.amounts = {role: rows[kind].amount_reader(role, self.currencies if role in MONEY else None)
-                        for kind in rows for role in AMOUNTS[kind]}
-        days = Counter[Day]()
-        for cell, count in rows["demand"].counts("date"):
-            with contextlib.suppress(Unreadable):
-                days[self.dates["demand"].read(cell)[0]] += count
-        start, end = ends_of(words.start, words.end)
-        self.record = record_of(days, words.every, start, end, words.today)
-        self.masters = Masters(self.amounts, self.dates["items"], rows["items"].sheet.columns, words.every,
-                               words.defaults, self.currencies)
-        self.sources = Counter[tuple[str, str]]()
+        self.record = whole.record
+        self.masters = Masters(whole.amounts, whole.dates["items"], rows["items"].sheet.columns, words.every,
+                               words.defaults, whole.currencies)
+        self.sources, self.letters = Counter[tuple[str, str]](), dict[int, str]()
         self.twice, self.master_twins = Counter[int](), rows["items"].twins()
         self.named = rows["demand"].by_item(rows["demand"].good)
-
-    def _currencies(self) -> dict[str, str]:
-        """Returns the currencies that are stated, or that the masters have in a column, each with its text."""
-        stated = self.words.defaults.currency
-        currencies = {stated: stated} if stated else {}
-        for cell, _ in self.rows["items"].counts("currency"):
-            with contextlib.suppress(Unreadable):
-                currencies.setdefault(currency_in(cell), text_of(cell))
-        currencies.pop("", None)
-        return currencies
-
-    @property
-    def currency(self) -> str:
-        """Returns the currency of the masters; empty if they name none."""
-        return next(iter(self.masters.currencies), "")
-
-    @property
-    def sources_by_role(self) -> dict[str, dict[str, int]]:
-        """Returns of how many items a value that may have a default is from where, by role."""
-        roles: dict[str, dict[str, int]] = {}
-        for (role, source), count in sorted(self.sources.items()):
-            roles.setdefault(role, {})[source] = count
-        return roles
+        self.masters_of = rows["items"].by_item(rows["items"].good)
+        self.moves_of, totals = self._moves()
+        known = {code for its in rows.values() for code in np.unique(its.codes["item"][its.good]).tolist()}
+        self.items = sorted(known - totals, key=self.names.__getitem__)
 
     def _reject(self, what: str, kind: str, line: int, name: str, faults: Sequence[CellFault], rows: int,
                 value: Fraction | None = None) -> None:
@@ -204,18 +170,29 @@ class Reader:
         self._reject("row", kind, int(rows.lines[row]), str(rows.cell("item", row)) * is_named, faults,
                      int(kind == "demand"))
 
-    def read(self) -> None:
-        """Reads all items. Those of totals alone are none."""
-        moves_of, totals = self._moves()
-        leads_of, masters_of = self._leads(), self.rows["items"].by_item(self.rows["items"].good)
-        known = {code for table in self.rows.values() for code in np.unique(table.codes["item"][table.good]).tolist()}
-        items = sorted(known - totals, key=self.names.__getitem__)
-        self.letters = self._letters(items, moves_of, masters_of)
-        groups = {text_of(cell) for cell, _ in self.rows["items"].counts("class")}
-        self.has_classes = any(groups)
-        self.words.defaults.check_classes(groups if self.has_classes else {*self.letters.values()})
-        for item in items:
-            moves, masters, (leads, orders) = moves_of(item), masters_of(item).tolist(), leads_of(item)
+    def values(self) -> list[Fraction | None]:
+        """Returns the value of the mean demand of each item, in order of names; None without a price or demand."""
+        return [self._value_of_demand(item) for item in self.items]
+
+    def _value_of_demand(self, item: int) -> Fraction | None:
+        moves = self.moves_of(item)
+        asked = int(moves.asked.sum())
+        price = self.masters.price(self._cells(self.masters_of(item)[:1])) if asked > 0 else None
+        if price is None:
+            return None
+        return price * Fraction(asked, self.record.periods.stop - self.record.first_of(int(moves.periods.min())))
+
+    def _cells(self, masters: Numbers) -> dict[str, Cell]:
+        """Returns the cells of the first of these rows of masters, by role; none without a row."""
+        table = self.rows["items"]
+        return {role: table.cell(role, row) for row in masters[:1].tolist() for role in table.columns}
+
+    def read(self, letters: Sequence[str]) -> None:
+        """Reads all items, whose classes by value are given in order of names. Those of totals alone are none."""
+        self.letters = dict(zip(self.items, letters, strict=True))
+        leads_of = self._leads()
+        for item in self.items:
+            moves, masters, (leads, orders) = self.moves_of(item), self.masters_of(item), leads_of(item)
             counts = {"demand": len(moves.lines), "items": len(masters), "orders": orders}
             state: Literal["used", "with_item"] = "with_item"
             try:
@@ -229,34 +206,18 @@ class Reader:
             for kind, file in self.counts["files"].items():
                 file[state] += counts[kind]
 
-    def _letters(self, items: Sequence[int], moves_of: Callable[[int], Moves],
-                 masters_of: Callable[[int], Numbers]) -> dict[int, str]:
-        """Returns the class of each item that has a price and demand, by the value of its mean demand."""
-        table, values = self.rows["items"], dict[int, Fraction]()
-        for item in items:
-            moves, masters = moves_of(item), masters_of(item).tolist()
-            cells = {role: table.cell(role, row) for row in masters[:1] for role in table.columns}
-            price, asked = self.masters.price(cells), int(moves.asked.sum())
-            if price is not None and asked > 0:
-                periods = self.record.periods.stop - self.record.first_of(int(moves.periods.min()))
-                values[item] = price * Fraction(asked, periods)
-        return abc_of(values, self.words.defaults.abc)
-
     def _group(self, item: int, cells: Mapping[str, Cell]) -> str:
         """Returns the class of an item: that of its row, or the one by value if no row has a class."""
-        return UNPRINTABLE.sub(" ", text_of(cells.get("class"))) if self.has_classes else self.letters.get(item, "")
+        return UNPRINTABLE.sub(" ", text_of(cells.get("class"))) if any(self.whole.groups) else self.letters.get(item, "")
 
-    def _value(self, masters: Sequence[int]) -> Fraction | None:
+    def _value(self, masters: Numbers) -> Fraction | None:
         """Returns what the stock of an item is worth by its master; None if that is not known, or if masters differ."""
-        table = self.rows["items"]
-        if len({*self.master_twins[masters].tolist()}) != 1:
-            return None
-        return self.masters.value({role: table.cell(role, masters[0]) for role in table.columns})
+        return self.masters.value(self._cells(masters)) if len({*self.master_twins[masters].tolist()}) == 1 else None
 
     def _dates(self, kind: str, role: str) -> tuple[Numbers, Numbers, dict[int, Remark]]:
         """Returns the day, as an ordinal number, and the period of each row's date, and what is wrong with values."""
         def day_of(cell: Cell) -> Day:
-            day = self.dates[kind].read(cell)[0]
+            day = self.whole.dates[kind].read(cell)[0]
             if kind == "demand":
                 self.record.check(day)
             return day
@@ -272,7 +233,7 @@ class Reader:
         kinds = {"quantity": "whole" if self.words.net or self.words.negate else "sales", "returned": "returns"}
         for role in (it for it in kinds if it in rows.columns):
             unit = rows.sheet.columns[role].unit
-            amounts[role], faults[role] = rows.amounts(role, self.amounts[role], kinds[role], unit)
+            amounts[role], faults[role] = rows.amounts(role, self.whole.amounts[role], kinds[role], unit)
         amounts["quantity"] = amounts["quantity"] * (-1 if self.words.negate else 1)
         if "measure" in rows.columns and self.words.factors:
             units = rows.columns["measure"].distinct
@@ -337,7 +298,7 @@ class Reader:
         orders_of, received_of = rows.by_item(rows.good & ~bad), rows.by_item(rows.good & ~bad & ~is_open)
         return lambda item: (leads[received_of(item)].tolist(), len(orders_of(item)))
 
-    def _item(self, item: int, moves: Moves, masters: Sequence[int], leads: Sequence[int]) -> Item:
+    def _item(self, item: int, moves: Moves, masters: Numbers, leads: Sequence[int]) -> Item:
         self._check_measures(item)
         master, decimals, sources, since = self._master(item, masters, leads, moves)
         self._check_far(moves)
@@ -399,17 +360,17 @@ class Reader:
             raise Left("demand", int(rows.lines[row]), fault(
                 "measure", unit, "measures", measures=" and ".join(repr(it) for _, it in unknown), text=unit))
 
-    def _master(self, item: int, rows: Sequence[int], leads: Sequence[int], moves: Moves) -> Master:
+    def _master(self, item: int, rows: Numbers, leads: Sequence[int], moves: Moves) -> Master:
         """Returns the master of an item. Raises Left."""
-        table, name = self.rows["items"], self.names[item]
-        if not rows:
+        name = self.names[item]
+        if not len(rows):
             kind = "orders" if leads and not len(moves.lines) else "demand"
             raise Left(kind, int(moves.lines[0]) if len(moves.lines) else 0, fault("item", name, "no master"))
-        lines = table.lines[rows].tolist()
+        lines = self.rows["items"].lines[rows].tolist()
         if len({*self.master_twins[rows].tolist()}) > 1:
             raise Left("items", lines[1], fault("item", name, "several masters", masters=len(rows),
                                                 lines=named_lines(lines)))
-        cells = {role: table.cell(role, rows[0]) for role in table.columns}
+        cells = self._cells(rows)
         group = self._group(item, cells)
         read, faults = self.masters.read(cells, leads, group)
         if faults:

@@ -11,6 +11,7 @@ from typing import Any, NamedTuple
 
 from ..formats import MOST_LEAD
 from ..money import MOST_DECIMALS
+from ..remarks import Remark
 from .bounds import Bounds
 from .cells import UNPRINTABLE, AmountReader, Cell, CellFault, DateReader, Unreadable, fault, period_of, shown
 from .columns import DAYS, LEVELS, NEEDED, ROLES, UNITS, conversion, periods_of
@@ -101,6 +102,8 @@ class Masters:
         self.share = units["holding"] if units.get("holding") in ("share", "percent") else ""
         self.defaults, self.currencies = defaults, distinct(currencies)
         self.a_year = conversion("holding", "share", every)[0]
+        self.needed = NEEDED["items"] - defaults.roles
+        self.known: dict[tuple[str, Cell], Any] = {}  # by role and cell, its value, or what is wrong with it
         self.readers: dict[str, Callable[[Cell], Any]] = {
             **{role: partial(amounts[role].number, kind=kind) for role, kind in READ_AS.items()},
             **dict.fromkeys(("description", "class", "supplier"), lambda cell: UNPRINTABLE.sub(" ", str(cell))),
@@ -137,12 +140,16 @@ class Masters:
 
     def _value(self, role: str, cell: Cell, faults: list[CellFault]) -> Any:
         """Returns the value of a cell; None if it is empty and may be so, or has a fault, which is added."""
-        is_needed = role in NEEDED["items"] - self.defaults.roles
-        try:
-            return None if cell == "" and not is_needed else self.readers[role](cell)
-        except Unreadable as why:
-            faults.append((role, cell, why.remark))
+        if (role, cell) not in self.known:
+            try:
+                self.known[role, cell] = None if cell == "" and role not in self.needed else self.readers[role](cell)
+            except Unreadable as why:
+                self.known[role, cell] = why.remark
+        value = self.known[role, cell]
+        if isinstance(value, Remark):
+            faults.append((role, cell, value))
             return None
+        return value
 
     def read(self, cells: Mapping[str, Cell], observed: Sequence[int],
              group: str) -> tuple[dict[str, Any], list[CellFault]]:
@@ -174,8 +181,9 @@ class Masters:
         sources = {role: DEFAULT if read[role] is None else MASTERS for role in ("setup", "holding")}
         fill, sources["fill"] = defaults.fill_of(group, read["fill"])
         read["setup"] = setup = defaults.setup if read["setup"] is None else read["setup"]
-        decimals = next(digits for digits in range(MOST_DECIMALS + 1) if all(
-            (read[role] * 10**digits).denominator == 1 for role in MONEY if read[role] is not None))
+        denominators = [read[role].denominator for role in MONEY if read[role] is not None]
+        decimals = next(digits for digits in range(MOST_DECIMALS + 1) if not any(
+            10**digits % denominator for denominator in denominators))
         read |= {role: read[role] * factor for role, factor in self.factors.items() if read[role] is not None}
         rate = self.a_year * (defaults.holding_rate or 0) if read["holding"] is None else read["holding"]
         holding = rate * (price or 0) if self.share or read["holding"] is None else rate

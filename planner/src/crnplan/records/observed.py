@@ -2,6 +2,7 @@
 from __future__ import annotations
 
 import datetime
+import functools
 from collections.abc import Mapping, Sequence
 from dataclasses import dataclass, field
 from typing import TYPE_CHECKING
@@ -79,7 +80,7 @@ class Record:
     before: str
     after: str
 
-    @property
+    @functools.cached_property
     def periods(self) -> range:
         return range(period_of(self.first, self.every), period_of(self.last, self.every) + 1)
 

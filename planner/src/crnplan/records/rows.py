@@ -6,46 +6,38 @@ blank ones.
 from __future__ import annotations
 
 import datetime
-import sys
-from array import array
-from collections.abc import Callable, Collection, Iterator, Mapping
+import itertools
+from collections.abc import Callable, Collection, Iterable, Iterator, Mapping, Sequence
+from dataclasses import replace
 from typing import Any, TypeVar
 
 import numpy as np
 import numpy.typing as npt
 
 from ..remarks import Remark
-from .cells import (UNPRINTABLE, AmountReader, Cell, CellFault, DateReader, Numbers, Unreadable, bare_cell, dated_cell,
-                    fault, text_of)
+from .blocks import DATES, Block, Flags, read_blocks
+from .cells import AmountReader, Cell, CellFault, DateReader, Numbers, Unreadable, fault
 from .sources import Sheet
 
-Flags = npt.NDArray[np.bool_]
 Value = TypeVar("Value")
-MOST_KEPT = 100_000  # cells whose value is remembered
-DATES = ("date", "ordered", "received", "due", "since")
+Kind = TypeVar("Kind", bound=np.generic)
 # An amount is far above all others if it is so many times the next largest; TIMES_OF_FEW times if it has fewer others
 # than LEAST_OTHERS. At most MOST_FAR are.
 TIMES_NEXT, TIMES_OF_FEW, LEAST_OTHERS, MOST_FAR = 30, 300, 4, 3
 
 
-class Codes(dict[Cell, int]):
-    """The codes of the distinct values of a column, by cell. At most so many cells are remembered."""
+class Codes:
+    """The codes of the distinct values of a column."""
 
-    def __init__(self, read: Callable[[Cell], Cell], most: int | None = None) -> None:
-        super().__init__()
-        self.read, self.most = read, MOST_KEPT if most is None else most
+    def __init__(self) -> None:
         self.distinct: list[Cell] = []
         self.places: dict[Cell, int] = {}
 
-    def __missing__(self, cell: Cell) -> int:
-        """Reads a cell that is not known, and returns its code."""
-        value = self.read(cell)
-        code = self.places.setdefault(value, len(self.distinct))
-        if code == len(self.distinct):
-            self.distinct.append(value)
-        if len(self) < self.most:
-            self[cell] = code
-        return code
+    def of(self, values: Iterable[Cell]) -> npt.NDArray[np.int32]:
+        """Returns the codes of values; those that are not known get the next ones."""
+        codes = [self.places.setdefault(value, len(self.places)) for value in values]
+        self.distinct += itertools.islice(self.places, len(self.distinct), None)
+        return np.array(codes, np.int32)
 
 
 class Rows:
@@ -53,50 +45,31 @@ class Rows:
     its value. `wide` has how many cells those rows have that have more than the heading, and their texts. `good` says
     which rows are of use: the others decide nothing."""
 
-    def __init__(self, sheet: Sheet, names: Codes | None = None) -> None:
-        """Reads all rows, in the columns of the table. Tables of one catalogue share the names of items. With patterns
-        of dates, times of day are kept."""
+    def __init__(self, sheet: Sheet, blocks: Iterable[tuple[int, Block]], names: Codes | None = None) -> None:
+        """Puts blocks together, each with the lines that stand before it. Tables of one catalogue share the names of
+        items."""
         self.sheet, self.patterns = sheet, sheet.rules.date_formats
-        dated = bare_cell if self.patterns else dated_cell
-        self.columns = {role: names if role == "item" and names is not None else
-                        Codes(dated if role in DATES else bare_cell) for role in sheet.columns}
-        self.blank, self.wide = array("i"), dict[int, tuple[int, str]]()
-        codes, lines, hashes = {role: array("i") for role in self.columns}, array("i"), array("q")
-        self._fill(codes, lines, hashes)
-        self.codes = {role: np.array(its, np.int32) for role, its in codes.items()}
-        self.lines, self._hashes = np.array(lines, np.int32), np.array(hashes, np.int64)
-        self.good: Flags = np.ones(len(self), bool)
-        self.good[[*self.wide]] = False
-
-    def _fill(self, all_codes: Mapping[str, array[int]], lines: array[int], hashes: array[int]) -> None:
-        width = len(self.sheet.heading)
-        slots = [(column.place, self.columns[role], all_codes[role].append)
-                 for role, column in self.sheet.columns.items()]
-        first_place, known, empty = slots[0][0], slots[0][1], set[Cell](("", None))
-        for line, cells in self.sheet.data():
-            if len(cells) != width:
-                if any(map(text_of, cells[width:])):
-                    self.wide[len(lines)] = len(cells), ",".join(map(text_of, cells))
-                cells = [*cells[:width], *[""] * (width - len(cells))]
-            first = cells[first_place]
-            if first in empty or first not in known and not text_of(first):
-                empty.add(first)
-                if len(lines) not in self.wide and not any(map(text_of, cells)):
-                    self.blank.append(line)
-                    continue
-            for place, codes, append in slots:
-                append(codes[cells[place]])
-            lines.append(line)
-            hashes.append(hash(tuple(cells)))
+        self.columns = {role: names if role == "item" and names is not None else Codes() for role in sheet.columns}
+        self.blank, self.wide = list[int](), dict[int, tuple[int, str]]()
+        count, parts = 0, list[Block]()
+        for before, block in blocks:
+            codes = {role: its.of(block.distinct[role])[block.codes[role]] for role, its in self.columns.items()}
+            self.blank += [before + line for line in block.blank]
+            self.wide |= {count + row: its for row, its in block.wide.items()}
+            parts.append(replace(block, codes=codes, lines=block.lines + before))
+            count += len(block)
+        self.codes = {role: joined([its.codes[role] for its in parts], np.int32) for role in self.columns}
+        self.lines = joined([its.lines for its in parts], np.int64)
+        self.good = joined([its.good for its in parts], np.bool_)
+        self._hashes = joined([its.hashes for its in parts], np.uint64)
 
     def __len__(self) -> int:
         return len(self.lines)
 
     def twins(self) -> Numbers:
-        """Returns for each row the first row with the same cells, and forgets the hashes of 64 bits by which rows are
-        compared: in a million rows, two different ones collide once in 37 million files."""
+        """Returns for each row the first row with the same cells, by hashes of 64 bits: in a million rows, two different
+        ones collide once in 37 million files."""
         _, first, which = np.unique(self._hashes, return_index=True, return_inverse=True)
-        del self._hashes
         return first[which]
 
     def long(self, row: int) -> Remark:
@@ -126,17 +99,15 @@ class Rows:
     def by_item(self, good: Flags) -> Callable[[int], Numbers]:
         """Returns the function that gives the good rows of an item, in their order, by its code."""
         rows = np.flatnonzero(good)
-        codes = self.codes["item"][rows]
-        order = rows[np.argsort(codes, kind="stable")]
-        ends = np.cumsum(np.bincount(codes, minlength=len(self.columns["item"].distinct)))
+        codes, count = self.codes["item"][rows], len(self.columns["item"].distinct)
+        # numpy sorts whole numbers of 16 bits by their digits.
+        order = rows[np.argsort(codes.astype(np.uint16) if count <= 1 << 16 else codes, kind="stable")]
+        ends = np.cumsum(np.bincount(codes, minlength=count))
         return lambda item: order[ends[item - 1] if item else 0:ends[item]]
 
     def nameless(self) -> Iterator[tuple[int, CellFault]]:
-        """Yields the rows that name no item, and those with too many cells, with what is wrong, and takes them out of
-        the good ones."""
-        names = self.columns["item"].distinct
-        self.good &= ~self.having("item", [code for code, name in enumerate(names)
-                                           if not name or UNPRINTABLE.search(str(name))])
+        """Yields the rows that are not good: those that name no item, and those with too many cells, with what is
+        wrong."""
         for row in np.flatnonzero(~self.good).tolist():
             name = self.cell("item", row)
             yield row, ("", self.wide[row][1], self.long(row)) if row in self.wide else fault(
@@ -146,9 +117,9 @@ class Rows:
         """Returns what reads the dates of the table, after a look at all of them."""
         return DateReader([cell for role in DATES for cell, _ in self.counts(role)], self.patterns)
 
-    def amount_reader(self, role: str, currencies: dict[str, str] | None = None) -> AmountReader:
+    def amount_reader(self, role: str) -> AmountReader:
         """Returns what reads the amounts of a column, after a look at all of them."""
-        return AmountReader(self.sheet.rules.decimal, currencies).look(cell for cell, _ in self.counts(role))
+        return AmountReader(self.sheet.rules.decimal).look(cell for cell, _ in self.counts(role))
 
     def values(self, role: str, read: Callable[[Cell], Value], default: Value) -> tuple[list[Value], dict[int, Remark]]:
         """Returns what a function reads in each distinct value of a column, the default in one that can't be read, and
@@ -184,10 +155,14 @@ class Rows:
         return has[self.codes[role]]
 
 
-def read_rows(sheets: Mapping[str, Sheet]) -> dict[str, Rows]:
-    """Returns the rows of all tables, which share the names of items."""
-    names = Codes(text_of, sys.maxsize)
-    return {kind: Rows(sheet, names) for kind, sheet in sheets.items()}
+def joined(parts: Sequence[npt.NDArray[Kind]], kind: type[Kind]) -> npt.NDArray[Kind]:
+    """Returns arrays as one."""
+    return np.concatenate(parts) if parts else np.zeros(0, kind)
+
+
+def rows_of(sheet: Sheet) -> Rows:
+    """Returns all rows of a table, which are read one by one."""
+    return Rows(sheet, ((0, block) for block in read_blocks(sheet, sheet.rows())))
 
 
 def far_above(amounts: Numbers, times_of_few: int = TIMES_OF_FEW) -> int:

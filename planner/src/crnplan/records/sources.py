@@ -233,6 +233,11 @@ class Sheet:
         a frame stores them. A file of text has none."""
         self.name, self.written, self.rules, self.path, self.given = name, written, rules, path, given
         self.file_name, self.state, self.columns = Path(name).name, state_of(path), dict[str, Column]()
+        self.size = self.state[0]  # about, in bytes
+
+    def __getstate__(self) -> dict[str, Any]:
+        """Returns what another process needs: all but rows in memory, and the first lines."""
+        return {**vars(self), "given": tuple, "text": ""}
 
     @contextlib.contextmanager
     def unchanged(self) -> Iterator[None]:
@@ -281,6 +286,21 @@ class Sheet:
         return line, place + 1
 
 
+class _Bytes(io.RawIOBase):
+    """The next so many bytes of a file."""
+
+    def __init__(self, file: io.FileIO, count: int) -> None:
+        self.file, self.rest = file, count
+
+    def readable(self) -> bool:
+        return True
+
+    def readinto(self, data: Any) -> int:
+        count = self.file.readinto(memoryview(data)[:self.rest]) or 0
+        self.rest -= count
+        return count
+
+
 class TextSheet(Sheet):
     """A CSV file, with the text of its first lines. Its encoding is that of a byte order mark, else the stated one,
     else UTF-8. If nobody has stated it and the bytes are not UTF-8, it is the likely one, with a fault: so the rest of
@@ -322,12 +342,15 @@ class TextSheet(Sheet):
         self.written = f"{self.encoding}, delimiter {self.sign}"
         return sample(self.text, self.delimiter)
 
-    def rows(self) -> Iterator[Row]:
-        """Yields the rows with their lines, while `kept` has their text. Raises RefusedFaults for bytes or quotes that
-        can't be read."""
+    def rows(self, start: int = 0, stop: int | None = None) -> Iterator[Row]:
+        """Yields the rows with their lines, while `kept` has their text: those of the file, or of its bytes from one on
+        and before another. Raises RefusedFaults for bytes or quotes that can't be read; `is_read` says whether there
+        were lines behind, of which there are `count` so far."""
         self.kept, errors = list[str](), "replace" if self.fault else ESCAPES
-        with (readable(self.name), self.unchanged(),
-              self.file.open(encoding=self.encoding, errors=errors, newline="") as lines):
+        with readable(self.name), self.unchanged(), self.file.open("rb", buffering=0) as file:
+            file.seek(start)
+            data = io.BufferedReader(_Bytes(file, (self.state[0] if stop is None else stop) - start))
+            lines = io.TextIOWrapper(data, self.encoding, errors, newline="")
             for row in rows_of_lines(self.name, self._good_lines(lines), self.delimiter):
                 yield row
                 self.kept.clear()
@@ -335,14 +358,16 @@ class TextSheet(Sheet):
     def _good_lines(self, file: io.TextIOBase) -> Iterator[str]:
         """Yields the lines of a file with their ends. Raises RefusedFaults for one that is too long, or has a byte that
         is not of the encoding."""
-        for number, line in enumerate(iter(partial(file.readline, MOST_LETTERS), ""), 1):
+        self.count, self.is_read = 0, False
+        for self.count, line in enumerate(iter(partial(file.readline, MOST_LETTERS), ""), 1):
             if len(line) == MOST_LETTERS:
-                raise refused("long line", self.name, number, most=MOST_LETTERS - 1)
-            wrong = None if line.isascii() else byte_fault(self.name, line, self.encoding, number)
+                raise refused("long line", self.name, self.count, most=MOST_LETTERS - 1)
+            wrong = None if line.isascii() else byte_fault(self.name, line, self.encoding, self.count)
             if wrong:
                 raise RefusedFaults([wrong])
             self.kept.append(line)
             yield line
+        self.is_read = True
 
     def text_of(self, cells: Sequence[Cell]) -> str:
         """Returns the text of the row that was given last, as it stands in the file."""

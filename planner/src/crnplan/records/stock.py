@@ -14,7 +14,7 @@ from .cells import Cell, CellFault, DateReader, Unreadable, fault
 from .columns import conversion
 from .items import FileCounts, Reject, Words, reject_of
 from .observed import Day
-from .rows import Rows, read_rows
+from .rows import Rows, rows_of
 from .sources import Table
 
 STOCK, ON_ORDER = "stock", "on_order"  # the kinds of the tables
@@ -127,7 +127,7 @@ def read_holdings(tables: Mapping[str, Table | None], words: Words, known: Colle
     Raises Refused and RefusedFaults for tables that can't be read. Rows with faults are in `rejects`.
     """
     with open_sources(tables, words) as sheets:
-        readers = {kind: _Reader(kind, rows, known, words.every) for kind, rows in read_rows(sheets).items()}
+        readers = {kind: _Reader(kind, rows_of(sheet), known, words.every) for kind, sheet in sheets.items()}
     on_hand, arrivals = dict[str, OnHand](), dict[str, Sequence[Arrival]]()
     for name, rows in readers[STOCK].items() if STOCK in readers else ():
         parts = [OnHand.of(row["stock"], row["owed"]) for row in rows]

@@ -1,0 +1,341 @@
+"""Reads rows of a table in blocks, in which each column has its distinct values once and a whole number for each row.
+
+A file is cut into ranges behind ends of lines, each of which is read by itself. pandas reads one of plain rows, and makes
+each distinct text once; others are read row by row. Both make the same block. Whether a range begins with a row is known
+when those before it are read: if a cell in quotes goes on behind a range, that is read again with what follows.
+"""
+from __future__ import annotations
+
+import codecs
+import copy
+import csv
+import hashlib
+import io
+import itertools
+import pickle
+import re
+import zlib
+from collections.abc import Callable, Iterable, Iterator, Mapping, Sequence
+from dataclasses import dataclass, field
+from pathlib import Path
+from typing import IO, NamedTuple
+
+import numpy as np
+import numpy.typing as npt
+
+from ..errors import Fault, RefusedFaults
+from .cells import UNPRINTABLE, Cell, Numbers, bare_cell, dated_cell, text_of
+from .sources import Row, Sheet, TextSheet, readable
+
+Flags = npt.NDArray[np.bool_]
+Seen = dict[str, dict[Cell, int]]  # how many good rows have each value, by role
+DATES = ("date", "ordered", "received", "due", "since")
+ROWS_AT_ONCE = 200_000  # of those that are read one by one
+LOOK_BYTES = 1 << 20
+# Encodings in which no other letter has the byte of a line's end.
+CUT = re.compile("utf-8(-sig)?|ascii|iso8859-[0-9]+|cp12[0-9]+|gb18030|gbk|gb2312")
+MIX = np.uint64(0x9E3779B97F4A7C15)  # odd, so that no two hashes are mixed to the same
+
+
+class Column(NamedTuple):
+    """The cells of a column: a code for each row, and the cell of each code. Two codes may have the same cell."""
+
+    codes: Numbers
+    distinct: list[Cell]
+
+    @classmethod
+    def of(cls, cells: Sequence[Cell]) -> Column:
+        places: dict[Cell, int] = {}
+        codes = [places.setdefault(cell, len(places)) for cell in cells]
+        return cls(np.array(codes, np.int64), [*places])
+
+    def hashes(self) -> npt.NDArray[np.uint64]:
+        """Returns a hash of 64 bits of each row's cell, the same in all processes."""
+        texts = (cell.encode("utf-8", "surrogatepass") if isinstance(cell, str) else f"\0{cell!r}".encode()
+                 for cell in self.distinct)
+        data = b"".join(hashlib.blake2b(text, digest_size=8).digest() for text in texts)
+        return np.frombuffer(data, np.uint64)[self.codes]
+
+
+class Cells(NamedTuple):
+    """Rows as they stand in a table: the line in which each begins, the columns, and by its place how many cells a row
+    has that has more than the heading, with its text."""
+
+    lines: Numbers
+    columns: Sequence[Column]
+    wide: dict[int, tuple[int, str]]
+
+
+@dataclass
+class Block:
+    """Rows of a table, but for blank ones, whose lines are in `blank`. By role it has a code for each row, and the value
+    of each code. `good` says which rows are of use, and rows with equal `hashes` are the same."""
+
+    lines: Numbers
+    codes: dict[str, npt.NDArray[np.int32]]
+    distinct: dict[str, list[Cell]]
+    hashes: npt.NDArray[np.uint64]
+    wide: dict[int, tuple[int, str]]
+    good: Flags
+    blank: list[int] = field(default_factory=list)
+
+    def __len__(self) -> int:
+        return len(self.lines)
+
+    @classmethod
+    def of(cls, sheet: Sheet, cells: Cells) -> Block:
+        """Returns the block of rows of a table whose columns are known. With patterns of dates, times of day are
+        kept."""
+        dated = bare_cell if sheet.rules.date_formats else dated_cell
+        kept = ~blank_rows(cells, next(iter(sheet.columns.values())).place)
+        places = np.cumsum(kept) - 1
+        codes, distinct = {}, {}
+        for role, column in sheet.columns.items():
+            read = text_of if role == "item" else dated if role in DATES else bare_cell
+            codes[role], distinct[role] = read_values(cells.columns[column.place], read, kept)
+        hashes = np.zeros(len(kept), np.uint64)
+        for its in cells.columns:
+            hashes = (hashes ^ its.hashes()) * MIX
+        wide = {int(places[row]): its for row, its in cells.wide.items()}
+        good: Flags = np.ones(int(kept.sum()), bool)
+        if "item" in codes:
+            good = np.array([is_name(str(name)) for name in distinct["item"]], bool)[codes["item"]]
+        good[[*wide]] = False
+        return cls(cells.lines[kept], codes, distinct, hashes[kept], wide, good, cells.lines[~kept].tolist())
+
+    def seen(self) -> Seen:
+        """Returns how many good rows have each value, in order of the first row that has it."""
+        return {role: dict(zip(values, np.bincount(self.codes[role][self.good], minlength=len(values)).tolist()))
+                for role, values in self.distinct.items() if role not in ("item", "description")}
+
+    def part(self, rows: Numbers) -> Block:
+        """Returns some of the rows with their values alone."""
+        codes, distinct = {}, {}
+        for role, its in self.codes.items():
+            table = np.zeros(len(self.distinct[role]), np.int32)
+            table[its[rows]] = 1
+            used = np.flatnonzero(table)
+            table[used] = np.arange(len(used))
+            codes[role], distinct[role] = table[its[rows]], [self.distinct[role][code] for code in used.tolist()]
+        wide = {place: self.wide[row] for place, row in enumerate(rows.tolist()) if row in self.wide} if (
+            self.wide) else {}
+        return Block(self.lines[rows], codes, distinct, self.hashes[rows], wide, self.good[rows])
+
+
+def is_name(text: str) -> bool:
+    """Returns whether a text may be the name of an item."""
+    return bool(text) and not UNPRINTABLE.search(text)
+
+
+def blank_rows(cells: Cells, place: int) -> Flags:
+    """Returns which rows have nothing in any cell; a column at a place says for most of them that they have."""
+    codes, distinct = cells.columns[place]
+    blank: Flags = np.array([not text_of(cell) for cell in distinct], bool)[codes]
+    blank[[*cells.wide]] = False
+    rows = np.flatnonzero(blank)
+    for column in cells.columns if len(rows) else ():
+        blank[rows] &= [not text_of(column.distinct[code]) for code in column.codes[rows].tolist()]
+    return blank
+
+
+def read_values(column: Column, read: Callable[[Cell], Cell],
+                kept: Flags) -> tuple[npt.NDArray[np.int32], list[Cell]]:
+    """Returns a code for each kept row of a column, and the value of each code as a function reads it from a cell."""
+    places: dict[Cell, int] = {}
+    table = [places.setdefault(read(cell), len(places)) for cell in column.distinct]
+    return np.array(table, np.int32)[column.codes[kept]], [*places]
+
+
+def careful_cells(sheet: Sheet, rows: Iterator[Row]) -> Iterator[Cells]:
+    """Yields rows that are read one by one, so many at a time."""
+    width = len(sheet.heading)
+    while some := [*itertools.islice(rows, ROWS_AT_ONCE)]:
+        wide, texts = dict[int, tuple[int, str]](), list[Sequence[Cell]]()
+        for place, (_, cells) in enumerate(some):
+            if len(cells) != width:
+                if any(map(text_of, cells[width:])):
+                    wide[place] = len(cells), ",".join(map(text_of, cells))
+                cells = [*cells[:width], *[""] * (width - len(cells))]
+            texts.append(cells)
+        yield Cells(np.array([line for line, _ in some], np.int64), [*map(Column.of, zip(*texts))], wide)
+
+
+def plain_cells(sheet: TextSheet, data: bytes, skip: int) -> Cells | None:
+    """Returns the rows of bytes but for the first lines, as `careful_cells` does. None if pandas might read them
+    otherwise: with quotes, NULs, lone carriage returns, very long lines, or rows with fewer or more cells than the
+    heading."""
+    if b'"' in data or b"\0" in data or data.count(b"\r") != data.count(b"\r\n"):
+        return None
+    try:
+        data = data if data.isascii() else data.decode(sheet.encoding).encode()
+    except UnicodeError:
+        return None
+    signs, width = np.frombuffer(data, np.uint8), len(sheet.heading) - 1
+    ends = np.flatnonzero(signs == ord("\n"))
+    ends = ends if data.endswith(b"\n") else np.append(ends, len(data))
+    starts, ends = np.append(0, ends[:-1] + 1)[skip:], ends[skip:]
+    if not len(ends) or data.startswith(codecs.BOM_UTF8, starts[0]) or (ends - starts).max() > csv.field_size_limit():
+        return None
+    cuts = np.flatnonzero(signs[starts[0]:] == ord(sheet.delimiter)) + starts[0]
+    if len(cuts) != width * len(ends):
+        return None
+    cuts = cuts.reshape(len(ends), width)
+    if width and ((cuts[:, 0] < starts) | (cuts[:, -1] > ends)).any():
+        return None
+    return Cells(np.arange(skip, skip + len(ends)) + 1, pandas_columns(sheet, memoryview(data)[starts[0]:]), {})
+
+
+def pandas_columns(sheet: TextSheet, data: memoryview) -> list[Column]:
+    """Returns the columns of bytes in UTF-8 without quotes, whose rows all have as many cells as the heading."""
+    import pandas as pd
+    frame = pd.read_csv(io.BytesIO(data), sep=sheet.delimiter, header=None, names=range(len(sheet.heading)), dtype=str,
+                        index_col=False, keep_default_na=False, na_filter=False, skip_blank_lines=False,
+                        quoting=csv.QUOTE_NONE, engine="c", low_memory=False, encoding="utf-8")
+    columns = []
+    for place in range(len(sheet.heading)):
+        codes, distinct = pd.factorize(frame.pop(place).to_numpy())
+        # As csv does, which passes over blanks behind a delimiter.
+        columns.append(Column(codes, [text.lstrip(" ") for text in distinct]))
+    return columns
+
+
+class Piece(NamedTuple):
+    """Where the rows of a block are that belong to a part, and how many lines of the table stand before the block."""
+
+    before: int
+    path: Path
+    place: int
+
+    def read(self) -> tuple[int, Block]:
+        with self.path.open("rb") as file:
+            file.seek(self.place)
+            return self.before, pickle.load(file)
+
+
+@dataclass
+class Filed:
+    """A block that was written: `places` has for each part of the items that has rows where these begin in the file.
+    `seen` is that of the block, which has so many rows, and passed over so many that are blank."""
+
+    path: Path
+    places: dict[int, int]
+    seen: Seen
+    rows: int
+    blank: int
+
+
+def write_block(block: Block, path: Path, parts: int) -> Filed:
+    """Writes a block to a new file, by part of the items."""
+    hashes = [zlib.crc32(str(name).encode("utf-8", "surrogatepass")) % parts for name in block.distinct["item"]]
+    part_of = np.array(hashes, np.uint8)[block.codes["item"]]
+    order, ends = np.argsort(part_of, kind="stable"), np.cumsum(np.bincount(part_of, minlength=parts)).tolist()
+    places = dict[int, int]()
+    with path.open("xb") as file:
+        for part, (start, stop) in enumerate(zip([0, *ends], ends)):
+            if start < stop:
+                places[part] = file.tell()
+                pickle.dump(block.part(order[start:stop]), file, pickle.HIGHEST_PROTOCOL)
+    return Filed(path, places, block.seen(), len(block), len(block.blank))
+
+
+class Sizes(NamedTuple):
+    """How many bytes of a file are read at a time, of how many a part of the items is made, and how many parts there are
+    at most. pandas reads ranges of at least `plain` bytes: others are read before it is imported."""
+
+    range: int = 16_000_000
+    part: int = 8_000_000
+    parts: int = 256
+    plain: int = 2_000_000
+
+    def parts_of(self, sheets: Iterable[Sheet]) -> int:
+        """Returns how many parts the items of tables are in."""
+        return min(self.parts, 1 + sum(sheet.size for sheet in sheets) // self.part)
+
+
+class Range(NamedTuple):
+    """Bytes of a file of text, from one on and before another."""
+
+    start: int
+    stop: int
+
+
+@dataclass
+class RangeRead:
+    """What was read of a range: how many lines it has, its blocks, and what is wrong with it. It is open if its last
+    row goes on behind it."""
+
+    lines: int
+    blocks: list[Filed]
+    faults: Sequence[Fault] = ()
+    is_open: bool = False
+
+
+def read_blocks(sheet: Sheet, rows: Iterator[Row]) -> Iterator[Block]:
+    """Yields the blocks of rows below the heading, which are read one by one."""
+    below = itertools.dropwhile(lambda row: row[0] <= sheet.line, rows)
+    yield from (Block.of(sheet, cells) for cells in careful_cells(sheet, below))
+
+
+def ranges_of(sheet: TextSheet, size: int) -> Iterator[Range]:
+    """Yields the ranges of a file, of some so many bytes, each behind the end of a line; all in one if the encoding has
+    letters with the byte of such an end."""
+    start, whole = 0, sheet.state[0]
+    with readable(sheet.name), sheet.file.open("rb") as file:
+        while start < whole:
+            stop = whole
+            if CUT.fullmatch(codecs.lookup(sheet.encoding).name):
+                file.seek(start + size)
+                stop = min(whole, behind_line(file, start + size))
+            yield Range(start, stop)
+            start = stop
+
+
+def behind_line(file: IO[bytes], place: int) -> int:
+    """Returns where the line ends that goes on at a place in a file, or the end of the file."""
+    while data := file.read(LOOK_BYTES):
+        if (end := data.find(b"\n")) >= 0:
+            return place + end + 1
+        place += len(data)
+    return place
+
+
+def range_blocks(sheet: TextSheet, its: Range, sizes: Sizes) -> Iterator[Block]:
+    """Yields the blocks of a range. One that is much longer than others is never whole in memory. Raises
+    RefusedFaults."""
+    if sizes.plain <= its.stop - its.start <= 2 * sizes.range:
+        with readable(sheet.name), sheet.file.open("rb") as file:
+            file.seek(its.start)
+            data = file.read(its.stop - its.start)
+        cells = plain_cells(sheet, data, sheet.line)
+        if cells:
+            sheet.count = int(cells.lines[-1])
+            yield Block.of(sheet, cells)
+            return
+    yield from read_blocks(sheet, sheet.rows(*its))
+
+
+def read_range(sheet: TextSheet, its: Range, sizes: Sizes, stem: Path, parts: int) -> RangeRead:
+    """Reads a range, and writes its blocks into files whose names begin so, by part of the items."""
+    sheet, blocks = copy.copy(sheet), list[Filed]()
+    if its.start:
+        sheet.line, sheet.encoding = 0, sheet.encoding.removesuffix("-sig")
+    try:
+        for number, block in enumerate(range_blocks(sheet, its, sizes)):
+            blocks.append(write_block(block, stem.with_name(f"{stem.name}-{its.start}-{its.stop}-{number}"), parts))
+    except RefusedFaults as refused:
+        return RangeRead(sheet.count, [], refused.faults, sheet.is_read and its.stop < sheet.state[0])
+    return RangeRead(sheet.count, blocks)
+
+
+def closed_ranges(ranges: Sequence[Range], found: Mapping[Range, RangeRead],
+                  again: Callable[[Range], RangeRead]) -> Iterator[RangeRead]:
+    """Yields what was read of ranges in their order, each of which begins with a row and ends with one: what is open is
+    read again with what follows."""
+    place = 0
+    while place < len(ranges):
+        count, its = 1, found[ranges[place]]
+        while its.is_open:
+            count = min(2 * count, len(ranges) - place)
+            its = again(Range(ranges[place].start, ranges[place + count - 1].stop))
+        yield its
+        place += count
