@@ -46,11 +46,9 @@ class LatticeLaw:
     @classmethod
     def of(cls, table: Law, step: int) -> LatticeLaw:
         """Returns the law of a table. A value between two cells is shared by both, such that the mean stays."""
-        chances = np.zeros(max(table.values) // step + 2)
-        for value, weight in zip(table.values, table.weights):
-            cell, rest = divmod(value, step)
-            chances[cell] += weight * (step - rest) / step
-            chances[cell + 1] += weight * rest / step
+        weights, (cells, rests) = np.array(table.weights), np.divmod(np.array(table.values), step)
+        shares = np.transpose([weights * (step - rests) / step, weights * rests / step])
+        chances = np.bincount(np.transpose([cells, cells + 1]).ravel(), shares.ravel())
         return cls.scaled(0, chances)
 
     @property
