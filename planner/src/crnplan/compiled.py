@@ -1,7 +1,7 @@
 """Compiles inner loops by numba, where that is installed; plain numpy stands in for it where it is not.
 
 A loop is compiled once, when it is first called, and kept in the user's folder for caches. Both ways give the same
-decisions, which the tests compare. A command that calls no loop doesn't import numba.
+decisions, which the tests compare. A command that calls no loop doesn't import numba. A loop may call other loops.
 """
 from __future__ import annotations
 
@@ -9,6 +9,7 @@ import functools
 import os
 from collections.abc import Callable
 from pathlib import Path
+from types import FunctionType
 from typing import Any, TypeVar, cast
 
 Loop = TypeVar("Loop", bound=Callable[..., Any])
@@ -32,20 +33,25 @@ def numba_njit() -> Callable[..., Any] | None:
     return compiler
 
 
+def compiled_by(njit: Callable[..., Any], loop: Callable[..., Any]) -> Callable[..., Any]:
+    """Returns a loop as numba compiles it, with the loops that it calls."""
+    code, names = loop.__code__, loop.__globals__
+    called = {name: compiled_by(njit, names[name].loop) for name in code.co_names if hasattr(names.get(name), "loop")}
+    whole = FunctionType(code, {**names, **called}) if called else loop
+    try:
+        made: Callable[..., Any] = njit(cache=True)(whole)
+    except RuntimeError:  # no folder to keep it in
+        made = njit(whole)
+    return made
+
+
 def compiled(plain: Loop) -> Callable[[Callable[..., Any]], Loop]:
     """Returns a decorator of a loop: called, it runs the loop as numba compiles it, or `plain`, which has the same
     parameters and results, if numba is missing. `loop` is the loop itself, as it was written."""
     def decorated(loop: Callable[..., Any]) -> Loop:
         @functools.cache
         def chosen() -> Callable[..., Any]:
-            njit, made = numba_njit(), cast(Any, plain)
-            if njit:
-                try:
-                    made = njit(cache=True)(loop)
-                except RuntimeError:  # no folder to keep it in
-                    made = njit(loop)
-            function: Callable[..., Any] = made
-            return function
+            return compiled_by(njit, loop) if (njit := numba_njit()) else cast(Callable[..., Any], plain)
 
         @functools.wraps(loop)
         def run(*words: Any) -> Any:
@@ -53,3 +59,8 @@ def compiled(plain: Loop) -> Callable[[Callable[..., Any]], Loop]:
         run.loop, run.plain = loop, plain  # type: ignore[attr-defined]
         return run  # type: ignore[return-value]
     return decorated
+
+
+def composed(loop: Loop) -> Loop:
+    """Returns a loop of other loops, which needs none to stand in for it."""
+    return compiled(loop)(loop)

@@ -3,8 +3,8 @@
 A price is what a unit of value costs that is not met at once, beside the item's setup and holding costs. For a price
 the best policy is a vertex of a lower convex hull: of what policies cost against the demand that they do not meet at
 once (Everett, Generalized Lagrange multiplier method, Operations Research 11, 1963). The hull of an item is that of all
-order-up-to levels and of gaps S - s on a grid that is refined beside those that are best. There are candidates for
-dearer orders too, of which fewer are then bought, and for dearer stock.
+order-up-to levels and of gaps S - s: all of them with one lead time (`every_gap.py`), else a grid that is refined beside
+those that are best. There are candidates for dearer orders too, of which fewer are then bought, and for dearer stock.
 """
 from __future__ import annotations
 
@@ -21,9 +21,11 @@ from ..plan.question import Settings, Terms, rates_of
 from ..records.item import Item
 from ..remarks import Remark
 from ..theory.long_run import STOCK_LEFT, UNMET, LongRun, Means, gap_grid
+from ..theory.one_lead import OneLead
+from .every_gap import best_policies
 
 # Answers of other versions are not used again.
-VERSION = 4
+VERSION = 5
 # Prices of a unit of value that is not met at once, in units of value: eight a decade.
 PRICES: Floats = 10.0**(np.arange(-40, 33) / 8)
 DIGITS = 10  # of a figure that is kept
@@ -165,6 +167,16 @@ def variants_of(setup: float, holding: float, demand: float) -> list[tuple[float
     return [(setup + (orders - 1) * (setup or holding * demand), holding * stock) for orders, stock in VARIANTS]
 
 
+def best_by_price(theory: LongRun, value: float, costs: Sequence[tuple[float, float]]) -> tuple[Whole, Floats]:
+    """Returns for each variant's costs the best gaps by price, and their levels, stock, unmet demand and orders: of all
+    feasible policies with one lead time, else those that a search finds. A unit has a `value`."""
+    if not isinstance(theory, OneLead):
+        return Policies(theory, costs[0][1], value).search(costs)
+    pairs = np.repeat(np.transpose(costs), len(PRICES), axis=1)
+    gaps, figures = best_policies(theory, np.array([*pairs, np.tile(value * PRICES, len(costs))]))
+    return gaps.reshape(len(costs), -1), np.moveaxis(figures.reshape(4, len(costs), -1), 1, 0)
+
+
 # A row of candidates: the place of the variant, the place of the first price that it is best for, s and S, stock and
 # unmet demand in items, and orders, of a period.
 ROW = np.dtype([("variant", "<u1"), ("first", "<u1"), ("point", "<i8"), ("level", "<i8"), ("stock", "<f8"),
@@ -198,7 +210,7 @@ def candidates_of(terms: Terms) -> Candidates:
     setup, holding = (terms.money(terms.rates[name]) for name in ("setup", "holding"))
     assert item.price is not None
     theory, box = terms.theory(), item.box
-    gaps, figures = Policies(theory, holding, float(item.price) * box).search(variants_of(setup, holding, demand))
+    gaps, figures = best_by_price(theory, float(item.price) * box, variants_of(setup, holding, demand))
     rows: list[tuple[float, ...]] = []
     for variant, (gap, (level, stock, unmet, orders)) in enumerate(zip(gaps, figures)):
         is_new = np.append(True, (np.diff(gap) != 0) | (np.diff(level) != 0))
