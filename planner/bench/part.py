@@ -53,7 +53,7 @@ def curve(folder: Path, jobs: int) -> None:
 def page(folder: Path, jobs: int) -> None:
     """Writes the page of all items."""
     from crnplan.pages.catalogue_page import report
-    report(folder / PLAN)
+    report(folder / PLAN, jobs=jobs)
 
 
 def today(folder: Path, jobs: int) -> None:

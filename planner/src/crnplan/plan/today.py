@@ -60,7 +60,7 @@ class Standing:
     def position(self) -> Fraction:
         return self.hand.stock - self.hand.owed + self.on_order
 
-    @property
+    @cached_property
     def is_due(self) -> bool:
         """Returns whether the policy orders: the position is below s."""
         return self.position < self.answer.chosen.point
