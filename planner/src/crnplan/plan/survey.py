@@ -13,6 +13,7 @@ from .answer import COMPARED, Answer
 from .catalogue import PlannedFolder, Totals, drawn_from
 
 MOST_DRAWN = 100  # items from which all follow
+MOST_NAMES = 10_000  # from which these are drawn at a time
 Decided = tuple[Item, Answer | Remark]
 
 
@@ -66,5 +67,5 @@ class Survey:
         # What is kept does not grow with the catalogue.
         if len(self._pairs) > 2 * self._most:
             self._pairs = greatest(self._pairs, self._most)
-        if len(self._names) > 100 * MOST_DRAWN:
+        if len(self._names) > MOST_NAMES:
             self._names = [*drawn_from(self._names, MOST_DRAWN)]

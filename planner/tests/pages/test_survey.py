@@ -1,0 +1,30 @@
+"""Tests the one look at all items of a plan: what is kept of it, and what it adds up."""
+from __future__ import annotations
+
+import hashlib
+from collections import Counter
+from pathlib import Path
+
+import pytest
+
+from crnplan.plan import survey
+from crnplan.plan.answer import COMPARED, Answer
+from crnplan.plan.catalogue import planned_folder
+from crnplan.plan.survey import Survey
+from planner.tests.pages.made_catalogue import made_folder
+
+
+def test_what_is_kept(tmp_path: Path, monkeypatch: pytest.MonkeyPatch) -> None:
+    """Of many items those with the greatest saving or loss are kept, and the names with the least digests."""
+    monkeypatch.setattr(survey, "MOST_DRAWN", 5)
+    monkeypatch.setattr(survey, "MOST_NAMES", 7)
+    with planned_folder(made_folder(tmp_path / "plan", 40)) as folder:
+        found, pairs = Survey(folder, 4), [*folder.answers()]
+    compared = [(item, answer) for item, answer in pairs if isinstance(answer, Answer) and answer.verdict in COMPARED]
+    names = sorted((item.name for item, _ in compared), key=lambda name: hashlib.sha256(name.encode()).hexdigest())
+    assert found.drawn == sorted(names[:5])
+    sizes = sorted((abs(answer.saving or 0.0) for _, answer in compared), reverse=True)
+    assert [abs(answer.saving or 0.0) for _, answer in found.greatest if isinstance(answer, Answer)] == sizes[:4]
+    assert {name: totals.compared for name, totals in found.classes.items()} == Counter(
+        item.category for item, _ in compared)
+    assert found.totals.compared == len(compared) and not found.has_stock
