@@ -39,6 +39,11 @@ def test_loop_is_compiled() -> None:
     assert total(np.arange(4)) == ("loop", 6.0)
 
 
+def test_first_calls_are_plain() -> None:
+    total = compiled(total_of, after=2)(loop)
+    assert [total(np.ones(3))[0] for _ in range(4)] == ["plain", "plain", "loop", "loop"]
+
+
 def test_numpy_stands_in(monkeypatch: pytest.MonkeyPatch) -> None:
     monkeypatch.setitem(sys.modules, "numba", None)
     assert compiled(total_of)(loop)(np.ones(3)) == ("plain", 3.0)

@@ -6,6 +6,7 @@ decisions, which the tests compare. A command that calls no loop doesn't import 
 from __future__ import annotations
 
 import functools
+import itertools
 import os
 from collections.abc import Callable
 from pathlib import Path
@@ -45,17 +46,23 @@ def compiled_by(njit: Callable[..., Any], loop: Callable[..., Any]) -> Callable[
     return made
 
 
-def compiled(plain: Loop) -> Callable[[Callable[..., Any]], Loop]:
+def compiled(plain: Loop, after: int = 0) -> Callable[[Callable[..., Any]], Loop]:
     """Returns a decorator of a loop: called, it runs the loop as numba compiles it, or `plain`, which has the same
-    parameters and results, if numba is missing. `loop` is the loop itself, as it was written."""
+    parameters and results, if numba is missing. `loop` is the loop itself, as it was written.
+
+    With `after`, `plain` runs the first so many calls: a command that needs no more of a cheap loop then ends before
+    numba would be imported. Both ways must then have equal results, to the last bit.
+    """
     def decorated(loop: Callable[..., Any]) -> Loop:
         @functools.cache
         def chosen() -> Callable[..., Any]:
             return compiled_by(njit, loop) if (njit := numba_njit()) else cast(Callable[..., Any], plain)
 
+        calls = itertools.count()
+
         @functools.wraps(loop)
         def run(*words: Any) -> Any:
-            return chosen()(*words)
+            return (plain if after and next(calls) < after else chosen())(*words)
         run.loop, run.plain = loop, plain  # type: ignore[attr-defined]
         return run  # type: ignore[return-value]
     return decorated

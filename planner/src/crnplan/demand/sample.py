@@ -21,6 +21,7 @@ from ..compiled import compiled
 # A pack is recognised after so many demands above 0, if they all have its divisor by luck with a chance of 2^-8.
 PACKED, PACK_BITS = 3, 8.0
 TIMES, SEED = 199, 1  # of drawn histories
+PLAIN_CALLS = 100  # more than the laws of an item, whose histories are drawn before numba is imported
 ROUNDING = 1e-9  # Histories with the same counts vary as much and are as far, however their sums are rounded.
 
 
@@ -154,7 +155,7 @@ def figures_of_histories(uniform: Floats, last: int, below: Floats, tails: Float
     return squares.astype(float), distances(drawn, Summed(below, tails, means))
 
 
-@compiled(figures_of_histories)
+@compiled(figures_of_histories, after=PLAIN_CALLS)
 def drawn_figures(uniform: Floats, last: int, below: Floats, tails: Floats, means: Floats) -> tuple[Floats, Floats]:
     """Returns what `figures_of_histories` does, without the numbers."""
     times, size = uniform.shape
