@@ -3,6 +3,8 @@ from __future__ import annotations
 
 import os
 import re
+import subprocess
+import sys
 from collections.abc import Callable
 from fractions import Fraction
 from pathlib import Path
@@ -51,6 +53,17 @@ def test_from_nothing(room: Path, plan: Plan, horizon: str) -> None:
     assert {it.name for it in (room / "plan").iterdir()} == FILES - ({"coming.csv"} if horizon != HORIZON else set())
     assert output == (room / "plan/summary.txt").read_text()
     assert len(output.splitlines()) <= 24 and max(map(len, output.splitlines())) <= 80
+
+
+def test_imports_few_libraries(room: Path) -> None:
+    """A plan of an item starts fast: it imports no tables, pictures, clusters, nor the large parts of scipy."""
+    code = ("import sys; from crnplan.commands import main\n"
+            "try: main()\nfinally: print(*sys.modules, file=sys.stderr)")
+    words = ("item", "history.csv", "settings.toml", "--out", "plan", "--program", "./program")
+    found = subprocess.run([sys.executable, "-c", code, *words], cwd=room, capture_output=True, text=True, check=True)
+    loaded = found.stderr.split()
+    assert "crnplan.plan.item" in loaded and not {*loaded} & {
+        "pandas", "matplotlib", "distributed", "scipy.stats", "scipy.optimize", "crnplan.jobs", "crnplan.plan.catalogue"}
 
 
 def test_again_the_same_bytes(room: Path, whole: Path, crnplan: Command, monkeypatch: pytest.MonkeyPatch) -> None:

@@ -16,12 +16,14 @@ import numpy as np
 import pytest
 from hypothesis import example, given, strategies as st
 from matplotlib.backends.backend_agg import FigureCanvasAgg
+from matplotlib.ticker import MaxNLocator
 
 from crnplan.crnsim.trajectory import Period
 from crnplan.curve.parts import Point
 from crnplan.demand.fitting import fit_demand
 from crnplan.pages.item_page import history_plot
-from crnplan.pages.page import UNITS, Money, Scale, curve_ends, number, percent, rendered, source, tick
+from crnplan.pages.page import (UNITS, Money, Scale, curve_ends, number, percent, rendered, round_numbers, source,
+                                tick)
 from crnplan.scenario import Policy
 from planner.tests.conftest import Command
 from planner.tests.pages.page_reader import Page
@@ -40,6 +42,16 @@ def test_scale_has_all_values_and_zero(values: list[float], is_whole: bool) -> N
     assert 0 in scale.ticks and all(0 <= scale.at(it) <= UNITS for it in scale.ticks) and len(scale.ticks) <= 7
     assert any(values) or scale.at(1) == UNITS
     assert not is_whole or all(it == int(it) for it in scale.ticks)
+
+
+@given(st.floats(-1e6, 1e6), st.floats(1e-3, 1e6) | st.integers(1, 2000).map(float), st.booleans(), st.booleans())
+def test_round_numbers(low: float, width: float, from_0: bool, is_whole: bool) -> None:
+    """They are those that matplotlib finds, but perhaps at an end of the range, by their rounding."""
+    low, high = (0.0, width) if from_0 else (low, low + width)
+    found, expected = ([it for it in ticks if low + 1e-6 * width < it < high - 1e-6 * width] for ticks in (
+        round_numbers(low, high, is_whole),
+        MaxNLocator(5, steps=[1, 2, 2.5, 5, 10], integer=is_whole).tick_values(low, high)))
+    assert found == pytest.approx(expected, rel=1e-9, abs=1e-9)
 
 
 @given(st.lists(st.floats(1e-6, 1), min_size=1, max_size=5))

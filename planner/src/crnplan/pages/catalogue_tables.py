@@ -4,11 +4,10 @@ from __future__ import annotations
 from collections.abc import Iterable, Iterator, Mapping, Sequence
 from dataclasses import astuple, dataclass, field
 from fractions import Fraction
+from typing import TYPE_CHECKING
 
 from ..plan.aims import CLASSES
 from ..plan.answer import RUN, THEORY, Answer, Figures
-from ..plan.catalogue import PlannedFolder, Totals
-from ..records.catalogue_reading import defaulted
 from ..records.classes import xyz_of
 from ..records.items import FileCounts, Reject
 from ..records.item import NO_DEMAND, Item
@@ -16,6 +15,9 @@ from ..remarks import Remark
 from ..table import MONEY, Cell, Column, DataTable, exact, number, text, whole
 from ..words import advice, pattern, sentence
 from .page import rendered
+
+if TYPE_CHECKING:
+    from ..plan.catalogue import PlannedFolder, Totals
 
 DECISIONS, EXACT, REJECTS = "decisions.csv", "exact.csv", "rejects.csv"
 PLANNED_BY = {THEORY: "theory", RUN: "crnsim"}
@@ -248,6 +250,7 @@ def catalogue_summary(folder: PlannedFolder, totals: Totals, learned: Sequence[R
                       missing: Iterable[str] = ()) -> str:
     """Returns as a text what became of all rows and items, what was learned, the totals, lines on what has changed
     since an earlier plan, and what is lost."""
+    from ..records.catalogue_reading import defaulted
     half, saving = totals.half_width(folder.settings.level), totals["run_saving"]
     return rendered("summary.txt", {
         "settings": folder.settings, "every": folder.every, "items": folder.counts["items"], "totals": totals,

@@ -23,7 +23,8 @@ if TYPE_CHECKING:
     from ..curve.parts import Point
 
 UNITS = 1000
-MOST_TICKS = 5
+MOST_TICKS, STEPS = 5, (1.0, 2.0, 2.5, 5.0)  # at an axis, and their distances but for powers of ten
+SLACK = 1e-10  # of a number of steps, which is rounded
 MOST_SIGNS = 12  # of texts at an axis that have room on a narrow page
 MARKS = 4
 ROOM, BELOW = 1.35, 4.0  # times the greatest stock of a named point, and percent below the least service of one
@@ -123,6 +124,21 @@ def rendered(template: str, context: Mapping[str, Any]) -> str:
     return pages.get_template(template).render(context)
 
 
+def round_numbers(low: float, high: float, is_whole: bool) -> tuple[float, ...]:
+    """Returns the multiples of a round step in a range: some five, or two at least, and whole ones if there are two. So
+    does `MaxNLocator` of matplotlib, which takes long to import."""
+    least, ticks = (high - low) / MOST_TICKS, tuple[float, ...]()
+    steps = [digit * 10.0**(math.log10(least) // 1 + power) for power in (-1, 0, 1) for digit in STEPS]
+    if is_whole and math.floor(high) > math.ceil(low):
+        steps = [1.0, *(step for step in steps if step > 1 and step == round(step))]
+    for step in reversed(steps[:1 + next(place for place, step in enumerate(steps) if step >= least)]):
+        first, last = math.ceil(low / step - SLACK), math.floor(high / step + SLACK)
+        ticks = tuple(place * step for place in range(first, last + 1) if low <= place * step <= high)
+        if len(ticks) > 1:
+            break
+    return ticks
+
+
 class Scale(NamedTuple):
     """A range of values and round numbers in it; or of the logarithms of chances, and powers of ten."""
 
@@ -139,9 +155,7 @@ class Scale(NamedTuple):
 
     @classmethod
     def between(cls, low: float, high: float, is_whole: bool = False) -> Scale:
-        from matplotlib.ticker import MaxNLocator
-        locator = MaxNLocator(MOST_TICKS, steps=[1, 2, 2.5, 5, 10], integer=is_whole)
-        return cls(low, high, tuple(float(value) for value in locator.tick_values(low, high) if low <= value <= high))
+        return cls(low, high, round_numbers(low, high, is_whole))
 
     @classmethod
     def of_chances(cls, least: float) -> Scale:
