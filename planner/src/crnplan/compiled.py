@@ -62,7 +62,8 @@ def compiled(plain: Loop, after: int = 0) -> Callable[[Callable[..., Any]], Loop
 
         @functools.wraps(loop)
         def run(*words: Any) -> Any:
-            return (plain if after and next(calls) < after else chosen())(*words)
+            is_plain = after and next(calls) < after
+            return plain(*words) if is_plain else chosen()(*words)
         run.loop, run.plain = loop, plain  # type: ignore[attr-defined]
         return run  # type: ignore[return-value]
     return decorated
