@@ -14,7 +14,6 @@ from types import FunctionType
 from typing import Any, TypeVar, cast
 
 Loop = TypeVar("Loop", bound=Callable[..., Any])
-CACHE = "NUMBA_CACHE_DIR"
 
 
 def cache_folder() -> Path:
@@ -25,11 +24,11 @@ def cache_folder() -> Path:
 @functools.cache
 def numba_njit() -> Callable[..., Any] | None:
     """Returns numba's `njit`; None if numba is missing."""
-    os.environ.setdefault(CACHE, str(cache_folder()))
     try:
-        from numba import njit
+        from numba import config, njit
     except ImportError:
         return None
+    config.CACHE_DIR = config.CACHE_DIR or str(cache_folder())  # Another may have imported numba before.
     compiler: Callable[..., Any] = njit
     return compiler
 
