@@ -50,7 +50,7 @@ def compiled(plain: Loop, after: int = 0) -> Callable[[Callable[..., Any]], Loop
     parameters and results, if numba is missing. `loop` is the loop itself, as it was written.
 
     With `after`, `plain` runs the first so many calls: a command that needs no more of a cheap loop then ends before
-    numba would be imported. Both ways must then have equal results, to the last bit.
+    numba would be imported. What is made of the results of both must then be equal to the last bit.
     """
     def decorated(loop: Callable[..., Any]) -> Loop:
         @functools.cache

@@ -63,7 +63,7 @@ def test_imports_few_libraries(room: Path) -> None:
     found = subprocess.run([sys.executable, "-c", code, *words], cwd=room, capture_output=True, text=True, check=True)
     loaded = found.stderr.split()
     assert "crnplan.plan.item" in loaded and not {*loaded} & {
-        "pandas", "matplotlib", "distributed", "scipy.stats", "scipy.optimize", "crnplan.jobs", "crnplan.plan.catalogue"}
+        "pandas", "matplotlib", "distributed", "scipy.stats", "scipy.optimize", "crnplan.plan.catalogue"}
 
 
 def test_again_the_same_bytes(room: Path, whole: Path, crnplan: Command, monkeypatch: pytest.MonkeyPatch) -> None:
