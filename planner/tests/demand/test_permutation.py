@@ -91,13 +91,30 @@ def test_bound(statistics: list[int], level: float) -> None:
         assert (p_value(np.array([value, *statistics], dtype=float)) <= level + 1e-9) == (value > bound)
 
 
+@pytest.mark.parametrize("way", ["loop", "plain", "__call__"])
+@pytest.mark.parametrize("size, lengths", [(8, ()), (13, (2,)), (24, (4, 7))])
+def test_suspicious_orders(size: int, lengths: tuple[int, ...], way: str) -> None:
+    """Each way counts the orders whose statistic is at least a bound; none for a test that was left."""
+    random = np.random.default_rng(size)
+    numbers, orders = random.poisson(1.5, size), random.permuted(np.tile(np.arange(size), (40, 1)), axis=1)
+    parts = np.array([np.arange(size) % length for length in lengths], np.int64).reshape(-1, size)
+    kinds = [(kind, ()) for kind in ("autocorrelation", "trend", "shift")] + [("season", part) for part in parts]
+    found = [sorted(of_row(kind, numbers[order], part) for order in orders) for kind, part in kinds]
+    bounds = [its[10] - 1e-9 for its in found]
+    expected = [sum(value >= bound for value in its) for its, bound in zip(found, bounds)]
+    far, ranks = centred(numbers.astype(float)), centred(stats.rankdata(numbers))
+    counted = getattr(permutation.suspicious, way)
+    assert counted(far, ranks, orders, parts, np.array(bounds)).tolist() == expected
+    assert counted(far, ranks, orders, parts, np.array([math.inf, *bounds[1:]])).tolist() == [0, *expected[1:]]
+
+
 @pytest.mark.parametrize("numbers", [[*range(6, 0, -1)], [3, 0, 0, 9, 1, 0, 2, 2], [0, 1] * 12],
                          ids=["falling", "few", "turns"])
 def test_seen_at_a_level(numbers: list[int]) -> None:
     """A test is seen at its own p value and above, and not below it, though not all orders are looked at."""
-    kinds = statistics_of({"season": np.arange(len(numbers)) % 2})
+    seasons = {"season": np.arange(len(numbers)) % 2}
     orders = Orders(numbers)
-    for name, statistics in orders.statistics(kinds).items():
+    for name, statistics in orders.statistics(statistics_of(seasons)).items():
         p = p_value(statistics)
-        assert (name in orders.seen(kinds, p)) and (name in orders.seen(kinds, p + 1 / 1200))
-        assert name not in orders.seen(kinds, p - 1 / 1200)
+        assert (name in orders.seen(seasons, p)) and (name in orders.seen(seasons, p + 1 / 1200))
+        assert name not in orders.seen(seasons, p - 1 / 1200)

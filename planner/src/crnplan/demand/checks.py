@@ -180,9 +180,10 @@ def tests_of(facts: Facts, in_full: bool = True) -> tuple[Check, ...]:
     """
     if len(facts.numbers) < LEAST_PERIODS or len({*facts.numbers}) == 1:
         return ()
-    orders, kinds = Orders(facts.numbers), statistics_of({season.name: season.part_of for season in facts.seasons})
+    seasons = {season.name: season.part_of for season in facts.seasons}
+    orders, kinds = Orders(facts.numbers), statistics_of(seasons)
     level = FALSE_ALARMS / len(kinds)
-    if not in_full and not orders.seen(kinds, level):
+    if not in_full and not orders.seen(seasons, level):
         return ()
     statistics = orders.statistics(kinds)
     p_values = {name: p_value(drawn) for name, drawn in statistics.items()}

@@ -22,7 +22,8 @@ import numpy as np
 from scipy import special
 
 from ..chances import Floats, Whole
-from .sample import Sample
+from ..compiled import compiled
+from .sample import PLAIN_CALLS, Sample
 
 Statistic = Callable[[Floats, Floats], Floats]  # of the numbers' distances from their mean, and of their ranks'
 # The mean and the variance of a number's rank for each factor of the mean, and the variance of all ranks.
@@ -130,36 +131,86 @@ class Orders:
         ranks = np.cumsum(self.counts) - self.counts / 2 - len(numbers) / 2
         self.far, self.ranks = (self.values - np.mean(numbers))[self.codes], ranks[self.codes]
 
-    def rows(self, at_once: int = TIMES) -> Iterator[tuple[Floats, Floats]]:
-        """Yields the distances of the numbers from their mean, and of their ranks: in the order of the history, and
-        then in drawn orders, so many in each array."""
+    def drawn(self, at_once: int = TIMES) -> Iterator[Whole]:
+        """Yields drawn orders of the places, so many in each array."""
         size = len(self.codes)
-        yield self.far[None], self.ranks[None]
         many = max(1, MOST_CELLS // size)
         for first in range(0, TIMES, many):
             count = min(many, TIMES - first)
             for start in range(0, count, at_once):
-                order = drawn_orders(size, first).orders(start, min(start + at_once, count))
-                yield self.far.take(order), self.ranks.take(order)
+                yield drawn_orders(size, first).orders(start, min(start + at_once, count))
+
+    def rows(self) -> Iterator[tuple[Floats, Floats]]:
+        """Yields the distances of the numbers from their mean, and of their ranks: in the order of the history, and
+        then in drawn orders."""
+        yield self.far[None], self.ranks[None]
+        for orders in self.drawn():
+            yield self.far.take(orders), self.ranks.take(orders)
 
     def statistics(self, kinds: Mapping[str, Statistic]) -> dict[str, Floats]:
         """Returns each statistic of the history and, after it, of the drawn orders. The same history has the same."""
         parts = [{name: kind(*rows) for name, kind in kinds.items()} for rows in self.rows()]
         return {name: np.concatenate([part[name] for part in parts]) for name in kinds}
 
-    def seen(self, kinds: Mapping[str, Statistic], level: float) -> set[str]:
-        """Returns the tests with a p value of at most a level. A test is left when enough orders are as suspicious."""
-        rows = self.rows(AT_ONCE)
-        history, left = next(rows), dict(kinds)
-        least = {name: kind(*history)[0] * (1 - ROUNDING) for name, kind in kinds.items()}
-        counts, most = dict.fromkeys(kinds, 1), most_of(level, TIMES + 1)
-        for part in rows:
-            for name, kind in left.items():
-                counts[name] += int((kind(*part) >= least[name]).sum())
-            left = {name: kind for name, kind in left.items() if counts[name] <= most}
-            if not left:
+    def seen(self, seasons: Mapping[str, Whole], level: float) -> set[str]:
+        """Returns the tests with a p value of at most a level. A test is left when enough orders are as suspicious. A
+        season has the part of each period."""
+        kinds, parts = statistics_of(seasons), np.array([*seasons.values()], np.int64).reshape(-1, len(self.codes))
+        least = np.array([kind(self.far[None], self.ranks[None])[0] for kind in kinds.values()]) * (1 - ROUNDING)
+        counts, most = np.ones(len(kinds), np.int64), most_of(level, TIMES + 1)
+        for orders in self.drawn(AT_ONCE):
+            counts += suspicious(self.far, self.ranks, orders, parts, least)
+            least[counts > most] = math.inf
+            if least.min() == math.inf:
                 break
-        return {*left}
+        return {name for name, count in zip(kinds, counts.tolist()) if count <= most}
+
+
+def as_suspicious(far: Floats, ranks: Floats, orders: Whole, parts: Whole, least: Floats) -> Whole:
+    """Returns how many orders of distances and ranks have a statistic of at least so much, for each test: those of the
+    order of a history, and one for each row of parts."""
+    rows = far.take(orders), ranks.take(orders)
+    kinds: list[Statistic] = [ljung_box, trend, shift, *(functools.partial(kruskal, its) for its in parts)]
+    return np.array([np.count_nonzero(kind(*rows) >= bound) if bound < math.inf else 0
+                     for kind, bound in zip(kinds, least)])
+
+
+@compiled(as_suspicious, after=PLAIN_CALLS)
+def suspicious(far: Floats, ranks: Floats, orders: Whole, parts: Whole, least: Floats) -> Whole:
+    """Returns what `as_suspicious` does, order by order, with three lags."""
+    size, seasons, squares, rank_squares, edge = len(far), len(parts), 0.0, 0.0, max(1, math.ceil(EDGE * len(far)))
+    counts, weights, row, ranked = np.zeros(len(least), np.int64), np.zeros(size), np.zeros(size + LAGS), np.zeros(size)
+    sums, sizes, found = np.zeros((seasons, size)), np.zeros((seasons, size)), np.zeros(len(least))
+    for place in range(size):
+        squares, rank_squares = squares + far[place]**2, rank_squares + ranks[place]**2
+        if edge <= place + 1 <= size - edge:
+            weights[place] = size / ((place + 1.0) * (size - place - 1))
+        for season in range(seasons):
+            sizes[season, parts[season, place]] += 1.0
+    for order in range(len(orders)):
+        below = slope = explained = first = second = third = 0.0
+        for place in range(size):
+            number, rank = far[orders[order, place]], ranks[orders[order, place]]
+            row[place + LAGS], ranked[place] = number, rank
+            first += number * row[place + 2]
+            second += number * row[place + 1]
+            third += number * row[place]
+            slope += rank * (place - (size - 1) / 2)
+            below += number
+            explained = max(explained, below * below * weights[place])
+        found[0] = size * (size + 2) / squares**2 * (
+            first**2 / (size - 1) + second**2 / (size - 2) + third**2 / (size - 3))
+        found[1], found[2] = slope**2 * 12 / (size * (size**2 - 1.0)) / rank_squares, explained / squares
+        for season in range(seasons):
+            sums[season], found[3 + season] = 0.0, 0.0
+            for place in range(size):
+                sums[season, parts[season, place]] += ranked[place]
+            for part in range(size):
+                if sizes[season, part] > 0:
+                    found[3 + season] += sums[season, part]**2 / sizes[season, part] / rank_squares * (size - 1)
+        for test in range(len(least)):
+            counts[test] += found[test] >= least[test]
+    return counts
 
 
 def most_of(level: float, orders: int) -> int:
