@@ -20,7 +20,8 @@ from .pages.catalogue_tables import catalogue_summary, decisions_of, rejects_of
 from .pages.change_tables import change_lines, changes_of
 from .pages.today_tables import OrdersToday, orders_today
 from .pages.item_page import ItemWords, item_page, item_summary, plan_item as plan_one_item, policies_of
-from .plan.catalogue import Lost, Totals, check_earlier, plan_into, planned_folder
+from .plan.catalogue import Lost, check_earlier, plan_into, planned_folder
+from .plan.totals import Totals
 from .plan.item import Depth
 from .plan.question import Settings
 from .plan.survey import Survey

@@ -142,6 +142,12 @@ class Folder:
         self.claim(*(f"{name}{end}" for end in ("", "-journal", "-wal", "-shm")), in_place=True)
         return self.path / name
 
+    def inner(self, name: str) -> Path:
+        """Returns a folder in this one, which is claimed with all that is in it, and made."""
+        self.claim(f"{name}/", in_place=True)
+        (self.path / name).mkdir(exist_ok=True)
+        return self.path / name
+
     def write(self, name: str, text: str | Iterable[str]) -> None:
         """Writes a text, or lines, as a whole file, and claims it. TOML has no raw control characters."""
         lines = [text] if isinstance(text, str) else text

@@ -1,4 +1,4 @@
-"""Runs batches of work in this process, in others or on a Dask cluster, and keeps each answer as it comes.
+"""Runs batches of work in this process, in others or on a Dask cluster.
 
 A batch that takes too long is given to another worker as well; what comes first counts. An answer is the same wherever
 it comes from: workers of a cluster say which crnplan and crnsim they have, and others than here are refused.
@@ -10,6 +10,7 @@ import importlib
 import itertools
 import multiprocessing
 import os
+import queue
 import shutil
 import signal
 import sys
@@ -31,6 +32,8 @@ from .stored import Store
 BATCH = 8
 # A batch of items takes seconds. After so many it is given to a further worker, and after so many workers all ends.
 LIMIT_SECONDS, MOST_TRIES = 900.0, 3
+LOOKS = 8  # for late batches, in that time
+MOST_POOLS = 4  # that a run may begin, since a process of the one before has ended by force
 WATCH_SECONDS = 0.5
 CONNECT_SECONDS, WORKER_SECONDS = 10, 30
 MOST_LINES = 10
@@ -39,10 +42,9 @@ Key = TypeVar("Key")
 
 
 class Workers:
-    """What runs functions: a pool, or without one this process. At `most` so many batches are under way."""
+    """What runs functions: this process, or others. Those that are others take all batches at once."""
 
-    def __init__(self, most: int = 1, pool: futures.Executor | None = None) -> None:
-        self.most, self.pool, self.is_late = most, pool, False
+    most, are_others = 1, False
 
     def share(self, words: Sequence[Any]) -> Sequence[Any]:
         """Returns words as they are sent to many functions."""
@@ -50,16 +52,21 @@ class Workers:
 
     def submit(self, function: Callable[..., Any], words: Sequence[Any], late: Sequence[Any] = ()) -> Any:
         """Begins to run a function, not where it is late, and returns the future."""
-        self.is_late |= bool(late)
-        if self.pool:
-            return self.pool.submit(function, *words)
         future: futures.Future[Any] = futures.Future()
         future.set_result(function(*words))
         return future
 
-    def wait(self, running: Sequence[Any], seconds: float) -> None:
-        """Waits until one of the futures is done, or for so long."""
-        futures.wait(running, seconds, futures.FIRST_COMPLETED)
+    def submit_all(self, function: Callable[..., Any], many: Sequence[Sequence[Any]]) -> list[Any]:
+        """Begins to run a function with many words, and returns the futures."""
+        return [self.submit(function, words) for words in many]
+
+    def begun(self, waiting: Iterable[Any]) -> list[Any]:
+        """Returns those of some futures that a worker has."""
+        return [future for future in waiting if future.running()]
+
+    def renew(self, fault: BrokenProcessPool) -> None:
+        """Begins again after a fault. Raises it if that can't be."""
+        raise fault
 
     def result(self, future: Any) -> Any:
         """Returns the result of a future that is done. Raises what the function has raised, and a stranger's error."""
@@ -68,42 +75,94 @@ class Workers:
             raise result
         return result
 
-    def answers(self, function: Callable[..., Any],
-                batches: Iterable[tuple[Key, Sequence[Any]]]) -> Iterator[tuple[Key, Any]]:
-        """Yields the key of each batch of words with what a function returns for these, as it comes. Raises Failed."""
-        rest, running = itertools.starmap(_Batch[Key], batches), list[_Batch[Key]]()
+    def answers(self, function: Callable[..., Any], batches: Iterable[tuple[Key, Sequence[Any]]],
+                ahead: int | None = 1) -> Iterator[tuple[Key, Any]]:
+        """Yields the key of each batch of words with what a function returns for these, as it comes. Each worker has
+        `ahead` batches under way, or if that is None, all are given at once: so one that joins late gets work. Raises
+        Failed."""
+        run = _Run[Key](self, function)
+        rest = itertools.starmap(_Batch[Key], batches)
         while True:
-            running += itertools.islice(rest, self.most - len(running))
-            if not running:
+            run.begin([*itertools.islice(rest, run.room(ahead))])
+            if not run.under_way:
                 return
-            for batch in running:
-                if batch.due <= time.monotonic():
-                    self._give(batch, function)
-            seconds = max(0.0, min(batch.due for batch in running) - time.monotonic())
-            self.wait([future for batch in running for future in batch.futures], seconds)
-            for batch in [*running]:
-                done = next((future for future in batch.futures if future.done()), None)
-                if done is not None:
-                    running.remove(batch)
-                    yield batch.key, self.result(done)
-
-    def _give(self, batch: _Batch[Any], function: Callable[..., Any]) -> None:
-        """Gives a batch to a further worker. Raises Failed if enough of them have it."""
-        if len(batch.futures) == MOST_TRIES:
-            raise Failed(f"a batch has taken longer than {LIMIT_SECONDS:g} seconds on each of {MOST_TRIES} workers",
-                         f"{KEPT}; look at these workers, and run again")
-        batch.futures.append(self.submit(function, batch.words, batch.futures))
-        batch.due = time.monotonic() + LIMIT_SECONDS
+            if batch := run.next_done():
+                yield batch.key, batch.result
+                del batch
 
 
 @dataclass(eq=False)
 class _Batch(Generic[Key]):
-    """A batch that is under way: its futures, one for each worker that has it, and when it is due at the latest one."""
+    """A batch that is under way: its futures, one for each worker that has it, and since when the latest one may."""
 
     key: Key
     words: Sequence[Any]
     futures: list[Any] = field(default_factory=list)
-    due: float = 0.0
+    since: float = 0.0
+    result: Any = None
+
+
+class _Run(Generic[Key]):
+    """The batches that are under way: by future, of which those that are done stand in a queue."""
+
+    def __init__(self, workers: Workers, function: Callable[..., Any]) -> None:
+        self.workers, self.function = workers, function
+        self.under_way, self.done = dict[Any, _Batch[Key]](), queue.SimpleQueue[Any]()
+        self.due = time.monotonic() + LIMIT_SECONDS / LOOKS
+
+    def room(self, ahead: int | None) -> int | None:
+        """Returns how many more batches are given; None for all."""
+        if ahead is None and self.workers.are_others:
+            return None
+        return max(0, self.workers.most * (ahead or 1) - len(self.under_way))
+
+    def begin(self, batches: Sequence[_Batch[Key]]) -> None:
+        """Gives batches to workers."""
+        begun = self.workers.submit_all(self.function, [batch.words for batch in batches])
+        for batch, future in zip(batches, begun, strict=True):
+            self._watch(batch, future)
+
+    def _watch(self, batch: _Batch[Key], future: Any) -> None:
+        batch.futures.append(future)
+        self.under_way[future] = batch
+        future.add_done_callback(self.done.put)
+
+    def next_done(self) -> _Batch[Key] | None:
+        """Returns a batch that is done, with its result; None if that takes a while, or another worker was first."""
+        if time.monotonic() >= self.due:
+            self._give_late()
+        try:
+            future = self.done.get(timeout=max(0.0, self.due - time.monotonic()))
+        except queue.Empty:
+            return None
+        batch = self.under_way.get(future)
+        if batch is None:
+            return None
+        try:
+            batch.result = self.workers.result(future)
+        except BrokenProcessPool as fault:
+            self.workers.renew(fault)
+            again = [*dict.fromkeys(self.under_way.values())]
+            self.under_way.clear()
+            self.begin(again)
+            return None
+        for each in batch.futures:
+            self.under_way.pop(each, None)
+        return batch
+
+    def _give_late(self) -> None:
+        """Gives each batch that takes too long to a further worker. Raises Failed if enough of them have it."""
+        now = time.monotonic()
+        self.due = now + LIMIT_SECONDS / LOOKS
+        for batch in dict.fromkeys(self.under_way[future] for future in self.workers.begun(self.under_way)):
+            batch.since = batch.since or now
+            if now - batch.since < LIMIT_SECONDS:
+                continue
+            if len(batch.futures) == MOST_TRIES:
+                raise Failed(f"a batch has taken longer than {LIMIT_SECONDS:g} seconds on each of {MOST_TRIES} workers",
+                             f"{KEPT}; look at these workers, and run again")
+            batch.since = now
+            self._watch(batch, self.workers.submit(self.function, batch.words, batch.futures))
 
 
 def _begin_worker(parent: int) -> None:
@@ -118,6 +177,35 @@ def _begin_worker(parent: int) -> None:
     threading.Thread(target=watch, daemon=True).start()
 
 
+class Processes(Workers):
+    """So many processes of this machine, which are begun anew a few times if one of them ends by force."""
+
+    are_others = True
+
+    def __init__(self, most: int) -> None:
+        self.most, self.pools, self.is_late = most, 0, False
+        self._begin()
+
+    def _begin(self) -> None:
+        self.pools += 1
+        self.pool = futures.ProcessPoolExecutor(self.most, initializer=_begin_worker, initargs=(os.getpid(),))
+
+    def submit(self, function: Callable[..., Any], words: Sequence[Any], late: Sequence[Any] = ()) -> Any:
+        self.is_late |= bool(late)
+        try:
+            return self.pool.submit(function, *words)
+        except BrokenProcessPool as fault:
+            future: futures.Future[Any] = futures.Future()
+            future.set_exception(fault)
+            return future
+
+    def renew(self, fault: BrokenProcessPool) -> None:
+        if self.pools == MOST_POOLS:
+            raise fault
+        self.pool.shutdown(wait=True)
+        self._begin()
+
+
 @contextlib.contextmanager
 def processes(jobs: int) -> Iterator[Workers]:
     """Gives so many processes of this machine. With one, all runs in this one."""
@@ -125,19 +213,18 @@ def processes(jobs: int) -> Iterator[Workers]:
         yield Workers()
         return
     before = set(multiprocessing.active_children())
-    pool = futures.ProcessPoolExecutor(jobs, initializer=_begin_worker, initargs=(os.getpid(),))
-    workers = Workers(jobs, pool)
+    workers = Processes(jobs)
     try:
         yield workers
-        pool.shutdown(wait=not workers.is_late)
+        workers.pool.shutdown(wait=not workers.is_late)
     except BrokenProcessPool as fault:
-        raise Failed("a worker process has ended by force (was there enough memory?)",
+        raise Failed(f"worker processes have ended by force {MOST_POOLS} times (was there enough memory?)",
                      f"{KEPT}; run again, with fewer {argument('jobs')} if memory is short") from fault
     finally:
         # If all is well they have ended. Otherwise nobody waits for what they do.
         for worker in set(multiprocessing.active_children()) - before:
             worker.kill()
-        pool.shutdown(wait=False, cancel_futures=True)
+        workers.pool.shutdown(wait=False, cancel_futures=True)
 
 
 def identity(program: str) -> dict[str, str]:
@@ -168,10 +255,11 @@ class Cluster(Workers):
     """The workers of a Dask scheduler that have the crnplan and the program of this machine. Some may end, and others
     may come."""
 
+    are_others = True
+
     def __init__(self, client: Any, program: str) -> None:
         """Asks all workers that are there what they have. Raises Refused if one has something else."""
         client.wait_for_workers(1, WORKER_SECONDS)
-        super().__init__(max(1, sum(client.ncores().values())))
         self.client, self.program, self.own = client, program, identity(program)
         answers, workers = client.run(identity, program, on_error="return"), client.scheduler_info()["workers"]
         if not self.own["crnsim"]:
@@ -179,6 +267,11 @@ class Cluster(Workers):
         for address, answer in answers.items():
             if fault := stranger(f"{workers.get(address, {}).get('id')} ({address})", self.own, answer):
                 raise fault
+
+    @property
+    def most(self) -> int:  # type: ignore[override]
+        """Returns how many processors the workers have that are there now."""
+        return max(1, int(sum(self.client.ncores().values())))
 
     def share(self, words: Sequence[Any]) -> Sequence[Any]:
         shared: Sequence[Any] = self.client.scatter(words, broadcast=True)
@@ -191,10 +284,13 @@ class Cluster(Workers):
         return self.client.submit(run_as_here, function, self.own, self.program, *words, pure=False, retries=2,
                                   workers=others or None)
 
-    def wait(self, running: Sequence[Any], seconds: float) -> None:
-        distributed: Any = importlib.import_module("distributed")
-        with contextlib.suppress(distributed.TimeoutError):
-            distributed.wait(running, seconds, "FIRST_COMPLETED")
+    def submit_all(self, function: Callable[..., Any], many: Sequence[Sequence[Any]]) -> list[Any]:
+        own = [[word] * len(many) for word in (function, self.own, self.program)]
+        return [*self.client.map(run_as_here, *own, *zip(*many, strict=True), pure=False, retries=2)] if many else []
+
+    def begun(self, waiting: Iterable[Any]) -> list[Any]:
+        keys = {*itertools.chain.from_iterable(self.client.processing().values())}
+        return [future for future in waiting if future.key in keys]
 
 
 @contextlib.contextmanager
@@ -244,7 +340,8 @@ def program_digest(program: str, address: str | None) -> str:
 
 
 class Work(Generic[Answer]):
-    """Which names are to be answered: `kept` is how many of them were, and `left` has the others."""
+    """Which names are to be answered, of few: `kept` is how many of them were, and `left` has the others. Answers come
+    back to this process, which keeps them. `chunks.py` has what is done for many."""
 
     def __init__(self, answers: Store[Answer], digests: Mapping[str, str]) -> None:
         """Takes for each name the digest of all that its answer depends on."""
@@ -258,42 +355,68 @@ class Work(Generic[Answer]):
                batch: int = BATCH) -> None:
         """Answers the names that are left, if any. Workers call the function with what is `asked` of the names of a
         batch, and with further words."""
-        done, total, names = self.kept, len(self.digests), iter(self.left)
-        if done == total:
+        if not self.left:
             return
+        names = iter(self.left)
         batches = iter(lambda: [*itertools.islice(names, batch)], [])
-        try:
-            with workers as running, progress(total, done, shown, unit) as show:
-                shared = running.share(words)
-                asked_of = ((some, [[*map(asked, some)], *shared]) for some in batches)
-                for some, answers in running.answers(function, asked_of):
-                    rows = zip(some, answers, strict=True)
-                    self.answers.keep([(name, self.digests[name], answer) for name, answer in rows])
-                    done += len(some)
-                    show(done)
-        except BaseException:
-            if shown and done:
-                print(f"{done:,} of {total:,} {unit} are done and kept; run again to go on", file=sys.stderr)
-            raise
+        with progress(len(self.digests), shown, unit, self.kept) as done, workers as running:
+            done.add(0)
+            shared = running.share(words)
+            asked_of = ((some, [[*map(asked, some)], *shared]) for some in batches)
+            for some, answers in running.answers(function, asked_of):
+                rows = zip(some, answers, strict=True)
+                self.answers.keep([(name, self.digests[name], answer) for name, answer in rows])
+                done.add(len(some))
+
+
+class Progress:
+    """How many of a total are done, of which some are `kept` from before. It is shown on standard error: as a bar on a
+    terminal; in a log as a line at once, and whenever a further ninth of them is done."""
+
+    def __init__(self, total: int, unit: str, kept: int, show: Callable[[Progress], object]) -> None:
+        self.total, self.unit, self.done, self.kept, self.show = total, unit, kept, kept, show
+        self.start, self.ninths = time.monotonic(), set[int]()
+
+    def add(self, done: int, kept: int = 0) -> None:
+        """Counts and shows more that are done, of which some are kept from before."""
+        self.done, self.kept = self.done + done, self.kept + kept
+        self.show(self)
+
+    @property
+    def text(self) -> str:
+        """Returns a line: how many are done and kept, how many a second, and the time that is left."""
+        from tqdm import tqdm
+        line, new = f"{self.done} of {self.total} {self.unit} ({self.kept} kept)", self.done - self.kept
+        rate = new / max(1e-9, time.monotonic() - self.start)
+        return f"{line}, {rate:.3g} a second, {tqdm.format_interval((self.total - self.done) / rate)} left" if new else line
+
+    def log(self) -> None:
+        """Writes a line if a further ninth is done."""
+        if (ninth := self.done * (MOST_LINES - 1) // max(1, self.total)) not in self.ninths:
+            print(self.text, file=sys.stderr, flush=True)
+            self.ninths.add(ninth)
 
 
 @contextlib.contextmanager
-def progress(total: int, kept: int, shown: bool, unit: str) -> Iterator[Callable[[int], None]]:
-    """Gives a function that shows on standard error how many units are done: as a bar on a terminal; in a log as a line
-    at once, and whenever a further ninth of them is done. `kept` are there from before."""
-    ninths = set[int]()
+def progress(total: int, shown: bool, unit: str, kept: int = 0) -> Iterator[Progress]:
+    """Gives what counts how much is done, and shows it from the first call of `add` on, if it is to be shown. If work
+    ends early, that says how much is kept."""
+    with contextlib.ExitStack() as stack:
+        bars = list[Any]()
 
-    def show(done: int) -> None:
-        if (ninth := done * (MOST_LINES - 1) // total) not in ninths:
-            print(f"{done} of {total} {unit} ({kept} kept)", file=sys.stderr, flush=True)
-            ninths.add(ninth)
-    if not shown:
-        yield lambda done: None
-    elif not sys.stderr.isatty():
-        show(kept)
-        yield show
-    else:
-        from tqdm import tqdm
-        with tqdm(file=sys.__stderr__, total=total, initial=kept, unit=f" {unit}", desc=f"{kept} kept",
-                  dynamic_ncols=True) as bar:
-            yield lambda done: bar.update(done - bar.n) and None
+        def move(its: Progress) -> None:
+            from tqdm import tqdm
+            if not bars:
+                bars.append(stack.enter_context(tqdm(file=sys.__stderr__, total=total, initial=kept, unit=f" {unit}",
+                                                     dynamic_ncols=True)))
+            bars[0].set_description(f"{its.kept} kept", refresh=False)
+            bars[0].update(its.done - bars[0].n)
+        show = move if sys.stderr.isatty() else Progress.log
+        its = Progress(total, unit, kept, show if shown else lambda its: None)
+        try:
+            yield its
+        except BaseException:
+            stack.close()
+            if shown and its.done:
+                print(f"{its.done:,} of {total:,} {unit} are done and kept; run again to go on", file=sys.stderr)
+            raise

@@ -101,6 +101,21 @@ class Columns(Generic[Row]):
             return [self.written(value)]
         return [cell for field, part in self.parts for cell in part.cells(getattr(value, field))]
 
+    @property
+    def answer_names(self) -> list[str]:
+        """Returns the names of the columns of an answer: a fault, or a value."""
+        return ["fault", *self.names]
+
+    def answer_cells(self, answer: Row | Remark) -> list[Cell]:
+        """Returns the cells of an answer."""
+        fault, value = (answer, None) if isinstance(answer, Remark) else (None, answer)
+        return [None if fault is None else KINDS[Remark][0](fault), *self.cells(value)]
+
+    def answer(self, cells: Sequence[Cell]) -> Row | Remark:
+        """Returns the answer of cells."""
+        fault: Remark = KINDS[Remark][1](cells[0]) if cells[0] else None
+        return fault or self.value(cells[1:])
+
     def value(self, cells: Sequence[Cell]) -> Row:
         """Returns the value of cells, None if the first one is. Raises ValueError, TypeError or LookupError if they
         have none."""
@@ -112,7 +127,32 @@ class Columns(Generic[Row]):
                            for start, stop, part in self.slots])
 
 
-class Store(Generic[Row]):
+class Facts:
+    """Texts by name in a file of SQLite."""
+
+    def __init__(self, path: Path, is_known: bool = False) -> None:
+        """Opens the file, or makes it. Raises Damaged, but for a file that is known to be whole."""
+        self.path, self.base = path, sqlite3.connect(path)
+        if not is_known:
+            check_whole(self.base, path)
+        self.base.executescript("PRAGMA journal_mode = WAL; PRAGMA synchronous = NORMAL;"
+                                "CREATE TABLE IF NOT EXISTS facts (name TEXT PRIMARY KEY, value TEXT)")
+
+    def fact(self, name: str) -> str | None:
+        """Returns a text that is kept; None if there is none."""
+        row = self.base.execute("SELECT value FROM facts WHERE name = ?", [name]).fetchone()
+        return None if row is None else str(row[0])
+
+    def keep_facts(self, facts: Mapping[str, str]) -> None:
+        """Keeps texts: all of them or none."""
+        with self.base:
+            self.base.executemany("INSERT OR REPLACE INTO facts VALUES (?, ?)", facts.items())
+
+    def close(self) -> None:
+        self.base.close()
+
+
+class Store(Facts, Generic[Row]):
     """Answers by name in a file, each with a digest of what it depends on, and one of itself. A transaction keeps
     several. An answer is a value, or the fault for which there is none."""
 
@@ -121,26 +161,13 @@ class Store(Generic[Row]):
 
         Raises Damaged.
         """
-        self.path, self.columns = path, Columns(kind)
-        self.base = sqlite3.connect(path)
-        names = ["item", "digest", "seal", "fault", *self.columns.names]
-        check_whole(self.base, path)
-        self.base.executescript("PRAGMA journal_mode = WAL; PRAGMA synchronous = NORMAL;"
-                                "CREATE TABLE IF NOT EXISTS facts (name TEXT PRIMARY KEY, value TEXT)")
+        super().__init__(path)
+        self.columns = Columns(kind)
+        names = ["item", "digest", "seal", *self.columns.answer_names]
         if [column[1] for column in self.base.execute("PRAGMA table_info(answers)")] != names:
             self.base.executescript("DROP TABLE IF EXISTS answers; CREATE TABLE answers (item TEXT PRIMARY KEY, "
                                     f"{quoted(names[1:])})")
         self.slots = ", ".join("?" * len(names))
-
-    def fact(self, name: str) -> str | None:
-        """Returns a text that is kept beside the answers; None if there is none."""
-        row = self.base.execute("SELECT value FROM facts WHERE name = ?", [name]).fetchone()
-        return None if row is None else str(row[0])
-
-    def keep_facts(self, facts: Mapping[str, str]) -> None:
-        """Keeps texts beside the answers: all of them or none."""
-        with self.base:
-            self.base.executemany("INSERT OR REPLACE INTO facts VALUES (?, ?)", facts.items())
 
     def digest(self, name: str) -> str | None:
         """Returns what a kept answer depends on; None if there is none."""
@@ -154,8 +181,7 @@ class Store(Generic[Row]):
         """Keeps answers, each with its name and its digest: all of them or none."""
         rows = []
         for name, digest, answer in answers:
-            fault, value = (answer, None) if isinstance(answer, Remark) else (None, answer)
-            cells = [None if fault is None else KINDS[Remark][0](fault), *self.columns.cells(value)]
+            cells = self.columns.answer_cells(answer)
             rows.append((name, digest, digest_of(name, digest, cells), *cells))
         with self.base:
             self.base.executemany(f"INSERT OR REPLACE INTO answers VALUES ({self.slots})", rows)
@@ -165,8 +191,7 @@ class Store(Generic[Row]):
         name, digest, seal, *cells = row
         if digest_of(name, digest, cells) != seal:
             raise Damaged(self.path, f"the answer to {name!r} is not as it was kept")
-        fault: Remark = KINDS[Remark][1](cells[0]) if cells[0] else None
-        return fault or self.columns.value(cells[1:])
+        return self.columns.answer(cells)
 
     def answer(self, name: str) -> Row | Remark:
         """Returns the answer that is kept under a name. Raises Damaged."""
@@ -176,6 +201,3 @@ class Store(Generic[Row]):
         """Yields each name in order with the digest and the answer. Raises Damaged."""
         for row in self.base.execute("SELECT * FROM answers ORDER BY item"):
             yield row[0], row[1], self._answer(row)
-
-    def close(self) -> None:
-        self.base.close()

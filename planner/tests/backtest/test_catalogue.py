@@ -21,7 +21,7 @@ from crnplan.plan.backtest.sums import TIME
 from crnplan.plan.question import NONE, Settings
 from crnplan.records.catalogue_reading import CATALOGUE
 from crnplan.records.item import Item
-from crnplan.stored import Store
+from crnplan.stored import Facts
 from planner.tests.conftest import Command, rows_of
 from planner.tests.pages.page_reader import Page
 from planner.tests.plan.items import several
@@ -95,7 +95,7 @@ def test_only_what_has_changed_is_tested_again(room: Path, crnplan: Command) -> 
     assert again.status == 0 and read(room / "out") == files and "of 14 items" not in again.errors
     text = (room / "items.csv").read_text("utf-8")
     (room / "items.csv").write_text(text.replace("I-004,a,24.0", "I-004,a,25.0"), "utf-8")
-    assert "13 of 14 items (13 kept)" in crnplan(*words).errors
+    assert "14 of 14 items (13 kept)" in crnplan(*words).errors
     after = rows_of(room / "out/backtest.csv")
     assert [name for name in before if before[name] != after[name]] == ["I-004"]
 
@@ -190,7 +190,7 @@ def test_line_on_the_page_of_the_plan(items: Mapping[str, Item], tmp_path: Path,
     crnplan(*plan, "--config", tmp_path / "crnplan.toml")
     assert "is said by crnplan backtest FOLDER" in Page(out / name).words
     with own_folder(out, CATALOGUE) as folder:
-        Store(folder.store(TESTS), Backtest).close()  # a test that was broken off at once
+        Facts(folder.store(TESTS)).close()  # a test that was broken off at once
     crnplan("report", out)
     assert "is said by crnplan backtest FOLDER" in Page(out / name).words
     crnplan("backtest", out, *WORDS, "--jobs", 1)

@@ -19,7 +19,7 @@ import pytest
 from crnplan.curve.exchange_curve import CANDIDATES, CURVE, LEFT_OUT, POLICIES, exchange_curve
 from crnplan.files import MARKER
 from crnplan.jobs import BATCH
-from crnplan.plan.catalogue import ANSWERS
+from crnplan.plan.catalogue import ANSWERS, IN_CHUNKS
 from planner.tests.catalogue.conftest import FAST, FILES, TABLES, WORDS, leave_few
 from planner.tests.catalogue.made import Made
 from planner.tests.conftest import Command, heed_interrupts, script, shared
@@ -92,7 +92,10 @@ def start(folder: Path, holding: Path) -> Iterator[Start]:
 
 
 def answers(folder: Path, name: str = ANSWERS) -> set[tuple[object, ...]]:
-    """Returns the answers that are kept, by a look from outside: all columns."""
+    """Returns the answers that are kept, by a look from outside: all columns, or the lines of files and parts."""
+    if name == ANSWERS:
+        lines = (line for path in (folder / "plan" / IN_CHUNKS).glob("*") for line in path.read_bytes().splitlines(True))
+        return {(line,) for line in lines if line[32:35] == b' ["' and line[35:36] != b'"' and line.endswith(b"]\n")}
     try:
         base = sqlite3.connect(f"file:{folder}/plan/{name}?mode=ro", uri=True)
         with contextlib.closing(base):

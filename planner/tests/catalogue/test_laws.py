@@ -17,7 +17,8 @@ from crnplan.demand.borrowing import law_of
 from crnplan.demand.learning import Prior
 from crnplan.files import own_folder
 from crnplan.plan.answer import Answer
-from crnplan.plan.catalogue import PRIOR, PRIOR_WINDOW, learned_of, take_prior
+from crnplan.plan.catalogue import take_prior
+from crnplan.plan.learned import PRIOR, PRIOR_WINDOW, learned_of
 from crnplan.plan.one import allowed_by, plan_one
 from crnplan.plan.question import ALL, CLASS, NONE, Question, Settings, question_of
 from crnplan.records.catalogue_reading import ADD_ITEM, CATALOGUE as FOLDER, Catalogued, Writer

@@ -15,7 +15,7 @@ import pytest
 import crnplan as crn
 from crnplan.law import Law
 from crnplan.plan import swings
-from crnplan.plan.catalogue import Totals
+from crnplan.plan.totals import Totals
 from crnplan.plan.question import question_of
 from crnplan.plan.swings import (BEST, BEST_FILL, CASES, KEPT, KEPT_FILL, TODAY, Swing, changed_lead, estimated, shifted,
                                  swing_of, swings_of)

@@ -134,19 +134,25 @@ def test_a_late_batch_goes_to_another_worker(late: Sequence[str], wanted: Sequen
 
 def test_so_many_batches_are_under_way(monkeypatch: pytest.MonkeyPatch) -> None:
     """Gives at most so many batches at a time, by default as many as there are processors, and each answer once."""
-    under_way: list[int] = []
+    under_way, waiting = list[int](), list[Future[int]]()
 
     class Slow(jobs.Workers):
-        """Workers that are done with the last of their batches, whenever one waits for them."""
+        """Workers that are done with the last of their batches, whenever they are given some, or none."""
 
-        def submit(self, function: Any, words: Sequence[Any], late: Sequence[Any] = ()) -> Any:
-            return Future[int]()
+        are_others = True
 
-        def wait(self, running: Sequence[Any], seconds: float) -> None:
-            under_way.append(len(running))
-            running[-1].set_result(len(under_way))
-    assert [*Slow(3).answers(len, ((name, ()) for name in "abcde"))] == [*zip("cdeba", range(1, 6))]
-    assert under_way == [3, 3, 3, 2, 1]
+        def submit_all(self, function: Any, many: Sequence[Sequence[Any]]) -> list[Future[int]]:
+            waiting.extend(new := [Future[int]() for _ in many])
+            under_way.append(len(waiting))
+            if waiting:
+                waiting.pop().set_result(len(under_way))
+            return new
+    workers = Slow()
+    workers.most = 3
+    assert [*workers.answers(len, ((name, ()) for name in "abcde"))] == [*zip("cdeba", range(1, 6))]
+    assert under_way == [3, 3, 3, 2, 1, 0]
+    assert [name for name, _ in workers.answers(len, ((name, ()) for name in "abcde"), None)] == [*"edcba"]
+    assert under_way[6:] == [5, 4, 3, 2, 1, 0]
     monkeypatch.setattr(jobs, "processes", lambda count: count)
     monkeypatch.setattr(jobs, "cluster", lambda *words: words)
     found = jobs.workers_of(3, None), jobs.workers_of(None, None), jobs.workers_of(3, "here", "program")

@@ -6,6 +6,7 @@ import csv
 import json
 import os
 import pty
+import re
 import sqlite3
 import subprocess
 import sys
@@ -146,11 +147,17 @@ def test_levels_of_the_function_are_refused(base: Path, s: list[int], S: list[in
         crn.sweep(crn.Scenario.read(base), s, S, program="./counting")
 
 
+def counts(line: str) -> str:
+    """Returns a line of a log without its rate and the time that is left."""
+    return line.split(",")[0]
+
+
 def test_progress(crnplan: Command, room: Path) -> None:
     """A log has a line for each ninth, a terminal a bar."""
     told = crnplan(*TEN)
     wanted = [f"{done} of 10 scenarios (0 kept)" for done in (0, 2, 3, 4, 5, 6, 7, 8, 9, 10)]
-    assert told.status == 0 and told.errors.splitlines() == wanted and "\r" not in told.errors
+    assert told.status == 0 and [*map(counts, told.errors.splitlines())] == wanted and "\r" not in told.errors
+    assert re.fullmatch(r"10 of 10 scenarios \(0 kept\), [0-9.e+]+ a second, 00:00 left", told.errors.splitlines()[-1])
     ours, theirs = pty.openpty()
     with subprocess.Popen([sys.executable, "-m", "crnplan", *TEN], stdin=subprocess.DEVNULL,
                           stdout=subprocess.DEVNULL, stderr=theirs) as process:
@@ -167,12 +174,13 @@ def test_progress(crnplan: Command, room: Path) -> None:
 def test_lines_begin_and_end(capsys: pytest.CaptureFixture[str], total: int) -> None:
     """Checks the first and the last line, and that there are at most ten, for each kept number of a few."""
     for kept in {0, total // 2, total}:
-        with progress(total, kept, True, "scenarios") as show:
-            for done in range(kept + 1, total + 1):
-                show(done)
+        with progress(total, True, "scenarios", kept) as done:
+            done.add(0)
+            for _ in range(kept + 1, total + 1):
+                done.add(1)
         shown = capsys.readouterr().err.splitlines()
         assert shown[0] == f"{kept} of {total} scenarios ({kept} kept)" and len(shown) <= 10
-        assert shown[-1] == f"{total} of {total} scenarios ({kept} kept)"
-    with progress(total, 0, False, "scenarios") as show:
-        show(total)
+        assert counts(shown[-1]) == f"{total} of {total} scenarios ({kept} kept)"
+    with progress(total, False, "scenarios") as done:
+        done.add(total)
     assert capsys.readouterr() == ("", "")

@@ -10,14 +10,16 @@ from fractions import Fraction
 from pathlib import Path
 from typing import Any
 
+from crnplan.chunks import Answering, Chunked, finish
 from crnplan.curve.parts import Point
 from crnplan.curve.exchange_curve import keep_curve
 from crnplan.demand.learning import Prior
 from crnplan.files import Folder, own_folder
+from crnplan.jobs import Workers
 from crnplan.law import Law
 from crnplan.pages.catalogue_page import CATALOGUE_FILES, write_catalogue
 from crnplan.plan.answer import CHEAPER, RUN, SAME, SERVICE, THEORY, UNDECIDED, Answer, Figures, LawFacts, Laws, Run
-from crnplan.plan.catalogue import ANSWERS, Planned, PlannedFolder, Totals
+from crnplan.plan.catalogue import ANSWERS, IN_CHUNKS, PlanAsking, Planned, PlannedFolder, sums_of
 from crnplan.plan.question import Settings
 from crnplan.plan.survey import Survey
 from crnplan.plan.swings import CASES, SWINGS, Swing, drawn_items
@@ -60,17 +62,22 @@ def made_folder(path: Path, items: int, names: Sequence[str] = (), has_curve: bo
                        "periods": [1000, 1003], "currency": currency, "abc": [80, 95], "sources": {}})
         planned = Planned(Settings(), Prior("none"), "made")
         with (contextlib.closing(Catalogued(path / READ)) as read,
-              contextlib.closing(Store(folder.store(ANSWERS), Answer)) as answers):
-            planned.keep(answers)
-            digests = dict(read.digests(planned.common))
-            answers.keep((item.name, digests[item.name], answer) for item, answer in pairs)
+              contextlib.closing(Chunked(folder.store(ANSWERS), Answer, folder.inner(IN_CHUNKS))) as answers):
+            making = Answering(answers.folder, folder.room(), Answer, PlanAsking(read.path, planned), made_answers,
+                               ({item.name: answer for item, answer in pairs},), sums_of)
+            finish(answers, making, read.names, contextlib.nullcontext(Workers()), planned.facts, shown=False)
             if has_curve:
                 keep_curve(answers, made_curve((item, answer) for item, answer in pairs if isinstance(answer, Answer)))
             its = PlannedFolder(path, read, answers, planned)
             if has_swings:
                 keep_made(folder, its)
-            write_catalogue(folder, its, Totals.of(its.answers()), (), ())
+            write_catalogue(folder, its, its.totals, (), ())
     return path
+
+
+def made_answers(asked: Sequence[tuple[Item, Any]], answers: dict[str, Answer | Remark]) -> list[Answer | Remark]:
+    """Answers what is asked by what was made."""
+    return [answers[item.name] for item, _ in asked]
 
 
 def keep_made(folder: Folder, planned: PlannedFolder) -> None:

@@ -91,8 +91,8 @@ def test_only_items_with_a_past_are_tried() -> None:
     class Read:
         """Stands for a catalogue that was read."""
 
-        def items(self) -> list[Item]:
-            return items
+        def cells(self, *columns: str) -> list[list[object]]:
+            return [[getattr(item, name) for name in columns] for item in items]
     assert tried_names(Read()) == {"0"}  # type: ignore[arg-type]
 
 

@@ -13,7 +13,7 @@ from crnplan import formats
 from crnplan.errors import Refused
 from crnplan.money import rounded_costs
 from crnplan.plan.answer import Answer, LawFacts
-from crnplan.plan.catalogue import Totals, add_exactly
+from crnplan.plan.totals import Totals, add_exactly
 from crnplan.plan.question import finest
 from crnplan.records.item import Item
 from crnplan.remarks import Remark

@@ -28,7 +28,7 @@ from crnplan.records.item import NO_DEMAND
 from crnplan.records.items import Words
 from crnplan.records.stock import Arrival, OnHand
 from crnplan.remarks import Remark
-from crnplan.stored import Store
+from crnplan.stored import Facts
 from planner.tests.conftest import Command
 from planner.tests.pages.made_catalogue import made_folder, made_pair
 from planner.tests.plan.items import item_of
@@ -222,7 +222,7 @@ def test_stock_of_the_masters_and_dead_stock(tmp_path: Path, crnplan: Command, m
                                      ("left", Remark("no demand"), Fraction(6), 0)):
         item: Any = replace(quiet, stock=stock, past=NO_DEMAND if its == idle else ""), its
         made_folder(tmp_path / name, 12, has_curve=False, change=item)
-        with contextlib.closing(Store(tmp_path / name / ANSWERS, Answer)) as store:
+        with contextlib.closing(Facts(tmp_path / name / ANSWERS)) as store:
             store.keep_facts({PLANNED: (store.fact(PLANNED) or "").replace('"window": null', '"window": 5')})
         today = crn.open_plan(tmp_path / name).orders_today(date="2026-11-27")
         assert today.frame[today.frame.item == "Q-1"].placed.notna().sum() == orders
@@ -244,9 +244,9 @@ def test_command(folder: Path, stock: pd.DataFrame, tmp_path: Path, monkeypatch:
                  crnplan: Command) -> None:
     """The command changes nothing in the folder, has the rows of files, names what it leaves out, and writes tables."""
     monkeypatch.chdir(tmp_path)
-    before = {path: path.read_bytes() for path in folder.iterdir()}
+    before = {path: path.read_bytes() for path in folder.rglob("*") if path.is_file()}
     names = [*crn.open_plan(folder).decisions.item]
-    before_times = {path.name: path.stat().st_mtime_ns for path in folder.iterdir()}
+    before_times = {path: path.stat().st_mtime_ns for path in folder.rglob("*")}
     rows = [f"{names[0]};1,5", f"{names[0]};2", f"{names[1]};viel", f"{names[2]};0", ";3", f"{names[3]};-2", "X-1;4",
             f"{names[4]};0"]
     Path("stock.csv").write_text("\n".join(["Material;frei verwendbar", *rows, ""]), "utf-8")
@@ -264,8 +264,8 @@ def test_command(folder: Path, stock: pd.DataFrame, tmp_path: Path, monkeypatch:
     assert {*orders.code[[names[1], names[4]]]} == {"unread stock"} and orders.order[[names[1], names[4]]].isna().all()
     table = Path("today/today_orders.csv").read_text("utf-8")
     assert crnplan("today", folder, *words, "--csv", "orders").output == table
-    assert {path: path.read_bytes() for path in folder.iterdir()} == before
-    assert {path.name: path.stat().st_mtime_ns for path in folder.iterdir()} == before_times
+    assert {path: path.read_bytes() for path in folder.rglob("*") if path.is_file()} == before
+    assert {path: path.stat().st_mtime_ns for path in folder.rglob("*")} == before_times
     answer = crnplan("today", folder, *words, "--out", folder)
     assert answer.status == 2 and MARKER in answer.errors
     answer = crnplan("today", folder)
@@ -289,8 +289,8 @@ def test_plan_of_another_version(tmp_path: Path, crnplan: Command) -> None:
     """Answers with other columns are refused, and stay."""
     made_folder(tmp_path / "plan", 12, has_curve=False)
     with contextlib.closing(sqlite3.connect(tmp_path / "plan" / ANSWERS)) as base, base:
-        base.execute("ALTER TABLE answers DROP COLUMN laws_box")
+        base.execute("UPDATE facts SET value = 'other' WHERE name = 'columns'")
     answer = crnplan("today", tmp_path / "plan")
     assert answer.status == 2 and "run crnplan catalogue" in answer.errors
     with contextlib.closing(sqlite3.connect(tmp_path / "plan" / ANSWERS)) as base:
-        assert base.execute("SELECT count(*) FROM answers").fetchone() == (12,)
+        assert base.execute("SELECT sum(items) FROM chunks").fetchone() == (12,)

@@ -17,6 +17,7 @@ from typing import TYPE_CHECKING
 import numpy as np
 
 from ..chances import Floats
+from ..chunks import Chunked
 from ..crnsim.long_run import long_run_of
 from ..crnsim.report import counting
 from ..errors import Refused
@@ -97,9 +98,9 @@ class Gathered:
 def gather(own: Folder, folder: PlannedFolder, jobs: int | None, address: str | None, shown: bool) -> Gathered:
     """Computes the candidates of a planned folder that are not kept yet, and returns all. Raises Refused."""
     left_out, digests = list[tuple[str, Remark]](), dict[str, str]()
-    current, common = folder.store.digests(), folder.planned.common
+    common = folder.planned.common
     for (name, digest), item in zip(folder.read.digests(common), folder.read.items()):
-        answer = folder.store.answer(name) if current.get(name) == digest else Remark(NO_PLAN)
+        answer = folder.store.answer(name) if folder.store.digest_of(name) == digest else Remark(NO_PLAN)
         if isinstance(answer, Answer) and item.price and item.price > 0:
             digests[name] = digest_of(digest, VERSION, item.price)
         else:
@@ -326,26 +327,21 @@ def gap_text(gap: float) -> str:
     return f"{math.ceil(gap * 10_000 - 1e-6) / 100:.2f}%" if gap < math.inf else "not known"
 
 
-def plan_digest(answers: Store[Answer]) -> str:
-    """Returns the digest of what all answers depend on: a curve is of these answers alone."""
-    return digest_of(*sorted(answers.digests().items()))
-
-
-def keep_curve(answers: Store[Answer], points: Iterable[tuple[str, Point]]) -> None:
+def keep_curve(answers: Chunked[Answer], points: Iterable[tuple[str, Point]]) -> None:
     """Keeps the points of the curve of these answers for its page, the named ones first. Each has what it is for a
     reader: nothing on the line itself."""
     rows = [{"name": name, **point._asdict()} for name, point in points]
-    answers.keep_facts({DRAWN: json.dumps({"plan": plan_digest(answers), "points": rows})})
+    answers.keep_facts({DRAWN: json.dumps({"plan": answers.digest, "points": rows})})
 
 
-def kept_curve(answers: Store[Answer]) -> list[tuple[str, Point]] | None:
+def kept_curve(answers: Chunked[Answer]) -> list[tuple[str, Point]] | None:
     """Returns the points of the curve that is kept beside answers: none if they are of an earlier plan, None if there
     is no curve."""
     text = answers.fact(DRAWN)
     if text is None:
         return None
     tree = json.loads(text)
-    rows = tree["points"] if tree["plan"] == plan_digest(answers) else []
+    rows = tree["points"] if tree["plan"] == answers.digest else []
     return [(row.pop("name"), Point(**row)) for row in rows]
 
 

@@ -7,8 +7,9 @@ from collections.abc import Iterable, Mapping, Sequence
 from typing import NamedTuple
 
 from ..plan.answer import CHOSEN, SAME, TODAY
-from ..plan.catalogue import PlannedFolder, Totals
+from ..plan.catalogue import PlannedFolder
 from ..plan.survey import Survey
+from ..plan.totals import Totals
 from ..plan.swings import Swings, kept_swings
 from ..records.columns import periods_a_year
 from .catalogue_tables import Reason

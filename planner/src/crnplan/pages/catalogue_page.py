@@ -16,7 +16,8 @@ from ..curve.exchange_curve import kept_curve
 from ..files import Folder, own_folder
 from ..plan.answer import BOUNDED, CHEAPER, COMPARED, DEARER, SAME, SERVICE, UNCOMPARED, UNDECIDED, Answer
 from ..plan.backtest.catalogue import past_of
-from ..plan.catalogue import PlannedFolder, Totals, planned_folder
+from ..plan.catalogue import PlannedFolder, planned_folder
+from ..plan.totals import Totals
 from ..plan.item import Depth
 from ..plan.survey import Decided, Survey, saving_of
 from ..plan.swings import keep_swings

@@ -19,8 +19,9 @@ from ..errors import Refused
 from ..files import new_bytes
 from ..money import Currency
 from ..plan.answer import CHOSEN, TODAY
-from ..plan.catalogue import PlannedFolder, Totals, planned_folder
+from ..plan.catalogue import PlannedFolder, planned_folder
 from ..plan.survey import Survey
+from ..plan.totals import Totals
 from ..plan.today import today_of
 from ..records.cells import first_day
 from ..records.items import Words

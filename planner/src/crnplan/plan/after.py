@@ -3,11 +3,13 @@ from __future__ import annotations
 
 import contextlib
 import dataclasses
+import heapq
 import itertools
 import json
-from collections.abc import Iterable, Iterator
+from collections.abc import Container, Iterable, Iterator
 from typing import TYPE_CHECKING
 
+from ..chunks import Chunk
 from ..errors import Refused
 from ..files import Folder
 from ..records.catalogue_reading import Catalogued
@@ -48,21 +50,16 @@ def taken(answer: Answer | Remark) -> Answer | Remark:
     return answer if isinstance(answer, Remark) else dataclasses.replace(answer, before=answer.chosen)
 
 
-def take_over(answers: Store[Answer], read: Catalogued, planned: Planned, earlier: PlannedFolder) -> None:
-    """Keeps the answers of an earlier plan to questions that have not changed, but for those whose policy stayed by
-    another least gain."""
-    kept, before = answers.digests(), dict(earlier.read.digests(earlier.planned.base))
+def taken_over(read: Catalogued, planned: Planned, earlier: PlannedFolder, chunk: Chunk,
+               left: Container[str]) -> Iterator[tuple[str, Answer | Remark]]:
+    """Yields the answers of an earlier plan to those questions of a chunk, among those that are left, that have not
+    changed, but for those whose policy stayed by another least gain."""
+    before = dict(earlier.read.digests(earlier.planned.base, *chunk))
     is_other = planned.settings.least_gain != earlier.settings.least_gain
-
-    def same() -> Iterator[tuple[str, str, Answer | Remark]]:
-        for (name, base), (_, digest) in zip(read.digests(planned.base), read.digests(planned.common)):
-            if before.get(name) == base and kept.get(name) != digest:
-                answer = earlier.store.answer(name)
-                if isinstance(answer, Remark) or not (answer.undamped and is_other):
-                    yield name, digest, taken(answer)
-    rest = same()
-    while some := [*itertools.islice(rest, AT_ONCE)]:
-        answers.keep(some)
+    for name, base in read.digests(planned.base, *chunk):
+        answer = earlier.store.answer(name) if name in left and before.get(name) == base else None
+        if answer is not None and (isinstance(answer, Remark) or not (answer.undamped and is_other)):
+            yield name, taken(answer)
 
 
 def common_changes(earlier: Planned, planned: Planned) -> Iterator[Remark]:
@@ -84,7 +81,7 @@ def pairs_of(earlier: PlannedFolder, now: PlannedFolder) -> Iterator[Pair]:
     """Yields the items of both plans in order of their names, with all their periods."""
     left = {reject.item: reject.remark for reject in now.read.rejects() if reject.kind == "item"}
     with contextlib.closing(Catalogued(now.read.path)) as new, contextlib.closing(Catalogued(earlier.read.path)) as old:
-        for name in sorted({*old.names(), *new.names()}):
+        for name, _ in itertools.groupby(heapq.merge(old.names(), new.names())):
             before, after = earlier.answer(name), now.answer(name)
             items = old.item(name), new.item(name)
             fault = after if isinstance(after, Remark) else left.get(name)

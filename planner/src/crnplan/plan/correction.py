@@ -10,13 +10,10 @@ from __future__ import annotations
 
 import contextlib
 import dataclasses
-import hashlib
-import heapq
 import itertools
 import json
 import math
 from collections.abc import Iterator, Sequence
-from typing import Any
 
 import numpy as np
 
@@ -28,10 +25,11 @@ from ..jobs import Work, Workers
 from ..records.catalogue_reading import Catalogued
 from ..records.item import USUAL, Item
 from ..remarks import Remark
-from ..stored import Store
+from ..stored import Facts, Store
 from ..theory.long_run import LongRun
 from .aims import FILLS, Aims, Trial
 from .backtest.periods import Past, periods_of
+from .learned import drawn_from
 from .one import or_fault
 from .question import Levels, Settings, question_of
 
@@ -94,11 +92,11 @@ def try_batch(items: Sequence[Item], settings: Settings, prior: Prior) -> list[T
 def tried_names(read: Catalogued) -> frozenset[str]:
     """Returns the names of the items with a past and a wanted fill rate, of at most 1,000 with the least digests, which
     is as good as at random."""
-    names = (item.name for item in read.items() if item.fill is not None and item.past == USUAL)
-    return frozenset(heapq.nsmallest(MOST_ITEMS, names, key=lambda name: hashlib.sha256(name.encode()).digest()))
+    facts = read.cells("name", "fill", "past")
+    return drawn_from((name for name, fill, past in facts if fill is not None and past == USUAL), MOST_ITEMS)
 
 
-def aims_of(folder: Folder, answers: Store[Any], read: Catalogued, settings: Settings, prior: Prior, *, again: bool,
+def aims_of(folder: Folder, answers: Facts, read: Catalogued, settings: Settings, prior: Prior, *, again: bool,
             workers: contextlib.AbstractContextManager[Workers], shown: bool) -> Aims:
     """Returns at which fill rates the items of a catalogue aim. What was learned before is used again as it is, also if
     items change, unless it is to be learned `again`, or items are planned in another way. Trials are kept in the
@@ -109,7 +107,7 @@ def aims_of(folder: Folder, answers: Store[Any], read: Catalogued, settings: Set
         return Aims.parse(kept["aims"])
     names = tried_names(read)
     with contextlib.closing(Store(folder.store(TRIALS), Trial)) as trials:
-        work = Work(trials, {name: digest for name, digest in read.digests(common) if name in names})
+        work = Work(trials, {name: read.digest(name, common) for name in sorted(names)})
         work.finish(try_batch, read.item, on, prior, workers=workers, shown=shown, unit="trials")
         tried = [trial for name, _, trial in trials.answers() if name in names and isinstance(trial, Trial)]
     if len(tried) < LEAST_ITEMS:

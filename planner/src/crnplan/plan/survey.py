@@ -10,7 +10,9 @@ from ..records.item import NO_DEMAND, Item
 from ..records.items import Reject
 from ..remarks import Remark
 from .answer import COMPARED, Answer
-from .catalogue import PlannedFolder, Totals, drawn_from
+from .catalogue import PlannedFolder
+from .learned import drawn_from
+from .totals import Totals
 
 MOST_DRAWN = 100  # items from which all follow
 MOST_NAMES = 10_000  # from which these are drawn at a time

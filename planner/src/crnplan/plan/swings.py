@@ -22,10 +22,11 @@ from ..records.item import Item
 from ..remarks import Remark
 from ..stored import Store, digest_of
 from .answer import Answer
-from .catalogue import PlannedFolder, Totals
+from .catalogue import PlannedFolder
 from .one import choice_of, figures_of, or_fault
 from .question import Levels, Question, Settings, question_of, rates_of
 from .survey import Survey
+from .totals import Totals
 
 SWINGS = "swings.sqlite"
 VERSION = 1  # Answers of others are not used again.
@@ -124,13 +125,13 @@ def swing_batch(batch: Sequence[tuple[Item, Answer]], settings: Settings, prior:
 
 def drawn_items(folder: PlannedFolder, survey: Survey) -> dict[str, str]:
     """Returns the items of a survey that are drawn, each with the digest of all that its figures depend on."""
-    return {name: digest_of(folder.store.digest(name), VERSION) for name in survey.drawn}
+    return {name: digest_of(folder.store.digest_of(name), VERSION) for name in survey.drawn}
 
 
 def keep_swings(own: Folder, folder: PlannedFolder, survey: Survey, *, jobs: int | None = None, address: str | None = None,
                 shown: bool = False) -> None:
     """Computes the figures of a planned folder that are not kept yet, and keeps them."""
-    def asked(name: str) -> tuple[Item | None, Answer | Remark]:
+    def asked(name: str) -> tuple[Item | None, Answer | Remark | None]:
         return folder.read.item(name), folder.store.answer(name)
     with contextlib.closing(Store(own.store(SWINGS), Swing)) as kept:
         Work(kept, drawn_items(folder, survey)).finish(swing_batch, asked, folder.settings, folder.planned.prior,

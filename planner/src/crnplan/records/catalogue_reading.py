@@ -46,14 +46,15 @@ ADD_ITEM, ADD_REJECT = ITEM.insert("items"), REJECT.insert("rejects")
 class Catalogued:
     """What was read of a catalogue: its items in order of their names, what was left out, and facts by name."""
 
-    def __init__(self, path: Path, window: int | None = None) -> None:
+    def __init__(self, path: Path, window: int | None = None, is_known: bool = False) -> None:
         """Opens a file that was written by `Writer`, whose items are given by their last `window` periods, or by all.
-        Raises Refused if it is not there, and Damaged."""
+        Raises Refused if it is not there, and Damaged, but for a file that is known to be whole."""
         if not path.is_file():
             raise Refused(f"{path.parent}: no catalogue was read into this folder", "run crnplan catalogue first")
         self.path, self.window = path, window
-        self.base = sqlite3.connect(f"file:{path}?mode=ro", uri=True)
-        check_whole(self.base, path)
+        self.base = sqlite3.connect(f"{path.absolute().as_uri()}?mode=ro", uri=True)
+        if not is_known:
+            check_whole(self.base, path)
 
     def fact(self, name: str) -> Any:
         (text,) = self.base.execute("SELECT value FROM facts WHERE name = ?", [name]).fetchone()
@@ -72,24 +73,43 @@ class Catalogued:
         """Returns the rows of all items in order, or of the item of a name."""
         return self.base.execute(f"SELECT {columns} FROM items {'WHERE name = ?' * len(name)} ORDER BY name", name)
 
-    def digests(self, common: str) -> Iterator[tuple[str, str]]:
+    def _range(self, columns: str, start: str, stop: str | None) -> sqlite3.Cursor:
+        """Returns the rows, in order, of the items whose names are not before one, but before another, if there is one.
+        """
+        names = [start] if stop is None else [start, stop]
+        return self.base.execute(f"SELECT {columns} FROM items WHERE name >= ? {'AND name < ?' * (len(names) - 1)} "
+                                 "ORDER BY name", names)
+
+    def digests(self, common: str, start: str = "", stop: str | None = None) -> Iterator[tuple[str, str]]:
         """Yields the name of each item with the digest of what its plan depends on, and of what is common to all."""
-        yield from ((row[0], digest_of(common, row)) for row in self._rows(quoted(PLANNED)))
+        yield from ((row[0], digest_of(common, row)) for row in self._range(quoted(PLANNED), start, stop))
 
     def digest(self, name: str, common: str) -> str:
         """Returns the digest of what the plan of an item depends on."""
         return digest_of(common, self._rows(quoted(PLANNED), name).fetchone())
 
+    def cells(self, *columns: str) -> Iterator[tuple[Any, ...]]:
+        """Yields some columns of all items, as they are kept, in order."""
+        yield from self._rows(quoted(columns))
+
     def names(self, *pasts: str) -> Iterator[str]:
         """Yields the names of the items with one of these pasts, or of all."""
-        yield from (name for name, past in self._rows("name, past") if not pasts or past in pasts)
+        yield from (name for name, past in self.cells("name", "past") if not pasts or past in pasts)
 
-    def whole_items(self) -> Iterator[Item]:
+    def whole_items(self, start: str = "", stop: str | None = None) -> Iterator[Item]:
         """Yields the items by all their periods."""
-        yield from map(ITEM.value, self._rows("*"))
+        yield from map(ITEM.value, self._range("*", start, stop))
 
-    def items(self) -> Iterator[Item]:
-        yield from (item.last(self.window) for item in self.whole_items())
+    def counting(self, item: Item) -> Item:
+        """Returns an item by the periods that count."""
+        return item.last(self.window)
+
+    def items(self, start: str = "", stop: str | None = None) -> Iterator[Item]:
+        yield from map(self.counting, self.whole_items(start, stop))
+
+    def some_items(self, names: Iterable[str]) -> Iterator[Item]:
+        """Yields the items of some names, as `items` does."""
+        yield from (self.counting(ITEM.value(row)) for name in names for row in self._rows("*", name))
 
     def item(self, name: str) -> Item | None:
         """Returns the item of a name; None if there is none."""

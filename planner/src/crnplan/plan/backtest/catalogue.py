@@ -5,23 +5,24 @@ from __future__ import annotations
 import contextlib
 import dataclasses
 import json
-from collections.abc import Iterable, Iterator, Sequence
+from collections.abc import Container, Iterable, Sequence
 from dataclasses import dataclass
 from pathlib import Path
 
+from ...chunks import Answering, Chunk, Chunked, finish
 from ...demand.learning import Prior
 from ...files import Folder, faults_of
-from ...jobs import Work, workers_of
+from ...jobs import workers_of
 from ...records.catalogue_reading import READ, Catalogued
 from ...records.item import Item
 from ...remarks import Remark
-from ...stored import Store
-from ..catalogue import PlannedFolder, learned_of
+from ..catalogue import PlannedFolder, whole_digest
+from ..learned import learned_of
 from ..question import Settings
 from .one import Backtest, Walk, backtest_item
 from .sums import ALL_ITEMS, Sums, sums_of
 
-TESTS = "backtest.sqlite"
+TESTS, IN_CHUNKS = "backtest.sqlite", "backtest"
 TESTED = "tested"  # a fact of the store: the text that all digests have, and the settings
 
 
@@ -29,12 +30,12 @@ class Records(Catalogued):
     """A catalogue as it was at the end of the record of each item, by the last periods of that which count for a plan,
     but for `item`, which has all periods."""
 
-    def __init__(self, path: Path, record: int, counting: int | None) -> None:
+    def __init__(self, path: Path, record: int, periods: int | None) -> None:
         super().__init__(path)
-        self.record, self.counting = record, counting
+        self.record, self.periods = record, periods
 
-    def items(self) -> Iterator[Item]:
-        yield from (item.part(0, self.record).last(self.counting) for item in super().items())
+    def counting(self, item: Item) -> Item:
+        return item.part(0, self.record).last(self.periods)
 
 
 def whole_of(sums: Iterable[Sums]) -> Sums | None:
@@ -84,23 +85,40 @@ def past_of(planned: PlannedFolder) -> Past | None:
     """Returns what the test in the folder of a plan says; None if there is none."""
     if not (planned.path / TESTS).is_file():
         return None
-    with contextlib.closing(Store(planned.path / TESTS, Backtest)) as tests:
+    with contextlib.closing(Chunked(planned.path / TESTS, Backtest, planned.path / IN_CHUNKS)) as tests:
         fact = tests.fact(TESTED)
         if fact is None:
             return None
         common, settings = json.loads(fact)
-        digests = tests.digests()
-        own = uncorrected(planned.settings)
-        if settings != dataclasses.asdict(own) or any(
-                digests.get(name) != digest for name, digest in planned.read.digests(common)):
+        if settings != dataclasses.asdict(uncorrected(planned.settings)) or (
+                tests.digest != whole_digest(planned.read, common)):
             return Past(None, True, False)
-        names = {*planned.read.names()}
-        kept = (test for name, _, test in tests.answers() if name in names and isinstance(test, Backtest))
+        kept = (test for _, _, test in tests.answers() if isinstance(test, Backtest))
         return Past(whole_of(sums_of(kept)), False, planned.settings.correct)
 
 
 def backtest_batch(batch: Sequence[Item], settings: Settings, prior: Prior, walk: Walk) -> list[Backtest | Remark]:
     return [backtest_item(item, settings, prior, walk) for item in batch]
+
+
+@dataclass(frozen=True)
+class TestAsking:
+    """What is asked of the items of a catalogue that was read, to test them: their facts. `common` is what all tests
+    depend on."""
+
+    read: Path
+    common: str
+
+    def digests(self, chunk: Chunk) -> list[tuple[str, str]]:
+        with contextlib.closing(Catalogued(self.read, is_known=True)) as read:
+            return [*read.digests(self.common, *chunk)]
+
+    def asked(self, chunk: Chunk) -> list[Item]:
+        with contextlib.closing(Catalogued(self.read, is_known=True)) as read:
+            return [*read.items(*chunk)]
+
+    def taken(self, chunk: Chunk, left: Container[str]) -> Iterable[tuple[str, Backtest | Remark]]:
+        return ()
 
 
 def backtest_into(folder: Folder, settings: Settings, walk: Walk, *, jobs: int | None = None,
@@ -109,16 +127,17 @@ def backtest_into(folder: Folder, settings: Settings, walk: Walk, *, jobs: int |
     would have at the end of their records."""
     with (faults_of(folder.path),
           contextlib.closing(Records(folder.path / READ, walk.record, settings.window)) as read,
-          contextlib.closing(Store(folder.store(TESTS), Backtest)) as tests):
+          contextlib.closing(Chunked(folder.store(TESTS), Backtest, folder.inner(IN_CHUNKS))) as tests):
         prior, usual, learned = learned_of(tests, read, settings, again=True)
         settings = dataclasses.replace(uncorrected(settings), borrow=usual, every=read.fact("every"))
         common = settings.common(repr(walk), prior)
-        tests.keep_facts({TESTED: json.dumps([common, dataclasses.asdict(settings)])})
-        work = Work(tests, dict(read.digests(common)))
-        work.finish(backtest_batch, read.item, settings, prior, walk, workers=workers_of(jobs, address), shown=shown)
-        kept = tests.answers()
-        items = [(item, next(test for name, _, test in kept if name == item.name))
-                 for item in Catalogued.items(read)]
+        making = Answering(tests.folder.resolve(), folder.room().resolve(), Backtest,
+                           TestAsking(read.path.resolve(), common), backtest_batch, (settings, prior, walk))
+        made = finish(tests, making, read.names, workers_of(jobs, address),
+                      {TESTED: json.dumps([common, dataclasses.asdict(settings)])}, shown=shown)
+        answers = (test for _, _, test in tests.answers())
+        items = [*zip(read.whole_items(), answers, strict=True)]
+        kept = sum(one.kept for one in made)
         sums = sums_of(test for _, test in items if isinstance(test, Backtest))
         return Tested(walk, read.fact("every"), read.fact("decimals"), read.fact("counts")["items"]["named"], items,
-                      sums, learned, len(work.left), work.kept)
+                      sums, learned, len(items) - kept, kept)

@@ -1,0 +1,406 @@
+"""Keeps the answers to the items of a catalogue in chunks, which workers make, so that nothing grows in the main process.
+
+A chunk is a range of names. Its file has a line for each item, in order of names, and a last line with counts, sums and
+a digest. Each line is sealed. The name of the file says the range, and the digest of all that its answers depend on: so
+a file that is there is not made again, and the files of a plan stay as they are while the next one is made. An index
+says which files are those of a plan. It is committed when all are there; then all others are removed.
+
+A file is written under another name, a few items at a time, and renamed. What a killed worker leaves is taken over by
+the next one, item by item; so is what other files have of the same items. Ranges follow from the items alone, and the
+answers, sums and digests of a catalogue do not depend on them.
+
+All chunks are given to the workers at once, as ranges: a worker reads the items from the folder of the main process, and
+writes the file there. To a worker that does not see this folder the items of a chunk are sent, and the bytes of the file
+come back. Then only so many chunks are under way as there are workers, twice.
+"""
+from __future__ import annotations
+
+import bisect
+import contextlib
+import hashlib
+import itertools
+import json
+import os
+import tempfile
+from collections.abc import Callable, Iterable, Iterator, Mapping, Sequence
+from dataclasses import dataclass, field
+from pathlib import Path
+from typing import Any, Generic, NamedTuple, Protocol, TypeVar, cast
+
+from .files import new_bytes
+from .jobs import BATCH, Workers, progress
+from .remarks import Remark
+from .stored import DIGITS, Columns, Damaged, Facts, digest_of
+from .table import Json
+
+# Items of a chunk. Of small catalogues there are fewer, so that there are enough chunks for all workers.
+LEAST_ITEMS, MOST_ITEMS, MANY_CHUNKS = 8, 256, 256
+ENDING, PART = ".lines", ".part"
+AHEAD = 2  # chunks that are sent to a worker at a time
+COLUMNS = "columns"  # a fact: the columns of the answers in an index
+Row = TypeVar("Row")
+Begun = TypeVar("Begun")
+
+
+class Chunk(NamedTuple):
+    """The items whose names are not before one, but before another (None: up to the last one)."""
+
+    start: str = ""
+    stop: str | None = None
+
+    @property
+    def code(self) -> str:
+        """Returns a text for the range, of letters and digits."""
+        return digest_of(*self)
+
+
+EVERYTHING = Chunk()
+
+
+def chunks_of(names: Iterable[str], count: int) -> list[Chunk]:
+    """Returns the chunks of so many names, which are given in order."""
+    size = min(max(-(-count // MANY_CHUNKS), LEAST_ITEMS), MOST_ITEMS)
+    return [*map(Chunk._make, itertools.pairwise(["", *itertools.islice(names, size, None, size), None]))]
+
+
+def sum_of_digests(digests: Iterable[str]) -> str:
+    """Returns a digest of some digests, in whatever order: their sum. So that of a catalogue is the sum of those of its
+    chunks, whatever these are."""
+    return f"{sum(int(digest, 16) for digest in digests) % 16**DIGITS:0{DIGITS}x}"
+
+
+class Made(NamedTuple):
+    """The file of a chunk: its name, how many items it has, of which so many were `kept` from before, the digest of all
+    that they depend on, and sums."""
+
+    chunk: Chunk
+    file: str
+    items: int
+    kept: int
+    digest: str
+    sums: Json = None
+
+
+class Making(Protocol[Begun]):
+    """How the files of chunks are made: what workers are sent, with pickle.
+
+    `folder` is that of the files. `room` is a folder that is there only as long as the run, by which a worker knows
+    that it sees the disk of the main process.
+    """
+
+    @property
+    def folder(self) -> Path: ...
+
+    @property
+    def room(self) -> Path: ...
+
+    def begin(self, chunk: Chunk, *words: Any) -> Made | Begun:
+        """Returns a file that is there, or what is to be known to make it: this is read from the main process's disk.
+        """
+
+    def write(self, begun: Begun, folder: Path) -> Made:
+        """Makes the file in a folder: whole, or not at all."""
+
+
+def make_here(making: Making[Any], *task: Any) -> Made | None:
+    """Makes the file of a chunk; returns None if this worker does not see the folder of the main process."""
+    if not making.room.is_dir():
+        return None
+    begun = making.begin(*task)
+    return begun if isinstance(begun, Made) else making.write(begun, making.folder)
+
+
+def make_away(making: Making[Any], begun: Any) -> tuple[Made, bytes]:
+    """Makes the file of a chunk in a folder of its own, and returns its bytes."""
+    with tempfile.TemporaryDirectory(prefix="crnplan-") as room:
+        made = making.write(begun, Path(room))
+        return made, (Path(room) / made.file).read_bytes()
+
+
+def made_by(workers: Workers, making: Making[Any], tasks: Iterable[Sequence[Any]]) -> Iterator[Made]:
+    """Yields the files of chunks as they come. A task is a chunk with the further words of `begin`."""
+    blind, shared = list[Sequence[Any]](), workers.share([making])
+    for task, made in workers.answers(make_here, ((task, [*shared, *task]) for task in tasks), None):
+        if made:
+            yield made
+        else:
+            blind.append(task)
+    sent = ((None, [*shared, making.begin(*task)]) for task in blind)
+    for _, (made, data) in workers.answers(make_away, sent, AHEAD):
+        with new_bytes(making.folder / made.file) as file:
+            file.write(data)
+        yield made
+
+
+def sealed(value: Any) -> bytes:
+    """Returns a value as a line of JSON behind its digest."""
+    text = json.dumps(value, separators=(",", ":")).encode()
+    return b"%s %s\n" % (_seal(text), text)
+
+
+def _seal(text: bytes) -> bytes:
+    return hashlib.sha256(text).hexdigest()[:DIGITS].encode()
+
+
+def opened(line: bytes) -> Any:
+    """Returns the value of a sealed line. Raises ValueError if it is cut, or not as it was written."""
+    seal, _, text = line.partition(b" ")
+    if not text.endswith(b"\n") or _seal(text[:-1]) != seal:
+        raise ValueError("a line is not as it was written")
+    return json.loads(text)
+
+
+class Lines(Generic[Row]):
+    """How answers are kept in the lines of files."""
+
+    def __init__(self, kind: type[Row]) -> None:
+        self.columns = Columns(kind)
+        self.version = digest_of(*self.columns.answer_names)
+
+    def head(self, chunk: Chunk) -> bytes:
+        """Returns the first line of a file."""
+        return sealed([self.version, *chunk])
+
+    def line(self, name: str, digest: str, answer: Row | Remark) -> bytes:
+        """Returns the line of an answer, with the digest of all that it depends on."""
+        return sealed([name, digest, *self.columns.answer_cells(answer)])
+
+    def end(self, made: Made) -> bytes:
+        """Returns the last line of a file."""
+        return sealed({"end": [made.items, made.digest, made.sums]})
+
+    def chunk(self, path: Path) -> Chunk | None:
+        """Returns the chunk whose file or part this is; None if it is none of this version."""
+        with contextlib.suppress(ValueError, OSError), path.open("rb") as file:
+            version, start, stop = opened(file.readline())
+            if version == self.version:
+                return Chunk(start, stop)
+        return None
+
+    def known(self, path: Path, digests: Mapping[str, str]) -> Iterator[tuple[str, bytes]]:
+        """Yields of a file or part, up to where it is cut, the names and lines of answers that have these digests."""
+        with contextlib.suppress(ValueError, OSError), path.open("rb") as file:
+            next(file, None)
+            for line in file:
+                value = opened(line)
+                if isinstance(value, list) and digests.get(value[0]) == value[1]:
+                    yield value[0], line
+
+    def made(self, folder: Path, file: str, chunk: Chunk) -> Made | None:
+        """Returns a file if it is there and whole, as far as its end says that, as one that is kept."""
+        with contextlib.suppress(ValueError, OSError):
+            *_, last = (folder / file).open("rb")
+            items, digest, sums = opened(last)["end"]
+            return Made(chunk, file, items, items, digest, sums)
+        return None
+
+    def answers(self, path: Path) -> Iterator[tuple[str, str, Row | Remark]]:
+        """Yields each name in order with the digest and the answer. Raises Damaged."""
+        try:
+            with path.open("rb") as file:
+                next(file)
+                for line in file:
+                    value = opened(line)
+                    if isinstance(value, dict):
+                        return
+                    yield value[0], value[1], self.columns.answer(value[2:])
+        except (ValueError, StopIteration, FileNotFoundError) as fault:
+            raise Damaged(path, str(fault) or "it is empty") from fault
+        raise Damaged(path, "its end is missing")
+
+
+class Asking(Protocol):
+    """What is asked of the items of a chunk. It is sent to workers, and reads from the disk of the main process."""
+
+    def digests(self, chunk: Chunk) -> Iterable[tuple[str, str]]:
+        """Returns the names in order, each with the digest of all that its answer depends on."""
+
+    def asked(self, chunk: Chunk) -> Iterable[Any]:
+        """Returns what the function is asked of each of these."""
+
+    def taken(self, chunk: Chunk, left: Mapping[str, str]) -> Iterable[tuple[str, Any]]:
+        """Returns answers that are known from elsewhere, to some of those that are left."""
+
+
+@dataclass
+class Asked:
+    """What is asked of a chunk: names, digests and what is asked of each, and the lines of those that are known."""
+
+    chunk: Chunk
+    file: str
+    digest: str
+    rows: Sequence[tuple[str, str, Any]]
+    known: dict[str, bytes] = field(repr=False)
+
+
+@dataclass(frozen=True)
+class Answering(Generic[Row]):
+    """How the files with the answers to chunks are made: a function is called with what is asked of a batch of items,
+    and with further words. `sums` returns what a chunk adds up to, from what is asked of each item and its answer."""
+
+    folder: Path
+    room: Path
+    kind: type[Row]
+    asking: Asking
+    function: Callable[..., list[Row | Remark]]
+    words: tuple[Any, ...]
+    sums: Callable[[Iterable[tuple[Any, Row | Remark]]], Json] | None = None
+
+    def has(self, made: Made) -> bool:
+        """Returns whether the file of a chunk is there, and its answers are to what is asked now."""
+        digests = self.asking.digests(made.chunk)
+        return (self.folder / made.file).exists() and made.digest == sum_of_digests(digest_of(*it) for it in digests)
+
+    def begin(self, chunk: Chunk, *others: str) -> Made | Asked:
+        """Returns the file if it is there, else what is asked, with what other files and parts know of it."""
+        lines, digests = Lines(self.kind), dict(self.asking.digests(chunk))
+        digest = sum_of_digests(digest_of(*pair) for pair in digests.items())
+        file = f"{digest_of(lines.version, *chunk)}-{digest}{ENDING}"
+        if made := lines.made(self.folder, file, chunk):
+            return made
+        known = {name: line for other in others for name, line in lines.known(self.folder / other, digests)}
+        left = {name: digest for name, digest in digests.items() if name not in known}
+        if left:
+            known |= {name: lines.line(name, digests[name], answer) for name, answer in self.asking.taken(chunk, left)}
+        asked = zip(digests.items(), self.asking.asked(chunk), strict=True)
+        return Asked(chunk, file, digest, [(*pair, words) for pair, words in asked], known)
+
+    def write(self, begun: Asked, folder: Path) -> Made:
+        lines = Lines(self.kind)
+        for number in itertools.count():
+            part = folder / f"{begun.file}.{number}{PART}"
+            with contextlib.suppress(FileExistsError), part.open("xb") as file:
+                return self._write(begun, lines, file, folder / begun.file)
+            begun.known.update(lines.known(part, {name: digest for name, digest, _ in begun.rows}))
+        raise AssertionError("there are always more numbers")
+
+    def _write(self, begun: Asked, lines: Lines[Row], file: Any, path: Path) -> Made:
+        """Writes a part, batch by batch, and gives it the name of the file."""
+        file.write(lines.head(begun.chunk))
+        kept = sum(name in begun.known for name, *_ in begun.rows)
+        for some in batched(begun.rows, BATCH):
+            new = [row for row in some if row[0] not in begun.known]
+            answers = self.function([asked for *_, asked in new], *self.words) if new else []
+            begun.known |= {name: lines.line(name, digest, answer)
+                            for (name, digest, _), answer in zip(new, answers, strict=True)}
+            file.write(b"".join(begun.known[name] for name, *_ in some))
+            file.flush()
+        answered = ((asked, lines.columns.answer(opened(begun.known[name])[2:])) for name, _, asked in begun.rows)
+        made = Made(begun.chunk, path.name, len(begun.rows), kept, begun.digest,
+                    self.sums(answered) if self.sums else None)
+        file.write(lines.end(made))
+        file.flush()
+        os.fsync(file.fileno())
+        os.replace(file.name, path)
+        return made
+
+
+def batched(values: Iterable[Row], most: int) -> Iterator[list[Row]]:
+    """Yields values in lists of at most so many."""
+    rest = iter(values)
+    while some := [*itertools.islice(rest, most)]:
+        yield some
+
+
+class Chunked(Facts, Generic[Row]):
+    """The answers to the items of a catalogue by name: facts, and an index of the files of its chunks, in SQLite."""
+
+    def __init__(self, path: Path, kind: type[Row], folder: Path, is_known: bool = False) -> None:
+        """Opens the index of files in a folder, or makes it. Answers with other columns are of another version, as if
+        there were none. Raises Damaged, but for an index that is known to be whole."""
+        super().__init__(path, is_known)
+        self.folder, self.lines = folder, Lines(kind)
+        self.base.execute("CREATE TABLE IF NOT EXISTS chunks (start TEXT PRIMARY KEY, stop, file, items, digest, sums)")
+        is_ours = self.fact(COLUMNS) == self.lines.version
+        rows = self.base.execute("SELECT start, stop, file, items, digest FROM chunks ORDER BY start")
+        self.made = [Made(Chunk(*row[:2]), row[2], row[3], row[3], row[4]) for row in rows] if is_ours else []
+        self._last = "", list[bytes]()
+
+    @property
+    def digest(self) -> str:
+        """Returns a digest of what all answers depend on, whatever the chunks are."""
+        return sum_of_digests(made.digest for made in self.made)
+
+    def sums(self) -> Iterator[Json]:
+        """Yields the sums of each chunk."""
+        yield from (json.loads(text) for (text,) in self.base.execute("SELECT sums FROM chunks ORDER BY start"))
+
+    def tasks(self, chunks: Sequence[Chunk]) -> list[tuple[Any, ...]]:
+        """Returns each of some chunks with the names of all files and parts that may have answers to its items."""
+        starts, others = [chunk.start for chunk in chunks], [list[str]() for _ in chunks]
+        for path in sorted(self.folder.iterdir()):
+            if it := self.lines.chunk(path):
+                first = bisect.bisect_right(starts, it.start) - 1
+                stop = len(chunks) if it.stop is None else bisect.bisect_left(starts, it.stop)
+                for names in others[max(0, first):stop]:
+                    names.append(path.name)
+        return [(chunk, *names) for chunk, names in zip(chunks, others)]
+
+    def commit(self, made: Sequence[Made], facts: Mapping[str, str]) -> None:
+        """Makes files the answers of this index, with facts, and removes all others."""
+        with self.base:
+            self.base.execute("DROP TABLE IF EXISTS answers")  # of an earlier version
+            self.base.execute("DELETE FROM chunks")
+            self.base.executemany("INSERT INTO chunks VALUES (?, ?, ?, ?, ?, ?)", (
+                (*it.chunk, it.file, it.items, it.digest, json.dumps(it.sums)) for it in made))
+            self.base.executemany("INSERT OR REPLACE INTO facts VALUES (?, ?)", [
+                *facts.items(), (COLUMNS, self.lines.version)])
+        self.made, names = [*made], {it.file for it in made}
+        for path in self.folder.iterdir():
+            if path.name not in names:
+                path.unlink(missing_ok=True)
+
+    def _line(self, name: str) -> bytes | None:
+        """Returns the line with the answer to an item; None if there is none. The last file that was read is known."""
+        place = bisect.bisect_right(self.made, name, key=lambda made: made.chunk.start) - 1
+        if place < 0:
+            return None
+        if self._last[0] != self.made[place].file:
+            file = self.made[place].file
+            self._last = file, (self.folder / file).read_bytes().splitlines(keepends=True)
+        begins = b"[%s," % json.dumps(name).encode()
+        return next((line for line in self._last[1] if line.startswith(begins, DIGITS + 1)), None)
+
+    def _opened(self, name: str) -> Any:
+        line = self._line(name)
+        try:
+            return None if line is None else opened(line)
+        except ValueError as fault:
+            raise Damaged(self.folder / self._last[0], f"the answer to {name!r} is not as it was kept") from fault
+
+    def digest_of(self, name: str) -> str | None:
+        """Returns what a kept answer depends on; None if there is none. Raises Damaged."""
+        value = self._opened(name)
+        return None if value is None else str(value[1])
+
+    def answer(self, name: str) -> Row | Remark | None:
+        """Returns the answer to an item; None if there is none. Raises Damaged."""
+        value = self._opened(name)
+        return None if value is None else self.lines.columns.answer(value[2:])
+
+    def answers(self, chunk: Chunk = EVERYTHING) -> Iterator[tuple[str, str, Row | Remark]]:
+        """Yields each name in order with the digest and the answer, of all chunks or of one. Raises Damaged."""
+        for made in self.made:
+            if chunk in (EVERYTHING, made.chunk):
+                yield from self.lines.answers(self.folder / made.file)
+
+
+def finish(answers: Chunked[Row], making: Answering[Row], names: Callable[[], Iterable[str]],
+           workers: contextlib.AbstractContextManager[Workers], facts: Mapping[str, str], *, shown: bool,
+           unit: str = "items") -> list[Made]:
+    """Answers all names, which are given in order, each time anew, and commits the answers with facts. If they are all
+    there, no worker is asked."""
+    count = sum(1 for _ in names())
+    chunks, made = chunks_of(names(), count), list[Made]()
+    if [it.chunk for it in answers.made] == chunks and all(making.has(it) for it in answers.made):
+        answers.keep_facts(facts)
+        return answers.made
+    tasks = answers.tasks(chunks)
+    with progress(count, shown, unit) as done, workers as running:
+        done.add(0)
+        for one in made_by(running, making, tasks):
+            made.append(one)
+            done.add(one.items, one.kept)
+    made.sort()
+    answers.commit(made, facts)
+    return made

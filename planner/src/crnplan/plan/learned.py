@@ -1,0 +1,117 @@
+"""Draws the histories of a catalogue by which its items learn from one another, and keeps what was learned."""
+from __future__ import annotations
+
+import hashlib
+import heapq
+from collections import Counter, defaultdict
+from collections.abc import Iterable, Iterator
+from typing import Any, NamedTuple
+
+import numpy as np
+
+from ..demand.learning import LEAST_ITEMS, LEAST_ON_REQUEST, MOST_PULLED, Prior, learn
+from ..errors import Refused
+from ..records.catalogue_reading import Catalogued
+from ..records.item import NO_DEMAND, USUAL, Item
+from ..remarks import Remark
+from ..stored import Facts
+from .question import ALL, CLASS, NONE, Settings
+
+PRIOR, PRIOR_WINDOW = "prior", "window of prior"  # facts beside answers
+# Items whose histories are looked at for the law of a whole catalogue (it is estimated on 3,000 of them), and for those
+# of all classes together, unless these are so many that few items of each are left.
+MOST_READ, MOST_OF_CLASSES = 10_000, 30_000
+
+
+class Learned(NamedTuple):
+    """What items learn from one another, from whom an item learns if its master does not say that, and remarks."""
+
+    prior: Prior
+    usual: str
+    remarks: tuple[Remark, ...]
+
+
+def own_laws(reason: str) -> Learned:
+    """Returns that no item learns from another one, and why."""
+    return Learned(Prior(NONE), NONE, (Remark("own laws", {"reason": reason}),))
+
+
+def drawn_from(names: Iterable[str], most: int) -> frozenset[str]:
+    """Returns so many names, or all if there are fewer: those with the least digests, which is as good as at random."""
+    return frozenset(heapq.nsmallest(most, names, key=lambda name: hashlib.sha256(name.encode()).digest()))
+
+
+def drawn_of_groups(pairs: Iterable[tuple[str, str]], most: int) -> list[str]:
+    """Returns in order so many names of each group, or all if there are fewer, drawn as by `drawn_from`. Pairs have a
+    name and its group."""
+    drawn = defaultdict[str, list[tuple[int, str]]](list)
+    for name, group in pairs:
+        entry = -int.from_bytes(hashlib.sha256(name.encode()).digest()), name
+        if len(drawn[group]) < most:
+            heapq.heappush(drawn[group], entry)
+        else:
+            heapq.heappushpop(drawn[group], entry)
+    return sorted(name for entries in drawn.values() for _, name in entries)
+
+
+def learners(read: Catalogued, by_class: bool) -> Iterator[Item]:
+    """Yields in order of their names the items with a past from which others learn, but for those counted in boxes: of
+    many so many are drawn, or as many of each class."""
+    if by_class:
+        groups = Counter(group for past, group in read.cells("past", "group") if past == USUAL)
+        most = max(MOST_PULLED + 1, MOST_OF_CLASSES // max(1, len(groups)))
+        most = MOST_OF_CLASSES if groups.total() <= MOST_OF_CLASSES else most
+    else:
+        most = MOST_READ
+    drawn = drawn_of_groups(((name, group if by_class else "") for name, past, group in
+                             read.cells("name", "past", "group") if past == USUAL), most)
+    yield from (item for item in read.some_items(drawn) if item.box == 1)
+
+
+def learned_of(answers: Facts, read: Catalogued, settings: Settings, again: bool) -> Learned:
+    """Returns what the items of a catalogue learn from one another.
+
+    With `settings.borrow` None an item learns from all if there are 100 items. What was learned before in this way is
+    used again as it is, also if items change, unless it is to be learned `again` or by another window: otherwise each
+    new row would change the plan of every item. Raises Refused if fewer than 30 items are to learn.
+    """
+    if settings.fit != "auto":
+        return own_laws(f"fit = {settings.fit}")
+    said = Counter(borrow for borrow, past in read.cells("borrow", "past") if past != NO_DEMAND)
+    asked = {settings.borrow, *said} & {ALL, CLASS}
+    if settings.borrow == NONE and not asked:
+        return own_laws(f"borrow = {NONE}")
+    way, least = CLASS if CLASS in asked else ALL, LEAST_ON_REQUEST if asked else LEAST_ITEMS
+    try:
+        earlier = None if again else kept_prior(answers, read.window, way, least)
+        prior = earlier or learned_now(answers, read, way, least)
+    except Refused as few:
+        if asked:
+            raise
+        return own_laws(few.what)
+    items = prior.items - prior.outside
+    usual = settings.borrow or (ALL if items >= LEAST_ITEMS else NONE)
+    others = sum(count for word, count in said.items() if word not in ("", usual))
+    own = [Remark("own laws", {"reason": ""})] if usual == NONE else []
+    otherwise = [Remark("masters say otherwise", {"items": others})] if others else []
+    remark = Remark("learned", {"items": items, "classes": len(prior.classes), "earlier": prior is earlier})
+    return Learned(prior, usual, (*own, remark, *otherwise))
+
+
+def kept_prior(answers: Facts, window: int | None, way: str, least: int) -> Prior | None:
+    """Returns what at least so many items have learned in this way and by this window in an earlier run; None if that
+    is not kept."""
+    text = answers.fact(PRIOR)
+    prior = None if text is None or answers.fact(PRIOR_WINDOW) != str(window) else Prior.parse(text, str(answers.path))
+    return prior if prior and prior.borrow == way and prior.items - prior.outside >= least else None
+
+
+def learned_now(answers: Facts, read: Catalogued, way: str, least: int) -> Prior:
+    """Returns what items learn now, and keeps it. Raises Refused if there are fewer than `least` items."""
+    histories, groups = list[Any](), list[str]()
+    for item in learners(read, way == CLASS):
+        histories.append(np.array(item.counts, np.uint32))
+        groups.append(item.group)
+    prior = learn(histories, groups if way == CLASS else None, way, least=least)
+    answers.keep_facts({PRIOR: prior.text, PRIOR_WINDOW: str(read.window)})
+    return prior
