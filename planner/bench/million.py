@@ -20,7 +20,7 @@ from crnplan.curve.exchange_curve import CANDIDATES, gather
 from crnplan.curve.parts import Part
 from crnplan.pages.catalogue_page import PAGE
 from crnplan.pages.catalogue_tables import DECISIONS, EXACT, planned_of
-from crnplan.plan.catalogue import ANSWERS, PlannedFolder, planned_folder
+from crnplan.plan.catalogue import IN_CHUNKS, PlannedFolder, planned_folder
 from crnplan.records.catalogue_reading import CATALOGUE, READ
 from crnplan.files import own_folder
 from planner.bench.made import Made
@@ -49,13 +49,14 @@ def array_bytes(part: Part) -> int:
 def bytes_of(plan: PlannedFolder, items: int) -> Iterator[Measured]:
     """Yields what is sent and kept for an item."""
     folder = plan.path
-    sent, plans, curve = folder / READ, folder / ANSWERS, folder / CANDIDATES
+    sent, curve = folder / READ, folder / CANDIDATES
+    plans = sum(path.stat().st_size for path in (folder / IN_CHUNKS).iterdir()) / items
     facts, answer, candidates = SENT
     yield facts, row_bytes(sent, "items"), "bytes an item"
     yield "what was learned, with each batch", len(pickle.dumps(plan.planned.prior)), "bytes"
-    yield answer, row_bytes(plans, "answers"), "bytes an item"
+    yield answer, plans, "bytes an item"
     yield candidates, row_bytes(curve, "answers"), "bytes an item"
-    for path in (sent, plans, curve, folder / DECISIONS, folder / EXACT):
+    for path in (sent, curve, folder / DECISIONS, folder / EXACT):
         yield f"{path.name}, on disk", path.stat().st_size / items, "bytes an item"
     yield f"{PAGE}, up to 5,000 items", (folder / PAGE).stat().st_size / items, "bytes an item"
 

@@ -28,11 +28,11 @@ def read(folder: Path, jobs: int) -> None:
 
 def learn(folder: Path, jobs: int) -> None:
     """Learns laws of demand from all items, which the plan then uses."""
-    from crnplan.plan.answer import Answer
-    from crnplan.plan.catalogue import ANSWERS, learned_of
-    from crnplan.stored import Store
+    from crnplan.plan.catalogue import ANSWERS
+    from crnplan.plan.learned import learned_of
+    from crnplan.stored import Facts
     with (own_folder(folder / PLAN, CATALOGUE) as own, contextlib.closing(Catalogued(own.path / READ)) as its,
-          contextlib.closing(Store(own.store(ANSWERS), Answer)) as answers):
+          contextlib.closing(Facts(own.store(ANSWERS))) as answers):
         learned_of(answers, its, Settings(), True)
 
 

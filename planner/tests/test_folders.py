@@ -315,13 +315,16 @@ def test_a_plan_that_was_refused(room: Path, crnplan: Command) -> None:
 
 
 def test_an_answer_that_was_changed(plan: Path, crnplan: Command) -> None:
-    """Names a store in which one figure was changed, and one that SQLite can't open, which is not damaged."""
-    base = sqlite3.connect(plan / "answers.sqlite", isolation_level=None)
-    assert base.execute("UPDATE answers SET saving = saving + 1 WHERE item = 'A'").rowcount == 1
-    base.close()
+    """Names a file in which one figure was changed, and a store that SQLite can't open, which is not damaged."""
+    before = (plan / "decisions.csv").read_bytes()
+    file, = (plan / "answers").iterdir()
+    file.write_bytes(file.read_bytes().replace(b'"theory",', b'"theorY",'))
     for words in (REPORT, CATALOGUE):
         status, _, errors = crnplan(*words)
-        assert status == 3 and "answers.sqlite: the answer to 'A' is not as it was kept" in errors, errors
+        assert status == 3 and f"{file.name}: a line is not as it was written: the file is damaged" in errors, errors
+    file.unlink()
+    assert crnplan(*REPORT).status == 3
+    assert crnplan(*CATALOGUE).status == 0 and (plan / "decisions.csv").read_bytes() == before
     (plan / "answers.sqlite-wal").mkdir()
     status, _, errors = crnplan(*CATALOGUE)
     assert status == 3 and "plan: " in errors and "name a folder that can be written" in errors, errors

@@ -14,7 +14,7 @@ from tests.runs import TOP
 SECONDS = 120
 RUNNERS = {"sh": ["bash", "-e", "-o", "pipefail", "-c"], "python": [sys.executable, "-c"]}
 # What a sweep reports of its progress.
-PROGRESS = re.compile(r"(\r?[0-9]+ of [0-9]+ scenarios \([0-9]+ kept\))+\n")
+PROGRESS = re.compile(r"(\r?[0-9]+ of [0-9]+ scenarios \([0-9]+ kept\)(, [0-9.e+]+ a second, [0-9:]+ left)?)+\n")
 
 
 def is_whole(text: str) -> bool:

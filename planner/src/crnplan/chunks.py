@@ -22,6 +22,8 @@ import itertools
 import json
 import os
 import tempfile
+import time
+from collections import Counter
 from collections.abc import Callable, Iterable, Iterator, Mapping, Sequence
 from dataclasses import dataclass, field
 from pathlib import Path
@@ -36,6 +38,7 @@ from .table import Json
 # Items of a chunk. Of small catalogues there are fewer, so that there are enough chunks for all workers.
 LEAST_ITEMS, MOST_ITEMS, MANY_CHUNKS = 8, 256, 256
 ENDING, PART = ".lines", ".part"
+SOON = 1  # seconds by which the clock of a disk may be late
 AHEAD = 2  # chunks that are sent to a worker at a time
 COLUMNS = "columns"  # a fact: the columns of the answers in an index
 Row = TypeVar("Row")
@@ -336,6 +339,18 @@ class Chunked(Facts, Generic[Row]):
                     names.append(path.name)
         return [(chunk, *names) for chunk, names in zip(chunks, others)]
 
+    def kept_now(self, made: Iterable[Made], start: float) -> int:
+        """Returns how many answers are kept in files that are known and in files and parts since a time, as they are
+        now: of a file and its parts in that with most."""
+        counts = Counter[str]()
+        for path in self.folder.iterdir():
+            if path.stat().st_mtime >= start:
+                name = path.name.partition(".")[0]
+                with path.open("rb") as file:
+                    lines = sum(line[DIGITS + 1:DIGITS + 2] == b"[" and line.endswith(b"\n") for line in file)
+                counts[name] = max(counts[name], lines - 1)  # but for the head
+        return counts.total() + sum(it.items for it in made if it.file.partition(".")[0] not in counts)
+
     def commit(self, made: Sequence[Made], facts: Mapping[str, str]) -> None:
         """Makes files the answers of this index, with facts, and removes all others."""
         with self.base:
@@ -395,8 +410,8 @@ def finish(answers: Chunked[Row], making: Answering[Row], names: Callable[[], It
     if [it.chunk for it in answers.made] == chunks and all(making.has(it) for it in answers.made):
         answers.keep_facts(facts)
         return answers.made
-    tasks = answers.tasks(chunks)
-    with progress(count, shown, unit) as done, workers as running:
+    tasks, start = answers.tasks(chunks), time.time() - SOON
+    with progress(count, shown, unit, kept_now=lambda its: answers.kept_now(made, start)) as done, workers as running:
         done.add(0)
         for one in made_by(running, making, tasks):
             made.append(one)

@@ -398,9 +398,10 @@ class Progress:
 
 
 @contextlib.contextmanager
-def progress(total: int, shown: bool, unit: str, kept: int = 0) -> Iterator[Progress]:
+def progress(total: int, shown: bool, unit: str, kept: int = 0,
+             kept_now: Callable[[Progress], int] = lambda its: its.done) -> Iterator[Progress]:
     """Gives what counts how much is done, and shows it from the first call of `add` on, if it is to be shown. If work
-    ends early, that says how much is kept."""
+    ends early, it says how much is kept then."""
     with contextlib.ExitStack() as stack:
         bars = list[Any]()
 
@@ -417,6 +418,6 @@ def progress(total: int, shown: bool, unit: str, kept: int = 0) -> Iterator[Prog
             yield its
         except BaseException:
             stack.close()
-            if shown and its.done:
-                print(f"{its.done:,} of {total:,} {unit} are done and kept; run again to go on", file=sys.stderr)
+            if shown and (done := kept_now(its)):
+                print(f"{done:,} of {total:,} {unit} are done and kept; run again to go on", file=sys.stderr)
             raise

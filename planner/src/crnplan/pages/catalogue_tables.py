@@ -17,7 +17,8 @@ from ..words import advice, pattern, sentence
 from .page import rendered
 
 if TYPE_CHECKING:
-    from ..plan.catalogue import PlannedFolder, Totals
+    from ..plan.catalogue import PlannedFolder
+    from ..plan.totals import Totals
 
 DECISIONS, EXACT, REJECTS = "decisions.csv", "exact.csv", "rejects.csv"
 PLANNED_BY = {THEORY: "theory", RUN: "crnsim"}
