@@ -14,9 +14,10 @@ from crnplan.plan.answer import Answer
 from crnplan.plan.catalogue import Planned
 from crnplan.records.blocks import Sizes
 from crnplan.records.items import Words
-from crnplan.records.catalogue_reading import Catalogued, open_sources
+from crnplan.records.catalogue_reading import Catalogued
 from crnplan.records.filed import read_tables
 from crnplan.records.item import Item
+from crnplan.records.several import open_tables
 from crnplan.stored import Store
 from crnplan.jobs import BATCH, Work, Workers, cluster, processes
 
@@ -37,7 +38,7 @@ def transactions(folder: Path, answer: Answer) -> float:
 
 def split_seconds(paths: dict[str, str | Path | None]) -> float:
     """Returns the processor seconds in which the rows of a catalogue are read."""
-    with open_sources(paths, Words()) as sheets, tempfile.TemporaryDirectory() as room:
+    with open_tables(paths, Words()) as sheets, tempfile.TemporaryDirectory() as room:
         start = time.process_time()
         read_tables(sheets, Workers(), Path(room), Sizes().parts_of(sheets.values()), Sizes())
         return time.process_time() - start

@@ -21,9 +21,9 @@ from crnplan.records.columns import find_columns
 from crnplan.records.filed import Part, read_tables
 from crnplan.records.items import Words
 from crnplan.records.rows import Rows, rows_of
-from crnplan.records.sources import opened
+from crnplan.records.sources import Sheet, opened
 
-HEADING = "item,date,quantity,note\n"
+HEADING, FIRST = "item,date,quantity,note\n", "A,2026-03-02,1,0\n" * 3
 HEAD = 60  # bytes that are looked at first, so that faults are found later
 PARTS = 3
 CELLS = ["", " ", "A", " A", "A ", "B", "\tA", "1", "2.5", "2026-03-02", "2026-03-02 10:00", "é", '"A"', ' "A"', '"a,b"',
@@ -58,27 +58,36 @@ def by_rows(its: Rows) -> list[Row]:
              int(its.lines[first])) for row, (line, first) in enumerate(zip(its.lines.tolist(), its.twins().tolist()))]
 
 
-def in_ranges(path: Path, sizes: Sizes) -> tuple[list[Row], Sequence[Fault]]:
-    """Returns the rows of a file that is read in ranges, by their lines, or what is wrong with it."""
-    words = Words(delimiter=",", date_formats=("%Y-%m-%d",))
-    with (mock.patch.object(sources, "HEAD_BYTES", HEAD), opened(path, "demand", words) as sheet,
-          tempfile.TemporaryDirectory() as room):
-        sheets = {"demand": find_columns("demand", sheet, words)}
-        try:
-            (table,) = read_tables(sheets, Workers(), Path(room), PARTS, sizes).values()
-        except RefusedFaults as refused:
-            with pytest.raises(RefusedFaults) as whole:
-                rows_of(sheet)
-            assert refused.faults == whole.value.faults
-            return [], refused.faults
-        parts = [Part({"demand": (sheet, table.pieces(part))}).rows()["demand"] for part in range(PARTS)]
-        assert table.rows == sum(map(len, parts))
-        wide = {its.lines[row]: found for its in parts for row, found in its.wide.items()}
-        careful = rows_of(sheet)
-        assert wide == {careful.lines[row]: found for row, found in careful.wide.items()}
-        assert table.blank == len(careful.blank) and by_rows(careful) == by_csv(path.read_bytes().decode())
-        assert [*table.counts("date")] == [*careful.counts("date")]
-        return sorted(row for its in parts for row in by_rows(its)), ()
+def in_ranges(data: bytes, sizes: Sizes, encoding: str | None = None) -> tuple[list[Row], Sequence[Fault]]:
+    """Returns the rows of a file that is read in ranges, by their lines, or what is wrong with it: as if it were read
+    row by row."""
+    words = Words(delimiter=",", date_formats=("%Y-%m-%d",), encoding=encoding)
+    with tempfile.TemporaryDirectory() as room, mock.patch.object(sources, "HEAD_BYTES", HEAD):
+        path = Path(room) / "demand.csv"
+        path.write_bytes(data)
+        with opened(path, "demand", words) as sheet:
+            return rows_in_ranges(sheet, Path(room), words, sizes)
+
+
+def rows_in_ranges(sheet: Sheet, room: Path, words: Words, sizes: Sizes) -> tuple[list[Row], Sequence[Fault]]:
+    """Returns what `in_ranges` does."""
+    sheets = {"demand": find_columns("demand", sheet, words)}
+    try:
+        (table,) = read_tables(sheets, Workers(), room, PARTS, sizes).values()
+    except RefusedFaults as refused:
+        with pytest.raises(RefusedFaults) as whole:
+            rows_of(sheet)
+        assert refused.faults == whole.value.faults
+        return [], refused.faults
+    parts, careful = [Part({"demand": (sheet, table.pieces(part))}).rows()["demand"] for part in range(PARTS)], rows_of(
+        sheet)
+    found = sorted(row for its in parts for row in by_rows(its))
+    assert found == by_rows(careful) and table.rows == len(careful) and table.blank == len(careful.blank)
+    assert [*table.counts("date")] == [*careful.counts("date")]
+    wide, others = ({its.lines[row]: cells for its in some for row, cells in its.wide.items()} for some in (
+        parts, [careful]))
+    assert wide == others
+    return found, ()
 
 
 @settings(max_examples=100, deadline=None)
@@ -90,12 +99,25 @@ def in_ranges(path: Path, sizes: Sizes) -> tuple[list[Row], Sequence[Fault]]:
 @example("A,1,2,3\n" * 3 + "\ufeffA,1,2,3\n", 8)
 def test_any_cuts_give_the_rows_of_csv(text: str, size: int) -> None:
     """Reads any small table in ranges of any size, by pandas where it may, as csv reads all of it at once."""
-    with tempfile.TemporaryDirectory() as room:
-        path = Path(room) / "demand.csv"
-        path.write_bytes((HEADING + "A,2026-03-02,1,0\n" * 3 + text).encode())
-        found, faults = in_ranges(path, Sizes(size, plain=0))
-        with contextlib.suppress(csv.Error):
-            expected = by_csv(path.read_bytes().decode())
-            assert not faults and found == expected
-            return
-        assert faults
+    text = HEADING + FIRST + text
+    found, faults = in_ranges(text.encode(), Sizes(size, plain=0))
+    with contextlib.suppress(csv.Error):
+        expected = by_csv(text)
+        assert not faults and found == expected
+        return
+    assert faults
+
+
+@pytest.mark.parametrize("encoding, stated", [
+    ("cp1252", "cp1252"), ("utf-16", None), ("utf-8-sig", None), ("gb18030", "gb18030"), ("shift_jis", "shift_jis")])
+def test_ranges_of_other_encodings(encoding: str, stated: str | None) -> None:
+    """Reads files in other encodings, which are cut if no letter has the byte of a line's end."""
+    letter = {"cp1252": "é", "shift_jis": "ソ"}.get(encoding, "上")
+    text = HEADING + FIRST + f"A{letter},2026-03-02,1,0\n" * 5
+    assert in_ranges(text.encode(encoding), Sizes(20, plain=0), stated) == (by_csv(text), ())
+
+
+def test_bytes_of_no_letter() -> None:
+    """Refuses a byte that is not UTF-8 by its line in the file, in whatever range it is."""
+    _, faults = in_ranges((HEADING + FIRST).encode() + b"A,2026-03-02,1,0\n" * 5 + b"A,\xff,1,0\n", Sizes(20, plain=0))
+    assert [(it.line, it.column) for it in faults] == [(10, 3)]

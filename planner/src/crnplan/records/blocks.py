@@ -15,7 +15,7 @@ import itertools
 import pickle
 import re
 import zlib
-from collections.abc import Callable, Iterable, Iterator, Mapping, Sequence
+from collections.abc import Callable, Iterable, Iterator, Sequence
 from dataclasses import dataclass, field
 from pathlib import Path
 from typing import IO, NamedTuple
@@ -240,12 +240,16 @@ def write_block(block: Block, path: Path, parts: int) -> Filed:
 
 class Sizes(NamedTuple):
     """How many bytes of a file are read at a time, of how many a part of the items is made, and how many parts there are
-    at most. pandas reads ranges of at least `plain` bytes: others are read before it is imported."""
+    at most. pandas reads tables of at least `plain` bytes: others are read before it is imported."""
 
     range: int = 16_000_000
     part: int = 8_000_000
     parts: int = 256
     plain: int = 2_000_000
+
+    def of(self, sheet: Sheet) -> Sizes:
+        """Returns the sizes by which the files of a table are read."""
+        return self._replace(plain=0) if sheet.size >= self.plain else self
 
     def parts_of(self, sheets: Iterable[Sheet]) -> int:
         """Returns how many parts the items of tables are in."""
@@ -302,7 +306,7 @@ def behind_line(file: IO[bytes], place: int) -> int:
 def range_blocks(sheet: TextSheet, its: Range, sizes: Sizes) -> Iterator[Block]:
     """Yields the blocks of a range. One that is much longer than others is never whole in memory. Raises
     RefusedFaults."""
-    if sizes.plain <= its.stop - its.start <= 2 * sizes.range:
+    if not sizes.plain and its.stop - its.start <= 2 * sizes.range:
         with readable(sheet.name), sheet.file.open("rb") as file:
             file.seek(its.start)
             data = file.read(its.stop - its.start)
@@ -327,13 +331,13 @@ def read_range(sheet: TextSheet, its: Range, sizes: Sizes, stem: Path, parts: in
     return RangeRead(sheet.count, blocks)
 
 
-def closed_ranges(ranges: Sequence[Range], found: Mapping[Range, RangeRead],
+def closed_ranges(ranges: Sequence[Range], found: Sequence[RangeRead],
                   again: Callable[[Range], RangeRead]) -> Iterator[RangeRead]:
     """Yields what was read of ranges in their order, each of which begins with a row and ends with one: what is open is
     read again with what follows."""
     place = 0
     while place < len(ranges):
-        count, its = 1, found[ranges[place]]
+        count, its = 1, found[place]
         while its.is_open:
             count = min(2 * count, len(ranges) - place)
             its = again(Range(ranges[place].start, ranges[place + count - 1].stop))

@@ -16,7 +16,7 @@ from operator import itemgetter
 from pathlib import Path
 from typing import TYPE_CHECKING, Any, cast
 
-from ..errors import Fault, Refused, RefusedFaults, argument, worded
+from ..errors import Refused, argument, worded
 from ..files import Folder, faults_of, own_folder
 from ..jobs import workers_of
 from ..money import Amount, Currency, Number
@@ -26,14 +26,15 @@ from ..table import Json
 from ..words import message, sentence
 from .blocks import DATES, Sizes
 from .cells import NAMES, Unreadable, on_one_line, text_of
-from .columns import ROLES, converted, find_columns
+from .columns import ROLES, converted
 from .defaults import SOURCES, Defaults, distinct
 from .filed import AMOUNTS, FiledTable, Whole, read_tables
 from .item import PLANNED, Item
 from .items import KEEP, LEAVE_OUT, Counts, FileCounts, Reject, Words
 from .observed import Day
 from .parts import ITEM, REJECT, PartRead, read_parts, rows_in
-from .sources import Sheet, Table, opened
+from .several import open_tables
+from .sources import Table
 
 if TYPE_CHECKING:
     import pandas as pd
@@ -231,7 +232,8 @@ def read_catalogue(demand: Table, items: Table, orders: Table | None = None, *,
                    abc: str | Sequence[Number] | None = None, today: Day | None = None,
                    delimiter: str | None = None, encoding: str | None = None, decimal: str | None = None,
                    date_formats: Sequence[str] = (), jobs: int | None = None) -> Catalogue:
-    """Reads a catalogue from CSV files of any size, sheets of workbooks (FILE.xlsx!SHEET) or DataFrames.
+    """Reads a catalogue from CSV files of any size, also gzipped, sheets of workbooks (FILE.xlsx!SHEET) or DataFrames. Of
+    demand and orders there may be several files with one heading, as "demand-2026-*.csv".
 
     `demand` has a row for each movement (item, date, quantity, perhaps returned), `items` one for each item (item,
     setup, holding, backlog or fill, lead, perhaps s, S, description, stock, price, class, and bounds), `orders` the
@@ -264,30 +266,11 @@ def read_alone(path: Path, tables: Mapping[str, Table | None], words: Words, job
         return read_into(folder, tables, words, jobs, sizes)
 
 
-@contextlib.contextmanager
-def open_sources(tables: Mapping[str, Table | None], words: Words,
-                 room: Path | None = None) -> Iterator[dict[str, Sheet]]:
-    """Gives tables after a look at their heads. Raises RefusedFaults with all that is wrong with these."""
-    sheets: dict[str, Sheet] = {}
-    faults: list[Fault] = []
-    with contextlib.ExitStack() as stack:
-        for kind, table in tables.items():
-            if table is None:
-                continue
-            try:
-                sheets[kind] = find_columns(kind, stack.enter_context(opened(table, kind, words, room)), words)
-            except RefusedFaults as refused:
-                faults += refused.faults
-        if faults:
-            raise RefusedFaults(faults)
-        yield sheets
-
-
 def read_into(folder: Folder, tables: Mapping[str, Table | None], words: Words, jobs: int | None = 1,
               sizes: Sizes = Sizes()) -> Path:
     """Reads a catalogue into a folder by so many processes, by default one for each processor, and returns the file of
     what was read, which is the same for any number. Raises as `read_catalogue` does."""
-    with (faults_of(folder.path), open_sources(tables, words, folder.room()) as sheets,
+    with (faults_of(folder.path), open_tables(tables, words, folder.room()) as sheets,
           contextlib.closing(Writer(folder)) as writer):
         parts, room = sizes.parts_of(sheets.values()), folder.room()
         with workers_of(1 if parts == 1 else jobs, None) as workers:

@@ -91,7 +91,7 @@ def on_one_line(text: str) -> str:
     return UNPRINTABLE.sub(lambda it: it[0].encode("unicode_escape").decode(), shown(text))
 
 
-def named_lines(lines: Sequence[int]) -> str:
+def named_lines(lines: Sequence[int | str]) -> str:
     """Returns `line 3` or `lines 3, 5, 8`. Only the first lines are named."""
     text = ", ".join(map(str, lines[:MOST_NAMED])) + (", .." if len(lines) > MOST_NAMED else "")
     return f"line{'s' * (len(lines) > 1)} {text}"

@@ -4,22 +4,21 @@ from __future__ import annotations
 
 import contextlib
 from collections import Counter
-from collections.abc import Iterator, Mapping
+from collections.abc import Iterable, Iterator, Mapping
 from dataclasses import dataclass, field, replace
-from functools import partial
 from pathlib import Path
-from typing import TYPE_CHECKING
+from typing import TYPE_CHECKING, NamedTuple
 
 from ..errors import RefusedFaults
 from ..jobs import Workers
-from .blocks import (DATES, Filed, Piece, RangeRead, Seen, Sizes, closed_ranges, ranges_of, read_blocks, read_range,
+from .blocks import (DATES, Filed, Piece, Range, RangeRead, Seen, Sizes, closed_ranges, ranges_of, read_blocks, read_range,
                      write_block)
 from .cells import AmountReader, Cell, DateReader, Unreadable, text_of
 from .defaults import currency_in
 from .masters import MONEY
 from .observed import Day, Record, ends_of, record_of
 from .rows import Codes, Rows
-from .sources import Sheet, TextSheet
+from .sources import FILE_BITS, Sheet, TextSheet
 
 if TYPE_CHECKING:
     from .items import Words
@@ -51,6 +50,16 @@ class FiledTable:
         self.blocks.append((before, block))
         self.rows, self.blank = self.rows + block.rows, self.blank + block.blank
 
+    def add_ranges(self, ranges: Iterable[RangeRead], before: int) -> None:
+        """Adds the ranges of a file of the table. Raises RefusedFaults for the first one that has faults."""
+        lines = 0
+        for its in ranges:
+            if its.faults:
+                raise RefusedFaults([replace(fault, line=lines + fault.line) for fault in its.faults])
+            for block in its.blocks:
+                self.add(before + lines, block)
+            lines += its.lines
+
     def counts(self, role: str) -> Iterator[tuple[Cell, int]]:
         """Yields each value of a column that good rows have, and how many have it; nothing if there is no column."""
         yield from ((cell, count) for cell, count in self.seen.get(role, {}).items() if count)
@@ -58,6 +67,17 @@ class FiledTable:
     def pieces(self, part: int) -> list[Piece]:
         """Returns where the rows of a part are."""
         return [Piece(before, its.path, its.places[part]) for before, its in self.blocks if part in its.places]
+
+
+class _Ranges(NamedTuple):
+    """A file with its ranges, and the words with which they are read."""
+
+    sheet: TextSheet
+    ranges: list[Range]
+    words: tuple[Sizes, Path, int]
+
+    def read(self, its: Range) -> RangeRead:
+        return read_range(self.sheet, its, *self.words)
 
 
 @dataclass(frozen=True)
@@ -77,32 +97,21 @@ def read_tables(sheets: Mapping[str, Sheet], workers: Workers, room: Path, parts
                 sizes: Sizes) -> dict[str, FiledTable]:
     """Reads all tables into files of a folder, by part of the items. Workers read ranges of files. Raises
     RefusedFaults."""
-    texts = {kind: sheet for kind, sheet in sheets.items() if isinstance(sheet, TextSheet)}
-    ranges = {kind: [*ranges_of(sheet, sizes.range)] for kind, sheet in texts.items()}
-    found = dict(workers.answers(read_range, (((kind, its), (sheet, its, sizes, room / kind, parts))
-                                              for kind, sheet in texts.items() for its in ranges[kind])))
+    ranges = {(kind, place): _Ranges(file, [*ranges_of(file, sizes.range)], (
+        sizes.of(sheet), room / f"{kind}-{place}", parts)) for kind, sheet in sheets.items()
+        for place, file in enumerate(sheet.files) if isinstance(file, TextSheet)}
+    found = dict(workers.answers(read_range, (((*key, its), (of.sheet, its, *of.words))
+                                              for key, of in ranges.items() for its in of.ranges)))
     tables = {kind: FiledTable(sheet) for kind, sheet in sheets.items()}
-    for kind, sheet in sheets.items():
-        with sheet.unchanged():
-            if isinstance(sheet, TextSheet):
-                add_ranges(tables[kind], closed_ranges(
-                    ranges[kind], {its: found[kind, its] for its in ranges[kind]},
-                    partial(read_range, sheet, sizes=sizes, stem=room / kind, parts=parts)))
+    for kind, place, file in ((kind, *its) for kind, sheet in sheets.items() for its in enumerate(sheet.files)):
+        with file.unchanged():
+            if of := ranges.get((kind, place)):
+                read = [found[kind, place, its] for its in of.ranges]
+                tables[kind].add_ranges(closed_ranges(of.ranges, read, of.read), place << FILE_BITS)
                 continue
-            for number, block in enumerate(read_blocks(sheet, sheet.rows())):
-                tables[kind].add(0, write_block(block, room / f"{kind}-{number}", parts))
+            for number, block in enumerate(read_blocks(file, file.rows())):
+                tables[kind].add(place << FILE_BITS, write_block(block, room / f"{kind}-{place}-{number}", parts))
     return tables
-
-
-def add_ranges(table: FiledTable, ranges: Iterator[RangeRead]) -> None:
-    """Adds the ranges of a file to its table. Raises RefusedFaults for the first one that has faults."""
-    before = 0
-    for its in ranges:
-        if its.faults:
-            raise RefusedFaults([replace(fault, line=before + fault.line) for fault in its.faults])
-        for block in its.blocks:
-            table.add(before, block)
-        before += its.lines
 
 
 @dataclass(frozen=True)

@@ -129,7 +129,7 @@ def reject_of(what: str, sheet: Sheet, line: int, name: str, faults: Sequence[Ce
     """Returns what is left out or suspicious, with columns (by their roles if the table has none) and texts."""
     cells = [on_one_line(text_of(cell)) for _, cell, _ in faults]
     columns = [sheet.columns[role].name if role in sheet.columns else role for role, _, _ in faults]
-    return Reject(what, sheet.file_name, line, name, ", ".join(columns), ", ".join(cells),
+    return Reject(what, *sheet.where(line), name, ", ".join(columns), ", ".join(cells),
                   joined([remark for _, _, remark in faults]), rows, value)
 
 
@@ -272,7 +272,8 @@ class Reader:
             mine, name = twins_of(item), self.names[item]
             lines, self.twice[item] = rows.lines[mine].tolist(), len(mine)
             twin = fault("item", name, "twins" if len(lines) > 1 else "twin", count=len(lines),
-                         lines=named_lines(lines), first=int(rows.lines[first[mine[0]]]))
+                         lines=named_lines([*map(rows.sheet.called, lines)]),
+                         first=rows.sheet.called(int(rows.lines[first[mine[0]]])))
             self._reject("row" if leaves else "suspicious", "demand", lines[0], name, [twin], len(lines) * leaves)
         self.counts["items"]["twice"] += self.twice.total()
         self.counts["files"]["demand"]["rejected"] += self.twice.total() * leaves
@@ -386,5 +387,6 @@ class Reader:
             if far:
                 ranked = np.argsort(-amounts, kind="stable")
                 lines, (least, below) = moves.lines[ranked[:far]].tolist(), amounts[ranked[far - 1:far + 1]].tolist()
-                raise Left("demand", lines[0], fault(role, int(amounts[ranked[0]]), "far", lines=named_lines(lines),
+                called = named_lines([*map(self.rows["demand"].sheet.called, lines)])
+                raise Left("demand", lines[0], fault(role, int(amounts[ranked[0]]), "far", lines=called,
                                                      times=least // below, next=below))

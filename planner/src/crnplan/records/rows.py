@@ -17,7 +17,7 @@ import numpy.typing as npt
 from ..remarks import Remark
 from .blocks import DATES, Block, Flags, read_blocks
 from .cells import AmountReader, Cell, CellFault, DateReader, Numbers, Unreadable, fault
-from .sources import Sheet
+from .sources import FILE_BITS, Sheet
 
 Value = TypeVar("Value")
 Kind = TypeVar("Kind", bound=np.generic)
@@ -162,7 +162,8 @@ def joined(parts: Sequence[npt.NDArray[Kind]], kind: type[Kind]) -> npt.NDArray[
 
 def rows_of(sheet: Sheet) -> Rows:
     """Returns all rows of a table, which are read one by one."""
-    return Rows(sheet, ((0, block) for block in read_blocks(sheet, sheet.rows())))
+    return Rows(sheet, ((place << FILE_BITS, block) for place, file in enumerate(sheet.files)
+                        for block in read_blocks(file, file.rows())))
 
 
 def far_above(amounts: Numbers, times_of_few: int = TIMES_OF_FEW) -> int:

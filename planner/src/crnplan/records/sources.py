@@ -9,6 +9,7 @@ import codecs
 import contextlib
 import csv
 import datetime
+import gzip
 import io
 import itertools
 import math
@@ -17,6 +18,7 @@ import shutil
 import sys
 import tempfile
 import zipfile
+import zlib
 from collections import Counter
 from collections.abc import Callable, Iterable, Iterator, Mapping, Sequence, Set
 from dataclasses import dataclass, field
@@ -41,6 +43,7 @@ HEAD_BYTES, MOST_LETTERS = 1_000_000, 2_000_000
 SAMPLE_ROWS, TITLE_ROWS, SHOWN_ROWS, MOST_LISTED = 1_000, 50, 3, 30
 DELIMITERS = {",": ",", ";": ";", "tab": "\t", "\t": "\t"}
 BOOKS = (".xlsx", ".xlsm")
+FILE_BITS = 40  # of a line; those above say in which file of its table it is
 MARKS = ((codecs.BOM_UTF8, "utf-8-sig"), (codecs.BOM_UTF16_LE, "utf-16"), (codecs.BOM_UTF16_BE, "utf-16"))
 # So bytes are kept in a text that are not of its encoding: as U+DC00 and so on, which no text has.
 ESCAPES, ESCAPED = "crnplan.escapes", re.compile("[\udc00-\udcff]")
@@ -239,6 +242,19 @@ class Sheet:
         """Returns what another process needs: all but rows in memory, and the first lines."""
         return {**vars(self), "given": tuple, "text": ""}
 
+    @property
+    def files(self) -> Sequence[Sheet]:
+        """Returns the files that the table is in."""
+        return [self]
+
+    def where(self, line: int) -> tuple[str, int]:
+        """Returns the name of the file and the line in it of a row's line."""
+        return self.file_name, line
+
+    def called(self, line: int) -> int | str:
+        """Returns the line of a row as messages call it."""
+        return line
+
     @contextlib.contextmanager
     def unchanged(self) -> Iterator[None]:
         """Raises Refused after the block if others have changed the file since it was opened."""
@@ -402,7 +418,8 @@ def sheet_of_book(path: Path, sheet: str | None, rules: Rules) -> Sheet:
 @contextlib.contextmanager
 def opened(table: Table, kind: str, rules: Rules, folder: Path | None = None) -> Iterator[Sheet]:
     """Gives a table that can be read several times: a sheet of a workbook is FILE.xlsx!SHEET, the only one FILE.xlsx.
-    What a pipe gives once is copied, into a folder, or for the time of the block; `-` is standard input. A DataFrame
+    What a pipe gives once is copied, and a gzipped file (FILE.csv.gz) unpacked, into a folder, or for the time of the
+    block; `-` is standard input. A DataFrame
     has the name of its kind, its heading in line 1, and its index as columns if that has names. Raises Refused and
     RefusedFaults for what can't be read."""
     if not isinstance(table, (str, Path)):
@@ -416,10 +433,15 @@ def opened(table: Table, kind: str, rules: Rules, folder: Path | None = None) ->
         yield sheet_of_book(Path(book), sheet, rules)
         return
     with contextlib.ExitStack() as stack:
-        if str(table) == "-" or path.exists() and not (path.is_file() or path.is_dir()):
+        is_packed = path.suffix.lower() == ".gz" and path.is_file()
+        if str(table) == "-" or is_packed or path.exists() and not (path.is_file() or path.is_dir()):
             room = stack.enter_context(tempfile.TemporaryDirectory(prefix="crnplan-", dir=folder))
-            stream = sys.stdin.buffer if str(table) == "-" else stack.enter_context(path.open("rb"))
-            path = Path(room) / Path(name).name
+            stream: Any = sys.stdin.buffer if str(table) == "-" else stack.enter_context(
+                gzip.open(path) if is_packed else path.open("rb"))
+            path = Path(room) / (path.stem if is_packed else Path(name).name)
             with path.open("xb") as copy:
-                shutil.copyfileobj(stream, copy)
+                try:
+                    shutil.copyfileobj(stream, copy)
+                except (gzip.BadGzipFile, EOFError, zlib.error) as fault:
+                    raise refused("no gzip", name, fault=str(fault)) from fault
         yield sheet_of_book(path, None, rules) if path.suffix.lower() in BOOKS else TextSheet(path, name, rules)

@@ -9,12 +9,12 @@ from typing import Any
 
 import numpy as np
 
-from .catalogue_reading import open_sources
 from .cells import Cell, CellFault, DateReader, Unreadable, fault
 from .columns import conversion
 from .items import FileCounts, Reject, Words, reject_of
 from .observed import Day
 from .rows import Rows, rows_of
+from .several import open_tables
 from .sources import Table
 
 STOCK, ON_ORDER = "stock", "on_order"  # the kinds of the tables
@@ -108,7 +108,7 @@ class _Reader:
             for row, faults in wrong:
                 self._reject("row", row, name, faults)
             for row in (row for row in mine if self.firsts[row] != row):
-                first = int(rows.lines[self.firsts[row]])
+                first = rows.sheet.called(int(rows.lines[self.firsts[row]]))
                 self._reject("suspicious", row, name, [fault("item", name, "equal rows", first=first)])
             if wrong:
                 self.unread.add(name)
@@ -126,7 +126,7 @@ def read_holdings(tables: Mapping[str, Table | None], words: Words, known: Colle
 
     Raises Refused and RefusedFaults for tables that can't be read. Rows with faults are in `rejects`.
     """
-    with open_sources(tables, words) as sheets:
+    with open_tables(tables, words) as sheets:
         readers = {kind: _Reader(kind, rows_of(sheet), known, words.every) for kind, sheet in sheets.items()}
     on_hand, arrivals = dict[str, OnHand](), dict[str, Sequence[Arrival]]()
     for name, rows in readers[STOCK].items() if STOCK in readers else ():

@@ -1,0 +1,89 @@
+"""Opens the tables of a catalogue, each of which may be in several files that a pattern names, as demand-2026-*.csv."""
+from __future__ import annotations
+
+import contextlib
+import glob
+from collections.abc import Iterator, Mapping, Sequence
+from pathlib import Path
+
+from ..errors import Fault, RefusedFaults
+from ..remarks import Remark
+from ..words import message
+from .columns import find_columns
+from .items import Words
+from .sources import FILE_BITS, Sheet, Table, TextSheet, opened
+
+
+class Files(Sheet):
+    """Several files of one table, in order of their names. The line of a row has the place of its file above
+    FILE_BITS."""
+
+    def __init__(self, name: str, sheets: Sequence[Sheet]) -> None:
+        """Takes files with the same heading, by the first of which messages show how the table is written."""
+        first = sheets[0]
+        super().__init__(name, first.written, first.rules)
+        self._files, self.size = sheets, sum(sheet.size for sheet in sheets)
+        self.delimiter, self.sign, self.line, self.heading = first.delimiter, first.sign, first.line, first.heading
+        self.titles, self.first_rows, self.columns = first.titles, first.first_rows, first.columns
+        for sheet in sheets:
+            if isinstance(sheet, TextSheet):
+                sheet.text = ""  # of many files, it would be much
+
+    @property
+    def files(self) -> Sequence[Sheet]:
+        return self._files
+
+    def where(self, line: int) -> tuple[str, int]:
+        name = self._files[line >> FILE_BITS].file_name if line else self.file_name
+        return name, line & (1 << FILE_BITS) - 1
+
+    def called(self, line: int) -> int | str:
+        name, place = self.where(line)
+        return f"{place} of {name}"
+
+
+def files_of(table: Table, kind: str) -> Sequence[Table]:
+    """Returns the files that a pattern names, in order; the table itself if it is none, or a file has this very name.
+    Raises RefusedFaults for several files of masters."""
+    if not isinstance(table, (str, Path)) or not glob.has_magic(str(table)) or Path(table).exists():
+        return [table]
+    found: list[Table] = [*sorted(glob.glob(str(table)))]
+    if kind == "items" and len(found) > 1:
+        raise RefusedFaults([Fault(message(Remark("several files", {"count": len(found)})), str(table))])
+    return found or [table]
+
+
+def open_table(kind: str, table: Table, words: Words, room: Path | None, stack: contextlib.ExitStack) -> Sheet:
+    """Returns a table after a look at the heads of its files, which are there as long as the stack. Raises RefusedFaults
+    with all that is wrong with these, as headings that differ."""
+    sheets, faults = list[Sheet](), list[Fault]()
+    for file in files_of(table, kind):
+        try:
+            sheets.append(find_columns(kind, stack.enter_context(opened(file, kind, words, room)), words))
+        except RefusedFaults as refused:
+            faults += refused.faults
+    for its in sheets[1:]:
+        for code, is_other in (("other heading", its.heading != sheets[0].heading),
+                               ("other delimiter", its.delimiter != sheets[0].delimiter)):
+            if is_other:
+                faults.append(Fault(message(Remark(code, {"first": sheets[0].file_name})), its.name, its.line))
+    if faults:
+        raise RefusedFaults(faults)
+    return sheets[0] if len(sheets) == 1 else Files(str(table), sheets)
+
+
+@contextlib.contextmanager
+def open_tables(tables: Mapping[str, Table | None], words: Words, room: Path | None = None) -> Iterator[dict[str, Sheet]]:
+    """Gives tables after a look at their heads. Raises RefusedFaults with all that is wrong with these."""
+    sheets: dict[str, Sheet] = {}
+    faults: list[Fault] = []
+    with contextlib.ExitStack() as stack:
+        for kind, table in tables.items():
+            try:
+                if table is not None:
+                    sheets[kind] = open_table(kind, table, words, room, stack)
+            except RefusedFaults as refused:
+                faults += refused.faults
+        if faults:
+            raise RefusedFaults(faults)
+        yield sheets
