@@ -23,7 +23,7 @@ from crnplan.curve.parts import Point
 from crnplan.demand.fitting import fit_demand
 from crnplan.pages.item_page import history_plot
 from crnplan.pages.page import (UNITS, Money, Scale, curve_ends, number, percent, rendered, round_numbers, source,
-                                tick)
+                                templates, tick)
 from crnplan.scenario import Policy
 from planner.tests.conftest import Command
 from planner.tests.pages.page_reader import Page
@@ -71,6 +71,18 @@ def test_chances_stand_in_their_order(chances: list[float]) -> None:
 def test_narrow_pages_have_room_for_marks(values: list[float], inner: list[str]) -> None:
     """If the texts at an axis are long, a narrow page shows the outer ones and 0 alone."""
     assert [text for _, text, css in Scale.of(values).marks if css == "inner"] == inner
+
+
+def test_compiled_templates_are_kept(tmp_path: Path, monkeypatch: pytest.MonkeyPatch) -> None:
+    """A page is the same whether they are there, are new, or can't be kept."""
+    pages = []
+    for folder in (tmp_path / "new", tmp_path / "new", tmp_path / "file"):
+        (tmp_path / "file").touch()
+        monkeypatch.setenv("XDG_CACHE_HOME", str(folder))
+        template = templates.__wrapped__(False).get_template("found.toml")
+        pages.append(template.render({"every": "week", "first": 1, "last": 9, "periods": 9, "tables": []}))
+    assert len({*pages}) == 1 and pages[0].startswith('[catalogue]\nevery = "week"\n# the record: 1 to 9, 9 weeks')
+    assert len([*(tmp_path / "new/crnplan").iterdir()]) == 1
 
 
 def test_bars_of_a_long_history() -> None:

@@ -6,6 +6,8 @@ they stay readable if the picture is narrow.
 from __future__ import annotations
 
 import base64
+import contextlib
+import functools
 import hashlib
 import json
 import math
@@ -14,10 +16,12 @@ from functools import partial
 from typing import TYPE_CHECKING, Any, NamedTuple
 
 from .. import __version__
+from ..compiled import cache_folder
 from ..money import Currency
 from ..words import PREMISE, sentence
 
 if TYPE_CHECKING:
+    import jinja2
     from markupsafe import Markup
 
     from ..curve.parts import Point
@@ -112,16 +116,33 @@ def source(text: str) -> Markup:
     return Markup(f"'sha256-{base64.b64encode(hashlib.sha256(text.encode()).digest()).decode()}'" if text else "'none'")
 
 
-def rendered(template: str, context: Mapping[str, Any]) -> str:
-    """Returns a page or a text from a template of the package."""
+@functools.cache
+def templates(is_html: bool) -> jinja2.Environment:
+    """Returns the templates of the package. As numba does with loops, jinja2 keeps what it compiles in the user's folder
+    for caches, if it can."""
     import jinja2
-    pages = jinja2.Environment(loader=jinja2.PackageLoader("crnplan.pages"), autoescape=template.endswith(".html"),
-                               trim_blocks=True, lstrip_blocks=True, keep_trailing_newline=True,
-                               undefined=jinja2.StrictUndefined)
+
+    class Kept(jinja2.FileSystemBytecodeCache):
+        def load_bytecode(self, bucket: jinja2.bccache.Bucket) -> None:
+            with contextlib.suppress(OSError):
+                super().load_bytecode(bucket)
+
+        def dump_bytecode(self, bucket: jinja2.bccache.Bucket) -> None:
+            with contextlib.suppress(OSError):
+                cache_folder().mkdir(parents=True, exist_ok=True)
+                super().dump_bytecode(bucket)
+    pages = jinja2.Environment(loader=jinja2.PackageLoader("crnplan.pages"), autoescape=is_html, trim_blocks=True,
+                               lstrip_blocks=True, keep_trailing_newline=True, undefined=jinja2.StrictUndefined,
+                               bytecode_cache=Kept(str(cache_folder())))
     pages.filters |= {"number": number, "percent": percent, "capital": capital, "sentence": sentence,
                       "source": source, "quoted": partial(json.dumps, ensure_ascii=False)}
     pages.globals |= {"version": __version__, "premise": PREMISE}
-    return pages.get_template(template).render(context)
+    return pages
+
+
+def rendered(template: str, context: Mapping[str, Any]) -> str:
+    """Returns a page or a text from a template of the package."""
+    return templates(template.endswith(".html")).get_template(template).render(context)
 
 
 def round_numbers(low: float, high: float, is_whole: bool) -> tuple[float, ...]:

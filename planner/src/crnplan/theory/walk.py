@@ -48,7 +48,7 @@ class LatticeLaw:
         """Returns the law of a table. A value between two cells is shared by both, such that the mean stays."""
         weights, (cells, rests) = np.array(table.weights), np.divmod(np.array(table.values), step)
         shares = np.transpose([weights * (step - rests) / step, weights * rests / step])
-        chances = np.bincount(np.transpose([cells, cells + 1]).ravel(), shares.ravel())
+        chances = np.bincount(np.transpose([cells, cells + 1]).ravel(), shares.ravel()).astype(float)
         return cls.scaled(0, chances)
 
     @property
