@@ -12,7 +12,8 @@ import pytest
 from hypothesis import example, given, settings, strategies as st
 
 from crnplan.scenario import Costs, Policy, Scenario
-from crnplan.theory.lattice import NoTheory
+from crnplan.theory import run_effects
+from crnplan.theory.lattice import NoTheory, theories_of
 from crnplan.theory.run_effects import Runs, end_effects, start_bias, theory_of
 from planner.tests.theory.chain import by_chain, expected
 from planner.tests.theory.scenarios import Pair, scenario_of
@@ -148,6 +149,36 @@ def test_all_reviews_at_once(weights: list[int], lead: Pair, s: int, gap: int, i
     at_once = runs.bias(asked.policies[0], gap)
     runs.sums = None
     assert at_once == pytest.approx(runs.bias(asked.policies[0], gap), rel=1e-8, abs=1e-7)
+
+
+@pytest.mark.parametrize("way", ["loop", "plain"])
+@pytest.mark.parametrize("case", ["one lead time", "least demand above 0"])
+def test_loops_and_what_stands_in(way: str, case: str, monkeypatch: pytest.MonkeyPatch) -> None:
+    """Both ways have the biases of a chain, also if the chances of orders settle before the end."""
+    for name in ("quotient", "sums_one_by_one", "counts_of"):
+        monkeypatch.setattr(run_effects, name, getattr(getattr(run_effects, name), way))
+    for start in [(4, 11, 7), (2, 6, 15), (5, 5, 5)]:
+        asked, (usual, costs) = asked_of(case, start, 40), costs_of_chain(case, start)
+        wanted = sum(costs) - 40 * (usual + COSTS.unit * float(asked.demand.mean))
+        assert start_bias(asked).biases == pytest.approx([wanted], abs=1e-5 * 40)
+        assert start_bias(replace(asked, periods=700)).biases == pytest.approx(
+            start_bias(replace(asked, periods=500)).biases, abs=1e-7)
+
+
+@pytest.mark.parametrize("case", CASES)
+def test_theory_that_is_known(case: str, monkeypatch: pytest.MonkeyPatch) -> None:
+    """A theory with other costs gives the same biases, and none is made anew unless it is too coarse."""
+    asked = replace(CASES[case], periods=40, initial=30, policies=(Policy("it", 4, 11),), costs=COSTS)
+    known, own = theories_of(replace(asked, costs=Costs(1, 0, 3, 70)))[0], start_bias(asked)
+    known.figures(4, 11)
+    made = []
+    monkeypatch.setattr(run_effects, "theory_of", lambda *words: made.append(words) or theory_of(*words))
+    found = start_bias(asked, known)
+    assert (found.biases, found.costs) == (pytest.approx(own.biases, rel=1e-9), pytest.approx(own.costs, rel=1e-9))
+    assert not made and found.theory.step == own.theory.step
+    known.exact = False
+    start_bias(asked, known)
+    assert made
 
 
 # Demands and returns, and policies whose mean positions are compared with a chain.

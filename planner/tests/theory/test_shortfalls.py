@@ -4,8 +4,9 @@ from __future__ import annotations
 import numpy as np
 import pytest
 
-from crnplan.theory import long_run, shortfalls
-from crnplan.theory.long_run import Means
+from crnplan.theory import shortfalls
+from crnplan.theory.least import least_enough
+from crnplan.theory.long_run import UNMET, Means
 from crnplan.theory.shortfalls import FAR
 from planner.tests.theory.long_run_costs import shortfall_of
 from planner.tests.theory.scenarios import Pair, scenario_of, theory_of
@@ -37,11 +38,11 @@ def test_least_levels_that_are_enough(way: str, leads: list[int], share: float) 
     """They are the first ones in a table of all levels, from the floor on."""
     theory = theory_of(scenario_of(([0, 1, 3], [3, 2, 1]), (leads, [1] * len(leads))))
     means, allowed = Means(theory, np.array([0, 1, 2, 9, 25])), theory.allowed(share)
-    tables = [means.of_all_levels(figure) for figure in (long_run.UNMET, 2)]
+    tables = [means.of_all_levels(figure) for figure in (UNMET, 2)]
     enough = (tables[0] <= allowed + 1e-9) & (tables[1] >= theory.ratio - 1e-9)
     for floors in ([0, 0, 0, 0, 0], [3, 2, means.top - 3, 9, 0], [means.top] * 5):
-        found = getattr(long_run.least_enough, way)(means.turned, means.chances, np.array(floors),
-                                                    np.full(5, means.top), allowed, theory.ratio)
+        found = getattr(least_enough, way)(means.turned[1:3], means.chances, np.array(floors), np.full(5, means.top),
+                                           allowed, theory.ratio)
         wanted = [next((it for it in range(floor, means.top) if row[it]), means.top)
                   for floor, row in zip(floors, enough)]
         assert found.tolist() == wanted

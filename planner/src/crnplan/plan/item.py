@@ -152,7 +152,7 @@ class Depth:
         if (totals.get(TODAY), totals[self.chosen]) != (run.total_today, run.total_chosen):
             raise Refused(f"item {self.question.item.name!r}: {self.program} gives other totals than the plan has",
                           "plan it again with this program")
-        return sample_of(self.question, report)
+        return sample_of(self.question, self.theory, report)
 
     @property
     def scenario(self) -> Scenario:

@@ -170,11 +170,11 @@ class Sample(NamedTuple):
     bias_is_exact: bool
 
 
-def sample_of(question: Question, report: Report) -> Sample:
+def sample_of(question: Question, theory: LongRun, report: Report) -> Sample:
     """Returns what a run of a question's scenario says of the long run, in money. Raises Refused if the bias of the
     start is not known."""
     rows, scenario, money = report.rows, report.scenario, question.money
-    bias, periods, replications = start_bias(scenario), scenario.periods, scenario.replications
+    bias, periods, replications = start_bias(scenario, theory), scenario.periods, scenario.replications
     orders = [bias.theory.figures(row.s, row.S).orders * periods * replications for row in rows]
     estimates = estimates_of(rows, replications, periods, [cost / periods for cost in bias.biases], orders)
     return Sample(tuple(estimate._replace(
@@ -226,7 +226,7 @@ def check_run(question: Question, theory: LongRun, report: Report, sample: Sampl
         return
     key = key_words(f"{question.settings.seed}\nagain\n{question.item.name}")
     larger = dataclasses.replace(report.scenario, key=tuple(key), replications=MOST_REPLICATIONS)
-    again = sample_of(question, report_of(larger, program))
+    again = sample_of(question, theory, report_of(larger, program))
     rare = [rare_cost(question, theory, (row.s, row.S), larger) for row in report.rows]
     fault = disagreement(again, known, t_quantile(CHANCE, MOST_REPLICATIONS - 1), [cost + rare[0] for cost in rare])
     if fault:
@@ -399,7 +399,7 @@ def plan_one(question: Question, program: str) -> Answer:
     theory = question.theory()
     choice = choice_of(theory, question)
     report = report_of(scenario_of(question, theory, choice.levels), program)
-    sample = sample_of(question, report)
+    sample = sample_of(question, theory, report)
     figures = {name: figures_of(question, theory, levels) for name, levels in levels_of(question, choice).items()}
     check_run(question, theory, report, sample, figures, program)
     run, chosen = run_of(question, report, sample), figures[CHOSEN]

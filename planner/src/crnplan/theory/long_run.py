@@ -25,10 +25,10 @@ from numpy.lib.stride_tricks import sliding_window_view
 from scipy import fft
 
 from ..chances import Floats, Whole
-from ..compiled import compiled
 from ..formats import MOST_ITEMS
-from ..scenario import Scenario
+from ..scenario import Costs, Scenario
 from .feasible import ALL, Feasible, Places
+from .least import least_enough
 from .shortfalls import LEAST_CHANCE, falling, lateness, moving, transforms_of, work_of
 from .walk import LatticeLaw, Surplus, Walk, power_of, room_for, sum_of
 
@@ -111,49 +111,6 @@ class Means:
 LevelsOf = Callable[[Means], Levels]
 
 
-def least_levels(low: Whole, high: Whole, is_enough: Callable[[Whole], Any]) -> Whole:
-    """Returns the least levels from low to high that are enough, each by itself; high if none below it is."""
-    while (low < high).any():
-        middle = (low + high) // 2
-        enough = is_enough(middle)
-        low, high = np.where(enough, low, np.minimum(middle + 1, high)), np.where(enough, middle, high)
-    return low
-
-
-def least_by_halving(turned: Floats, chances: Floats, floors: Whole, highest: Whole, allowed: float, ratio: float
-                     ) -> Whole:
-    """Returns the least level of each gap, from a floor on, with a mean unmet demand of at most `allowed` and a mean
-    chance of no backlog of at least `ratio`; the highest if none below it has. `turned` and `chances` are those of
-    `Means`, whose top is the highest."""
-    windows, top = sliding_window_view(turned, chances.shape[1], axis=1), highest
-
-    def is_enough(levels: Whole) -> Any:
-        unmet, held = np.einsum("fgx,gx->fg", windows[UNMET:STOCK_LEFT, top - levels], chances)
-        return (unmet <= allowed) & (held >= ratio)
-    return least_levels(floors, highest, is_enough)
-
-
-@compiled(least_by_halving)
-def least_enough(turned: Floats, chances: Floats, floors: Whole, highest: Whole, allowed: float, ratio: float) -> Whole:
-    levels, level, width = floors.copy(), 0, chances.shape[1]
-    for gap in range(len(chances)):
-        low, high, stride = floors[gap], highest[gap], 1
-        while low < high:  # from the level of the gap before on, in strides that double until they are too long
-            level = min(max(level, low), high - 1)
-            first = highest[gap] - level
-            is_enough = np.dot(turned[2, first:first + width], chances[gap]) >= ratio and np.dot(
-                turned[1, first:first + width], chances[gap]) <= allowed
-            if is_enough:
-                high, level = level, level - stride
-            else:
-                low, level = level + 1, level + stride
-            stride *= 2
-            if not low <= level < high:
-                level = (low + high) // 2
-        levels[gap] = level = low
-    return levels
-
-
 def place_of_least(costs: Floats) -> int:
     """Returns the place of the least cost, the first one if others are equal but for rounding."""
     return int(np.argmax(costs <= costs.min() * (1 + NEAR)))
@@ -200,7 +157,7 @@ class LongRun(Walk):
         self.feasible, self.found = feasible, dict[float, Candidate]()
         costs, leads = scenario.costs, scenario.lead.chances
         self.setup, self.holding, self.backlog = costs.setup, costs.holding, costs.backlog
-        self.most, self.shorts = most, dict[int, Floats]()
+        self.most, self.shorts, self.figured = most, dict[int, Floats](), dict[tuple[int, int], Figures]()
         self.asked = self.demand.mean * step  # the mean demand of a period, in items
         # How far the mean stock less the mean backlog is below the mean low, in items.
         self.offset = step * (self.above_low.mean + self.net.mean * float(scenario.lead.mean + 1))
@@ -220,6 +177,14 @@ class LongRun(Walk):
         """Returns the same theory with other feasible policies."""
         other = copy.copy(self)
         other.feasible, other.found = feasible, {}
+        return other
+
+    def priced(self, costs: Costs) -> LongRun:
+        """Returns the same theory with other costs, and with all policies feasible."""
+        other = self.within(ALL)
+        other.setup, other.holding, other.backlog = costs.setup, costs.holding, costs.backlog
+        other.figured = {}
+        other.__dict__.pop("free", None)
         return other
 
     @cached_property
@@ -321,11 +286,14 @@ class LongRun(Walk):
 
     def figures_of_gap(self, gap: int, level: int) -> Figures:
         """Returns the figures of a gap and an order-up-to level."""
-        low, rows = self.rows_of(np.array([gap]))
-        lows = level - self.step * np.arange(low, low + rows.shape[1])
-        stock_cost, unmet, held, stock = (self.figures_from(lows) @ rows[0]).tolist()
-        orders = 1 / self.periods(gap)
-        return Figures(self.setup * orders + stock_cost, 1 - unmet / self.asked, 1 - held, stock, orders)
+        if (gap, level) not in self.figured:
+            low, rows = self.rows_of(np.array([gap]))
+            lows = level - self.step * np.arange(low, low + rows.shape[1])
+            stock_cost, unmet, held, stock = (self.figures_from(lows) @ rows[0]).tolist()
+            orders = 1 / self.periods(gap)
+            self.figured[gap, level] = Figures(
+                self.setup * orders + stock_cost, 1 - unmet / self.asked, 1 - held, stock, orders)
+        return self.figured[gap, level]
 
     def policy(self, gap: int, level: int, point: int | None = None) -> Candidate:
         """Returns the policy of a gap with a level, and perhaps a point; none if it is not feasible."""
@@ -377,7 +345,7 @@ class LongRun(Walk):
         higher."""
         allowed, highest = self.allowed(share), np.full(len(means.gaps), means.top)
 
-        levels = least_enough(means.turned, means.chances, self.floor(means.gaps), highest, allowed, self.ratio)
+        levels = least_enough(means.turned[UNMET:STOCK_LEFT], means.chances, self.floor(means.gaps), highest, allowed, self.ratio)
         places = self.places(means, levels)
         spare = self.spare_of(places, allowed)
         if self.feasible.has_all_levels:

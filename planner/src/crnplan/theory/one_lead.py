@@ -26,7 +26,8 @@ import numpy.typing as npt
 
 from ..chances import Floats, Whole
 from ..formats import MOST_ITEMS
-from .long_run import CLOSE, NO_POLICY, Candidate, GapLevels, LongRun, least_levels, place_of_least
+from .least import least_levels
+from .long_run import CLOSE, NO_POLICY, Candidate, GapLevels, LongRun, place_of_least
 from .walk import convolved
 
 EVEN = 1e-10  # Chances that differ by no more than this share are taken as the same by a search, not for figures.

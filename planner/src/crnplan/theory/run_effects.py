@@ -37,11 +37,12 @@ import numpy as np
 from scipy import fft
 
 from ..chances import Floats, Whole
+from ..compiled import compiled
 from ..scenario import Policy, Scenario
 from .lattice import MOST_GAPS, NoTheory, lattice_of, shape_of, theory_on
 from .long_run import LongRun
 from .shortfalls import LEAST_CHANCE, renewed, transforms_of, waiting
-from .walk import NOTHING, LatticeLaw, Surplus, convolved, power_of, room_for, sum_of
+from .walk import EQUAL, NOTHING, LatticeLaw, Surplus, convolved, power_of, room_for, sum_of
 
 if TYPE_CHECKING:
     from ..crnsim.report import Row
@@ -52,6 +53,7 @@ MOST_SUMS = 2_000_000  # cells of the laws of all reviews at once: more would ta
 LEAST_MASS = 1e-14  # Laws are left out whose chance to be within the width is less.
 # A chain whose law is as close to that of the long run stays there. It is compared once in so many reviews.
 SETTLED, LOOK_EVERY = 1e-12, 8
+MOST_SINGLE = 4_000_000  # products, up to which laws of reviews one by one take less time than by transforms
 MOST_DENSE = 100  # cells, up to which a matrix of the moves takes all reviews at once
 
 
@@ -83,13 +85,35 @@ def reciprocal(series: Floats, count: int) -> Floats:
     return inverse
 
 
-def review_sums(net: LatticeLaw, width: int, count: int) -> Floats:
-    """Returns the laws of the net demand of 0, 1, .. reviews up to the width, in cells, a row each: of less than
-    `count`, or of as many as are within the width with some chance. Net demands are never below 0, and not always 0."""
-    size = width + 1
+def quotient_by_newton(series: Floats, divisor: Floats) -> Floats:
+    """Returns as many coefficients of series / divisor as the series has. The divisor begins with 1, and all its other
+    coefficients are at most 0 and at least -1 together: those of the quotient are means of so many before them."""
+    return convolved(series, reciprocal(divisor, len(series)))[:len(series)]
+
+
+@compiled(quotient_by_newton)
+def quotient(series: Floats, divisor: Floats) -> Floats:
+    found, reach, end = series.copy(), len(divisor) - 1, np.flatnonzero(series)[-1]
+    for place in range(len(found) - 1):
+        if place % LOOK_EVERY == 0 and place > max(reach, end):
+            last = found[place - reach:place]
+            if last.max() - last.min() <= EQUAL * last.max():  # So are all others.
+                found[place:] = found[place - 1]
+                break
+        more, most, value = 1, min(reach, len(found) - 1 - place), found[place]
+        while more <= most:  # Numba makes fast code of `while`, and slow code of `for`.
+            found[place + more] -= value * divisor[more]
+            more += 1
+    return found
+
+
+def sums_by_doubling(law: Floats, count: int) -> Floats:
+    """Returns the laws of sums of 0, 1, .. independent numbers above 0 up to a width, in cells, a row each: of less
+    than `count`, or of as many as are within the width with some chance. `law` has the chances of a number up to the
+    width."""
+    size = len(law)
     room, rows = room_for(2 * size - 1), np.eye(1, size)
-    law = net.between(0, max(net.high, width))[:size]  # of as many reviews as there are rows
-    while len(rows) < count and law.sum() > LEAST_MASS:
+    while len(rows) < count and law.sum() > LEAST_MASS:  # of as many numbers as there are rows
         transforms = fft.rfft(np.vstack([rows, law]), room)
         sums = fft.irfft(transforms * transforms[-1], room)[:, :size]
         sums[sums < LEAST_CHANCE] = 0.0
@@ -97,32 +121,115 @@ def review_sums(net: LatticeLaw, width: int, count: int) -> Floats:
     return rows[:count]
 
 
-def falling(sums: Floats, start: Start, gap: int, periods: int, counted: int) -> Reviews:
-    """Returns the reviews of so many periods if nothing comes back, of which the first `counted` matter for the stock.
-    `sums` are the laws of `review_sums` up to the most that can be asked for between the start and an order."""
-    def within(width: int) -> Floats:
+@compiled(sums_by_doubling)
+def sums_one_by_one(law: Floats, count: int) -> Floats:
+    size, rows, used, first = len(law), np.zeros((count, len(law))), 1, 0
+    rows[0, 0] = 1.0
+    while used < count:
+        before, row = rows[used - 1], rows[used]
+        for more in np.flatnonzero(law[:size - first]):
+            cell, chance = first + more, law[more]
+            while cell < size:
+                row[cell] += chance * before[cell - more]
+                cell += 1
+        while first < size and row[first] < LEAST_CHANCE:
+            row[first] = 0.0
+            first += 1
+        if row.sum() <= LEAST_MASS:
+            break
+        used += 1
+    return rows[:used]
+
+
+def counts_by_rows(chance: float, reviews: int, most: int) -> Floats:
+    """Returns the chances of 0, 1, .. of less than `most` events in 0, 1, .. trials, of which each has an event with a
+    chance: binomial laws, a row each, of less than so many reviews, or of as many as have so few events with some
+    chance."""
+    rows, used = np.zeros((reviews, most)), 1
+    rows[0, 0] = 1.0
+    while used < reviews and rows[used - 1].sum() > LEAST_MASS:
+        rows[used] = (1 - chance) * rows[used - 1]
+        rows[used, 1:] += chance * rows[used - 1, :-1]
+        used += 1
+    return rows[:used]
+
+
+@compiled(counts_by_rows)
+def counts_of(chance: float, reviews: int, most: int) -> Floats:
+    rows, used = np.zeros((reviews, most)), 1
+    rows[0, 0] = 1.0
+    while used < reviews and rows[used - 1].sum() > LEAST_MASS:
+        before, row, count = rows[used - 1], rows[used], 1
+        row[0] = (1 - chance) * before[0]
+        while count < most:
+            row[count] = (1 - chance) * before[count] + chance * before[count - 1]
+            count += 1
+        used += 1
+    return rows[:used]
+
+
+class Sums(NamedTuple):
+    """The laws of the net demand of 0, 1, .. less than so many reviews, up to a width, which is never below 0: `counts`
+    has the chances of how many of them ask for something, a row each, and `laws` has a row with the sum of so many.
+    Reviews without a row are not within the width."""
+
+    reviews: int
+    counts: Floats
+    laws: Floats
+
+    @classmethod
+    def of(cls, net: LatticeLaw, width: int, reviews: int) -> Sums:
+        """Returns the laws of less than so many reviews, up to a width in cells. Net demands are not always 0."""
+        law = net.between(0, max(net.high, width))[:width + 1]
+        never, law[0] = law[0], 0.0
+        count = min(reviews, most_sums(net, width))
+        is_short = min(net.high, width) * width * count <= MOST_SINGLE
+        laws = (sums_one_by_one if is_short else sums_by_doubling)(law / (1 - never), reviews)
+        return cls(reviews, counts_of(1 - never, reviews, len(laws)), laws)
+
+    def within(self, width: int) -> Floats:
         """Returns the chances that 0, 1, .. reviews take at most so many cells."""
-        return np.pad(sums[:, :max(width + 1, 0)].sum(axis=1), (0, periods - len(sums)))
+        chances = np.zeros(self.reviews)
+        chances[:len(self.counts)] = self.counts @ self.laws[:, :max(width + 1, 0)].sum(axis=1)
+        return chances
+
+    def weighed(self, weights: Floats) -> Floats:
+        """Returns sums of the laws of 0, 1, .. reviews, each with a row of weights."""
+        chances: Floats = weights[:, :len(self.counts)] @ self.counts @ self.laws
+        return chances
+
+
+def most_sums(net: LatticeLaw, width: int) -> float:
+    """Returns about how many net demands above 0 are at most a width together."""
+    return 2 * width * net.above(0) / net.mean + 2
+
+
+def falling(sums: Sums, start: Start, gap: int, periods: int, counted: int) -> Reviews:
+    """Returns the reviews of so many periods if nothing comes back, of which the first `counted` matter for the stock.
+    `sums` go up to the most that can be asked for between the start and an order."""
     low, cells = min(start.law.low, 0), zip(start.law.cells.tolist(), start.law.chances.tolist())
     begun = [] if start.ordered else [(cell, chance) for cell, chance in cells if chance]
     first = np.zeros(periods)
     first[0] = start.ordered
     for cell, chance in begun:
-        first[1:] -= chance * np.diff(within(gap - cell))
-    cycle = np.diff(within(gap), prepend=0.0)
-    placing = convolved(first, reciprocal(cycle, periods))[:periods]
+        first[1:] -= chance * np.diff(sums.within(gap - cell))
+    cycle = np.diff(sums.within(gap), prepend=0.0)
+    placing = quotient(first, cycle[:np.flatnonzero(cycle)[-1] + 1])
+    # How often the mean law and the last one have 0, 1, .. reviews since the start, and since an order.
+    weights = np.zeros((4, periods))
+    weights[:2, :counted] = np.ones(counted), np.cumsum(placing[:counted])[::-1]
+    weights[:2] /= max(counted, 1)
+    weights[2, -1], weights[3] = 1, placing[::-1]
 
-    def law_of(from_start: Floats, from_order: Floats) -> LatticeLaw:
-        """Returns the sum of laws after 0, 1, .. reviews from the start and from an order, with these weights."""
-        after_start, after_order = (weights[:len(sums)] @ sums[:len(weights)] for weights in (from_start, from_order))
+    def law_of(after_start: Floats, after_order: Floats) -> LatticeLaw:
+        """Returns the sum of laws after the start and after orders."""
         chances = np.zeros(gap - low + 1)
         chances[-low:] = after_order[:gap + 1]
         for cell, chance in begun:
             chances[cell - low:] += chance * after_start[:gap - cell + 1]
         return LatticeLaw(low, np.clip(chances, 0, None))
-    shares = np.full(counted, 1 / max(counted, 1))
-    mean = law_of(shares, np.cumsum(placing[:counted])[::-1] / max(counted, 1))
-    return Reviews(float(placing.sum()), mean, law_of(np.eye(1, periods, periods - 1)[0], placing[::-1]))
+    laws = sums.weighed(weights)
+    return Reviews(float(placing.sum()), law_of(*laws[:2]), law_of(*laws[2:]))
 
 
 def moving(net: LatticeLaw, start: Start, settled: LatticeLaw, orders: float, periods: int, counted: int) -> Reviews:
@@ -183,7 +290,7 @@ def theory_of(scenario: Scenario, most_gaps: int = MOST_GAPS) -> LongRun:
 
 def start_of(theory: LongRun, initial: int, policy: Policy, gap: int) -> Start:
     """Returns the start of a policy. The law has room for what may come back."""
-    highs = min(theory.positions(gap).low, 0)
+    highs = theory.above_low.low
     if initial < policy.s:
         return Start(LatticeLaw(highs, NOTHING.between(highs, gap)), True)
     cell, rest = divmod(policy.S - initial, theory.step)
@@ -218,9 +325,9 @@ class Runs:
         self.starts = {(policy, gap): start_of(theory, scenario.initial, policy, gap)
                        for policy in scenario.policies for gap, _ in theory.gaps_of(policy.s, policy.S)}
         widest = max(gap - min(start.law.low, 0) for (_, gap), start in self.starts.items())
-        self.sums: Floats | None = None
-        if theory.net.low >= 0 and widest * min(self.periods, 2 * widest / theory.net.mean) <= MOST_SUMS:
-            self.sums = review_sums(theory.net, widest, self.periods)
+        self.sums: Sums | None = None
+        if theory.net.low >= 0 and widest * min(self.periods, most_sums(theory.net, widest)) <= MOST_SUMS:
+            self.sums = Sums.of(theory.net, widest, self.periods)
 
     def reviews(self, start: Start, gap: int) -> Reviews:
         """Returns the reviews from a start."""
@@ -241,7 +348,8 @@ class Runs:
 
     def _costs(self, amount: Surplus, levels: Whole) -> Floats:
         """Returns the expected costs of a period with these levels, from which a random amount is taken."""
-        costs: Floats = self.theory.holding * amount.left(levels) + self.theory.backlog * amount.lacking(levels)
+        left = amount.left(levels)
+        costs: Floats = self.theory.holding * left + self.theory.backlog * (left - levels + amount.mean)
         return costs
 
     def _excess(self, short: LatticeLaw, level: int, usual: float) -> float:
@@ -284,13 +392,24 @@ class StartBias(NamedTuple):
     on_lattice: bool
 
 
-def start_bias(scenario: Scenario) -> StartBias:
-    """Returns the bias of the start of a scenario's policies, over its periods from its `initial`.
+def is_fine(theory: LongRun, scenario: Scenario) -> bool:
+    """Returns whether a theory of a scenario counts it as `theory_of` does for the bias: item by item, if gaps are not
+    too wide."""
+    widest = max(policy.S - policy.s for policy in scenario.policies)
+    high = max(*scenario.demand.values, *(scenario.returns or scenario.demand).values)
+    return theory.exact and widest + 3 * high <= MOST_BIAS_GAPS * theory.step
+
+
+def start_bias(scenario: Scenario, known: LongRun | None = None) -> StartBias:
+    """Returns the bias of the start of a scenario's policies, over its periods from its `initial`. `known` is a theory
+    of the scenario, perhaps with other costs, which is taken if it is fine enough.
 
     Costs of the long run leave `unit` out, which adds unit times the mean net demand to each; the biases have it.
     Raises NoTheory if there is no long run, or if the numbers of the scenario are too far apart.
     """
-    theory, policies = theory_of(scenario, MOST_BIAS_GAPS), scenario.policies
+    theory, policies = known.priced(scenario.costs) if known else None, scenario.policies
+    if theory is None or not is_fine(theory, scenario):
+        theory = theory_of(scenario, MOST_BIAS_GAPS)
     runs = Runs(theory, scenario)
     biases = (sum(share * runs.bias(policy, gap) for gap, share in theory.gaps_of(policy.s, policy.S))
               for policy in policies)

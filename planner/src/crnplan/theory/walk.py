@@ -69,7 +69,9 @@ class LatticeLaw:
 
     def between(self, low: int, high: int) -> Floats:
         """Returns the chances of the cells from low to high, among which all of the law are."""
-        return np.pad(self.chances, (self.low - low, high - self.high))
+        chances = np.zeros(high - low + 1)
+        chances[self.low - low:self.high - low + 1] = self.chances
+        return chances
 
     def above(self, cell: int) -> float:
         """Returns the chance of the cells above one."""
