@@ -1,7 +1,8 @@
 """Compiles inner loops by numba, where that is installed; plain numpy stands in for it where it is not.
 
 A loop is compiled once, when it is first called, and kept in the user's folder for caches. Both ways give the same
-decisions, which the tests compare. A command that calls no loop doesn't import numba. A loop may call other loops.
+decisions, which the tests compare. A command that calls no loop doesn't import numba. A loop may call functions of its
+module.
 """
 from __future__ import annotations
 
@@ -14,6 +15,7 @@ from types import FunctionType
 from typing import Any, TypeVar, cast
 
 Loop = TypeVar("Loop", bound=Callable[..., Any])
+PLAIN_CALLS = 50  # of a loop that takes a few milliseconds as it is written
 
 
 def cache_folder() -> Path:
@@ -34,10 +36,12 @@ def numba_njit() -> Callable[..., Any] | None:
 
 
 def compiled_by(njit: Callable[..., Any], loop: Callable[..., Any]) -> Callable[..., Any]:
-    """Returns a loop as numba compiles it, with the loops that it calls."""
+    """Returns a loop as numba compiles it, with the functions of its module that it calls."""
     code, names = loop.__code__, loop.__globals__
-    called = {name: compiled_by(njit, names[name].loop) for name in code.co_names if hasattr(names.get(name), "loop")}
-    whole = FunctionType(code, {**names, **called}) if called else loop
+    called = {name: getattr(it, "loop", it) for name in code.co_names
+              if isinstance(it := names.get(name), FunctionType) and it.__module__ == loop.__module__}
+    parts = {name: compiled_by(njit, part) for name, part in called.items()}
+    whole = FunctionType(code, {**names, **parts}, closure=loop.__closure__) if parts else loop
     try:
         made: Callable[..., Any] = njit(cache=True)(whole)
     except RuntimeError:  # no folder to keep it in
@@ -68,6 +72,6 @@ def compiled(plain: Loop, after: int = 0) -> Callable[[Callable[..., Any]], Loop
     return decorated
 
 
-def composed(loop: Loop) -> Loop:
-    """Returns a loop of other loops, which needs none to stand in for it."""
-    return compiled(loop)(loop)
+def composed(after: int = 0) -> Callable[[Loop], Loop]:
+    """Returns a decorator of a loop that is plain enough to stand in for itself: see `compiled`."""
+    return lambda loop: compiled(loop, after)(loop)

@@ -17,7 +17,7 @@ from crnplan.theory.long_run import STOCK_LEFT, UNMET
 from crnplan.theory.one_lead import OneLead
 from planner.tests.theory.scenarios import scenario_of
 
-LOOPS = "add_low", "vertices_of", "choose_points", "set_points", "compare_gap"
+LOOPS = "add_low", "choose_points", "set_points", "compare_gap"
 # Costs of an order, of an item in stock, and of one that is not met at once, by case.
 CASES = np.array([(order, holding, price) for order, holding in ((30.0, 1.0), (90.0, 1.0), (30.0, 4.0), (0.0, 1.0))
                   for price in 10.0**np.arange(-3, 5)]).T

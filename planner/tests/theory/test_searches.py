@@ -7,12 +7,14 @@ import numpy as np
 import pytest
 from hypothesis import example, given, settings, strategies as st
 
+from crnplan.compiled import compiled_by, numba_njit
 from crnplan.decide.sensitivity import Case, move_of
 from crnplan.scenario import Costs, Scenario
 from crnplan.theory import feasible, long_run, one_lead
 from crnplan.theory.lattice import NoTheory, shape_of, theory_on
 from crnplan.theory.long_run import NO_POLICY, Candidate, search
 from crnplan.theory.many_laws import Promises
+from crnplan.theory.one_lead import levels_walked
 from crnplan.theory.suggestions import MOST_EXCESS
 from planner.tests.theory.long_run_costs import costs_of, fills_of, shortfall_of
 from planner.tests.theory.scenarios import Pair, laws, scenario_of, table, theory_of
@@ -144,3 +146,17 @@ def test_no_policy_within_the_range(monkeypatch: pytest.MonkeyPatch) -> None:
     assert Promises(scenario, theory, 0, [scenario.demand], [], [0.98]).cheapest(NO_POLICY, 0.98) == NO_POLICY
     with pytest.raises(NoTheory, match="no best policy within the ranges of s and S"):
         move_of(Case("as it is", scenario, None), (0, 5))
+
+
+@pytest.mark.parametrize("least", [0, 7])
+def test_levels_are_the_same_when_compiled(least: int) -> None:
+    """The first calls run as they are written, so both ways must be equal to the last bit."""
+    pytest.importorskip("numba")
+    theory = theory_of(scenario_of(((0, 1, 5), (3, 2, 1)), ((2,), (1,)), costs=Costs(60, 0, 1, 9)))
+    gaps, lows = np.arange(3, 50), theory.lows_of(60)
+    table = theory.figures_from(np.arange(-2, 90))[:3]
+    words = table, lows[::-1].copy(), gaps, np.cumsum(lows)[gaps], gaps + least, 0.2, theory.ratio
+    njit = numba_njit()
+    assert njit
+    rows = levels_walked.loop(*words)
+    assert compiled_by(njit, levels_walked.loop)(*words).tolist() == rows.tolist() and len(rows) > 20

@@ -5,6 +5,7 @@ import numpy as np
 import pytest
 from hypothesis import given, settings, strategies as st
 
+from crnplan.compiled import compiled_by, numba_njit
 from crnplan.law import Law
 from crnplan.theory.walk import (MOST_PRODUCTS, NOTHING, LatticeLaw, Surplus, convolved, factors_of, power_of,
                                  renewal_sequence, room_for, sum_of)
@@ -129,3 +130,14 @@ def test_lows_are_a_renewal_sequence(weights: list[int], first: int, count: int)
         chances.append(sum(falls[it] * chances[place - it] for it in range(1, min(place, len(weights)) + 1)))
     lows = renewal_sequence(np.array(chances[:first + 1]), falls, first + count + 1)
     assert lows == pytest.approx(chances, abs=1e-14)
+
+
+@pytest.mark.parametrize("known, count", [(1, 9), (40, 700)])
+@pytest.mark.parametrize("weights", [[1], [0, 0, 3, 0, 1], [*range(1, 80)]], ids=len)
+def test_lows_are_the_same_when_compiled(weights: list[int], known: int, count: int) -> None:
+    """The first calls run as they are written, so both ways must be equal to the last bit."""
+    pytest.importorskip("numba")
+    njit, falls, loop = numba_njit(), np.array([0.0, *weights]) / sum(weights), renewal_sequence.loop
+    assert njit
+    lows = loop(np.ones(1), falls, known)
+    assert compiled_by(njit, loop)(lows, falls, count).tolist() == loop(lows, falls, count).tolist()

@@ -46,7 +46,6 @@ def add_low(sums: Floats, table: Floats, place: int, low: float, before: Floats,
     before[1] += low * place
 
 
-@composed
 def vertices_of(stock: Floats, unmet: Floats, most: float, kept: Whole) -> int:
     """Finds the vertices of the lower hull of points with rising stock, until more stock costs more than it can gain at
     a price of `most`. Returns how many there are, and sets their places."""
@@ -149,7 +148,7 @@ def compare_gap(gap: int, orders: float, points: Floats, chosen: Whole, costs: F
     return max(0.0, growth)
 
 
-@composed
+@composed()
 def compare_gaps(lows: Floats, span: float, table: Floats, line: Floats, gaps: Whole, least: Floats, places: Floats,
                  asked: Floats, ranks: Whole, costs: Floats, floor: Floats, best: Floats, found: Floats) -> int:
     """Compares some rising gaps, and returns how many of them were looked at: see `compare_gap`.

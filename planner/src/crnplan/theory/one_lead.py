@@ -17,20 +17,60 @@ Federgruen, Finding optimal (s,S) policies is about as simple as evaluating a si
 from __future__ import annotations
 
 import math
-from bisect import bisect_left
-from collections.abc import Callable
 from typing import Any
 
 import numpy as np
 import numpy.typing as npt
 
 from ..chances import Floats, Whole
+from ..compiled import PLAIN_CALLS, composed
 from ..formats import MOST_ITEMS
 from .least import least_levels
 from .long_run import CLOSE, NO_POLICY, Candidate, GapLevels, LongRun, place_of_least
 from .walk import convolved
 
 EVEN = 1e-10  # Chances that differ by no more than this share are taken as the same by a search, not for figures.
+
+
+def is_enough(sums: Any, total: Any, allowed: float, ratio: float) -> Any:
+    """Returns whether a level with these sums is enough: see `Lows`."""
+    return (sums[1] <= allowed * total) & (sums[2] >= ratio * total)
+
+
+def sums_at(table: Floats, turned: Floats, gap: int, level: int) -> Floats:
+    """Returns the sums of a gap and a level."""
+    sums, own, first = np.empty(3), turned[len(turned) - gap - 1:], level - gap + 2
+    for row in range(3):
+        sums[row] = np.dot(table[row, first:first + gap + 1], own)
+    return sums
+
+
+@composed(after=PLAIN_CALLS)
+def levels_walked(table: Floats, turned: Floats, gaps: Whole, totals: Floats, floors: Whole, allowed: float,
+                  ratio: float) -> Floats:
+    """Returns a row for each gap of `Lows.walked`: its level, and the sums there and a cell below."""
+    level, last, rows, here, below = floors[0], table.shape[1] - 3, np.empty((len(gaps), 7)), np.zeros(3), np.zeros(3)
+    high = last
+    for each in range(len(gaps)):
+        gap, total, low = gaps[each], totals[each], turned[len(turned) - gaps[each] - 1]
+        while each == 0 and level < high:
+            middle = (level + high) // 2
+            if is_enough(sums_at(table, turned, gap, middle), total, allowed, ratio):
+                high = middle
+            else:
+                level = middle + 1
+        if each == 0 or level < floors[each]:
+            level = max(level, floors[each])
+            here, below = sums_at(table, turned, gap, level), sums_at(table, turned, gap, level - 1)
+        else:
+            here, below = here + low * table[:, level - gap + 2], below + low * table[:, level - gap + 1]
+        while level < last and not is_enough(here, total, allowed, ratio):
+            level, below = level + 1, here
+            here = sums_at(table, turned, gap, level)
+        if not is_enough(here, total, allowed, ratio):
+            return rows[:each]
+        rows[each, 0], rows[each, 1:4], rows[each, 4:] = level, here, below
+    return rows
 
 
 class Lows:
@@ -50,39 +90,12 @@ class Lows:
         self.last = table.shape[1] - 3
         self.even = int(np.flatnonzero(np.append(1.0, abs(lows - lows[-1]) > EVEN * lows[-1]))[-1])
 
-    def is_enough(self, sums: Any, totals: Any) -> Any:
-        """Returns whether levels with these sums are enough."""
-        return (sums[1] <= self.allowed * totals) & (sums[2] >= self.ratio * totals)
-
-    def at(self, gap: int, level: int) -> tuple[float, ...]:
-        """Returns the sums of a gap and a level."""
-        return tuple((self.table[:, level - gap + 2:level + 3] @ self.turned[-gap - 1:]).tolist())
-
-    def walked(self, first: int, most: int, floor_of: Callable[[int], int]) -> GapLevels:
-        """Returns for each gap up to the most the least level from a floor on that is enough, if the table has it: it
-        does not fall from one gap to the next. Gaps whose last place is no low are left out."""
-        total, floor, rows = float(self.counts[first]), min(floor_of(first), self.last), []
-        level = floor + bisect_left(range(floor, self.last), True,
-                                    key=lambda level: bool(self.is_enough(self.at(first, level), total)))
-        below, here = self.at(first, level - 1), self.at(first, level)
-        columns = [*zip(*self.table.tolist())]
-        for gap in [first, *(first + 1 + np.flatnonzero(self.chances[first + 1:most + 1])).tolist()]:
-            low, floor = float(self.chances[gap]), floor_of(gap)
-            total += low if gap > first else 0.0
-            if level < floor:
-                level, below, here = floor, self.at(gap, floor - 1), self.at(gap, floor)
-            elif gap > first:
-                (a, b, c), (x, y, z) = columns[level - gap + 2], columns[level - gap + 1]
-                here = here[0] + low * a, here[1] + low * b, here[2] + low * c
-                below = below[0] + low * x, below[1] + low * y, below[2] + low * z
-            while level < self.last and not self.is_enough(here, total):
-                level, below = level + 1, here
-                here = self.at(gap, level)
-            if not self.is_enough(here, total):
-                break
-            rows.append((gap, level, total, *here, *below))
-        table = np.array(rows).reshape(-1, 9).T
-        return GapLevels(table[0].astype(int), table[1].astype(int), table[2], table[3:6], table[6:])
+    def walked(self, gaps: Whole, floors: Whole) -> GapLevels:
+        """Returns for each of some rising gaps the least level from a floor on that is enough, if the table has it: it
+        does not fall from one gap to the next. Between the gaps are no lows."""
+        totals = self.counts[gaps]
+        rows = levels_walked(self.table, self.turned, gaps, totals, floors, self.allowed, self.ratio)
+        return GapLevels(gaps[:len(rows)], rows[:, 0].astype(int), totals[:len(rows)], rows[:, 1:4].T, rows[:, 4:].T)
 
     def spread(self, gaps: Whole, floors: Whole) -> GapLevels:
         """Returns for gaps of at least `even` the least level from a floor on that is enough, if the table has it."""
@@ -94,9 +107,9 @@ class Lows:
             sums: Floats = first[:, levels + 2] + low * (summed[:, levels + 2] - summed[:, levels + 1 - gaps])
             return sums
         highest = np.full(len(gaps), self.last)  # no floor is beyond the table
-        levels = least_levels(floors, highest, lambda levels: self.is_enough(at(levels), totals))
+        levels = least_levels(floors, highest, lambda levels: is_enough(at(levels), totals, self.allowed, self.ratio))
         here, below = at(levels), at(levels - 1)
-        kept = self.is_enough(here, totals)
+        kept = is_enough(here, totals, self.allowed, self.ratio)
         return GapLevels(gaps[kept], levels[kept], totals[kept], here[:, kept], below[:, kept])
 
 
@@ -128,7 +141,8 @@ class OneLead(LongRun):
         places = lows.spread(even, self.floor(even))
         if len(even) == len(gaps):
             return places
-        return lows.walked(first, min(lows.even - 1, int(gaps[-1])), self.floor).joined(places)
+        gaps = gaps[(gaps < lows.even) & ((gaps == first) | (lows.chances[gaps] > 0))]
+        return lows.walked(gaps, self.floor(gaps)).joined(places)
 
     def best_within(self, share: float) -> Candidate:
         """Returns the cheapest of all feasible policies that meet at least this share of demand at once.

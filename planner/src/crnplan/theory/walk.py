@@ -17,6 +17,7 @@ from functools import cached_property
 import numpy as np
 
 from ..chances import Floats, Whole
+from ..compiled import PLAIN_CALLS, composed
 from ..law import Law
 from ..scenario import Scenario
 
@@ -193,19 +194,20 @@ def factors_of(net: LatticeLaw) -> tuple[Floats, Floats]:
     return visits[:kept], falls / falls.sum()
 
 
+@composed(after=PLAIN_CALLS)
 def renewal_sequence(lows: Floats, falls: Floats, count: int) -> Floats:
     """Returns the chances that each of the first `count` places is a low of the walk. `lows` are the first of them.
     Each is a mean of as many chances before it as a fall has cells. So once these are equal, all others are."""
     longer, reach = np.zeros(count), len(falls) - 1
     longer[:len(lows)] = lows
-    turned = falls[:0:-1]
+    turned = falls[:0:-1].copy()
     for place in range(len(lows), count):
         is_due = place >= reach and (place % LOOK_EVERY == 0 or place == len(lows))
         if is_due and np.ptp(longer[place - reach:place]) <= EQUAL * longer[place - 1]:
             longer[place:] = longer[place - 1]
             break
         back = min(place, reach)
-        longer[place] = turned[reach - back:] @ longer[place - back:place]
+        longer[place] = np.dot(turned[reach - back:], longer[place - back:place])
     return longer
 
 
