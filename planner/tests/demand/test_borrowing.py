@@ -91,6 +91,9 @@ def test_histories_in_groups_and_chunks(monkeypatch: pytest.MonkeyPatch, mixed: 
                    for group, sizes, chance in zip(cells.groups, cells.sizes, [alone[it] for it in range(5)]))
     for way in ("loop", "plain", "__call__"):
         assert np.allclose(getattr(grid.expected_of, way)(*cells, prior), expected, rtol=1e-9, atol=0)
+        total = np.array([1.0, 2.0, 3.0])
+        getattr(grid.add_row, way)(total, np.array([10.0, 0.0, -4.0]), 0.5)
+        assert total.tolist() == [6.0, 2.0, 1.0]
     samples = [Sample.of(it) for it in mixed.values()]
     whole = chunks_of(samples)
     monkeypatch.setattr("crnplan.demand.learning.CHUNK", 7)

@@ -109,9 +109,12 @@ def size_widths() -> Whole:
 
 
 def _scaled(logarithms: Floats) -> Floats:
-    """Returns likelihoods of which the greatest of each history is 1. All but impossible points have 0."""
-    likelihoods = np.exp(logarithms - logarithms.max(axis=(1, 2), keepdims=True))
-    return np.where(likelihoods < LEAST_LIKELIHOOD, 0.0, likelihoods)
+    """Returns likelihoods of which the greatest of each history is 1, in the place of their logarithms. All but
+    impossible points have 0."""
+    logarithms -= logarithms.max(axis=(1, 2), keepdims=True)
+    likelihoods: Floats = np.exp(logarithms, out=logarithms)
+    likelihoods *= likelihoods >= LEAST_LIKELIHOOD
+    return likelihoods
 
 
 def _columns(counts: Iterable[tuple[int, int]]) -> Floats:
@@ -129,8 +132,10 @@ def size_likelihoods(samples: Sequence[Sample]) -> Floats:
     """Returns the likelihoods of the law of sizes: histories, cells, points."""
     sizes = [sample.excess for sample in samples]
     demands, excess = _columns((its.size, its.total) for its in sizes)
-    risen = np.tile(np.array([its.counts @ rises()[its.values] for its in sizes]), (1, MEAN_CELLS))[:, :, None]
-    return _scaled(risen + demands * STARTS + excess * SLOPES)
+    logarithms = demands * STARTS
+    logarithms += np.tile(np.array([its.counts @ rises()[its.values] for its in sizes]), (1, MEAN_CELLS))[:, :, None]
+    logarithms += excess * SLOPES
+    return _scaled(logarithms)
 
 
 class Cells(NamedTuple):
@@ -170,6 +175,18 @@ def summed_likelihoods(shares: Floats, sizes: Floats, starts: Whole, groups: Who
     return np.asarray(np.einsum("ij,ik->jk", shares, np.add.reduceat(sizes * (1 / marginal)[:, None], starts)))
 
 
+def added(total: Floats, row: Floats, weight: float) -> None:
+    """Adds a row, times a weight, to a total."""
+    total += row * weight
+
+
+@compiled(added)
+def add_row(total: Floats, row: Floats, weight: float) -> None:
+    """Does what `added` does. By itself, the loop is computed with several cells at a time."""
+    for cell in range(len(total)):
+        total[cell] += row[cell] * weight
+
+
 @compiled(summed_likelihoods)
 def expected_of(shares: Floats, sizes: Floats, starts: Whole, groups: Whole, prior: Floats) -> Floats:
     """Returns `Cells.expected`."""
@@ -178,18 +195,14 @@ def expected_of(shares: Floats, sizes: Floats, starts: Whole, groups: Whole, pri
         possible = np.flatnonzero(shares[group])
         own[:] = likely[:] = 0.0
         for share in possible:
-            for cell in range(len(own)):
-                own[cell] += shares[group, share] * prior[share, cell]
+            add_row(own, prior[share], shares[group, share])
         for history in range(starts[group], starts[group + 1] if group + 1 < len(starts) else len(sizes)):
             marginal = 0.0
             for cell in range(len(own)):
                 marginal += own[cell] * sizes[history, cell]
-            weight = 1 / marginal
-            for cell in range(len(own)):
-                likely[cell] += sizes[history, cell] * weight
+            add_row(likely, sizes[history], 1 / marginal)
         for share in possible:
-            for cell in range(len(own)):
-                cells[share, cell] += shares[group, share] * likely[cell]
+            add_row(cells[share], likely, shares[group, share])
     return cells
 
 
