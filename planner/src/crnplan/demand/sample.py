@@ -17,6 +17,7 @@ import numpy as np
 
 from ..chances import Floats, Whole
 from ..compiled import compiled
+from ..formats import MOST_DEMAND
 
 # A pack is recognised after so many demands above 0, if they all have its divisor by luck with a chance of 2^-8.
 PACKED, PACK_BITS = 3, 8.0
@@ -34,8 +35,12 @@ class Sample:
 
     @classmethod
     def of(cls, numbers: Iterable[int]) -> Sample:
-        values, counts = np.unique(np.fromiter(numbers, np.int64), return_counts=True)
-        return cls(values, counts)
+        seen = np.fromiter(numbers, np.int64)
+        if seen.max(initial=0) > MOST_DEMAND:
+            return cls(*np.unique(seen, return_counts=True))
+        counts = np.bincount(seen)  # which takes half the time
+        values = np.flatnonzero(counts)
+        return cls(values, counts[values])
 
     @cached_property
     def size(self) -> int:
