@@ -50,10 +50,10 @@ def instant(batch: Sequence[Item], settings: Any, prior: Any, answer: Answer) ->
 
 
 @contextlib.contextmanager
-def dask() -> Iterator[Workers]:
-    """Gives the workers of a Dask scheduler on this machine."""
+def dask(count: int = WORKERS) -> Iterator[Workers]:
+    """Gives so many workers of a Dask scheduler on this machine."""
     distributed: Any = importlib.import_module("distributed")
-    with (distributed.LocalCluster(n_workers=WORKERS, threads_per_worker=1, dashboard_address=None) as its,
+    with (distributed.LocalCluster(n_workers=count, threads_per_worker=1, dashboard_address=None) as its,
           cluster(its.scheduler_address) as workers):
         yield workers
 

@@ -409,7 +409,7 @@ def finish(answers: Chunked[Row], making: Answering[Row], names: Callable[[], It
     chunks, made = chunks_of(names(), count), list[Made]()
     if [it.chunk for it in answers.made] == chunks and all(making.has(it) for it in answers.made):
         answers.keep_facts(facts)
-        return answers.made
+        return [it._replace(kept=it.items) for it in answers.made]
     tasks, start = answers.tasks(chunks), time.time() - SOON
     with progress(count, shown, unit, kept_now=lambda its: answers.kept_now(made, start)) as done, workers as running:
         done.add(0)

@@ -2,6 +2,7 @@
 from __future__ import annotations
 
 import os
+import subprocess
 import sys
 from collections.abc import Iterator, Sequence
 from concurrent.futures import Future
@@ -196,6 +197,18 @@ def test_a_stranger_that_comes_later(cluster: Cluster, room: Path) -> None:
     told = ended(cluster)
     assert told[:2] == (2, "") and "the worker late (tcp://" in told.errors and "has another crnplan" in told.errors
     assert len(kept(room / "kept")) >= 2
+
+
+def test_a_worker_that_joins_late(cluster: Cluster, room: Path) -> None:
+    """Gets the batches at once that wait for others, if all are given at once."""
+    wait = f'[ "$CRNSIM_WORKER" = late ] || until [ -e {room}/go_on ]; do sleep 0.1; done; echo "$CRNSIM_WORKER"'
+    with jobs.cluster(cluster.address) as workers:
+        answers = workers.answers(subprocess.getoutput, ((place, [wait]) for place in range(9)), None)
+        cluster.join("late")
+        first = next(answers)
+        (room / "go_on").touch()
+        found = [first, *answers]
+    assert first[1] == "late" and sorted(place for place, _ in found) == [*range(9)]
 
 
 @pytest.mark.parametrize("part", ["crnsim", "crnplan"])

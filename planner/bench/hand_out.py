@@ -1,0 +1,87 @@
+"""Measures how fast the chunks of a catalogue are handed out and taken back, if its items are answered at once.
+
+    python -m planner.bench.hand_out --items 1000000
+
+Workers are processes of this machine, or those of a Dask cluster on it, which see the folder of the main process or get
+the items of a chunk with the task.
+"""
+from __future__ import annotations
+
+import contextlib
+import resource
+import tempfile
+import time
+from collections.abc import Iterator, Mapping, Sequence
+from dataclasses import dataclass
+from pathlib import Path
+from typing import Any
+
+import click
+
+from crnplan.chunks import Answering, Chunk, Chunked, finish
+from crnplan.jobs import processes
+from crnplan.plan.answer import LawFacts
+from planner.bench.rates import dask
+
+FACTS = "x" * 500  # about as many bytes as the facts of an item have
+ANSWER = LawFacts("x" * 1_000, 1.0, None, 1.0, 1.0)  # and an answer
+
+
+def name_of(place: int) -> str:
+    return f"P{place:09}"
+
+
+@dataclass(frozen=True)
+class Numbered:
+    """What is asked of so many items that are called by their numbers."""
+
+    items: int
+
+    def names(self, chunk: Chunk = Chunk()) -> Iterator[str]:
+        stop = self.items if chunk.stop is None else int(chunk.stop[1:])
+        yield from map(name_of, range(int(chunk.start[1:] or 0), stop))
+
+    def digests(self, chunk: Chunk) -> list[tuple[str, str]]:
+        return [(name, 32 * "0") for name in self.names(chunk)]
+
+    def asked(self, chunk: Chunk) -> list[str]:
+        return [name + FACTS for name in self.names(chunk)]
+
+    def taken(self, chunk: Chunk, left: Mapping[str, str]) -> list[Any]:
+        return []
+
+
+def instant(batch: Sequence[str], prior: str) -> list[LawFacts]:
+    """Gives each item the same answer."""
+    return [ANSWER for _ in batch]
+
+
+def measure(folder: Path, items: int, given: contextlib.AbstractContextManager[Any], sees: bool) -> tuple[float, float]:
+    """Returns how many items a second of the main process's time, and of wall, are handed out, answered and counted."""
+    asking, room = Numbered(items), folder / ("room" if sees else "not there")
+    (folder / "room").mkdir()
+    (folder / "answers").mkdir()
+    with contextlib.closing(Chunked(folder / "answers.sqlite", LawFacts, folder / "answers")) as answers, given as its:
+        making = Answering(folder / "answers", room, LawFacts, asking, instant, (40_000 * "p",))
+        start, used = time.perf_counter(), time.process_time()
+        finish(answers, making, asking.names, contextlib.nullcontext(its), {}, shown=False)
+        return items / (time.process_time() - used), items / (time.perf_counter() - start)
+
+
+@click.command()
+@click.option("--items", type=click.IntRange(1), default=100_000, show_default=True)
+@click.option("--jobs", type=click.IntRange(1), default=2, show_default=True)
+@click.option("--way", type=click.Choice(["processes", "Dask", "Dask, sent"]), default="processes", show_default=True,
+              help="Where the workers are, and whether the items of a chunk are sent.")
+def main(items: int, jobs: int, way: str) -> None:
+    """Print the rates, and the most memory of the main process. Each way is measured by a process of its own."""
+    with tempfile.TemporaryDirectory() as path:
+        own, wall = measure(Path(path), items, processes(jobs) if way == "processes" else dask(jobs),
+                            way != "Dask, sent")
+    most = resource.getrusage(resource.RUSAGE_SELF).ru_maxrss / 1024
+    click.echo(f"{items:,} items, {jobs} workers, {way}: {wall:,.0f} items a second, {own:,.0f} of the main process's "
+               f"time; {most:,.0f} MB")
+
+
+if __name__ == "__main__":
+    main()
