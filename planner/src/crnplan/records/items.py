@@ -3,7 +3,7 @@ from __future__ import annotations
 
 import datetime
 from collections import Counter
-from collections.abc import Callable, Mapping, Sequence
+from collections.abc import Callable, Iterator, Mapping, Sequence
 from dataclasses import dataclass, field, replace
 from fractions import Fraction
 from typing import Literal, NamedTuple, TypedDict
@@ -21,7 +21,7 @@ from .defaults import Defaults
 from .filed import Whole
 from .item import NEW, NO_DEMAND, USUAL, Item
 from .masters import Master, Masters
-from .observed import Day, summed
+from .observed import Day, summed, sums_of
 from .rows import Rows, far_above
 from .sources import Rules, Sheet
 
@@ -137,8 +137,9 @@ class Reader:
     """Makes the items of a catalogue, or of a part of it, and hands them on with what is left out."""
 
     def __init__(self, rows: Mapping[str, Rows], words: Words, whole: Whole,
-                 add: Callable[[Item | Reject], None] = lambda its: None) -> None:
-        """Finds the movements of items in the rows, which may be those of a part of them, but whole ones."""
+                 add: Callable[[Reject], None] | None = None) -> None:
+        """Finds the movements of items in the rows, which may be those of a part of the items. What is left out or
+        suspicious is handed on to `add`, if it is given."""
         self.rows, self.words, self.whole, self.add, self.decimals = rows, words, whole, add, 0
         self.counts: Counts = {
             "files": {kind: {"name": its.sheet.file_name, "read": len(its), "blank": len(its.blank), "used": 0,
@@ -162,7 +163,8 @@ class Reader:
 
     def _reject(self, what: str, kind: str, line: int, name: str, faults: Sequence[CellFault], rows: int,
                 value: Fraction | None = None) -> None:
-        self.add(reject_of(what, self.rows[kind].sheet, line, name, faults, rows, value))
+        if self.add:
+            self.add(reject_of(what, self.rows[kind].sheet, line, name, faults, rows, value))
 
     def _reject_row(self, kind: str, row: int, faults: Sequence[CellFault], is_named: bool = True) -> None:
         rows = self.rows[kind]
@@ -187,8 +189,9 @@ class Reader:
         table = self.rows["items"]
         return {role: table.cell(role, row) for row in masters[:1].tolist() for role in table.columns}
 
-    def read(self, letters: Sequence[str]) -> None:
-        """Reads all items, whose classes by value are given in order of names. Those of totals alone are none."""
+    def read(self, letters: Sequence[str]) -> Iterator[Item]:
+        """Yields all items in order of names, in which their classes by value are given. Those of totals alone are
+        none."""
         self.letters = dict(zip(self.items, letters, strict=True))
         leads_of = self._leads()
         for item in self.items:
@@ -196,7 +199,7 @@ class Reader:
             counts = {"demand": len(moves.lines), "items": len(masters), "orders": orders}
             state: Literal["used", "with_item"] = "with_item"
             try:
-                self.add(self._item(item, moves, masters, leads))
+                yield self._item(item, moves, masters, leads)
                 state = "used"
             except Left as left:
                 kind, line, *faults = left.args
@@ -265,6 +268,8 @@ class Reader:
     def _without_twins(self, good: Flags) -> Flags:
         """Names the rows that are the same as others, once for each item, and takes them out if that is wanted."""
         rows, leaves = self.rows["demand"], self.words.twice == LEAVE_OUT
+        if self.add is None and not leaves:
+            return good
         first = rows.twins()
         again: Flags = good & (first != np.arange(len(first)))
         twins_of = rows.by_item(again)
@@ -308,7 +313,8 @@ class Reader:
         past = NEW if len(asked) < self.words.least else USUAL if any(asked) else NO_DEMAND
         its = replace(master, counts=tuple(asked), returns=tuple(back) if any(back) else (), past=past, first=first,
                       rows=len(moves.lines), abc=self.letters.get(item, ""))
-        if its.levels and round(its.levels[1] / its.box) > MOST_ITEMS:
+        box = its.box
+        if its.levels and round(its.levels[1] / box) > MOST_ITEMS:
             raise Left("items", its.line, fault("S", its.levels[1], "S too large", most=MOST_ITEMS))
         for name, holds in (("late", first > start and since is None), ("new", past == NEW),
                             ("no_demand", past == NO_DEMAND)):
@@ -318,10 +324,11 @@ class Reader:
         remarks: list[tuple[str, bool, Mapping[str, float | str]]] = [
             ("equal masters", len(masters) > 1, {"masters": len(masters)}),
             ("late" if since is None else "since", first > start, {"period": period_name(first, self.words.every)}),
-            ("boxes", its.box > 1, {"items": its.box}), ("taken off earlier", netted > 0, {"amounts": netted}),
+            ("boxes", box > 1, {"items": box}), ("taken off earlier", netted > 0, {"amounts": netted}),
             ("stock below 0", (its.stock or 0) < 0, {"owed": float(-(its.stock or 0))}),
             ("rows twice", self.twice[item] > 0, {"rows": self.twice[item]})]
-        return replace(its, remarks=tuple(Remark(code, facts) for code, holds, facts in remarks if holds))
+        said = tuple(Remark(code, facts) for code, holds, facts in remarks if holds)
+        return replace(its, remarks=said) if said else its
 
     def _first(self, since: int | None, moves: Moves) -> int:
         """Returns where the history of an item begins: in the period since when its master has it, which may be behind the
@@ -342,7 +349,7 @@ class Reader:
             amount, period = -int(moves.asked[unmet]), period_name(int(moves.periods[unmet]), self.words.every)
             raise Left("demand", int(moves.lines[unmet]), fault("quantity", -amount, "unmet return", amount=amount,
                                                                 period=period))
-        back = np.bincount(moves.periods - first, moves.back, periods).astype(np.int64).tolist()
+        back = sums_of(moves.periods - first, moves.back, periods).tolist() if moves.back.any() else []
         total, returned = sum(asked), sum(back)
         if returned >= total and returned:
             raise Left("demand", 0, fault("quantity", returned, "all comes back", back=returned, asked=total))
@@ -383,7 +390,7 @@ class Reader:
     def _check_far(self, moves: Moves) -> None:
         """Raises Left if some amounts are far above all others, as if counted a thousand times too large."""
         for role, amounts in (("quantity", moves.asked), ("returned", moves.back)):
-            far = far_above(amounts) if self.words.far == LEAVE_OUT else 0
+            far = far_above(amounts) if self.words.far == LEAVE_OUT and role in self.rows["demand"].columns else 0
             if far:
                 ranked = np.argsort(-amounts, kind="stable")
                 lines, (least, below) = moves.lines[ranked[:far]].tolist(), amounts[ranked[far - 1:far + 1]].tolist()

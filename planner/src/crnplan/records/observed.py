@@ -152,12 +152,20 @@ def _met(counts: list[int], period: int, amount: int) -> bool:
     return amount == 0
 
 
+def sums_of(periods: Numbers, amounts: Numbers, count: int) -> Numbers:
+    """Returns the sum of the amounts in each of so many periods from 0."""
+    if np.abs(amounts).sum() < 1 << 53:  # So all sums are exact in floating point, in which numpy is fast.
+        return np.bincount(periods, amounts, count).astype(np.int64)
+    sums = np.zeros(count, np.int64)
+    np.add.at(sums, periods, amounts)
+    return sums
+
+
 def summed(periods: Numbers, amounts: Numbers, count: int) -> tuple[list[int], int, int | None]:
     """Returns demand by period without what was undone, how many amounts were taken off earlier periods, and the place
     of the first movement that nothing can meet; None if there is none. Each movement has a period from 0 and an amount,
     below 0 for one that undoes sales."""
-    sums = np.zeros(count, np.int64)
-    np.add.at(sums, periods, amounts)
+    sums = sums_of(periods, amounts, count)
     if sums.min() >= 0:
         return sums.tolist(), 0, None
     undone = np.flatnonzero(amounts < 0)

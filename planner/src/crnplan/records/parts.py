@@ -7,7 +7,7 @@ from collections.abc import Iterator, Mapping, Sequence
 from dataclasses import dataclass
 from fractions import Fraction
 from pathlib import Path
-from typing import Any
+from pickle import HIGHEST_PROTOCOL as HIGHEST
 
 from ..jobs import Workers
 from ..stored import Cell, Columns
@@ -47,12 +47,9 @@ def items_of_part(part: Part, words: Words, whole: Whole, letters: Sequence[str]
     """Writes the items of a part, with their classes in order of names, into files of a folder."""
     paths = room / f"part-{number}-items", room / f"part-{number}-rejects"
     with paths[0].open("xb") as items, paths[1].open("xb") as rejects:
-        def add(value: Item | Reject) -> None:
-            is_item = isinstance(value, Item)
-            cells: Any = ITEM.cells(value) if isinstance(value, Item) else REJECT.cells(value)
-            pickle.dump(cells, items if is_item else rejects, pickle.HIGHEST_PROTOCOL)
-        reader = Reader(part.rows(), words, whole, add)
-        reader.read(letters)
+        reader = Reader(part.rows(), words, whole, lambda its: pickle.dump(REJECT.cells(its), rejects, HIGHEST))
+        for item in reader.read(letters):
+            pickle.dump(ITEM.cells(item), items, HIGHEST)
     return PartRead(*paths, reader.counts, reader.sources, reader.decimals)
 
 
