@@ -1,4 +1,4 @@
-"""Measures what grows with the items of a planned catalogue: bytes that are sent and kept, and what SQLite takes.
+"""Measures what grows with the items of a planned catalogue: bytes that are sent and kept, and looks at all items.
 
     python -m planner.bench.million FOLDER --store
 
@@ -18,15 +18,14 @@ import click
 
 from crnplan.curve.exchange_curve import CANDIDATES, gather
 from crnplan.curve.parts import Part
-from crnplan.pages.catalogue_page import PAGE
-from crnplan.pages.catalogue_tables import DECISIONS, EXACT, planned_of
+from crnplan.pages.catalogue_page import MOST_ROWS, PAGE
+from crnplan.pages.catalogue_tables import DECISIONS, EXACT
 from crnplan.plan.catalogue import IN_CHUNKS, PlannedFolder, planned_folder
+from crnplan.plan.survey import Survey
 from crnplan.records.catalogue_reading import CATALOGUE, READ
 from crnplan.files import own_folder
-from planner.bench.made import Made
-from planner.bench.page import ARRAYS, FIRST_PASS, LOOP, SENT, TRANSACTIONS, million_table
-from planner.bench.part import FILES, PLAN
-from planner.bench.rates import loop_rates, split_seconds, transactions
+from planner.bench.page import ARRAYS, LOOK, SENT, million_table
+from planner.bench.part import PLAN
 from planner.bench.stored import circumstances, keep
 
 Measured = tuple[str, float, str]
@@ -61,21 +60,19 @@ def bytes_of(plan: PlannedFolder, items: int) -> Iterator[Measured]:
     yield f"{PAGE}, up to 5,000 items", (folder / PAGE).stat().st_size / items, "bytes an item"
 
 
-def rates_of(plan: PlannedFolder) -> Iterator[Measured]:
-    """Yields how fast the main process of a planned folder sends out items and keeps answers."""
-    _, answer = next(planned_of(plan))
-    yield TRANSACTIONS, transactions(plan.path, answer), "a second"
-    for where, rate in loop_rates(plan.path, plan.read, plan.planned, answer):
-        yield f"{LOOP}, with {where}", rate, "items a second"
+def looks_of(plan: PlannedFolder, items: int) -> Iterator[Measured]:
+    """Yields how long the main process takes to look at an item with its plan."""
+    start = time.process_time()
+    Survey(plan, MOST_ROWS)
+    yield LOOK, 1e6 * (time.process_time() - start) / items, "µs an item"
 
 
 def measured_of(folder: Path) -> Iterator[Measured]:
     """Yields what each figure is, the figure and its unit."""
     with planned_folder(folder / PLAN) as plan:
-        rows, items = plan.counts["files"]["demand"]["read"], sum(1 for _ in plan.read.names())
-        yield FIRST_PASS, 1e6 * split_seconds(Made(folder / FILES).paths) / rows, "µs a row"
+        items = sum(1 for _ in plan.read.names())
         yield from bytes_of(plan, items)
-        yield from rates_of(plan)
+        yield from looks_of(plan, items)
         start = time.process_time()
         with own_folder(plan.path, CATALOGUE) as own:
             gathered = gather(own, plan, 1, None, False)

@@ -18,9 +18,10 @@ ITEM = "item"  # the part that plans one item, of examples/case
 MACHINES = 10
 FAR = (10_000, 100_000, MILLION, 10 * MILLION)  # items of catalogues of which the hours are extrapolated
 # What some stored figures are.
-FIRST_PASS, LOOP = "reading, the first pass", "the loop of the main process"
-TRANSACTIONS, ARRAYS = "SQLite: transactions of 8 answers", "candidates, as arrays"
-SENT = ("an item's facts, to a worker", "the answer of a plan, back", "candidates of the curve, back")
+LOOK, ARRAYS = "one look at all items with their plans", "candidates, as arrays"
+CANDIDATES = "reading all candidates"
+ANSWER = "the answer of a plan, back"
+SENT = ("an item's facts, to a worker", ANSWER, "candidates of the curve, back")
 SUMS, MOSTS = ("wall", "processor", "bytes"), ("own", "all", "load")
 Rows = Sequence[Mapping[str, Any]]
 
@@ -62,7 +63,7 @@ def whole_table(rows: Rows) -> str:
     for row in with_sums(rows):
         before, items = row.get("before"), 1 if row["part"] == ITEM else row["items"]
         lines.append({
-            "items": f"{items:,}", "rows": f"{row['rows']:,}", "part": row["part"], "s": f"{row['wall']:.1f}",
+            "items": f"{items:,}", "rows": "-" if row["part"] == ITEM else f"{row['rows']:,}", "part": row["part"], "s": f"{row['wall']:.1f}",
             "processor s": f"{row['processor']:.1f}",
             **({"before": f"{before['processor']:.1f}", "share": f"{row['processor'] / before['processor']:.2f}"}
                if before else {}),
@@ -79,24 +80,24 @@ def million_table(rows: Rows) -> str:
 
 
 def needs_of(figures: Mapping[str, Any]) -> Iterator[tuple[str, float, str]]:
-    """Yields what a million items would need, in proportion to stored figures: what it is, the amount, and the unit."""
+    """Yields what a million items would need of one process and of disks, in proportion to stored figures: what it is,
+    the amount, and the unit."""
     its = {row["what"]: row["figure"] for row in figures["million"]["rows"]}
-    read, = figures["reading"]["rows"]
-    whole = figures["whole"]["rows"]
-    parts = {row["part"]: row for row in whole if row["items"] == max(it["items"] for it in whole)}
-    read_minutes = read["processor"] / read["items"] * MILLION / 60
-    first = its[FIRST_PASS] / 1e6 * read["rows"] / read["processor"]
-    yield "reading, one process", read_minutes, f"minutes ({first:.0%} of them the first pass)"
-    for part in ("plan", "curve"):
-        hours = parts[part]["processor"] / parts[part]["items"] * MILLION / 3600
-        yield f"{part}, processor time", hours, f"hours ({60 * hours / 100:.0f} minutes on 100 workers)"
-    for what, rate in its.items():
-        if what.startswith(LOOP):
-            yield what, MILLION / rate / 60, "minutes"
-    yield "SQLite alone", MILLION / its[TRANSACTIONS] / 8 / 60, "minutes"
-    yield "to workers and back, plan and curve", sum(its[name] for name in SENT) / 1000, "GB"
-    yield "kept in the folder", sum(its[name] for name in its if name.endswith("on disk")) / 1000, "GB"
-    yield "the curve's candidates as arrays", its[ARRAYS] / 1000, "GB of memory"
+    for what in (LOOK, CANDIDATES):
+        yield what, its[what] * MILLION / 1e6 / 60, "minutes"
+    for row in figures["handed"]["rows"]:
+        yield f"hand-out, {row['way']}", MILLION / row["rate"] / 60, "minutes"
+    yield "to workers and back, if they don't see the folder", sum(its[name] for name in SENT) / 1000, "GB"
+    kept = [name for name in its if name.endswith("on disk") or name == ANSWER]
+    yield "kept in the folder", sum(its[name] for name in kept) / 1000, "GB"
+
+
+def handed_table(rows: Rows) -> str:
+    """Returns the table of how fast chunks are handed out as Markdown."""
+    return str(markdown(pd.DataFrame([
+        {"items": f"{row['items']:,}", "workers": row["jobs"], "way": row["way"], "items a second": f"{row['rate']:,.0f}",
+         "a second of the main process": f"{row['own']:,.0f}", "MB, main process": f"{row['memory']:.0f}"}
+        for row in rows])))
 
 
 def long(hours: float) -> str:
@@ -119,7 +120,8 @@ def far_lines(figures: Mapping[str, Any]) -> Iterator[dict[str, str]]:
 
 
 TABLES: dict[str, Callable[[Rows], str]] = {"compared": compared_table, "whole": whole_table, "four": whole_table,
-                                            "reading": whole_table, "million": million_table}
+                                            "reading": whole_table, "million": million_table,
+                                            "handed": handed_table}
 
 
 def measured_line(measured: Mapping[str, Any]) -> str:

@@ -51,9 +51,10 @@ def with_children(process: int) -> float:
 
 
 def usage_of(words: Sequence[str], folder: Path | None = None) -> Usage:
-    """Runs a command, perhaps in a folder, and returns what it takes. Raises CalledProcessError if it fails."""
+    """Runs a command, perhaps in a folder, and returns what it takes; what it prints is not shown. Raises
+    CalledProcessError if it fails."""
     start, own, most = time.perf_counter(), 0.0, 0.0
-    process = subprocess.Popen(words, cwd=folder)
+    process = subprocess.Popen(words, cwd=folder, stdout=subprocess.DEVNULL)
     while True:
         ended, status, used = os.wait4(process.pid, os.WNOHANG)
         if ended:

@@ -93,24 +93,17 @@ def test_figures_of_parts(tmp_path: Path) -> None:
 
 
 def test_needs_of_a_million() -> None:
-    """What a million items would need follows from the largest catalogue that was planned, and from rates."""
-    sent = {name: 1_000 for name in page.SENT}
-    rates = {page.FIRST_PASS: 5, page.TRANSACTIONS: 125, page.ARRAYS: 2_000, "plan, on disk": 3_000,
-             f"{page.LOOP}, with none": 10_000}
-    part: dict[str, Any] = {"items": 10, "part": "plan", "processor": 99.0}
-    figures = {
-        "million": {"rows": [{"what": what, "figure": figure} for what, figure in {**sent, **rates}.items()]},
-        "reading": {"rows": [{"items": 1_000, "rows": 100_000, "processor": 1.5}]},
-        "whole": {"rows": [part, {**part, "items": 20, "processor": 2.0},
-                           {"items": 20, "part": "curve", "processor": 4.0}]}}
-    found = {what: (round(amount, 2), unit) for what, amount, unit in page.needs_of(figures)}
-    assert found == {
-        "reading, one process": (25.0, "minutes (33% of them the first pass)"),
-        "plan, processor time": (27.78, "hours (17 minutes on 100 workers)"),
-        "curve, processor time": (55.56, "hours (33 minutes on 100 workers)"),
-        f"{page.LOOP}, with none": (1.67, "minutes"), "SQLite alone": (16.67, "minutes"),
-        "to workers and back, plan and curve": (3.0, "GB"), "kept in the folder": (3.0, "GB"),
-        "the curve's candidates as arrays": (2.0, "GB of memory")}
+    """What a million items would need follows from what was measured of one: 60 microseconds are a minute."""
+    sizes = {**{name: 1_000 for name in page.SENT}, "plan, on disk": 3_000, "table, on disk": 500}
+    rows = [{"what": what, "figure": figure} for what, figure in {
+        **sizes, page.LOOK: 60, page.CANDIDATES: 120, "other": 7}.items()]
+    handed = [{"way": way, "rate": rate, "items": 9, "jobs": 2, "own": 8.0, "memory": 70.0}
+              for way, rate in (("processes", 10_000), ("Dask", 5_000))]
+    assert [*page.needs_of({"million": {"rows": rows}, "handed": {"rows": handed}})] == [
+        (page.LOOK, 1, "minutes"), (page.CANDIDATES, 2, "minutes"),
+        ("hand-out, processes", pytest.approx(5 / 3), "minutes"), ("hand-out, Dask", pytest.approx(10 / 3), "minutes"),
+        ("to workers and back, if they don't see the folder", 3, "GB"), ("kept in the folder", 4.5, "GB")]
+    assert page.handed_table(handed).splitlines()[2] == "| 9 | 2 | processes | 10,000 | 8 | 70 |"
 
 
 def test_hours_of_many_items() -> None:
