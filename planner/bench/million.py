@@ -16,7 +16,7 @@ from typing import Any
 
 import click
 
-from crnplan.curve.exchange_curve import CANDIDATES, gather
+from crnplan.curve import gathered
 from crnplan.curve.parts import Part
 from crnplan.pages.catalogue_page import MOST_ROWS, PAGE
 from crnplan.pages.catalogue_tables import DECISIONS, EXACT
@@ -42,20 +42,26 @@ def row_bytes(path: Path, table: str) -> float:
 
 def array_bytes(part: Part) -> int:
     """Returns the bytes of the arrays of the candidates of a part."""
-    return sum(getattr(its, "nbytes", 0) for its in vars(part).values())
+    return sum(its.nbytes for its in vars(part.rows).values())
+
+
+def folder_bytes(folder: Path) -> int:
+    """Returns the bytes of the files in a folder."""
+    return sum(path.stat().st_size for path in folder.iterdir())
 
 
 def bytes_of(plan: PlannedFolder, items: int) -> Iterator[Measured]:
     """Yields what is sent and kept for an item."""
     folder = plan.path
-    sent, curve = folder / READ, folder / CANDIDATES
-    plans = sum(path.stat().st_size for path in (folder / IN_CHUNKS).iterdir()) / items
+    sent, curve = folder / READ, folder_bytes(folder / gathered.IN_CHUNKS) / items
+    plans = folder_bytes(folder / IN_CHUNKS) / items
     facts, answer, candidates = SENT
     yield facts, row_bytes(sent, "items"), "bytes an item"
     yield "what was learned, with each batch", len(pickle.dumps(plan.planned.prior)), "bytes"
     yield answer, plans, "bytes an item"
-    yield candidates, row_bytes(curve, "answers"), "bytes an item"
-    for path in (sent, curve, folder / DECISIONS, folder / EXACT):
+    yield candidates, curve, "bytes an item"
+    yield "hulls of the curve, on disk", folder_bytes(folder / gathered.HULLS) / items, "bytes an item"
+    for path in (sent, folder / DECISIONS, folder / EXACT):
         yield f"{path.name}, on disk", path.stat().st_size / items, "bytes an item"
     yield f"{PAGE}, up to 5,000 items", (folder / PAGE).stat().st_size / items, "bytes an item"
 
@@ -74,10 +80,9 @@ def measured_of(folder: Path) -> Iterator[Measured]:
         yield from bytes_of(plan, items)
         yield from looks_of(plan, items)
         start = time.process_time()
-        with own_folder(plan.path, CATALOGUE) as own:
-            gathered = gather(own, plan, 1, None, False)
-    yield "reading all candidates", 1e6 * (time.process_time() - start) / items, "µs an item"
-    yield ARRAYS, sum(gathered.items.over(array_bytes)) / gathered.items.count, "bytes an item"
+        with (own_folder(plan.path, CATALOGUE) as own, gathered.gather(own, plan, 1, None, False) as curve):
+            yield "reading all candidates", 1e6 * (time.process_time() - start) / items, "µs an item"
+            yield ARRAYS, sum(curve.items.over(array_bytes)) / curve.items.count, "bytes an item"
 
 
 def rounded(number: float) -> float | int:

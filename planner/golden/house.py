@@ -13,7 +13,8 @@ from pathlib import Path
 from typing import Any
 
 import crnplan as crn
-from crnplan.curve.candidates import Candidates
+from crnplan.chunks import Chunked
+from crnplan.curve.gathered import CANDIDATES, IN_CHUNKS, OnCurve
 from crnplan.decide.keys import check_long_run
 from crnplan.decide.long_run import corrected_decision, long_run_decision
 from crnplan.decide.sensitivity import moves_of
@@ -24,7 +25,6 @@ from crnplan.plan.item import Depth, planned, read_item
 from crnplan.records.catalogue_reading import Catalogued
 from crnplan.records.item import Item
 from crnplan.remarks import Remark
-from crnplan.stored import Store
 from crnplan.theory.suggestions import suggestions_of
 
 Figures = dict[str, Any]
@@ -167,14 +167,14 @@ def curve_rows(folder: Path, program: str, jobs: int, **budget: float) -> list[F
 def candidate_rows(folder: Path, names: Iterable[str]) -> dict[str, Figures]:
     """Returns the candidates of items by variant of costs: in full as they are, and the sums of each column else."""
     found: dict[str, Figures] = {}
-    with contextlib.closing(Store(folder / "curve.sqlite", Candidates)) as answers:
+    with contextlib.closing(Chunked(folder / CANDIDATES, OnCurve, folder / IN_CHUNKS)) as answers:
         for name in names:
-            its = answers.answer(name)
-            if isinstance(its, Remark):
+            answer = answers.answer(name)
+            if not isinstance(answer, OnCurve):
                 found[name] = {"fault": True}
                 continue
-            rows: dict[int, list[list[float]]] = {}
-            for variant, *row in its.rows:
+            its, rows = answer.candidates, dict[int, list[list[float]]]()
+            for variant, *row in its.rows.tolist():
                 rows.setdefault(int(variant), []).append(row)
             sums = {str(variant): [len(some), *map(sum, zip(*some))] for variant, some in rows.items() if variant}
             found[name] = {"demand": its.demand, "rows": rows[0], "sums": sums}

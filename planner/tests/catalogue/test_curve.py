@@ -14,10 +14,11 @@ import pandas as pd
 import pytest
 
 import crnplan as crn
-from crnplan.curve import candidates
+from crnplan.curve import candidates, gathered
 from crnplan.curve.candidates import Candidates, candidates_of
 from crnplan.curve.exchange import Budget, chosen_by, with_more_orders
-from crnplan.curve.exchange_curve import CANDIDATES, CURVE, LEFT_OUT, POLICIES, Drawn, exchange_curve, points_of
+from crnplan.curve.exchange_curve import CURVE, LEFT_OUT, POLICIES, Drawn, exchange_curve, points_of
+from crnplan.curve.gathered import CANDIDATES, HULLS, IN_CHUNKS
 from crnplan.plan.catalogue import ANSWERS, planned_folder
 from crnplan.plan.one import figures_of
 from crnplan.plan.question import Terms
@@ -60,6 +61,11 @@ def plan(twenty: Path, tmp_path: Path) -> Path:
 
 def drawn(plan: Path, budget: Budget = Budget()) -> Drawn:
     return exchange_curve(plan, stock_value=budget.value, fill=budget.fill, orders=budget.orders, jobs=1)
+
+
+def remove_candidates(plan: Path) -> None:
+    (plan / CANDIDATES).unlink()
+    shutil.rmtree(plan / IN_CHUNKS)
 
 
 def tables_of(plan: Path) -> dict[str, bytes]:
@@ -150,19 +156,34 @@ def test_budget_is_kept(plan: Path, budget: Budget) -> None:
 def test_bytes_and_what_is_kept(plan: Path, twenty: Path) -> None:
     """Computes only candidates that are not there or whose item has changed; two processes write the same bytes."""
     assert drawn(plan).gathered.new == 0 and tables_of(plan) == tables_of(twenty)
-    with sqlite3.connect(plan / CANDIDATES) as base:
-        base.execute("DELETE FROM answers WHERE item > 'A-045'")
+    min((plan / IN_CHUNKS).iterdir()).unlink()
     assert 0 < drawn(plan).gathered.new < ITEMS and tables_of(plan) == tables_of(twenty)
-    (plan / CANDIDATES).unlink()
+    remove_candidates(plan)
     crn.exchange_curve(plan, jobs=2)
     assert tables_of(plan) == tables_of(twenty)
     with sqlite3.connect(plan / READ) as base:
         base.execute("UPDATE items SET price = '77/2' WHERE name = 'A-050'")
         base.execute("UPDATE items SET setup = '99' WHERE name = 'A-051'")
     its = drawn(plan).gathered
-    remark = dict(its.left_out)["A-051"]
+    remark = dict(its.left_out())["A-051"]
     assert its.new == 1 and (sentence(remark), advice(remark)) == (
         "it is not planned as its rows are now", "run crnplan catalogue again")
+
+
+@pytest.mark.parametrize("size", [1, 7])
+def test_parts_of_any_size(plan: Path, twenty: Path, size: int, monkeypatch: pytest.MonkeyPatch) -> None:
+    """Writes the same bytes from parts of any size, also if other processes are asked, and what is kept of hulls is
+    damaged, or of other parts."""
+    monkeypatch.setattr(gathered, "MOST_ITEMS", size)
+    monkeypatch.setattr(gathered, "MOST_PARTS", 2)
+    (plan / HULLS / "other.as_is").touch()
+    for jobs in (2, 1):
+        crn.exchange_curve(plan, jobs=jobs)
+        assert tables_of(plan) == tables_of(twenty)
+        assert not (plan / HULLS / "other.as_is").exists()
+        for path in (plan / HULLS).iterdir():
+            path.write_bytes(path.read_bytes()[:-jobs])
+        gathered.part_of.cache_clear()
 
 
 def test_items_that_are_left_out(twenty: Path, planned: Path, tmp_path: Path) -> None:
@@ -175,7 +196,7 @@ def test_items_that_are_left_out(twenty: Path, planned: Path, tmp_path: Path) ->
     plan = Path(shutil.copytree(planned, tmp_path / "plan"))
     with sqlite3.connect(plan / READ) as base:
         base.execute("UPDATE items SET price = NULL WHERE name <> 'A-050'")
-    assert [name for name, remark in drawn(plan).gathered.left_out if "too far apart" in sentence(remark)] == [NO_PLAN]
+    assert [name for name, remark in drawn(plan).gathered.left_out() if "too far apart" in sentence(remark)] == [NO_PLAN]
     with sqlite3.connect(plan / READ) as base:
         base.execute("UPDATE items SET price = NULL")
     with pytest.raises(crn.Refused, match="no item can be on the curve: .* items are left out; the first, A-"):
@@ -188,10 +209,10 @@ def test_an_item_without_candidates(plan: Path, monkeypatch: pytest.MonkeyPatch)
             raise MemoryError("no room for a table")
         return candidates_of(terms)
     monkeypatch.setattr(candidates, "candidates_of", failing)
-    (plan / CANDIDATES).unlink()
+    remove_candidates(plan)
     its = drawn(plan).gathered
     assert its.items.count == ITEMS - len(NO_PRICE) - 1
-    assert "no room for a table" in sentence(dict(its.left_out)["A-050"])
+    assert "no room for a table" in sentence(dict(its.left_out())["A-050"])
 
 
 def test_command(plan: Path, crnplan: Command, program: Path) -> None:

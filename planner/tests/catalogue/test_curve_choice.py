@@ -3,6 +3,7 @@ from __future__ import annotations
 
 import dataclasses
 import itertools
+import tracemalloc
 from collections.abc import Sequence
 from fractions import Fraction
 from pathlib import Path
@@ -230,3 +231,19 @@ def test_any_parts(size: int, most: int, cuts: int, monkeypatch: pytest.MonkeyPa
     assert one.dearer == two.dearer and one.point == two.point and one.dearer.stock > 0
     assert [*items.policies(one)] == [*whole.policies(two)]
     assert items.drawn("seed", 5) == whole.drawn("seed", 5)
+
+
+def test_memory_of_many_parts(monkeypatch: pytest.MonkeyPatch) -> None:
+    """Takes at most 2 kB of memory for a further part."""
+    monkeypatch.setattr(exchange, "MOST_STEPS", 1_000)
+    answers = [(str(place), 3.0, answer, points[:2]) for place in range(3)
+               for answer, points in [made_item(np.random.default_rng(place), 9)]]
+    part, peaks = Part.of(answers), list[int]()
+    for count in (30, 300):
+        tracemalloc.start()
+        items = Items(lambda function, *columns: map(function, itertools.repeat(part, count), *columns))
+        point = chosen_by(items, Budget(fill=0.8)).point
+        assert point.fill >= 0.8 and sum(1 for _ in items.policies(chosen_by(items, Budget(fill=0.9)))) == 3 * count
+        peaks.append(tracemalloc.get_traced_memory()[1])
+        tracemalloc.stop()
+    assert peaks[1] - peaks[0] < 270 * 2_000, peaks

@@ -7,7 +7,6 @@ import random
 import resource
 import shutil
 import signal
-import sqlite3
 import subprocess
 import sys
 import time
@@ -16,10 +15,11 @@ from pathlib import Path
 
 import pytest
 
-from crnplan.curve.exchange_curve import CANDIDATES, CURVE, LEFT_OUT, POLICIES, exchange_curve
+from crnplan.curve import gathered
+from crnplan.curve.exchange_curve import CURVE, LEFT_OUT, POLICIES, exchange_curve
 from crnplan.files import MARKER
 from crnplan.jobs import BATCH
-from crnplan.plan.catalogue import ANSWERS, IN_CHUNKS
+from crnplan.plan.catalogue import IN_CHUNKS
 from planner.tests.catalogue.conftest import FAST, FILES, TABLES, WORDS, leave_few
 from planner.tests.catalogue.made import Made
 from planner.tests.conftest import Command, heed_interrupts, script, shared
@@ -29,9 +29,9 @@ from planner.tests.jobs.clusters import SECONDS, Cluster
 # batch at least is kept then, however the runs are spread.
 JOBS, FEW, PASSES = 2, 20, 17
 CURVE_TABLES = (CURVE, POLICIES, LEFT_OUT)
-# What is killed at random: a command with its words, the file with the answers that it keeps, and its tables.
-PLAN = ["catalogue", *WORDS, "--out", "plan"], ANSWERS, TABLES
-DRAW = ["curve", "plan", "--fill", "0.9", "--confirm", "0"], CANDIDATES, CURVE_TABLES
+# What is killed at random: a command with its words, the folder with the answers that it keeps, and its tables.
+PLAN = ["catalogue", *WORDS, "--out", "plan"], IN_CHUNKS, TABLES
+DRAW = ["curve", "plan", "--fill", "0.9", "--confirm", "0"], gathered.IN_CHUNKS, CURVE_TABLES
 KILLS, MOST_DELAY = 2, 0.5  # the delay in seconds, from when so many answers are kept
 HOLDING = """echo run >> "{folder}/runs"
 [ "$(wc -l < "{folder}/runs")" -le {passes} ] || until [ -e "{folder}/go_on" ]; do sleep 0.05; done
@@ -91,21 +91,13 @@ def start(folder: Path, holding: Path) -> Iterator[Start]:
         process.communicate()
 
 
-def answers(folder: Path, name: str = ANSWERS) -> set[tuple[object, ...]]:
-    """Returns the answers that are kept, by a look from outside: all columns, or the lines of files and parts."""
-    if name == ANSWERS:
-        paths = (folder / "plan" / IN_CHUNKS).glob("*")
-        return {(line,) for path in paths for line in path.read_bytes().splitlines(True)[1:]
-                if line[32:34] == b" [" and line.endswith(b"]\n")}
-    try:
-        base = sqlite3.connect(f"file:{folder}/plan/{name}?mode=ro", uri=True)
-        with contextlib.closing(base):
-            return {*base.execute("SELECT * FROM answers")}
-    except sqlite3.OperationalError:
-        return set()
+def answers(folder: Path, name: str = IN_CHUNKS) -> set[bytes]:
+    """Returns the answers that are kept, by a look from outside: the lines of files and parts."""
+    lines = (line for path in (folder / "plan" / name).glob("*") for line in path.read_bytes().splitlines(True)[1:])
+    return {line for line in lines if line[32:34] == b" [" and line.endswith(b"]\n")}
 
 
-def kept(folder: Path, name: str = ANSWERS) -> int:
+def kept(folder: Path, name: str = IN_CHUNKS) -> int:
     return len(answers(folder, name))
 
 
@@ -166,10 +158,11 @@ def test_killed(folder: Path, whole: Path, crnplan: Command, holding: Path, star
 def test_killed_at_random(folder: Path, drawn: Path, crnplan: Command, start: Start, holding: Path, seed: int,
                           command: list[str], file: str, names: Sequence[str]) -> None:
     """Killed at random moments, a command loses nothing that was kept, and goes on to the same bytes."""
-    source, before = random.Random(seed), set[tuple[str, str, str]]()
+    source, before = random.Random(seed), set[bytes]()
     (folder / "go_on").touch()
-    if file == CANDIDATES:
-        shutil.copytree(drawn, folder / "plan", ignore=shutil.ignore_patterns(f"{CANDIDATES}*", *CURVE_TABLES))
+    if file != IN_CHUNKS:
+        shutil.copytree(drawn, folder / "plan", ignore=shutil.ignore_patterns(
+            file, gathered.HULLS, f"{gathered.CANDIDATES}*", *CURVE_TABLES))
     for _ in range(KILLS):
         process, most = start("--jobs", str(JOBS), command=command), source.randrange(FEW)
         wait_until(lambda: kept(folder, file) >= most or process.poll() is not None)
@@ -179,7 +172,7 @@ def test_killed_at_random(folder: Path, drawn: Path, crnplan: Command, start: St
         process.wait()
         assert before <= (there := answers(folder, file))
         before = there
-    if file == ANSWERS:
+    if file == IN_CHUNKS:
         told = crnplan(*command, "--jobs", "1", "--program", holding)
         now = int(told.errors.split("plan: ")[1].split()[0])
     else:
@@ -277,7 +270,7 @@ def test_a_cluster_that_loses_a_worker(folder: Path, drawn: Path, holding: Path,
                               shared_cluster.address)
         shared_cluster.wait_until("the first batch", lambda: kept(folder, file) >= 1, "driver")
         shared_cluster.end("leaves")
-        assert kept(folder, PLAN[1]) < FEW or file == CANDIDATES
+        assert kept(folder, PLAN[1]) < FEW or file != IN_CHUNKS
         assert children(shared_cluster.processes["driver"]) == []
         (folder / "go_on").touch()
         assert shared_cluster.wait_for_end("driver") == 0, shared_cluster.last_words("driver")

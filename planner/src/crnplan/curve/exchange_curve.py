@@ -1,7 +1,6 @@
 """Draws the exchange curve of a planned folder: stock value against the share of demand, by value, met at once.
 
-Candidates of items are kept in a file of the folder, each with all that it depends on, as the plan's answers are. For a
-sample of items crnsim counts the stock of the named points beside theory.
+For a sample of items crnsim counts the stock of the named points beside theory.
 """
 from __future__ import annotations
 
@@ -21,26 +20,21 @@ from ..chunks import Chunked
 from ..crnsim.long_run import long_run_of
 from ..crnsim.report import counting
 from ..errors import Refused
-from ..files import Folder, own_folder
-from ..jobs import Work, workers_of
-from ..plan.answer import CHOSEN, TODAY, Answer, Laws
-from ..plan.catalogue import PlannedFolder, planned_folder
+from ..files import own_folder
+from ..plan.answer import CHOSEN, TODAY, Answer
+from ..plan.catalogue import planned_folder
 from ..plan.question import Levels, Question
-from ..records.catalogue_reading import CATALOGUE
-from ..records.item import Item
-from ..remarks import Remark
+from ..records.catalogue_reading import CATALOGUE, Catalogued
 from ..scenario import Policy
-from ..stored import Store, digest_of
 from ..table import Cell, Column, DataTable, MONEY, Result, aligned, number, text, whole
 from ..words import PREMISE, advice, sentence
-from .candidates import VERSION, Candidates, candidates_batch
 from .exchange import NEAR, Budget, Items, OffCurve, chosen_by, gap_of, with_more_orders
-from .parts import Choice, Part, Point
+from .gathered import Gathered, gather
+from .parts import Choice, Point
 
 if TYPE_CHECKING:
     import pandas as pd
 
-CANDIDATES = "curve.sqlite"
 CURVE, POLICIES, LEFT_OUT = "curve.csv", "curve_policies.csv", "curve_left_out.csv"
 FIGURES = (
     number("value", "money", "the value of the mean stock", MONEY),
@@ -61,10 +55,7 @@ ON_CURVE, SAME_STOCK, SAME_SERVICE, BUDGET = "curve", "same stock", "same servic
 # What each point is, for a reader.
 SAID = {TODAY: "today", CHOSEN: "chosen item by item", SAME_STOCK: "today's stock, best service",
         SAME_SERVICE: "today's service, least stock", BUDGET: "your budget"}
-PART = 256  # items of a part
 DRAWN = "curve"  # the fact with the points, beside the answers of a plan
-# Codes of remarks on items that are not on the curve.
-NO_PRICE, NO_PLAN = "no price", "not planned"
 # Runs of each item that crnsim counts the stock of, of 1,024 periods each.
 KEYS = 8
 # Stock by runs is as theory says if it differs by no more.
@@ -76,76 +67,6 @@ NOTES = (
     "in the masters. Points with more orders or fewer lie beside the curve.",
     "Above the best: setup and holding are at most so much above the least of all policies that were looked at with "
     "the same service (and no more orders or stock, where these are bounded too).")
-
-
-@dataclass
-class Gathered:
-    """The candidates of all items with a price and a plan, and what is known of them.
-
-    `points` has today's policies, or the chosen one of an item that has none, and those chosen item by item. `shown`
-    has by item the description and today's s and S.
-    `left_out` has the other items, each with a remark. `new` counts the items whose candidates were computed now.
-    """
-
-    folder: PlannedFolder
-    items: Items
-    points: dict[str, Point]
-    shown: list[tuple[str, int | None, int | None]]
-    left_out: list[tuple[str, Remark]]
-    new: int
-
-
-def gather(own: Folder, folder: PlannedFolder, jobs: int | None, address: str | None, shown: bool) -> Gathered:
-    """Computes the candidates of a planned folder that are not kept yet, and returns all. Raises Refused."""
-    left_out, digests = list[tuple[str, Remark]](), dict[str, str]()
-    common = folder.planned.common
-    for (name, digest), item in zip(folder.read.digests(common), folder.read.items()):
-        answer = folder.store.answer(name) if folder.store.digest_of(name) == digest else Remark(NO_PLAN)
-        if isinstance(answer, Answer) and item.price and item.price > 0:
-            digests[name] = digest_of(digest, VERSION, item.price)
-        else:
-            left_out.append((name, answer if isinstance(answer, Remark) else Remark(NO_PRICE)))
-
-    def asked(name: str) -> tuple[Item, Laws]:
-        item, answer = folder.read.item(name), folder.store.answer(name)
-        assert item is not None and isinstance(answer, Answer)
-        return item, answer.laws
-    with contextlib.closing(Store(own.store(CANDIDATES), Candidates)) as kept:
-        work = Work(kept, digests)
-        work.finish(candidates_batch, asked, folder.planned.settings, workers=workers_of(jobs, address), shown=shown)
-        return added_up(folder, kept, digests, left_out, len(work.left))
-
-
-def added_up(folder: PlannedFolder, kept: Store[Candidates], names: Iterable[str], left_out: list[tuple[str, Remark]],
-             new: int) -> Gathered:
-    """Returns what is kept of some items beside those that are left out. Raises Refused if no item can be on the
-    curve."""
-    shown = list[tuple[str, int | None, int | None]]()
-
-    def on_curve() -> Iterator[tuple[str, float, Candidates, Floats]]:
-        for name in names:
-            item, answer, candidates = folder.read.item(name), folder.store.answer(name), kept.answer(name)
-            if isinstance(candidates, Remark):
-                left_out.append((name, candidates))
-                continue
-            assert item is not None and item.price is not None and isinstance(answer, Answer)
-            s, S = item.levels or (None, None)
-            shown.append((item.description, s, S))
-            policies = np.array([(policy.stock, candidates.demand * (1 - policy.fill), policy.orders)
-                                 for policy in (answer.today or answer.chosen, answer.chosen)])
-            yield name, float(item.price), candidates, policies
-    first = next(rest := on_curve(), None)
-    if first is None:
-        why, what = "no item is in the plan", ""
-        if left_out:
-            name, remark = left_out[0]
-            why, what = f"{len(left_out):,} items are left out; the first, {name}: {sentence(remark)}", advice(remark)
-        raise Refused(f"{folder.path}: no item can be on the curve: {why}", what)
-    every = itertools.chain([first], rest)
-    parts = [*map(Part.of, iter(lambda: [*itertools.islice(every, PART)], []))]
-    items = Items(lambda function, *columns: map(function, parts, *columns))
-    points = dict(zip((TODAY, CHOSEN), items.now))
-    return Gathered(folder, items, points, shown, sorted(left_out, key=lambda pair: pair[0]), new)
 
 
 def stocks_by_run(question: Question, asked: Iterable[Levels], program: str | Path | None) -> dict[Levels, Floats]:
@@ -216,7 +137,7 @@ class Drawn(Result):
     @property
     def text(self) -> str:
         """Returns the named points as a table, and what they mean."""
-        folder, left = self.gathered.folder, self.gathered.left_out
+        folder, parts = self.gathered.folder, self.gathered.parts
         money, every = folder.currency.places, folder.every
         unit = f", {folder.currency.code}" if folder.currency.code else ""
         rows = [["", f"stock value{unit}", "met at once", f"orders a {every}", f"setup and holding a {every}{unit}",
@@ -224,11 +145,11 @@ class Drawn(Result):
                 *([self.said[name], f"{point.value:,.{money}f}", f"{point.fill:.2%}", f"{point.orders:,.4g}",
                    f"{point.cost:,.{money}f}", gap_text(gap)] for name, (point, gap) in self.points.items())]
         lines = [f"{self.gathered.items.count:,} items are on the curve"]
-        if left:
-            lines[0] += f"; {len(left):,} are left out, as {left[0][0]}: {sentence(left[0][1])} ({LEFT_OUT} names all)"
-        without = sum(s is None for _, s, _ in self.gathered.shown)
+        for name, remark in itertools.islice(parts.left_out(), 1):
+            lines[0] += f"; {parts.out:,} are left out, as {name}: {sentence(remark)} ({LEFT_OUT} names all)"
         lines += ["", aligned(rows)]
-        lines += [f"Today counts the chosen policy of {without:,} items that have none today."] * bool(without)
+        lines += [f"Today counts the chosen policy of {parts.without_today:,} items that have none today."
+                  ] * bool(parts.without_today)
         lines += [f"{SAID[name]}: there is no such point: {why}" for name, why in self.missing.items()]
         policies = SAID.get(self.written, "the least stock")
         lines += [*NOTES, f'{CURVE} has the curve; {POLICIES} has the policies of "{policies}", in {folder.path}.']
@@ -245,9 +166,7 @@ class Drawn(Result):
 
     @property
     def policy_table(self) -> DataTable:
-        policies = self.gathered.items.policies(self.choice)
-        cells = ([its.name, *shown, *its[1:]] for its, shown in zip(policies, self.gathered.shown))
-        return self._table(POLICY_COLUMNS, cells)
+        return self._table(POLICY_COLUMNS, policy_rows(self.gathered, self.choice))
 
     def _table(self, columns: Sequence[Column], rows: Iterable[Sequence[Cell]]) -> DataTable:
         folder = self.gathered.folder
@@ -256,8 +175,19 @@ class Drawn(Result):
     @property
     def left_out(self) -> DataTable:
         """Returns the items that are not on the curve, with the reason and what to do."""
-        rows = ([name, sentence(remark), advice(remark)] for name, remark in self.gathered.left_out)
+        rows = ([name, sentence(remark), advice(remark)] for name, remark in self.gathered.left_out())
         return DataTable(LEFT_OUT_COLUMNS, rows, missing="")
+
+
+def policy_rows(gathered: Gathered, choice: Choice) -> Iterator[list[Cell]]:
+    """Yields the policy of each item in a choice with its figures, behind the description and today's s and S."""
+    policies = gathered.items.policies(choice)
+    its = next(policies, None)
+    with contextlib.closing(Catalogued(gathered.folder.read.path, is_known=True)) as read:
+        for name, description, levels in read.cells("name", "description", "levels"):
+            if its and its.name == name:
+                yield [name, description, *(json.loads(levels) if levels else (None, None)), *its[1:]]
+                its = next(policies, None)
 
 
 def points_of(gathered: Gathered, budget: Budget) -> tuple[dict[str, Choice], dict[str, str]]:
@@ -368,8 +298,9 @@ def exchange_curve(folder: str | Path, *, stock_value: float | None = None, fill
     Source: Silver, Pyke and Thomas, Inventory and Production Management in Supply Chains, 2017, exchange curves.
     """
     budget, path = Budget(stock_value, fill, orders), Path(folder)
-    with planned_folder(path) as planned, own_folder(path, CATALOGUE, (CURVE, POLICIES, LEFT_OUT)) as own:
-        drawn = draw(gather(own, planned, jobs, cluster, progress), budget, confirm, program)
+    with (planned_folder(path) as planned, own_folder(path, CATALOGUE, (CURVE, POLICIES, LEFT_OUT)) as own,
+          gather(own, planned, jobs, cluster, progress) as gathered):
+        drawn = draw(gathered, budget, confirm, program)
         for name, table in ((CURVE, drawn.table), (POLICIES, drawn.policy_table), (LEFT_OUT, drawn.left_out)):
             own.write(name, table.lines)
         keep_curve(planned.store, [*drawn.named.items(), *(("", point) for _, point in drawn.curve)])

@@ -5,11 +5,12 @@ exact, so they are the same for any parts in any order.
 """
 from __future__ import annotations
 
+import functools
 import hashlib
 import heapq
 import math
-from collections.abc import Iterable, Sequence
-from dataclasses import dataclass, field
+from collections.abc import Callable, Iterable, Sequence
+from dataclasses import dataclass
 from typing import NamedTuple
 
 import numpy as np
@@ -59,18 +60,15 @@ def in_units(figures: Floats, units: Units) -> Whole:
 
 
 @dataclass(frozen=True)
-class Part:
+class Rows:
     """The candidates of some items: arrays with a row for each, by item, variant of costs, and price.
 
     `owner` is the item's place in the part; `first` and `end` are the prices for which it is best. `figures` has a row
-    for each of `FIGURES`. By item are the `names`, the `demand`, in value, and `extra`: what each variant adds to the
-    costs of an order and of a unit of value of stock. `now` has the figures of today's policies and of the chosen ones.
+    for each of `FIGURES`. By item is `extra`: what each variant adds to the costs of an order and of a unit of value of
+    stock.
     """
 
-    names: tuple[str, ...]
-    demand: Floats
     extra: Floats
-    now: Floats
     owner: Whole
     variant: Whole
     first: Whole
@@ -78,7 +76,33 @@ class Part:
     point: Whole
     level: Whole
     figures: Floats
-    known: dict[Dearer, Hulls] = field(default_factory=dict, compare=False)
+
+    def shares(self, dearer: Dearer) -> Floats:
+        """Returns how much each row counts for costs between those of two variants."""
+        which = 1 if dearer.stock else 0
+        amount, variants, places = dearer[which], np.array(DEARER[which]), np.arange(len(self.extra))
+        extra = self.extra[:, variants, which]
+        above = np.minimum((extra <= amount).sum(axis=1), len(variants) - 1)
+        low, high = extra[places, above - 1], extra[places, above]
+        share, shares = np.clip((amount - low) / (high - low), 0, 1), np.zeros(self.extra.shape[:2])
+        shares[places, variants[above - 1]], shares[places, variants[above]] = 1 - share, share
+        counted: Floats = shares[self.owner, self.variant]
+        return counted
+
+    def variant_costs(self) -> Floats:
+        """Returns what each row costs in its variant."""
+        extra = self.extra[self.owner, self.variant]
+        costs: Floats = self.figures[COST] + extra[:, 0] * self.figures[ORDERS] + extra[:, 1] * self.figures[VALUE]
+        return costs
+
+
+class Part:
+    """Some items: by item their `names`, the `demand`, in value, and the figures of `now`, of today's policies and of
+    the chosen ones. Their candidates are loaded when they are needed."""
+
+    def __init__(self, names: tuple[str, ...], demand: Floats, now: Floats, load: Callable[[], Rows]) -> None:
+        self.names, self.demand, self.now, self._load = names, demand, now, load
+        self._known: dict[Dearer, Hulls] = {}
 
     @classmethod
     def of(cls, answers: Iterable[tuple[str, float, Candidates, Floats]]) -> Part:
@@ -99,64 +123,55 @@ class Part:
             rows["first"]
         is_last = np.append((owner[1:] != owner[:-1]) | (variant[1:] != variant[:-1]), True)
         now = [figures(np.arange(count), *some) for some in np.transpose(policies, (1, 2, 0))]
-        return cls(names, price * demand, extra, np.array(now), owner, variant, first,
-                   np.where(is_last, len(PRICES), np.append(first[1:], 0)), rows["point"], rows["level"],
-                   figures(owner, rows["stock"], rows["unmet"], rows["orders"]))
+        loaded = Rows(extra, owner, variant, first, np.where(is_last, len(PRICES), np.append(first[1:], 0)),
+                      rows["point"], rows["level"], figures(owner, rows["stock"], rows["unmet"], rows["orders"]))
+        return cls(names, price * demand, np.array(now), lambda: loaded)
+
+    @functools.cached_property
+    def rows(self) -> Rows:
+        """Returns the candidates."""
+        return self._load()
 
     def hulls(self, dearer: Dearer = AS_IS) -> Hulls:
         """Returns the hulls of the items. Those of the last costs are kept, and those of costs as they are."""
-        if dearer not in self.known:
-            for other in self.known.keys() - {AS_IS}:
-                del self.known[other]
-            self.known[dearer] = Hulls.of(self, dearer)
-        return self.known[dearer]
+        if dearer not in self._known:
+            for other in self._known.keys() - {AS_IS}:
+                del self._known[other]
+            self._known[dearer] = self._hulls(dearer)
+        return self._known[dearer]
 
-    def shares(self, dearer: Dearer) -> Floats:
-        """Returns how much each row counts for costs between those of two variants."""
-        which = 1 if dearer.stock else 0
-        amount, variants, places = dearer[which], np.array(DEARER[which]), np.arange(len(self.names))
-        extra = self.extra[:, variants, which]
-        above = np.minimum((extra <= amount).sum(axis=1), len(variants) - 1)
-        low, high = extra[places, above - 1], extra[places, above]
-        share, shares = np.clip((amount - low) / (high - low), 0, 1), np.zeros(self.extra.shape[:2])
-        shares[places, variants[above - 1]], shares[places, variants[above]] = 1 - share, share
-        counted: Floats = shares[self.owner, self.variant]
-        return counted
-
-    def variant_costs(self) -> Floats:
-        """Returns what each row costs in its variant."""
-        extra = self.extra[self.owner, self.variant]
-        costs: Floats = self.figures[COST] + extra[:, 0] * self.figures[ORDERS] + extra[:, 1] * self.figures[VALUE]
-        return costs
+    def _hulls(self, dearer: Dearer) -> Hulls:
+        return Hulls.of(self.rows, dearer)
 
 
 @dataclass(frozen=True)
 class Hulls:
     """The lower hulls of the items of a part, perhaps with dearer orders or stock.
 
-    `rows` are the vertices, by item from the least service to the most, and `start` the place of each item's first one.
-    Steps lead from a vertex to the next: `below` is the place of the one that they leave. They are by rising price, and
-    by `owner` if prices are equal.
+    `point`, `level` and `figures` are those of the vertices, by item from the least service to the most, and `start` is
+    the place of each item's first one. Steps lead from a vertex to the next: `below` is the place of the one that they
+    leave. They are by rising price, and by `owner` if prices are equal.
     """
 
-    rows: Whole
     start: Whole
+    point: Whole
+    level: Whole
     figures: Floats
     prices: Floats
     owner: Whole
     below: Whole
 
     @classmethod
-    def of(cls, part: Part, dearer: Dearer) -> Hulls:
-        value, unmet, orders, cost = part.figures
+    def of(cls, rows: Rows, dearer: Dearer) -> Hulls:
+        value, unmet, orders, cost = rows.figures
         cost = cost + dearer.orders * orders + dearer.stock * value
-        rows = lower_hull(part.owner, cost, unmet)
-        owner = part.owner[rows]
-        prices = slopes(owner, cost[rows], unmet[rows])
+        kept = lower_hull(rows.owner, cost, unmet)
+        owner = rows.owner[kept]
+        prices = slopes(owner, cost[kept], unmet[kept])
         below = np.flatnonzero(np.isfinite(prices))
         below = below[np.lexsort((below, prices[below]))]
-        return cls(rows, np.flatnonzero(np.append(True, owner[1:] != owner[:-1])), part.figures[:, rows],
-                   prices[below], owner[below], below)
+        return cls(np.flatnonzero(np.append(True, owner[1:] != owner[:-1])), rows.point[kept], rows.level[kept],
+                   rows.figures[:, kept], prices[below], owner[below], below)
 
     def changes(self, units: Units) -> Whole:
         """Returns what each step adds to the figures, in whole units."""
@@ -173,10 +188,10 @@ class Hulls:
 def measured(part: Part) -> tuple[int, Floats, Floats]:
     """Returns how many items there are, the greatest of each figure, and the greatest extra costs of orders and stock.
     """
-    most = np.maximum(part.figures.max(axis=1), part.now.max(axis=(0, 2)))
+    most = np.maximum(part.rows.figures.max(axis=1), part.now.max(axis=(0, 2)))
     most[UNMET] = max(most[UNMET], part.demand.max())
-    most[COST] = max(most[COST], part.variant_costs().max())
-    return len(part.names), most, part.extra.max(axis=(0, 1))
+    most[COST] = max(most[COST], part.rows.variant_costs().max())
+    return len(part.names), most, part.rows.extra.max(axis=(0, 1))
 
 
 def summed(part: Part, units: Units) -> tuple[int, Whole]:
@@ -189,14 +204,14 @@ def bounds_of(part: Part, units: Units, asked: Sequence[Dearer]) -> Whole:
     """Returns for each of some extra costs and each price the least costs without those of unmet demand, and the unmet
     demand, in units."""
     sums = np.zeros((len(asked), 2, len(PRICES) + 1), np.int64)
-    each = np.array([part.variant_costs(), part.figures[UNMET]])
+    rows = part.rows
+    each = np.array([rows.variant_costs(), rows.figures[UNMET]])
     for total, dearer in zip(sums, asked):
-        shares = part.shares(dearer)
+        shares = rows.shares(dearer)
         some = np.flatnonzero(shares)
-        rows = in_units(shares[some] * each[:, some], (units[COST], units[UNMET]))
-        for its, row in zip(total, rows):
-            np.add.at(its, part.first[some], row)
-            np.subtract.at(its, part.end[some], row)
+        for its, counted in zip(total, in_units(shares[some] * each[:, some], (units[COST], units[UNMET]))):
+            np.add.at(its, rows.first[some], counted)
+            np.subtract.at(its, rows.end[some], counted)
     least: Whole = np.cumsum(sums, axis=-1)[..., :-1]
     return least
 
@@ -287,9 +302,9 @@ def policies_of(part: Part, choice: Choice, places: Whole | None = None) -> list
     taken = np.bincount(hulls.owner[:hulls.before(choice.price, choice.owner + 1)], minlength=len(part.names))
     taken[choice.moved[0]] += choice.moved[1]
     some = np.arange(len(part.names)) if places is None else places
-    rows = hulls.rows[hulls.start + taken][some]
-    value, unmet, orders, cost = part.figures[:, rows]
-    columns = (part.point[rows], part.level[rows], value, 1 - unmet / part.demand[some], orders, cost)
+    vertices = (hulls.start + taken)[some]
+    value, unmet, orders, cost = hulls.figures[:, vertices]
+    columns = (hulls.point[vertices], hulls.level[vertices], value, 1 - unmet / part.demand[some], orders, cost)
     return [*map(Chosen, (part.names[place] for place in some), *(column.tolist() for column in columns))]
 
 
