@@ -10,7 +10,7 @@ import numpy as np
 import pytest
 
 from crnplan import compiled as module
-from crnplan.compiled import cache_folder, compiled, numba_njit
+from crnplan.compiled import cache_folder, compiled, left_plain, numba_njit
 
 
 def total_of(values: np.ndarray) -> tuple[str, float]:
@@ -42,6 +42,13 @@ def test_loop_is_compiled() -> None:
 def test_first_calls_are_plain() -> None:
     total = compiled(total_of, after=2)(loop)
     assert [total(np.ones(3))[0] for _ in range(4)] == ["plain", "plain", "loop", "loop"]
+
+
+def test_loops_are_left_plain() -> None:
+    total = compiled(total_of)(loop)
+    with left_plain():
+        assert total(np.ones(3))[0] == "plain"
+    assert total(np.ones(3))[0] == "loop"
 
 
 def test_numpy_stands_in(monkeypatch: pytest.MonkeyPatch) -> None:

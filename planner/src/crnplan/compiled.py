@@ -6,15 +6,17 @@ module.
 """
 from __future__ import annotations
 
+import contextlib
 import functools
 import itertools
 import os
-from collections.abc import Callable
+from collections.abc import Callable, Iterator
 from pathlib import Path
 from types import FunctionType
 from typing import Any, TypeVar, cast
 
 Loop = TypeVar("Loop", bound=Callable[..., Any])
+left: list[bool] = []  # has one for each block that leaves loops plain
 PLAIN_CALLS = 50  # of a loop that takes a few milliseconds as it is written
 
 
@@ -65,11 +67,22 @@ def compiled(plain: Loop, after: int = 0) -> Callable[[Callable[..., Any]], Loop
 
         @functools.wraps(loop)
         def run(*words: Any) -> Any:
-            is_plain = after and next(calls) < after
+            is_plain = left or after and next(calls) < after
             return plain(*words) if is_plain else chosen()(*words)
         run.loop, run.plain = loop, plain  # type: ignore[attr-defined]
         return run  # type: ignore[return-value]
     return decorated
+
+
+@contextlib.contextmanager
+def left_plain() -> Iterator[None]:
+    """Leaves all loops plain in its block: a plan of one item takes less time than numba's import, and far less than to
+    compile them."""
+    left.append(True)
+    try:
+        yield
+    finally:
+        left.pop()
 
 
 def composed(after: int = 0) -> Callable[[Loop], Loop]:

@@ -20,12 +20,14 @@ folder_argument = click.argument("folder", metavar="FOLDER", type=click.Path(pat
 @csv_style_option
 @program_option
 def item(history: str, settings: str, out: str, program: str | None) -> None:
+    from ..compiled import left_plain
     from ..pages.item_page import item_summary, plan_item
 
     def told(part: str) -> None:
         if sys.stderr.isatty():
             print(f"{part} ..", file=sys.stderr)
-    print(item_summary(plan_item(history, settings, out, program=program, told=told)), end="")
+    with left_plain():
+        print(item_summary(plan_item(history, settings, out, program=program, told=told)), end="")
 
 
 @command()
