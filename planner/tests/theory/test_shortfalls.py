@@ -4,11 +4,12 @@ from __future__ import annotations
 import numpy as np
 import pytest
 
-from crnplan.theory import shortfalls
+from crnplan.scenario import Costs
+from crnplan.theory import long_run, shortfalls
 from crnplan.theory.least import least_enough
 from crnplan.theory.long_run import UNMET, Means
 from crnplan.theory.shortfalls import FAR
-from planner.tests.theory.long_run_costs import shortfall_of
+from planner.tests.theory.long_run_costs import costs_of, fills_of, shortfall_of
 from planner.tests.theory.scenarios import Pair, scenario_of, theory_of
 
 WAYS = ["loop", "plain"]
@@ -46,3 +47,19 @@ def test_least_levels_that_are_enough(way: str, leads: list[int], share: float) 
         wanted = [next((it for it in range(floor, means.top) if row[it]), means.top)
                   for floor, row in zip(floors, enough)]
         assert found.tolist() == wanted
+
+
+@pytest.mark.parametrize("share", [0.0, 0.9])
+@pytest.mark.parametrize("back, leads", [(None, [2]), (None, [1, 2, 4]), (([0, 1], [3, 1]), [1, 3])],
+                         ids=["one lead time", "three", "returns"])
+def test_floors_of_costs(back: Pair | None, leads: list[int], share: float, monkeypatch: pytest.MonkeyPatch) -> None:
+    """No policy of a gap costs less. With one lead time the best one costs no more."""
+    monkeypatch.setattr(long_run, "least_costs", long_run.least_costs.loop)
+    scenario = scenario_of(([0, 1, 3], [3, 2, 1]), (leads, [1] * len(leads)), back, Costs(20, 0, 2, 9))
+    floors, levels = theory_of(scenario).floors(share, 20), np.arange(50)
+    for gap in (0, 1, 4, 20):
+        short = shortfall_of(scenario, gap)
+        least = costs_of(scenario, short, levels)[fills_of(scenario, short, levels) >= share - 1e-9].min()
+        assert 0.5 * least < floors[gap] <= least + 1e-9
+        if len(leads) == 1 and not share:
+            assert floors[gap] == pytest.approx(least)

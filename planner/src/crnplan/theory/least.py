@@ -8,7 +8,7 @@ import numpy as np
 from numpy.lib.stride_tricks import sliding_window_view
 
 from ..chances import Floats, Whole
-from ..compiled import compiled
+from ..compiled import compiled, composed
 
 
 def least_levels(low: Whole, high: Whole, is_enough: Callable[[Whole], Any]) -> Whole:
@@ -55,3 +55,28 @@ def least_enough(turned: Floats, chances: Floats, floors: Whole, highest: Whole,
                 level = (low + high) // 2
         levels[gap] = level = low
     return levels
+
+
+@composed()
+def least_costs(lows: Floats, table: Floats, setup: float, allowed: float, ratio: float) -> Floats:
+    """Returns for each gap from 0 on what a policy costs at least with one lead time, and a level that is enough.
+
+    `lows` has the chances of the lows up to the widest gap, and `table` rows with the stock costs, the unmet demand and
+    the chance of no backlog of all levels of lows from the widest gap and one below 0 on, as far as any are enough.
+    `setup` is that of a cycle. Levels do not fall from one gap to the next.
+    """
+    most, turned, found = len(lows) - 1, lows[::-1].copy(), np.empty(len(lows))
+    costs, unmet, held = table[0], table[1], table[2]
+    place, total, here, below, lacking, enough = most + 1, 0.0, 0.0, 0.0, 0.0, 0.0
+    for gap, low in enumerate(lows):
+        total, here, below = total + low, here + low * costs[place - gap], below + low * costs[place - gap - 1]
+        lacking, enough, first = lacking + low * unmet[place - gap], enough + low * held[place - gap], place
+        while place < len(costs) - 1 and (enough < ratio * total or lacking > allowed * total):
+            place += 1
+            enough = np.dot(held[place - gap:place + 1], turned[most - gap:])
+            lacking = np.dot(unmet[place - gap:place + 1], turned[most - gap:])
+        if place > first:
+            here = np.dot(costs[place - gap:place + 1], turned[most - gap:])
+            below = np.dot(costs[place - gap - 1:place], turned[most - gap:])
+        found[gap] = (setup + min(here, below)) / total
+    return found

@@ -11,6 +11,9 @@ place j cells below S is a low of a cycle, and M(g) their sum up to the gap g.
    at most g / 2 below S on average.
 2. The mean stock less the mean backlog is the mean position less the mean net demand of a lead time and a period, since
    that much is under way on average (Little's law). So a policy costs at least `holding` times (s + g / 2 - `offset`).
+3. By the same law, a policy that had the shortest lead time alone would have as much less of stock less backlog as is
+   under way for longer on average. Its backlog would be no more, since its stock is never less. So a policy costs no
+   less than that one, but for holding what is under way for longer (`floors`).
 """
 from __future__ import annotations
 
@@ -28,7 +31,7 @@ from ..chances import Floats, Whole
 from ..formats import MOST_ITEMS
 from ..scenario import Costs, Scenario
 from .feasible import ALL, Feasible, Places
-from .least import least_enough
+from .least import least_costs, least_enough
 from .shortfalls import LEAST_CHANCE, falling, lateness, moving, transforms_of, work_of
 from .walk import LatticeLaw, Surplus, Walk, power_of, room_for, sum_of
 
@@ -36,6 +39,7 @@ GRID_GROWTH = 1.15
 SMALL_GAP = 8
 FEW = 4  # Of the gaps of a grid, one in so many is looked at for a first policy.
 MOST_CELLS = 50_000  # of tables with a row for each of many gaps
+MOST_FLOORS = 3_000  # Wider gaps are all looked at.
 MOST_WORK = 20_000_000  # for all gaps of a search, by `work_of`
 CLOSE = 1 + 1e-9  # Costs whose ratio is at most this are equal but for rounding.
 UNMET, STOCK_LEFT = 1, 3  # rows of `LongRun.figures_from`
@@ -157,7 +161,8 @@ class LongRun(Walk):
         self.feasible, self.found = feasible, dict[float, Candidate]()
         costs, leads = scenario.costs, scenario.lead.chances
         self.setup, self.holding, self.backlog = costs.setup, costs.holding, costs.backlog
-        self.most, self.shorts, self.figured = most, dict[int, Floats](), dict[tuple[int, int], Figures]()
+        self.most, self.shorts, self.floored = most, dict[int, Floats](), dict[float, Floats]()
+        self.figured = dict[tuple[int, int], Figures]()
         self.asked = self.demand.mean * step  # the mean demand of a period, in items
         # How far the mean stock less the mean backlog is below the mean low, in items.
         self.offset = step * (self.above_low.mean + self.net.mean * float(scenario.lead.mean + 1))
@@ -183,7 +188,7 @@ class LongRun(Walk):
         """Returns the same theory with other costs, and with all policies feasible."""
         other = self.within(ALL)
         other.setup, other.holding, other.backlog = costs.setup, costs.holding, costs.backlog
-        other.figured = {}
+        other.figured, other.floored = {}, {}
         other.__dict__.pop("free", None)
         return other
 
@@ -404,14 +409,33 @@ class LongRun(Walk):
         best = place_of_least(costs)
         return self.policy(gaps[best], int(levels[best]))
 
-    def cheapest(self, levels_of: LevelsOf, lowest: int) -> tuple[int, int]:
+    def floors(self, share: float, most: int) -> Floats:
+        """Returns what a policy that meets a share of demand at once costs at least, by its gap up to the most: see the
+        module."""
+        if len(self.floored.get(share, ())) <= most:
+            levels = self.step * np.arange(-most - 1, most + self.after.high + 2)
+            costs = least_costs(self.lows_of(most), self.figures_from(levels)[:3], self.setup / self.span,
+                                self.allowed(share), self.ratio)
+            self.floored[share] = costs - self.holding * self.step * self.net.mean * float(self.late.sum())
+        return self.floored[share]
+
+    def cheapest(self, levels_of: LevelsOf, lowest: int, share: float = 0.0) -> tuple[int, int]:
         """Returns the gap and the level of the cheapest policy of all gaps that may cost least, if s is at least
-        `lowest`; or what a search finds if these take too long."""
-        def policies_of(gaps: Sequence[int]) -> Iterable[Candidate]:
-            levels, costs = self.costed(levels_of, gaps)
-            return map(Candidate, costs.tolist(), gaps, levels.tolist())  # gaps stand in place of reorder points
-        grid = self.grid()
-        known = min(policies_of(grid)).cost if grid else math.inf
+        `lowest` and a share of demand is met at once; or what a search finds if these take too long."""
+        known, floors = math.inf, np.full(self.most + 1, -math.inf)
+
+        def policies_of(gaps: Sequence[int]) -> list[Candidate]:
+            """Returns policies of gaps, with infinite costs if they cost more than one that is known."""
+            looked = [gap for gap in gaps if gap >= len(floors) or floors[gap] <= CLOSE * known]
+            levels, costs = self.costed(levels_of, looked) if looked else (np.empty(0, int), np.empty(0))
+            found = dict(zip(looked, zip(costs.tolist(), levels.tolist())))
+            # Gaps stand in place of reorder points.
+            return [Candidate(cost, gap, level) for gap in gaps for cost, level in [found.get(gap, (math.inf, -1))]]
+        grid, usual = self.grid(), math.sqrt(2 * self.setup * self.net.mean / (self.holding * self.step))
+        for some in ([min(grid, key=lambda gap: abs(gap - usual))], grid) if grid else ():
+            known = min(known, min(policies_of(some)).cost)
+            if len(self.late) and known < math.inf:
+                floors = self.floors(share, min(self.widest(known, lowest), MOST_FLOORS))
         most = self.widest(known, lowest)
         if known == math.inf:
             return 0, -1
@@ -419,10 +443,10 @@ class LongRun(Walk):
             self.is_searched, allowed = True, self.gaps(0, self.most)
             _, gap, level = search(lambda places: policies_of([allowed[it] for it in places]), len(allowed) - 1)
             return gap, level
-        gaps = self.gaps(self.first_gap(known, most), most)
-        levels, costs = self.costed(levels_of, gaps)
-        place = int(np.argmax(costs <= CLOSE * costs.min()))
-        return gaps[place], int(levels[place])
+        found = policies_of(self.gaps(self.first_gap(known, most), most))
+        least = min(found).cost
+        _, gap, level = next(it for it in found if it.cost <= CLOSE * least)
+        return gap, level
 
     def best(self, share: float = 0.0) -> Candidate:
         """Returns the cheapest feasible policy that meets at least this share of demand at once: that of all policies,
@@ -435,7 +459,7 @@ class LongRun(Walk):
 
     def best_within(self, share: float) -> Candidate:
         """Returns the cheapest feasible policy that meets a share of demand at once, by a search."""
-        return self.policy(*self.cheapest(partial(self.best_levels, share=share), self.feasible.least))
+        return self.policy(*self.cheapest(partial(self.best_levels, share=share), self.feasible.least, share))
 
     def fullest(self) -> Candidate:
         """Returns the feasible policy that meets most demand at once: that of the greatest S and the least gap."""

@@ -150,12 +150,18 @@ def falling(begun: Transforms, gaps: Whole, move: Transforms, late: Floats, room
     states = [begun]
     for _ in late:
         states.append(states[-1] * move)
-    free = fft.irfft(np.stack(states, axis=1), room)[..., :int(gaps[-1]) + 1].reshape(2 * len(states), -1)
-    free = np.where(free > LEAST_CHANCE, free, 0.0)
+    laws, most = np.stack(states, axis=1), int(gaps[-1])
+    free = fft.irfft(laws, room)
+    free[free <= LEAST_CHANCE] = 0.0
     is_far = np.diff(gaps, prepend=-FAR) >= FAR
-    up_to = np.arange(free.shape[1]) <= gaps[is_far, None, None]
-    kept, angles = fft.rfft(np.where(up_to, free, 0.0), room), -2 * np.pi / room * np.arange(room)
-    return last_shortfalls(kept, is_far, free, gaps, np.cos(angles) + 1j * np.sin(angles), move, late)
+    far, high, free = gaps[is_far], np.flatnonzero(free[0, -1])[-1], free[..., :most + 1].copy()
+    up_to, kept = np.arange(most + 1) <= far[:, None, None], np.empty((len(far), *laws.shape), complex)
+    cut = np.searchsorted(far, high)  # From here on, gaps cut nothing off the first law.
+    kept[:cut, 0], kept[cut:, 0] = fft.rfft(np.where(up_to[:cut], free[0], 0.0), room), laws[0]
+    kept[:, 1] = fft.rfft(np.where(up_to, free[1], 0.0), room)
+    angles = -2 * np.pi / room * np.arange(room)
+    return last_shortfalls(kept.reshape(len(far), -1, len(move)), is_far, free.reshape(-1, most + 1), gaps,
+                           np.cos(angles) + 1j * np.sin(angles), move, late)
 
 
 def moving(begun: Transforms, gaps: Whole, move: Transforms, late: Floats, room: int, above: int) -> Transforms:
