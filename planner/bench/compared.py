@@ -2,10 +2,12 @@
 
 Compared are the items with one lead time, a backlog cost and no returns; the published algorithm can't plan others.
 Both get the same whole law of demand, that of the plan. If crnplan counts demand in steps, its policy may be dearer.
+The inner loops of both are compiled.
 """
 from __future__ import annotations
 
 import contextlib
+import dataclasses
 import time
 from collections.abc import Callable, Iterator, Sequence
 from pathlib import Path
@@ -29,6 +31,7 @@ from planner.bench.made import make
 from planner.bench.zheng_federgruen import Floats, Search
 
 BATCH = 8
+WARM = list[int]()  # has an entry for each call of this process that was not timed
 SETTINGS = Settings(borrow=ALL)
 SEARCHES = ("crnplan", "published")
 Result = TypeVar("Result")
@@ -90,9 +93,14 @@ def is_comparable(question: Question) -> bool:
 
 
 def compared_batch(batch: Sequence[Item], prior: Prior) -> list[Compared]:
-    """Compares both on those of some items that both can plan."""
+    """Compares both on those of some items that both can plan. Before the first item of a process the loops of both are
+    compiled: these run as they are written for some calls."""
     questions = [question_of(item, SETTINGS, prior) for item in batch]
-    return [compared(question, question.item.group) for question in questions if is_comparable(question)]
+    asked = [question for question in questions if is_comparable(question)]
+    while asked and len(WARM) <= PLAIN_CALLS:
+        compared(dataclasses.replace(asked[0]), "")
+        WARM.append(1)
+    return [compared(question, question.item.group) for question in asked]
 
 
 def batches_of(read: Catalogued, prior: Prior) -> Iterator[tuple[int, tuple[list[Item], Prior]]]:

@@ -19,7 +19,7 @@ from planner.bench.compared import all_figures, compare
 from planner.bench.made import Made, make
 from planner.bench.stored import keep, stored
 from planner.bench.usage import usage_of
-from planner.bench.zheng_federgruen import Floats, Renewals, Search, best_policy
+from planner.bench.zheng_federgruen import Floats, Search, best_policy, optimum, stock_cost
 from planner.studies.page import PLACE, page_with
 from planner.tests.theory.scenarios import PUBLISHED, scenario_of
 
@@ -160,11 +160,17 @@ def test_costs_are_those_of_crnplan(weights: list[int], lead: int, setup: int, h
 def test_stock_costs_beyond_all_demands() -> None:
     """Levels below 0 and above all demand have the costs of sums over the law, if it has a demand."""
     law = chances([3, 0, 2, 1])
-    costs = Search(law, 2, 0, 2, 7).stock_costs
+    search = Search(law, 2, 0, 2, 7)
     two = np.convolve(np.convolve(law, law), law)
     wanted = [float(two @ [2 * max(level - it, 0) + 7 * max(it - level, 0) for it in range(len(two))])
               for level in range(-3, 15)]
-    assert costs.between(-3, 14) == pytest.approx(wanted, rel=1e-12)
-    assert [costs.at(level) for level in range(-3, 15)] == pytest.approx(wanted, rel=1e-12)
+    assert [stock_cost(search.table, search.rates, level) for level in range(-3, 15)] == pytest.approx(wanted, rel=1e-12)
     with pytest.raises(ValueError, match="no item is ever asked for"):
-        Renewals(np.array([1.0, 0.0]))
+        Search(np.array([1.0, 0.0]), 2, 0, 2, 7)
+
+
+def test_published_as_it_is_written() -> None:
+    """The loop that is compiled gives the same policy in plain Python."""
+    search = Search(chances([3, 0, 2, 1]), 2, 40, 2, 7)
+    words = search.demand, search.table, search.rates, search.setup
+    assert optimum.loop(*words) == pytest.approx(search.best(), rel=1e-12)
