@@ -40,6 +40,7 @@ TextRow = tuple[int, list[str]]
 Table = Union[str, Path, "pd.DataFrame"]
 RoleOf = Callable[[str], str | None]
 HEAD_BYTES, MOST_LETTERS = 1_000_000, 2_000_000
+CELL_BYTES = 8  # of a DataFrame, about, as text
 SAMPLE_ROWS, TITLE_ROWS, SHOWN_ROWS, MOST_LISTED = 1_000, 50, 3, 30
 DELIMITERS = {",": ",", ";": ";", "tab": "\t", "\t": "\t"}
 BOOKS = (".xlsx", ".xlsm")
@@ -424,8 +425,10 @@ def opened(table: Table, kind: str, rules: Rules, folder: Path | None = None) ->
     RefusedFaults for what can't be read."""
     if not isinstance(table, (str, Path)):
         frame = table.reset_index() if any(it is not None for it in table.index.names) else table
-        yield Sheet(kind, "DataFrame", rules, None, lambda: itertools.chain(
+        its = Sheet(kind, "DataFrame", rules, None, lambda: itertools.chain(
             [[*map(str, frame.columns)]], frame.itertuples(index=False, name=None)))
+        its.size = CELL_BYTES * frame.size
+        yield its
         return
     name, path = "standard input" if str(table) == "-" else str(table), Path(table)
     book, sign, sheet = name.rpartition("!")
