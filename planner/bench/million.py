@@ -7,7 +7,6 @@ FOLDER is that of one size that `planner.bench.whole --folder` has kept.
 from __future__ import annotations
 
 import contextlib
-import pickle
 import sqlite3
 import time
 from collections.abc import Iterator
@@ -17,14 +16,13 @@ from typing import Any
 import click
 
 from crnplan.curve import gathered
-from crnplan.curve.parts import Part
 from crnplan.pages.catalogue_page import MOST_ROWS, PAGE
 from crnplan.pages.catalogue_tables import DECISIONS, EXACT
 from crnplan.plan.catalogue import IN_CHUNKS, PlannedFolder, planned_folder
 from crnplan.plan.survey import Survey
 from crnplan.records.catalogue_reading import CATALOGUE, READ
 from crnplan.files import own_folder
-from planner.bench.page import ARRAYS, LOOK, SENT, million_table
+from planner.bench.page import CANDIDATES, LOOK, SENT, million_table
 from planner.bench.part import PLAN
 from planner.bench.stored import circumstances, keep
 
@@ -40,11 +38,6 @@ def row_bytes(path: Path, table: str) -> float:
     return float(mean)
 
 
-def array_bytes(part: Part) -> int:
-    """Returns the bytes of the arrays of the candidates of a part."""
-    return sum(its.nbytes for its in vars(part.rows).values())
-
-
 def folder_bytes(folder: Path) -> int:
     """Returns the bytes of the files in a folder."""
     return sum(path.stat().st_size for path in folder.iterdir())
@@ -57,7 +50,6 @@ def bytes_of(plan: PlannedFolder, items: int) -> Iterator[Measured]:
     plans = folder_bytes(folder / IN_CHUNKS) / items
     facts, answer, candidates = SENT
     yield facts, row_bytes(sent, "items"), "bytes an item"
-    yield "what was learned, with each batch", len(pickle.dumps(plan.planned.prior)), "bytes"
     yield answer, plans, "bytes an item"
     yield candidates, curve, "bytes an item"
     yield "hulls of the curve, on disk", folder_bytes(folder / gathered.HULLS) / items, "bytes an item"
@@ -80,9 +72,8 @@ def measured_of(folder: Path) -> Iterator[Measured]:
         yield from bytes_of(plan, items)
         yield from looks_of(plan, items)
         start = time.process_time()
-        with (own_folder(plan.path, CATALOGUE) as own, gathered.gather(own, plan, 1, None, False) as curve):
-            yield "reading all candidates", 1e6 * (time.process_time() - start) / items, "µs an item"
-            yield ARRAYS, sum(curve.items.over(array_bytes)) / curve.items.count, "bytes an item"
+        with own_folder(plan.path, CATALOGUE) as own, gathered.gather(own, plan, 1, None, False):
+            yield CANDIDATES, 1e6 * (time.process_time() - start) / items, "µs an item"
 
 
 def rounded(number: float) -> float | int:

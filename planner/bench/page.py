@@ -18,10 +18,9 @@ ITEM = "item"  # the part that plans one item, of examples/case
 MACHINES = 10
 FAR = (10_000, 100_000, MILLION, 10 * MILLION)  # items of catalogues of which the hours are extrapolated
 # What some stored figures are.
-LOOK, ARRAYS = "one look at all items with their plans", "candidates, as arrays"
-CANDIDATES = "reading all candidates"
-ANSWER = "the answer of a plan, back"
-SENT = ("an item's facts, to a worker", ANSWER, "candidates of the curve, back")
+LOOK, CANDIDATES = "one look at all items with their plans", "reading all candidates"
+# What is sent if workers don't see the folder. All but the first is kept in files of chunks.
+SENT = ("an item's facts, to a worker", "the answer of a plan, kept in a chunk", "candidates of the curve, kept in a chunk")
 SUMS, MOSTS = ("wall", "processor", "bytes"), ("own", "all", "load")
 Rows = Sequence[Mapping[str, Any]]
 
@@ -88,7 +87,7 @@ def needs_of(figures: Mapping[str, Any]) -> Iterator[tuple[str, float, str]]:
     for row in figures["handed"]["rows"]:
         yield f"hand-out, {row['way']}", MILLION / row["rate"] / 60, "minutes"
     yield "to workers and back, if they don't see the folder", sum(its[name] for name in SENT) / 1000, "GB"
-    kept = [name for name in its if name.endswith("on disk") or name == ANSWER]
+    kept = [name for name in its if name.endswith("on disk") or name in SENT[1:]]
     yield "kept in the folder", sum(its[name] for name in kept) / 1000, "GB"
 
 

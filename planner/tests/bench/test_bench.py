@@ -102,7 +102,7 @@ def test_needs_of_a_million() -> None:
     assert [*page.needs_of({"million": {"rows": rows}, "handed": {"rows": handed}})] == [
         (page.LOOK, 1, "minutes"), (page.CANDIDATES, 2, "minutes"),
         ("hand-out, processes", pytest.approx(5 / 3), "minutes"), ("hand-out, Dask", pytest.approx(10 / 3), "minutes"),
-        ("to workers and back, if they don't see the folder", 3, "GB"), ("kept in the folder", 4.5, "GB")]
+        ("to workers and back, if they don't see the folder", 3, "GB"), ("kept in the folder", 5.5, "GB")]
     assert page.handed_table(handed).splitlines()[2] == "| 9 | 2 | processes | 10,000 | 8 | 70 |"
 
 
