@@ -16,7 +16,7 @@ PAGE = Path(__file__).with_name("README.md")
 MILLION = 1_000_000
 ITEM = "item"  # the part that plans one item, of examples/case
 MACHINES = 10
-FAR = (10_000, 100_000, MILLION, 10 * MILLION)  # items of catalogues of which the hours are extrapolated
+FAR = (100_000, MILLION, 10 * MILLION)  # items of catalogues of which the hours are extrapolated
 # What some stored figures are.
 LOOK, CANDIDATES = "one look at all items with their plans", "reading all candidates"
 # What is sent if workers don't see the folder. All but the first is kept in files of chunks.
@@ -84,8 +84,6 @@ def needs_of(figures: Mapping[str, Any]) -> Iterator[tuple[str, float, str]]:
     its = {row["what"]: row["figure"] for row in figures["million"]["rows"]}
     for what in (LOOK, CANDIDATES):
         yield what, its[what] * MILLION / 1e6 / 60, "minutes"
-    for row in figures["handed"]["rows"]:
-        yield f"hand-out, {row['way']}", MILLION / row["rate"] / 60, "minutes"
     yield "to workers and back, if they don't see the folder", sum(its[name] for name in SENT) / 1000, "GB"
     kept = [name for name in its if name.endswith("on disk") or name in SENT[1:]]
     yield "kept in the folder", sum(its[name] for name in kept) / 1000, "GB"
