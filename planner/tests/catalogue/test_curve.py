@@ -201,6 +201,10 @@ def test_items_that_are_left_out(twenty: Path, planned: Path, tmp_path: Path) ->
         base.execute("UPDATE items SET price = NULL")
     with pytest.raises(crn.Refused, match="no item can be on the curve: .* items are left out; the first, A-"):
         drawn(plan)
+    with sqlite3.connect(plan / READ) as base:
+        base.execute("DELETE FROM items")
+    with pytest.raises(crn.Refused, match="no item can be on the curve: no item is in the plan"):
+        drawn(plan)
 
 
 def test_an_item_without_candidates(plan: Path, monkeypatch: pytest.MonkeyPatch) -> None:
