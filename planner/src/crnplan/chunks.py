@@ -11,7 +11,8 @@ answers, sums and digests of a catalogue do not depend on them.
 
 All chunks are given to the workers at once, as ranges: a worker reads the items from the folder of the main process, and
 writes the file there. To a worker that does not see this folder the items of a chunk are sent, and the bytes of the file
-come back. Then only so many chunks are under way as there are workers, twice.
+come back. Then only so many chunks are under way as there are workers, twice. With work that takes no time, two workers
+of Dask were measured at 5,300 items a second by the folder, and at 2,200 with all bytes sent (planner/bench/hand_out.py).
 """
 from __future__ import annotations
 
@@ -27,7 +28,7 @@ from collections import Counter
 from collections.abc import Callable, Iterable, Iterator, Mapping, Sequence
 from dataclasses import dataclass, field
 from pathlib import Path
-from typing import Any, Generic, NamedTuple, Protocol, TypeVar, cast
+from typing import Any, BinaryIO, Generic, NamedTuple, Protocol, TypeVar
 
 from .files import new_bytes
 from .jobs import BATCH, Workers, progress
@@ -50,11 +51,6 @@ class Chunk(NamedTuple):
 
     start: str = ""
     stop: str | None = None
-
-    @property
-    def code(self) -> str:
-        """Returns a text for the range, of letters and digits."""
-        return digest_of(*self)
 
 
 EVERYTHING = Chunk()
@@ -270,14 +266,20 @@ class Answering(Generic[Row]):
 
     def write(self, begun: Asked, folder: Path) -> Made:
         lines = Lines(self.kind)
-        for number in itertools.count():
-            part = folder / f"{begun.file}.{number}{PART}"
-            with contextlib.suppress(FileExistsError), part.open("xb") as file:
-                return self._write(begun, lines, file, folder / begun.file)
-            begun.known.update(lines.known(part, {name: digest for name, digest, _ in begun.rows}))
-        raise AssertionError("there are always more numbers")
+        with self._part(begun, lines, folder) as part:
+            return self._write(begun, lines, part, folder / begun.file)
 
-    def _write(self, begun: Asked, lines: Lines[Row], file: Any, path: Path) -> Made:
+    def _part(self, begun: Asked, lines: Lines[Row], folder: Path) -> BinaryIO:
+        """Opens a new part. What others that were left, or are under way, know is known then."""
+        numbers = itertools.count()
+        while True:
+            part = folder / f"{begun.file}.{next(numbers)}{PART}"
+            try:
+                return part.open("xb")
+            except FileExistsError:
+                begun.known.update(lines.known(part, {name: digest for name, digest, _ in begun.rows}))
+
+    def _write(self, begun: Asked, lines: Lines[Row], file: BinaryIO, path: Path) -> Made:
         """Writes a part, batch by batch, and gives it the name of the file."""
         file.write(lines.head(begun.chunk))
         kept = sum(name in begun.known for name, *_ in begun.rows)

@@ -2,6 +2,7 @@
 from __future__ import annotations
 
 import contextlib
+import hashlib
 from collections.abc import Iterator
 from dataclasses import replace
 from fractions import Fraction
@@ -18,7 +19,7 @@ from crnplan.demand.learning import Prior
 from crnplan.files import own_folder
 from crnplan.plan.answer import Answer
 from crnplan.plan.catalogue import take_prior
-from crnplan.plan.learned import PRIOR, PRIOR_WINDOW, learned_of
+from crnplan.plan.learned import PRIOR, PRIOR_WINDOW, drawn_of_groups, learned_of
 from crnplan.plan.one import allowed_by, plan_one
 from crnplan.plan.question import ALL, CLASS, NONE, Question, Settings, question_of
 from crnplan.records.catalogue_reading import ADD_ITEM, CATALOGUE as FOLDER, Catalogued, Writer
@@ -138,6 +139,15 @@ def test_what_was_learned_is_kept(read: Catalogued, answers: Store[Answer]) -> N
         assert [it.facts for it in found.remarks] == [{"items": ITEMS, "classes": 0, "earlier": earlier}]
     answers.keep_facts({PRIOR: replace(found.prior, outside=ITEMS - 99).text})
     assert [it.facts["earlier"] for it in learned_of(answers, read, Settings(), False).remarks] == [False]
+
+
+@pytest.mark.parametrize("most", [1, 3, 200])
+def test_of_each_class_as_many_are_drawn(most: int) -> None:
+    """Draws of each class the names with the least digests."""
+    pairs = [(f"I-{place:03}", "XYZ"[place % 7 % 3]) for place in range(200)]
+    wanted = [sorted((name for name, group in pairs if group == its), key=lambda name: hashlib.sha256(
+        name.encode()).hexdigest())[:most] for its in "XYZ"]
+    assert drawn_of_groups(pairs, most) == sorted(sum(wanted, []))
 
 
 @pytest.mark.parametrize("again", [False, True])

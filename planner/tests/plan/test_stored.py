@@ -1,8 +1,10 @@
 """Tests that answers are kept as they are, that changed files are named, and that sums and rates are right."""
 from __future__ import annotations
 
+import json
 import math
 import sqlite3
+from collections import Counter
 from fractions import Fraction
 from pathlib import Path
 
@@ -90,6 +92,14 @@ def test_sums_are_exact(numbers: list[float], times: int) -> None:
         add_exactly(totals.parts["x"], number)
     assert math.isclose(totals["x"], float(sum(map(Fraction, many))), rel_tol=1e-15, abs_tol=1e-9)
     assert totals["y"] == 0 and len(totals.parts["x"]) <= 1_000
+    trees = []
+    for some in (many[:len(many) // 3], many[len(many) // 3:]):
+        part = Totals(verdicts=Counter("ab"), corrected=Counter({0.95: 2}), priced=1)
+        add_exactly(part.parts["x"], *some)
+        trees.append(json.loads(json.dumps(part.tree)))
+    together = Totals.together(trees)
+    assert sum(map(Fraction, together.parts["x"])) == sum(map(Fraction, many))
+    assert (together.verdicts, together.corrected, together.priced) == ({"a": 2, "b": 2}, {0.95: 4}, 2)
 
 
 COSTS = st.fractions(Fraction(1, 10_000), 10_000, max_denominator=10_000)

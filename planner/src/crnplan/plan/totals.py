@@ -31,6 +31,7 @@ def exact_parts(values: Sequence[float]) -> list[float]:
     """Returns the sum of numbers, what it lacks, what both lack, and so on, until nothing lacks."""
     parts = list[float]()
     while part := math.fsum([*values, *(-part for part in parts)]):
+        assert math.isfinite(part), "a figure is no number"
         parts.append(part)
     return parts
 
