@@ -16,6 +16,7 @@ from typing import Any, NamedTuple, TypeVar
 import numpy as np
 import pandas as pd
 
+from crnplan.compiled import PLAIN_CALLS
 from crnplan.plan.catalogue import ANSWERS
 from crnplan.plan.learned import learned_of
 from crnplan.plan.question import ALL, Question, Settings, question_of
