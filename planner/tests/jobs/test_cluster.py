@@ -211,6 +211,17 @@ def test_a_worker_that_joins_late(cluster: Cluster, room: Path) -> None:
     assert first[1] == "late" and sorted(place for place, _ in found) == [*range(9)]
 
 
+def test_shared_words_outlive_their_workers(cluster: Cluster) -> None:
+    """What was learned is there for a worker that comes when all others have ended."""
+    with jobs.cluster(cluster.address) as workers:
+        shared = workers.share(["words"])
+        assert workers.result(workers.submit(str.upper, shared)) == "WORDS"
+        for name in WORKERS:
+            cluster.end(name)
+        cluster.join("late")
+        assert workers.result(workers.submit(str.upper, shared)) == "WORDS"
+
+
 @pytest.mark.parametrize("part", ["crnsim", "crnplan"])
 def test_a_stranger_from_the_beginning(cluster: Cluster, room: Path, crnplan: Command, part: str) -> None:
     """Refuses a worker with another program or crnplan, and no other, before anything is run. Without it, all is."""
