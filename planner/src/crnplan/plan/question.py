@@ -185,8 +185,9 @@ class Terms:
         it would be far too coarse."""
         return self.scenario(self.implied_backlog)
 
-    def theory(self) -> LongRun:
-        """Returns the theory of the item. Raises Refused if there is none.
+    def theory(self, known: LongRun | None = None) -> LongRun:
+        """Returns the theory of the item, perhaps with the tables of one that is known, of the same laws and other
+        costs. Raises Refused if there is none.
 
         Without a backlog cost only setup and stock cost something. The lattice is then chosen by the implied backlog
         rate.
@@ -194,7 +195,8 @@ class Terms:
         scenario, (point, level) = self.scenario(), self.levels or (0, 0)
         feasible = feasible_of(self.bounds, self.item.box, self.demand.mean)
         shape = dataclasses.replace(shape_of(self.for_theory()), least_gap=feasible.gap(1) - 1)
-        return theory_on(scenario, shape, *lattice_of(scenario, shape, level - point, MOST_GAPS), feasible)
+        return theory_on(scenario, shape, *lattice_of(scenario, shape, level - point, MOST_GAPS), feasible,
+                         known)
 
 
 @dataclass(frozen=True, eq=False)

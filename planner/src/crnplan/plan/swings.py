@@ -21,6 +21,7 @@ from ..law import Law
 from ..records.item import Item
 from ..remarks import Remark
 from ..stored import Store, digest_of
+from ..theory.long_run import LongRun
 from .answer import Answer
 from .catalogue import PlannedFolder
 from .one import choice_of, figures_of, or_fault
@@ -32,7 +33,8 @@ SWINGS = "swings.sqlite"
 VERSION = 1  # Answers of others are not used again.
 # What differs, and how many tenths of it there are.
 BACKLOG, LEADS, NOTHING = "backlog", "lead", ""
-CASES = tuple((what, tenths) for what in ("holding", BACKLOG, "demand", LEADS) for tenths in (12, 8))
+LAWS = "demand", LEADS
+CASES = tuple((what, tenths) for what in ("holding", BACKLOG, *LAWS) for tenths in (12, 8))
 # The figures of a case: what today's, the chosen and the best policy cost a period, and the shares that the last two
 # meet at once.
 TODAY, KEPT, BEST, KEPT_FILL, BEST_FILL = range(5)
@@ -85,7 +87,7 @@ def changed_lead(lead: Law, tenths: int) -> Law:
 def changed(question: Question, what: str, tenths: int) -> Question:
     """Returns a question with so many tenths of a cost, of all demand, or of all lead times. Raises Refused if the
     costs are too far apart."""
-    if what in ("demand", LEADS):
+    if what in LAWS:
         law = question.lead if what == LEADS else question.demand
         other = (changed_lead if what == LEADS else changed_demand)(law, tenths)
         return replace(question, **{what: replace(law, values=other.values, weights=other.weights)})
@@ -94,10 +96,11 @@ def changed(question: Question, what: str, tenths: int) -> Question:
     return replace(question, item=item, rates=rates, scale=scale, rate_error=error)
 
 
-def figures_in(question: Question, chosen: Levels, today: Levels) -> tuple[float, ...]:
-    """Returns the figures of a case, without a confidence in the fill rate of its best policy; none without a plan."""
+def figures_in(question: Question, known: LongRun | None, chosen: Levels, today: Levels) -> tuple[float, ...]:
+    """Returns the figures of a case, without a confidence in the fill rate of its best policy; none without a plan.
+    Theory of the same laws and other costs may be known."""
     try:
-        theory = question.theory()
+        theory = question.theory(known)
         best, kept, base = (figures_of(question, theory, levels) for levels in (
             choice_of(theory, question).levels, chosen, today))
     except Refused:
@@ -110,9 +113,10 @@ def swing_of(question: Question, chosen: Levels) -> Swing:
     change."""
     question, today = replace(question, settings=replace(question.settings, confidence=None)), question.levels
     assert today is not None
-    cases = (question if what == BACKLOG and not question.has_backlog else changed(question, what, tenths)
-             for what, tenths in CASES)
-    return Swing(tuple(figures_in(case, chosen, today) for case in cases))
+    theory = question.theory()
+    cases = ((question if what == BACKLOG and not question.has_backlog else changed(question, what, tenths),
+              None if what in LAWS else theory) for what, tenths in CASES)
+    return Swing(tuple(figures_in(*case, chosen, today) for case in cases))
 
 
 def swing_batch(batch: Sequence[tuple[Item, Answer]], settings: Settings, prior: Prior) -> list[Swing | Remark]:

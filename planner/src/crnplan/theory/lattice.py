@@ -158,9 +158,14 @@ def lattice_of(scenario: Scenario, shape: Shape, widest: int, most_gaps: int = M
     return min(steps, key=lambda step: blur(scenario, step)), False
 
 
-def theory_on(scenario: Scenario, shape: Shape, step: int, exact: bool, feasible: Feasible = ALL) -> LongRun:
-    """Returns the theory of a scenario on a lattice."""
-    return (OneLead if shape.leads == 1 else LongRun)(scenario, step, exact, -(-shape.gap // step), feasible)
+def theory_on(scenario: Scenario, shape: Shape, step: int, exact: bool, feasible: Feasible = ALL,
+              known: LongRun | None = None) -> LongRun:
+    """Returns the theory of a scenario on a lattice. It has the tables of a known one of the same laws, whatever that
+    costs, if both are on one lattice."""
+    most = -(-shape.gap // step)
+    if known and (known.step, known.exact) == (step, exact):
+        return known.priced(scenario.costs, most, feasible)
+    return (OneLead if shape.leads == 1 else LongRun)(scenario, step, exact, most, feasible)
 
 
 def theories_of(scenario: Scenario, widest: int | None = None) -> tuple[LongRun, LongRun | None]:

@@ -184,10 +184,11 @@ class LongRun(Walk):
         other.feasible, other.found = feasible, {}
         return other
 
-    def priced(self, costs: Costs) -> LongRun:
-        """Returns the same theory with other costs, and with all policies feasible."""
-        other = self.within(ALL)
-        other.setup, other.holding, other.backlog = costs.setup, costs.holding, costs.backlog
+    def priced(self, costs: Costs, most: int, feasible: Feasible) -> LongRun:
+        """Returns the same theory with other costs, another largest gap that a search looks at, and feasible policies.
+        """
+        other = self.within(feasible)
+        other.setup, other.holding, other.backlog, other.most = costs.setup, costs.holding, costs.backlog, most
         other.figured, other.floored = {}, {}
         other.__dict__.pop("free", None)
         return other

@@ -39,6 +39,7 @@ from scipy import fft
 from ..chances import Floats, Whole
 from ..compiled import compiled
 from ..scenario import Policy, Scenario
+from .feasible import ALL
 from .lattice import MOST_GAPS, NoTheory, lattice_of, shape_of, theory_on
 from .long_run import LongRun
 from .shortfalls import LEAST_CHANCE, renewed, transforms_of, waiting
@@ -407,7 +408,7 @@ def start_bias(scenario: Scenario, known: LongRun | None = None) -> StartBias:
     Costs of the long run leave `unit` out, which adds unit times the mean net demand to each; the biases have it.
     Raises NoTheory if there is no long run, or if the numbers of the scenario are too far apart.
     """
-    theory, policies = known.priced(scenario.costs) if known else None, scenario.policies
+    theory, policies = known.priced(scenario.costs, known.most, ALL) if known else None, scenario.policies
     if theory is None or not is_fine(theory, scenario):
         theory = theory_of(scenario, MOST_BIAS_GAPS)
     runs = Runs(theory, scenario)
