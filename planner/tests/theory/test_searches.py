@@ -14,7 +14,7 @@ from crnplan.theory import feasible, long_run, one_lead
 from crnplan.theory.lattice import NoTheory, shape_of, theory_on
 from crnplan.theory.long_run import NO_POLICY, Candidate, search
 from crnplan.theory.many_laws import Promises
-from crnplan.theory.one_lead import levels_walked
+from crnplan.theory.one_lead import even_levels, levels_walked
 from crnplan.theory.suggestions import MOST_EXCESS
 from planner.tests.theory.long_run_costs import costs_of, fills_of, shortfall_of
 from planner.tests.theory.scenarios import Pair, laws, scenario_of, table, theory_of
@@ -160,3 +160,23 @@ def test_levels_are_the_same_when_compiled(least: int) -> None:
     assert njit
     rows = levels_walked.loop(*words)
     assert compiled_by(njit, levels_walked.loop)(*words).tolist() == rows.tolist() and len(rows) > 20
+
+
+@pytest.mark.parametrize("share", [0.0, 0.95])
+def test_levels_of_equal_lows_are_those_of_each_gap_alone(share: float) -> None:
+    """Sums over all lows, level by level, beside running sums from some place on; and compiled."""
+    theory = theory_of(scenario_of(((1, 2, 3), (1, 2, 1)), ((5,), (1,)), costs=Costs(60, 0, 1, 9)))
+    lows, gaps, most = theory.lows_of(90), np.arange(60, 91, 5), 93
+    floors = np.maximum(gaps, 86 * (gaps >= 75))
+    table, allowed, even = theory.figures_from(np.arange(-2, most + 1))[:3], theory.allowed(share), 58
+    expected = []
+    for gap, floor in zip(gaps.tolist(), floors.tolist()):
+        sums = {level: table[:, level - gap + 2:level + 3] @ lows[gap::-1] for level in range(floor, most)}
+        expected.append(next((level for level, (_, unmet, held) in sums.items() if unmet <= allowed * lows[:gap + 1].sum()
+                              and held >= theory.ratio * lows[:gap + 1].sum()), most))
+    first = np.array([np.convolve(lows[:even] - lows[-1], row)[:len(row)] for row in table])
+    words = (first, np.cumsum(table, axis=1), lows[-1], gaps, np.cumsum(lows)[gaps], floors, allowed, theory.ratio)
+    assert even_levels.loop(*words).tolist() == even_levels.plain(*words).tolist() == expected
+    assert expected[0] > floors[0] and expected[3] == floors[3] and expected[-1] == most
+    if njit := numba_njit():
+        assert compiled_by(njit, even_levels.loop)(*words).tolist() == expected

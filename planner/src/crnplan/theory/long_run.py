@@ -203,6 +203,11 @@ class LongRun(Walk):
         return self.policy(self.gap_of(policy.point, policy.level), policy.level).cost < math.inf
 
     @property
+    def usual_gap(self) -> float:
+        """Returns the gap of the economic order quantity (Zipkin 2000, section 3.2)."""
+        return math.sqrt(2 * self.setup * self.net.mean / (self.holding * self.step))
+
+    @property
     def ratio(self) -> float:
         """Returns the share of periods without backlog that is best for a newsvendor, but for rounding."""
         return self.backlog / (self.backlog + self.holding) * (1 - NEAR)
@@ -314,8 +319,7 @@ class LongRun(Walk):
         return (1 - share) * self.asked * (1 + NEAR)
 
     def levels_with_fill(self, gaps: Sequence[int], shares: Sequence[float]) -> Iterable[tuple[int, list[float]]]:
-        """Yields rising gaps, each with the least order-up-to levels, in items, that meet these shares of demand at
-        once."""
+        """Yields rising gaps, each with the least levels, in items, that meet these shares of demand at once."""
         for some in self.parts(gaps):
             for gap, unmet in zip(some.tolist(), Means(self, some).of_all_levels(UNMET)):
                 yield gap, [self._level_with(unmet, self.allowed(share)) for share in shares]
@@ -347,10 +351,8 @@ class LongRun(Walk):
         return np.concatenate(levels), np.concatenate(costs)
 
     def best_levels(self, means: Means, share: float) -> Levels:
-        """Returns the cheapest feasible levels that meet a share of demand at once: those, or the newsvendor's if
-        higher."""
+        """Returns the cheapest feasible levels that meet a share of demand at once, or the newsvendor's if higher."""
         allowed, highest = self.allowed(share), np.full(len(means.gaps), means.top)
-
         levels = least_enough(means.turned[UNMET:STOCK_LEFT], means.chances, self.floor(means.gaps), highest, allowed, self.ratio)
         places = self.places(means, levels)
         spare = self.spare_of(places, allowed)
@@ -397,8 +399,7 @@ class LongRun(Walk):
         return np.where(places.below[2] >= self.ratio * places.totals, spare, 0)
 
     def costs_of(self, places: GapLevels, spare: Whole) -> Levels:
-        """Returns the levels that are so much below these places, with their costs; infinite if they are not feasible.
-        """
+        """Returns the levels that are so much below these places, with their costs; infinite if not feasible."""
         levels = places.levels * self.step - spare
         costs = self.setup / self.span + places.here[0] + spare / self.step * (places.below[0] - places.here[0])
         is_allowed = self.feasible.has(levels - self.items(places.gaps), levels) & self.is_gap(places.gaps)
@@ -432,8 +433,8 @@ class LongRun(Walk):
             found = dict(zip(looked, zip(costs.tolist(), levels.tolist())))
             # Gaps stand in place of reorder points.
             return [Candidate(cost, gap, level) for gap in gaps for cost, level in [found.get(gap, (math.inf, -1))]]
-        grid, usual = self.grid(), math.sqrt(2 * self.setup * self.net.mean / (self.holding * self.step))
-        for some in ([min(grid, key=lambda gap: abs(gap - usual))], grid) if grid else ():
+        grid = self.grid()
+        for some in ([min(grid, key=lambda gap: abs(gap - self.usual_gap))], grid) if grid else ():
             known = min(known, min(policies_of(some)).cost)
             if len(self.late) and known < math.inf:
                 floors = self.floors(share, min(self.widest(known, lowest), MOST_FLOORS))

@@ -23,7 +23,7 @@ import numpy as np
 import numpy.typing as npt
 
 from ..chances import Floats, Whole
-from ..compiled import PLAIN_CALLS, composed
+from ..compiled import PLAIN_CALLS, compiled, composed
 from ..formats import MOST_ITEMS
 from .least import least_levels
 from .long_run import CLOSE, NO_POLICY, Candidate, GapLevels, LongRun, place_of_least
@@ -73,6 +73,38 @@ def levels_walked(table: Floats, turned: Floats, gaps: Whole, totals: Floats, fl
     return rows
 
 
+def even_sums(first: Floats, summed: Floats, low: float, gaps: Whole, levels: Whole) -> Floats:
+    """Returns the sums of gaps with a level each. `first` has what uneven lows add at each level, and `summed` the sums
+    of the table up to each level."""
+    sums: Floats = first[:, levels + 2] + low * (summed[:, levels + 2] - summed[:, levels + 1 - gaps])
+    return sums
+
+
+def even_by_halving(first: Floats, summed: Floats, low: float, gaps: Whole, totals: Floats, floors: Whole,
+                    allowed: float, ratio: float) -> Whole:
+    """Returns the levels of `Lows.spread`, whose floors rise, or the last of the table if none is enough."""
+    highest = np.full(len(gaps), first.shape[1] - 3)  # no floor is beyond the table
+    return least_levels(floors, highest, lambda levels: is_enough(
+        even_sums(first, summed, low, gaps, levels), totals, allowed, ratio))
+
+
+@compiled(even_by_halving, PLAIN_CALLS)
+def even_levels(first: Floats, summed: Floats, low: float, gaps: Whole, totals: Floats, floors: Whole, allowed: float,
+                ratio: float) -> Whole:
+    levels, level, last = np.empty_like(gaps), 0, first.shape[1] - 3
+    for each, gap in enumerate(gaps):
+        level = max(level, floors[each])
+        while level < last:
+            here, below = level + 2, level + 1 - gap
+            unmet = first[1, here] + low * (summed[1, here] - summed[1, below])
+            held = first[2, here] + low * (summed[2, here] - summed[2, below])
+            if unmet <= allowed * totals[each] and held >= ratio * totals[each]:
+                break
+            level += 1
+        levels[each] = level
+    return levels
+
+
 class Lows:
     """Sums over the lows of a policy: of stock costs, unmet demand and chances of no backlog, at the end of a period
     that starts from a low.
@@ -102,13 +134,8 @@ class Lows:
         low, totals = float(self.chances[-1]), self.counts[gaps]
         uneven, summed = self.chances[:self.even] - low, np.cumsum(self.table, axis=1)
         first = np.array([convolved(uneven, row)[:len(row)] for row in self.table]) if self.even else 0 * self.table
-
-        def at(levels: Whole) -> Floats:
-            sums: Floats = first[:, levels + 2] + low * (summed[:, levels + 2] - summed[:, levels + 1 - gaps])
-            return sums
-        highest = np.full(len(gaps), self.last)  # no floor is beyond the table
-        levels = least_levels(floors, highest, lambda levels: is_enough(at(levels), totals, self.allowed, self.ratio))
-        here, below = at(levels), at(levels - 1)
+        levels = even_levels(first, summed, low, gaps, totals, floors, self.allowed, self.ratio)
+        here, below = (even_sums(first, summed, low, gaps, cells) for cells in (levels, levels - 1))
         kept = is_enough(here, totals, self.allowed, self.ratio)
         return GapLevels(gaps[kept], levels[kept], totals[kept], here[:, kept], below[:, kept])
 
@@ -144,6 +171,15 @@ class OneLead(LongRun):
         gaps = gaps[(gaps < lows.even) & ((gaps == first) | (lows.chances[gaps] > 0))]
         return lows.walked(gaps, self.floor(gaps)).joined(places)
 
+    def first_of_gaps(self, share: float) -> Candidate:
+        """Returns the best policy of the gap of the economic order quantity, whose cost leaves out most others; the best
+        of a grid of gaps if that one has none."""
+        usual = min(self.most, int(self.usual_gap))
+        known = min((self.cheapest_of_gaps([gap], share) for gap in self.gaps(usual, usual)), default=NO_POLICY)
+        if known.cost == math.inf and (grid := self.grid()):
+            return self.cheapest_of_gaps(grid, share)
+        return known
+
     def best_within(self, share: float) -> Candidate:
         """Returns the cheapest of all feasible policies that meet at least this share of demand at once.
 
@@ -151,8 +187,7 @@ class OneLead(LongRun):
         """
         if self.feasible.multiple > 1:
             return super().best_within(share)
-        grid, highest = self.grid(), self.feasible.top
-        known = self.cheapest_of_gaps(grid, share) if grid else NO_POLICY
+        known, highest = self.first_of_gaps(share), self.feasible.top
         if known.cost == math.inf:
             return NO_POLICY
         chances = self.lows_of(self.widest(known.cost, self.lowest(known.cost)))
