@@ -9,7 +9,7 @@ import pytest
 
 from crnplan.chances import Floats
 from crnplan.curve import every_gap
-from crnplan.curve.every_gap import best_policies
+from crnplan.curve.every_gap import best_levels, best_policies
 from crnplan.scenario import Costs
 from crnplan.theory.feasible import ALL, Feasible
 from crnplan.theory.lattice import shape_of, theory_on
@@ -80,6 +80,23 @@ def test_ways(step: int, feasible: Feasible, way: str, monkeypatch: pytest.Monke
     monkeypatch.setattr(every_gap, "compare_gaps", every_gap.compare_gaps.loop)  # type: ignore[attr-defined]
     its, others = best_policies(theory, CASES)
     assert its.tolist() == gaps.tolist() and np.allclose(others, figures, 1e-12, 1e-15)
+
+
+@pytest.mark.parametrize("way", ["run", "loop"])
+@pytest.mark.parametrize("step", [1, 3])
+def test_best_levels(step: int, way: str) -> None:
+    """Of the least level and all higher ones, each price has the cheapest, by stock and unmet demand between cells."""
+    cells, levels, least = np.arange(9), np.arange(5, 40, 5), np.array([1, 7])
+    tables = np.array([[cells**2 / (8 + gap), (8.0 - cells)**2 / (1 + gap)] for gap in range(2)]).swapaxes(0, 1)
+    asked = np.array([1e-3, 0.2, 0.7, 5, 1e3])
+    found = (best_levels if way == "run" else best_levels.loop)(  # type: ignore[attr-defined]
+        tables, step, levels, least, asked)
+    for gap, figures in enumerate(found):
+        its = [least[gap], *levels[levels > least[gap]]]
+        stock, unmet = (np.interp(np.array(its) / step, cells, table[gap]) for table in tables)
+        stock += np.maximum(np.array(its) - 8 * step, 0)
+        best = (stock[:, None] + asked * unmet[:, None]).argmin(axis=0)
+        assert figures == pytest.approx(np.array([its, stock, unmet])[:, best], abs=1e-12)
 
 
 def test_gaps_are_left_out(monkeypatch: pytest.MonkeyPatch) -> None:

@@ -105,7 +105,7 @@ def test_means(theory: LongRun) -> None:
 def test_means_of_all_levels(theory: LongRun, figure: int) -> None:
     """The table of all levels has the means of each level."""
     means = Means(theory, np.array(GAPS))
-    table = means.of_all_levels(figure)
+    table, = means.of_all_levels(figure)
     assert table.shape == (len(GAPS), means.top)
     wanted = [means.at(np.full(len(GAPS), level), slice(figure, figure + 1))[0] for level in range(means.top)]
     assert table == pytest.approx(np.transpose(wanted), abs=1e-9)

@@ -39,7 +39,7 @@ def test_least_levels_that_are_enough(way: str, leads: list[int], share: float) 
     """They are the first ones in a table of all levels, from the floor on."""
     theory = theory_of(scenario_of(([0, 1, 3], [3, 2, 1]), (leads, [1] * len(leads))))
     means, allowed = Means(theory, np.array([0, 1, 2, 9, 25])), theory.allowed(share)
-    tables = [means.of_all_levels(figure) for figure in (UNMET, 2)]
+    tables = [*means.of_all_levels(UNMET, 2)]
     enough = (tables[0] <= allowed + 1e-9) & (tables[1] >= theory.ratio - 1e-9)
     for floors in ([0, 0, 0, 0, 0], [3, 2, means.top - 3, 9, 0], [means.top] * 5):
         found = getattr(least_enough, way)(means.turned[1:3], means.chances, np.array(floors), np.full(5, means.top),

@@ -22,7 +22,7 @@ from ..records.item import Item
 from ..remarks import Remark
 from ..theory.long_run import STOCK_LEFT, UNMET, LongRun, Means, gap_grid
 from ..theory.one_lead import OneLead
-from .every_gap import best_policies
+from .every_gap import best_levels, best_policies
 
 # Answers of other versions are not used again.
 VERSION = 5
@@ -91,46 +91,13 @@ class Policies:
 
     def best_of(self, gaps: Whole) -> Iterator[Floats]:
         """Yields what is known of each of some rising gaps."""
-        means = Means(self.theory, gaps)
-        levels = self.levels_of(gaps, means.top)
-        beyond = np.maximum(levels - self.theory.step * (means.top - 1), 0)  # where all demand is met
-        stock = self.at(means.of_all_levels(STOCK_LEFT), levels - beyond) + beyond
-        unmet = np.maximum(self.at(means.of_all_levels(UNMET), levels - beyond), 0)
-        owner, place = np.nonzero(self.may_be_best(levels, stock, unmet))
-        figures = np.array([table[owner, place] for table in (levels, stock, unmet)])
-        kept = vertices(owner, figures[1], figures[2], np.arange(len(owner)))
-        owner, figures = owner[kept], figures[:, kept]
-        prices = slopes(owner, figures[1], figures[2]) * (self.holding / self.value)
-        ends, asked = np.searchsorted(owner, np.arange(len(gaps) + 1)), PRICES / np.array(STOCK)[:, None]
-        for first, end in zip(ends, ends[1:]):
-            yield figures[:, first + np.searchsorted(prices[first:end - 1], asked)]
-
-    def levels_of(self, gaps: Whole, cells: int) -> Whole:
-        """Returns for each gap the feasible level for each of so many cells: the first from there on, but at least the
-        least one, and at most the greatest one."""
-        feasible, step = self.theory.feasible, self.theory.step
-        least, cells = (self.theory.items(gaps) + feasible.least)[:, None], min(cells, -(-feasible.top // step) + 1)
-        levels: Whole = np.clip(feasible.up(step * np.arange(cells)), least, feasible.top)
-        return levels
-
-    def at(self, table: Floats, levels: Whole) -> Floats:
-        """Returns what a table with a column for each cell has at some levels of each row: between two cells a mean."""
-        cells, rests = np.divmod(levels, self.theory.step)
-        values: Floats = np.take_along_axis(table, cells, 1)
-        if rests.any():
-            above = np.take_along_axis(table, np.minimum(cells + 1, table.shape[1] - 1), 1)
-            values += rests / self.theory.step * (above - values)
-        return values
-
-    def may_be_best(self, levels: Whole, stock: Floats, unmet: Floats) -> npt.NDArray[np.bool_]:
-        """Returns for each gap which levels may be best for a price: the least, and those that meet more demand than
-        all lower ones and than the one before for no more than the highest price."""
-        before = np.minimum.accumulate(unmet, axis=1)[:, :-1]
-        is_better = (unmet[:, 1:] < before) & (self.holding * np.diff(stock) <= self.value * PRICES[-1]
-                                               * (unmet[:, :-1] - unmet[:, 1:]))
-        is_best: npt.NDArray[np.bool_] = np.pad(is_better, ((0, 0), (1, 0)), constant_values=True)
-        is_best[:, 1:] &= np.diff(levels, axis=1) > 0
-        return is_best
+        means, feasible, step = Means(self.theory, gaps), self.theory.feasible, self.theory.step
+        cells = step * np.arange(min(means.top, -(-feasible.top // step) + 1))
+        levels = np.unique(np.minimum(feasible.up(cells), feasible.top))
+        asked, ranks = np.unique(self.value / self.holding * PRICES / np.array(STOCK)[:, None], return_inverse=True)
+        least, tables = self.theory.items(gaps) + feasible.least, np.stack([*means.of_all_levels(STOCK_LEFT, UNMET)])
+        for figures in best_levels(tables, step, levels, least, asked):
+            yield figures[:, ranks.reshape(len(STOCK), -1)]
 
     def best(self, costs: Sequence[tuple[float, float]]) -> tuple[Whole, Whole, Floats]:
         """Returns the gaps that are known, the place of the best of them for each cost of orders and of stock, in the

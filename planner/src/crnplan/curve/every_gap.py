@@ -176,6 +176,32 @@ def compare_gaps(lows: Floats, span: float, table: Floats, line: Floats, gaps: W
     return looks
 
 
+@composed()
+def best_levels(tables: Floats, step: int, levels: Whole, least: Whole, asked: Floats) -> Floats:
+    """Returns a table for each of some gaps: rows with the best level in items, its stock and its unmet demand, with
+    the rising prices that are `asked` as columns.
+
+    `tables` has stock and unmet demand by gap and by level, in cells from 0 on; between two cells they are a mean, and
+    beyond the last one, where all is met, an item more is one more in stock. Of a gap, the least level and those of the
+    rising `levels` that are higher are compared.
+    """
+    last, found = tables.shape[2] - 1, np.empty((len(least), 3, len(asked)))
+    chosen = np.empty(len(asked), np.int64)
+    for gap in range(len(least)):
+        its = np.append(least[gap:gap + 1], levels[np.searchsorted(levels, least[gap], "right"):])
+        cells = np.minimum(its // step, last)
+        stock, unmet = tables[0, gap][cells], tables[1, gap][cells]
+        if step > 1:
+            above, shares = np.minimum(cells + 1, last), (its - step * cells) / step
+            stock += shares * (tables[0, gap][above] - stock)
+            unmet += shares * (tables[1, gap][above] - unmet)
+        stock += np.maximum(its - step * last, 0)
+        unmet = np.maximum(unmet, 0.0)
+        choose_points(stock, unmet, asked, chosen)
+        found[gap, 0], found[gap, 1], found[gap, 2] = its[chosen], stock[chosen], unmet[chosen]
+    return found
+
+
 def least_costs(table: Floats, asked: Floats, ranks: Whole, costs: Floats) -> Floats:
     """Returns the least cost of stock and unmet demand of any low for each case."""
     chosen = np.empty(len(asked), int)

@@ -104,12 +104,13 @@ class Means:
         means: Floats = np.einsum("fgx,gx->fg", self.windows[figures, self.top - levels], self.chances)
         return means
 
-    def of_all_levels(self, figure: int) -> Floats:
-        """Returns the means of a figure, a row for each gap, with each level from 0 on up to the one below the top."""
+    def of_all_levels(self, *figures: int) -> Iterator[Floats]:
+        """Yields means of some figures, a row for each gap, with each level from 0 on up to the one below the top."""
         room = room_for(self.figures.shape[1])  # what is beyond comes round to the places before the first level
-        moved = fft.rfft(self.chances, room) * fft.rfft(self.figures[figure], room)
-        means: Floats = fft.irfft(moved, room)[:, self.width:self.width + self.top]
-        return means
+        chances = fft.rfft(self.chances, room)
+        for figure in figures:
+            means: Floats = fft.irfft(chances * fft.rfft(self.figures[figure], room), room)
+            yield means[:, self.width:self.width + self.top]
 
 
 LevelsOf = Callable[[Means], Levels]
@@ -321,7 +322,7 @@ class LongRun(Walk):
     def levels_with_fill(self, gaps: Sequence[int], shares: Sequence[float]) -> Iterable[tuple[int, list[float]]]:
         """Yields rising gaps, each with the least levels, in items, that meet these shares of demand at once."""
         for some in self.parts(gaps):
-            for gap, unmet in zip(some.tolist(), Means(self, some).of_all_levels(UNMET)):
+            for gap, unmet in zip(some.tolist(), next(Means(self, some).of_all_levels(UNMET))):
                 yield gap, [self._level_with(unmet, self.allowed(share)) for share in shares]
 
     def _level_with(self, unmet: Floats, allowed: float) -> int:
