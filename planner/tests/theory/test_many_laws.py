@@ -13,7 +13,7 @@ import crnplan as crn
 from crnplan.chances import Floats
 from crnplan.theory import many_laws
 from crnplan.theory.lattice import NoTheory, shape_of, theory_on
-from crnplan.theory.many_laws import LawFigures, figures_of_laws, least_cost
+from crnplan.theory.many_laws import LawFigures, compute_shortfalls, figures_of_laws, least_costs
 from crnplan.theory.suggestions import FILLS, Suggestions, suggestions_of
 from planner.tests.theory.chain import by_chain
 from planner.tests.theory.long_run_costs import costs_of, fills_of, shortfall_of
@@ -53,7 +53,8 @@ def test_the_least_cost_is_that_of_the_best(demand: Pair, lead: Pair, step: int,
     scenario = scenario_of(demand, lead, costs=crn.Costs(90, 1, *rates))
     shape = shape_of(scenario)
     theory = theory_on(scenario, shape, step, step == 1)
-    assert least_cost(theory, int(2 * shape.order) // step) == pytest.approx(theory.best().cost, rel=1e-3)
+    least, = least_costs([(theory, int(2 * shape.order) // step)])
+    assert least == pytest.approx(theory.best().cost, rel=1e-3)
 
 
 def test_coarse_lattice(monkeypatch: pytest.MonkeyPatch) -> None:
@@ -88,6 +89,27 @@ def test_laws_in_order() -> None:
         figures(scenario_of(([0, 1], [1, 1]), costs=crn.Costs(1, 1, 0, 1)))
     assert np.isnan(figures(scenario_of(([0, 1], [1, 1]), ([1, 13], [1, 1]))).least).all()
     assert not np.isnan(figures(scenario_of(([0, 1], [1, 1]), ([13], [1]))).least).any()
+
+
+def test_shortfalls_of_many_laws() -> None:
+    """Those of a Markov chain, under more laws than are computed at once, some with later orders. What is made for other
+    costs is taken, unless its lattice is another one."""
+    demand, leads = [0, 1, 2, 5], [([1, 3], [2, 1]), ([1, 4], [2, 1]), ([2], [1])]
+    scenario = scenario_of((demand, [5, 3, 2, 1]), costs=COSTS)
+    laws = [(law, table(leads[place % 3])) for place, law in enumerate(laws_near((demand, [5, 3, 2, 1]), 30, 1))]
+    own = [replace(scenario, demand=law, lead=lead) for law, lead in laws]
+    theories = [theory_on(it, shape_of(it), 1, True) for it in own]
+    compute_shortfalls((theory, [place % 4, 7]) for place, theory in enumerate(theories))
+    assert [sorted(it.shorts) for it in theories[:3]] == [[0, 7], [1, 7], []]
+    for it, theory in zip(own[:8], theories):
+        for gap in theory.shorts:
+            short, law = shortfall_of(it, gap), theory.below(gap)
+            assert law.between(short.least, short.least + len(short.chances) - 1) == pytest.approx(short.chances)
+    dear = replace(scenario, costs=crn.Costs(90, 0, 1, 20))
+    found, alone = (figures_of_laws(dear, laws, POLICIES, made=made) for made in (dict(enumerate(theories)), {}))
+    assert found.cost == pytest.approx(alone.cost) and found.least == pytest.approx(alone.least)
+    other = {0: theory_on(own[0], shape_of(own[0]), 2, False)}
+    assert figures_of_laws(dear, laws[:1], POLICIES, made=other).cost == pytest.approx(alone.cost[:1], rel=1e-12)
 
 
 COSTS = crn.Costs(30, 0, 2, 9)

@@ -117,12 +117,15 @@ class Depth:
         return allowed_by(self.question, self.laws)
 
     @cached_property
+    def promises(self) -> Promises:
+        gap = self.theory.gap_of(*self.levels[CHOSEN])
+        return Promises(self.question.scenario(), self.theory, gap, *self.allowed, [*FILLS.values()], self.confidence)
+
+    @cached_property
     def suggested(self) -> Chosen:
         """Returns further policies with the reasons for each: those that keep fill rates, by the law of the item and
         under most of the allowed ones, and with a backlog cost the neighbours of the best."""
-        scenario, levels, theory = self.question.scenario(), self.levels[CHOSEN], self.theory
-        promises = Promises(scenario, theory, theory.gap_of(*levels), *self.allowed, [*FILLS.values()],
-                            self.confidence)
+        scenario, levels, theory, promises = self.question.scenario(), self.levels[CHOSEN], self.theory, self.promises
         if self.question.has_backlog and self.question.item.fill is None:
             best = Candidate(theory.figures(*levels).cost, *levels)
             return chosen_policies(scenario, theory, best, promises)
@@ -195,7 +198,7 @@ class Depth:
         scenario = replace(self.scenario, costs=self.question.for_theory().costs)
         try:
             figures = figures_of_laws(scenario, [*zip(demands, leads or repeat(scenario.lead))], policies,
-                                      self.theory.feasible)
+                                      self.theory.feasible, self.promises.made)
         except NoTheory:
             return None
         return Doubt(scenario, policies, WITHIN, AllowedLaws({}, demands), None, figures)

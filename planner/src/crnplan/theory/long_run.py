@@ -31,8 +31,8 @@ from ..chances import Floats, Whole
 from ..formats import MOST_ITEMS
 from ..scenario import Costs, Scenario
 from .feasible import ALL, Feasible, Places
-from .least import least_costs, least_enough
-from .shortfalls import LEAST_CHANCE, falling, lateness, moving, transforms_of, work_of
+from .least import NEAR, least_costs, least_enough, levels_within
+from .shortfalls import chances_of, falling, lateness, moving, transforms_of, work_of
 from .walk import LatticeLaw, Surplus, Walk, power_of, room_for, sum_of
 
 GRID_GROWTH = 1.15
@@ -43,7 +43,6 @@ MOST_FLOORS = 3_000  # Wider gaps are all looked at.
 MOST_WORK = 20_000_000  # for all gaps of a search, by `work_of`
 CLOSE = 1 + 1e-9  # Costs whose ratio is at most this are equal but for rounding.
 UNMET, STOCK_LEFT = 1, 3  # rows of `LongRun.figures_from`
-NEAR = 1e-12  # Shares, and costs by their ratio, that differ by less are equal but for rounding.
 
 
 class Figures(NamedTuple):
@@ -97,7 +96,11 @@ class Means:
         self.top = max(int(theory.floor(gaps[-1])), low + self.width + theory.after.high) + 1
         self.figures = theory.figures_from(theory.step * np.arange(-self.width - low, self.top - low + 1))
         self.turned = self.figures[:, ::-1].copy()
-        self.windows = sliding_window_view(self.turned, self.width, axis=1)
+
+    @cached_property
+    def windows(self) -> Floats:
+        """Returns the figures of all lows of each level, from the top down."""
+        return sliding_window_view(self.turned, self.width, axis=1)
 
     def at(self, levels: Whole, figures: slice) -> Floats:
         """Returns the means of some figures, a row for each figure, with a level for each gap."""
@@ -186,8 +189,7 @@ class LongRun(Walk):
         return other
 
     def priced(self, costs: Costs, most: int, feasible: Feasible) -> LongRun:
-        """Returns the same theory with other costs, another largest gap that a search looks at, and feasible policies.
-        """
+        """Returns the same theory with other costs, another `most` and other feasible policies."""
         other = self.within(feasible)
         other.setup, other.holding, other.backlog, other.most = costs.setup, costs.holding, costs.backlog, most
         other.figured, other.floored = {}, {}
@@ -224,17 +226,19 @@ class LongRun(Walk):
         return np.array([costs, owed - self.one_before.lacking(levels), held, stock])
 
     def rows_of(self, gaps: Whole) -> tuple[int, Floats]:
-        """Returns the chances of how far a low of `figures_from` is below S, a row for each of some rising gaps, and
-        their first cell."""
+        """Returns the chances of how far a low of `figures_from` is below S, a row for each gap, and their first cell."""
         for some in self.parts(sorted({*gaps.tolist()} - self.shorts.keys())):
-            rows = self.shortfalls(some)
-            ends = rows.shape[1] - np.argmax(rows[:, ::-1] > 0, axis=1)
-            self.shorts.update((gap, row[:end]) for gap, row, end in zip(some.tolist(), rows, ends.tolist()))
+            self.keep(some, self.shortfalls(some))
         shorts = [self.shorts[gap] for gap in gaps.tolist()]
         chances = np.zeros((len(shorts), max(map(len, shorts))))
         for row, short in zip(chances, shorts):
             row[:len(short)] = short
         return -self.above, chances
+
+    def keep(self, gaps: Whole, rows: Floats) -> None:
+        """Keeps what `shortfalls` returns for some gaps."""
+        ends = rows.shape[1] - np.argmax(rows[:, ::-1] > 0, axis=1)
+        self.shorts.update((gap, row[:end]) for gap, row, end in zip(gaps.tolist(), rows, ends.tolist()))
 
     def shortfalls(self, gaps: Whole) -> Floats:
         """Returns the chances of the shortfalls of rising gaps, a row each, from the cell -above on."""
@@ -247,10 +251,7 @@ class LongRun(Walk):
         else:
             begun = fft.rfft(lows, room)
             last = falling(np.stack([np.ones_like(begun), begun]), gaps, move, self.late, room)
-        rows: Floats = fft.irfft(last, room)
-        rows[rows <= LEAST_CHANCE] = 0.0
-        rows /= rows.sum(axis=1, keepdims=True)
-        return np.roll(rows, self.above, axis=1) if self.above else rows
+        return np.roll(chances_of(last, room), self.above, axis=1)
 
     def below(self, gap: int) -> LatticeLaw:
         """Returns the law of how far the stock at the end of a period is below S, in cells."""
@@ -298,14 +299,20 @@ class LongRun(Walk):
 
     def figures_of_gap(self, gap: int, level: int) -> Figures:
         """Returns the figures of a gap and an order-up-to level."""
-        if (gap, level) not in self.figured:
-            low, rows = self.rows_of(np.array([gap]))
-            lows = level - self.step * np.arange(low, low + rows.shape[1])
-            stock_cost, unmet, held, stock = (self.figures_from(lows) @ rows[0]).tolist()
-            orders = 1 / self.periods(gap)
-            self.figured[gap, level] = Figures(
-                self.setup * orders + stock_cost, 1 - unmet / self.asked, 1 - held, stock, orders)
+        self.figure({(gap, level)})
         return self.figured[gap, level]
+
+    def figure(self, asked: set[tuple[int, int]]) -> None:
+        """Computes the figures of gaps, each with an order-up-to level: together they take less time."""
+        if not (new := sorted(asked - self.figured.keys())):
+            return
+        gaps, levels = np.transpose(new)
+        low, rows = self.rows_of(gaps)
+        tables = self.figures_from(levels[:, None] - self.step * np.arange(low, low + rows.shape[1]))
+        for pair, table, row in zip(new, tables.transpose(1, 0, 2), rows):
+            (stock_cost, unmet, held, stock), orders = (table @ row).tolist(), 1 / self.periods(pair[0])
+            cost = self.setup * orders + stock_cost
+            self.figured[pair] = Figures(cost, 1 - unmet / self.asked, 1 - held, stock, orders)
 
     def policy(self, gap: int, level: int, point: int | None = None) -> Candidate:
         """Returns the policy of a gap with a level, and perhaps a point; none if it is not feasible."""
@@ -319,19 +326,12 @@ class LongRun(Walk):
         """Returns how much demand of a period may not be met at once, in items, if this share is to be met."""
         return (1 - share) * self.asked * (1 + NEAR)
 
-    def levels_with_fill(self, gaps: Sequence[int], shares: Sequence[float]) -> Iterable[tuple[int, list[float]]]:
+    def levels_with_fill(self, gaps: Sequence[int], shares: Sequence[float]) -> Iterable[tuple[int, list[int]]]:
         """Yields rising gaps, each with the least levels, in items, that meet these shares of demand at once."""
+        allowed = np.array([*map(self.allowed, shares)])
         for some in self.parts(gaps):
-            for gap, unmet in zip(some.tolist(), next(Means(self, some).of_all_levels(UNMET))):
-                yield gap, [self._level_with(unmet, self.allowed(share)) for share in shares]
-
-    def _level_with(self, unmet: Floats, allowed: float) -> int:
-        """Returns the least level in items with so much unmet demand, from that of all levels in cells."""
-        place = len(unmet) - max(1, int(np.searchsorted(unmet[::-1], allowed, "right")))
-        spare = 0.0
-        if place and unmet[place - 1] > unmet[place]:
-            spare = self.step * (allowed - unmet[place]) / (unmet[place - 1] - unmet[place])
-        return place * self.step - min(int(spare + NEAR), self.step - 1)
+            unmet = next(Means(self, some).of_all_levels(UNMET))
+            yield from zip(some.tolist(), levels_within(unmet, allowed, self.step).tolist())
 
     def first_gap(self, cost: float, most: int) -> int:
         """Returns the first gap up to the most whose orders alone cost no more."""

@@ -13,9 +13,11 @@ from __future__ import annotations
 import contextlib
 import dataclasses
 import math
-from collections.abc import Iterable, Iterator, Sequence
+from collections import defaultdict
+from collections.abc import Iterable, Iterator, Mapping, Sequence
 from dataclasses import dataclass
 from functools import partial
+from typing import NamedTuple
 
 import numpy as np
 
@@ -26,6 +28,7 @@ from ..scenario import Policy, Scenario
 from .feasible import ALL, Feasible
 from .lattice import NoTheory, Shape, finest, shape_of, theory_on
 from .long_run import NO_POLICY, Candidate, LongRun, place_of_least
+from .shortfalls import falling_under, transforms_of
 from .walk import Walk, room_for
 
 DEVIATIONS = 8  # of the net demand of the lead time, which have room
@@ -35,6 +38,7 @@ MOST_WORK, OF_CELL, OF_PERIOD, OF_PAIR = 250_000, 50, 42, 5
 LEAST_ROOM = 512
 LONG_LEAD = 12  # periods: beyond, a law's own best policy is not looked for if there are several lead times
 GAPS = (12, 6, 6)  # that the search for a law's own best policy looks at in each round
+TOGETHER = 8  # laws, whose tables then stay near the processor
 CHECKED = 3  # laws on a coarse lattice that are computed again on one twice as coarse
 
 CONFIDENCE = 0.8
@@ -73,77 +77,148 @@ def under_laws(scenario: Scenario, laws: Iterable[tuple[Law, Law]]) -> Iterator[
         yield own, shape
 
 
-def run_of(scenario: Scenario, shape: Shape, widest: int, feasible: Feasible = ALL) -> LongRun | None:
+def run_of(scenario: Scenario, shape: Shape, widest: int, feasible: Feasible = ALL, made: LongRun | None = None
+           ) -> LongRun | None:
     """Returns the long run of a scenario on the finest lattice that is computed in time for gaps up to so many items;
-    None if its numbers are too far apart for that."""
+    None if its numbers are too far apart for that. It is the one `made` with other costs if that has this lattice."""
     periods, last = shape.lead + 1, shape.lead * (shape.leads > 1)
     of_cell = OF_CELL + OF_PERIOD * last + OF_PAIR * last * (last + 1) / 2
     allowed = max(LEAST_ROOM, int(MOST_WORK / of_cell))
 
     def excess(step: int) -> float:
         """Returns how many times too large the laws of the stock are, but for what is all but impossible."""
-        walk = Walk(scenario, step, step == shape.base)
+        exact = step == shape.base
+        walk = made if made and (made.step, made.exact) == (step, exact) else Walk(scenario, step, exact)
         above, net = -walk.above_low.low + shape.lead * max(0, -walk.net.low) + walk.back.high, walk.net
         likely = periods * net.mean + DEVIATIONS * math.sqrt(periods * net.variance) + net.high
         return room_for(above - (-widest // step) + int(min(periods * net.high, likely)) + 3) / allowed
     step = finest(shape.base, max(shape.high, shape.order), excess, lambda size: 0.8 * size)
-    return None if step is None else theory_on(scenario, shape, step, step == shape.base, feasible)
+    return None if step is None else theory_on(scenario, shape, step, step == shape.base, feasible, made)
 
 
-def least_cost(theory: LongRun, most: int) -> float:
-    """Returns the least cost of a feasible policy with a gap up to the most, by a search that gets finer round the best
-    gap; nan if there is none on the lattice."""
-    allowed = theory.gaps(0, most)
-    low, high, least = 0, len(allowed) - 1, math.inf
-    for count in GAPS if allowed else ():
-        shares = np.linspace(0, 1, count)**(2 if high == len(allowed) - 1 else 1)
-        places = np.unique(np.rint(low + (high - low) * shares).astype(int)).tolist()
-        _, costs = theory.costed(partial(theory.best_levels, share=0.0), [allowed[place] for place in places])
+def compute_shortfalls(asked: Iterable[tuple[LongRun, Iterable[int]]]) -> None:
+    """Computes the shortfalls of gaps under many laws, some laws together, which takes less time than law by law. Laws
+    with one lead time or with returns are left out."""
+    alike = defaultdict[int, list[tuple[LongRun, list[int]]]](list)
+    for theory, gaps in asked:
+        new = sorted({*gaps} - theory.shorts.keys())
+        if new and len(theory.late) and theory.net.low >= 0:
+            alike[len(theory.late)].append((theory, new))
+    for pairs in alike.values():
+        for first in range(0, len(pairs), TOGETHER):
+            keep_shortfalls(*zip(*pairs[first:first + TOGETHER]))
+
+
+def keep_shortfalls(theories: Sequence[LongRun], gaps: Sequence[list[int]]) -> None:
+    """Computes the shortfalls of rising gaps under each of some laws whose orders are late for equally long at most."""
+    room = room_for(max(some[-1] + theory.beside for theory, some in zip(theories, gaps)) + 1)
+    lows, ends = np.zeros((len(theories), room)), np.cumsum([*map(len, gaps)]).tolist()
+    for row, theory, some in zip(lows, theories, gaps):
+        row[:some[-1] + 1] = theory.lows_of(some[-1])
+    rows = falling_under(lows, transforms_of([theory.net for theory in theories], room),
+                         np.transpose([theory.late for theory in theories]),
+                         np.repeat(np.arange(len(theories)), np.diff(ends, prepend=0)), np.concatenate(gaps))
+    for theory, some, end in zip(theories, gaps, ends):
+        theory.keep(np.array(some), rows[end - len(some):end])
+
+
+class Narrowing:
+    """A search for the least cost of a feasible policy with a gap up to the most, which gets finer round the best gap.
+    `least` is nan if the lattice has no such policy."""
+
+    def __init__(self, theory: LongRun, most: int) -> None:
+        self.theory, self.allowed, self.least, self.places = theory, theory.gaps(0, most), math.nan, list[int]()
+        self.low, self.high = 0, len(self.allowed) - 1
+
+    def gaps(self, count: int) -> list[int]:
+        """Returns the gaps that are looked at next, about so many; none if no gap is allowed."""
+        if self.allowed:
+            shares = np.linspace(0, 1, count)**(2 if self.high == len(self.allowed) - 1 else 1)
+            self.places = np.unique(np.rint(self.low + (self.high - self.low) * shares).astype(int)).tolist()
+        return [self.allowed[place] for place in self.places]
+
+    def look(self, gaps: Sequence[int]) -> None:
+        """Looks at these gaps, and goes on between those beside the best."""
+        if not gaps:
+            return
+        _, costs = self.theory.costed(partial(self.theory.best_levels, share=0.0), gaps)
         best = place_of_least(costs)
-        least = min(least, float(costs[best]))
-        low, high = places[max(best - 1, 0)], places[min(best + 1, len(places) - 1)]
-    return least if least < math.inf else math.nan
+        if costs[best] < math.inf:
+            self.least = float(np.fmin(self.least, costs[best]))
+        self.low, self.high = self.places[max(best - 1, 0)], self.places[min(best + 1, len(gaps) - 1)]
+
+
+def least_costs(asked: Iterable[tuple[LongRun, int]]) -> list[float]:
+    """Returns the least cost of a feasible policy under each of some laws with a gap up to the most: see `Narrowing`.
+    """
+    searches = [Narrowing(theory, most) for theory, most in asked]
+    for count in GAPS:
+        gaps = [it.gaps(count) for it in searches]
+        compute_shortfalls((it.theory, its) for it, its in zip(searches, gaps))
+        for it, its in zip(searches, gaps):
+            it.look(its)
+    return [it.least for it in searches]
+
+
+class OwnRun(NamedTuple):
+    """The long run of a law, by its place among all, with its scenario and shape, and the widest gap in items."""
+
+    place: int
+    scenario: Scenario
+    shape: Shape
+    widest: int
+    theory: LongRun
+
+    @property
+    def most(self) -> int:
+        """Returns the widest gap that a search for the least cost looks at, in cells; -1 if that takes too long."""
+        is_long = self.shape.leads > 1 and self.shape.lead > LONG_LEAD
+        return -1 if is_long else -(-self.widest // self.theory.step) + 1
+
+
+def own_runs(scenario: Scenario, laws: Sequence[tuple[Law, Law]], given: int, feasible: Feasible,
+             made: Mapping[int, LongRun]) -> Iterator[OwnRun]:
+    """Yields the long run of each law that has one on a lattice, for gaps up to the given one and to wide ones."""
+    for place, (own, shape) in enumerate(under_laws(scenario, laws)):
+        if shape is not None:
+            widest = max(given, math.ceil(2 * shape.order))
+            theory = run_of(own, shape, widest, feasible, made.get(place))
+            if theory is not None:
+                yield OwnRun(place, own, shape, widest, theory)
 
 
 def figures_of_laws(scenario: Scenario, laws: Sequence[tuple[Law, Law]], policies: Sequence[Policy],
-                    feasible: Feasible = ALL) -> LawFigures:
+                    feasible: Feasible = ALL, made: Mapping[int, LongRun] = {}) -> LawFigures:
     """Returns the figures of policies under laws, each of demand and of lead times; all else is the scenario's. Each
-    law's own best policy is a feasible one.
+    law's own best policy is a feasible one. `made` may have long runs under some laws, by their places: see `Promises`.
 
     A lattice is as fine as `MOST_WORK` allows. Raises NoTheory if the scenario has no best policy.
     """
     shape_of(scenario)
-    given = max(policy.S - policy.s for policy in policies)
-    rows: list[tuple[int, Sequence[float], Sequence[float], float, int]] = []
-    coarse: list[float] = []
-    for place, (own, shape) in enumerate(under_laws(scenario, laws)):
-        if shape is None:
-            continue
-        widest = max(given, math.ceil(2 * shape.order))
-        theory = run_of(own, shape, widest, feasible)
-        if theory is None:
-            continue
-        is_long = shape.leads > 1 and shape.lead > LONG_LEAD
-        least = math.nan if is_long else least_cost(theory, -(-widest // theory.step) + 1)
-        gaps = {gap for policy in policies for gap, _ in theory.gaps_of(policy.s, policy.S)}
-        theory.rows_of(np.array(sorted(gaps)))  # which takes less time than one by one
-        figures = [theory.figures(policy.s, policy.S) for policy in policies]
-        rows.append((place, [its.cost for its in figures], [its.fill for its in figures], least, theory.step))
-        if not theory.exact and len(coarse) < CHECKED:
-            twice = theory_on(own, shape, 2 * theory.step, False)
-            coarse.append(max(abs(twice.figures(policy.s, policy.S).cost / its.cost - 1)
-                              for policy, its in zip(policies, figures)))
-    if not rows:
+    runs = [*own_runs(scenario, laws, max(policy.S - policy.s for policy in policies), feasible, made)]
+    if not runs:
         raise NoTheory("no law of demand has a long run: as much comes back as is asked for", "demand")
-    places, costs, fills, least_costs, steps = zip(*rows)
-    return LawFigures(places, np.array(costs), np.array(fills), np.array(least_costs), max(steps),
-                      max(coarse, default=None))
+    asked = [{(gap, policy.S) for policy in policies for gap, _ in its.theory.gaps_of(policy.s, policy.S)}
+             for its in runs]
+    compute_shortfalls((its.theory, (gap for gap, _ in pairs)) for its, pairs in zip(runs, asked))
+    for its, pairs in zip(runs, asked):
+        its.theory.figure(pairs)
+    figures = [[its.theory.figures(policy.s, policy.S) for policy in policies] for its in runs]
+    coarse = list[float]()
+    for its, found in [(its, found) for its, found in zip(runs, figures) if not its.theory.exact][:CHECKED]:
+        twice = theory_on(its.scenario, its.shape, 2 * its.theory.step, False)
+        coarse.append(max(abs(twice.figures(policy.s, policy.S).cost / known.cost - 1)
+                          for policy, known in zip(policies, found)))
+    costs, fills = (np.array([[own[column] for own in found] for found in figures]) for column in (0, 1))
+    return LawFigures(tuple(its.place for its in runs), costs, fills,
+                      np.array(least_costs((its.theory, its.most) for its in runs)),
+                      max(its.theory.step for its in runs), max(coarse, default=None))
 
 
 class Promises:
     """Policies of a scenario that meet shares of demand at once under enough of some laws, and by its own.
 
-    `lacking` laws have no long run, and so keep no promise. Fill rates are counted in steps of `step` items, exact but
+    `made` has the long runs of laws, by their places; `lacking` laws have none, and so keep no promise. Fill rates are counted in steps of `step` items, exact but
     for rounding if `exact` says so.
     """
 
@@ -169,13 +244,15 @@ class Promises:
             return sum(times) / max(len(shapes), 1)
         self.step = finest(theory.step, math.inf, excess, lambda excess: 1) or theory.step
         self.exact = theory.exact and self.step == theory.step
-        self.theories = [theory_on(own, shape, self.step, self.exact) for own, shape in scenarios
-                         if shape and shape.has_room(self.step)]
+        self.made = {place: theory_on(own, shape, self.step, self.exact) for place, (own, shape) in enumerate(scenarios)
+                     if shape and shape.has_room(self.step)}
+        self.theories = [*self.made.values()]
         self.lacking = len(laws) - len(self.theories)
-        self.levels: dict[tuple[int, int], dict[float, float]] = {}
+        self.levels: dict[tuple[int, int], dict[float, int]] = {}
 
-    def prepare(self, laws: Iterable[int], gaps: Sequence[int]) -> None:
+    def prepare(self, laws: Sequence[int], gaps: Sequence[int]) -> None:
         """Computes the levels of rising gaps under some laws at once, which is faster than one by one."""
+        compute_shortfalls((self.theories[law], [gap for gap in gaps if (law, gap) not in self.levels]) for law in laws)
         for law in laws:
             new = [gap for gap in gaps if (law, gap) not in self.levels]
             self.levels.update(((law, gap), dict(zip(self.shares, levels)))

@@ -49,6 +49,14 @@ def transforms_of(laws: Sequence[LatticeLaw], room: int) -> Transforms:
     return transforms
 
 
+def chances_of(transforms: Transforms, room: int) -> Floats:
+    """Returns rows of chances from their transforms, without what these have rounded."""
+    rows: Floats = fft.irfft(transforms, room)
+    rows[rows <= LEAST_CHANCE] = 0.0
+    rows /= rows.sum(axis=1, keepdims=True)
+    return rows
+
+
 def waiting(begun: Transforms, gaps: Whole, move: Transforms, reviews: int, room: int, above: int) -> Transforms:
     """Returns the part K of some laws that no order has left, as transforms: a table for each law of the position's
     depth below S, with rows by review from 0 on, and in each row one for each gap.
@@ -162,6 +170,21 @@ def falling(begun: Transforms, gaps: Whole, move: Transforms, late: Floats, room
     angles = -2 * np.pi / room * np.arange(room)
     return last_shortfalls(kept.reshape(len(far), -1, len(move)), is_far, free.reshape(-1, most + 1), gaps,
                            np.cos(angles) + 1j * np.sin(angles), move, late)
+
+
+def falling_under(lows: Floats, moves: Transforms, late: Floats, laws: Whole, gaps: Whole) -> Floats:
+    """Returns the chances of the shortfalls of some gaps, a row each, under some laws without returns. `laws` has the
+    place of each gap's law. Each law has a row in `lows` with the chances of its lows and room for a transform, one in
+    `moves` with the transform of its net demand, and a column in `late`."""
+    room, most = lows.shape[1], int(gaps.max())
+    begun = fft.rfft(lows)
+    states = [np.stack([np.ones_like(begun), begun], axis=1)]
+    for _ in late:
+        states.append(states[-1] * moves[:, None])
+    free = fft.irfft(np.stack(states, axis=2), room)[..., :most + 1]
+    free[free <= LEAST_CHANCE] = 0.0
+    kept = fft.rfft(np.where(np.arange(most + 1) <= gaps[:, None, None, None], free[laws], 0.0), room)
+    return chances_of(renewed(kept.transpose(1, 2, 0, 3), moves[laws], late[:, laws, None])[-1][0], room)
 
 
 def moving(begun: Transforms, gaps: Whole, move: Transforms, late: Floats, room: int, above: int) -> Transforms:
