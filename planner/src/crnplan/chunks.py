@@ -250,7 +250,7 @@ class Answering(Generic[Row]):
         digests = self.asking.digests(made.chunk)
         return (self.folder / made.file).exists() and made.digest == sum_of_digests(digest_of(*it) for it in digests)
 
-    def begin(self, chunk: Chunk, *others: str) -> Made | Asked:
+    def begin(self, chunk: Chunk, others: Sequence[str]) -> Made | Asked:
         """Returns the file if it is there, else what is asked, with what other files and parts know of it."""
         lines, digests = Lines(self.kind), dict(self.asking.digests(chunk))
         digest = sum_of_digests(digest_of(*pair) for pair in digests.items())
@@ -339,7 +339,7 @@ class Chunked(Facts, Generic[Row]):
                 stop = len(chunks) if it.stop is None else bisect.bisect_left(starts, it.stop)
                 for names in others[max(0, first):stop]:
                     names.append(path.name)
-        return [(chunk, *names) for chunk, names in zip(chunks, others)]
+        return [*zip(chunks, others)]
 
     def kept_now(self, made: Iterable[Made], start: float) -> int:
         """Returns how many answers are kept in files that are known and in files and parts since a time, as they are

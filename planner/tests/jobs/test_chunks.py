@@ -223,6 +223,16 @@ def test_parts_that_are_cut(store: Chunked[Correction], monkeypatch: pytest.Monk
             [*store.answers()]
 
 
+def test_tasks_have_as_many_words(store: Chunked[Correction]) -> None:
+    """However many files may have answers to a chunk: a cluster is given the words of all chunks column by column."""
+    done(store)
+    some = chunks_of(NAMES, 8 * len(NAMES))
+    file = store.folder / store.made[0].file
+    file.with_name(f"{file.name}.0{PART}").write_bytes(file.read_bytes())
+    tasks = store.tasks(some)
+    assert {len(task) for task in tasks} == {2} and len({len(others) for _, others in tasks}) > 1
+
+
 def test_columns_of_another_version(store: Chunked[Correction]) -> None:
     """Answers with other columns are none, and are made again."""
     done(store)

@@ -117,8 +117,8 @@ def family_law(boxes: Sequence[int], method: str, box: int = 1) -> FittedLaw:
     if not names:
         return FittedLaw.made(known.seen, EMPIRICAL, known, box)
     # Above the cap the law of `auto` has nothing, so all that is there counts in one cell.
-    cap, most = cap_of(sample), MOST_DEMAND // pack
-    ends = cells_of(cap // pack + 1, most) if method == "auto" else DEMANDS
+    cap = cap_of(sample)
+    ends = cells_of(cap // pack + 1, MOST_DEMAND) if method == "auto" else DEMANDS
     laws = (in_items(predictive_of(name, packs, ends), pack) for name in names)
     if method != "auto":
         return FittedLaw.made(Law.of_chances(next(laws)), names[0], known, box)
