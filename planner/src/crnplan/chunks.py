@@ -93,9 +93,9 @@ class Making(Protocol[Begun]):
     @property
     def room(self) -> Path: ...
 
-    def begin(self, chunk: Chunk, *words: Any) -> Made | Begun:
-        """Returns a file that is there, or what is to be known to make it: this is read from the main process's disk.
-        """
+    def begin(self, chunk: Chunk, others: Sequence[str]) -> Made | Begun:
+        """Returns a file that is there, or what is to be known to make it, also from others: this is read from the main
+        process's disk."""
 
     def write(self, begun: Begun, folder: Path) -> Made:
         """Makes the file in a folder: whole, or not at all."""

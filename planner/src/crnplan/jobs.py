@@ -136,8 +136,10 @@ class _Run(Generic[Key]):
         except queue.Empty:
             return None
         batch = self.under_way.get(future)
-        if batch is None:
-            return None
+        return batch and self._ended(batch, future)
+
+    def _ended(self, batch: _Batch[Key], future: Any) -> _Batch[Key] | None:
+        """Returns a batch with its result; None if a process has ended by force, and the batches are given again."""
         try:
             batch.result = self.workers.result(future)
         except BrokenProcessPool as fault:

@@ -40,10 +40,10 @@ def quoted(names: Iterable[str]) -> str:
     return ", ".join(f'"{name}"' for name in names)
 
 
-def _tuples(value: Any) -> Any:
-    if not isinstance(value, list):
-        return value
-    return tuple(map(_tuples, value)) if list in {*map(type, value)} else tuple(value)  # mostly numbers
+def _tuples(value: list[Any]) -> tuple[Any, ...]:
+    """Returns a list as a tuple, and lists in it. Most are of numbers."""
+    return tuple(_tuples(it) if type(it) is list else it for it in value) if list in {*map(type, value)} else \
+        tuple(value)
 
 
 # How values of a type are kept in a cell, and read again. Fractions, tuples, bytes and remarks are texts.

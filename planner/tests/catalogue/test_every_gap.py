@@ -69,6 +69,13 @@ def test_best_of_all(demand: tuple[tuple[int, ...], tuple[int, ...]], step: int,
     assert (costs <= (by_pair @ [holding, price, order]).min(axis=0) * (1 + 1e-11)).all()
 
 
+def test_vertices_by_hand() -> None:
+    """A point that meets no more demand is none, nor one above the line through others, nor one behind the dearest."""
+    stock, unmet, kept = np.arange(6.0), np.array([9.0, 9.0, 5.0, 4.0, 1.0, 0.9]), np.zeros(6, int)
+    assert kept[:every_gap.vertices_of(stock, unmet, 9.0, kept)].tolist() == [0, 4, 5]
+    assert kept[:every_gap.vertices_of(stock, unmet, 0.1, kept)].tolist() == [0]
+
+
 @pytest.mark.parametrize("way", ["loop", "plain"])
 @pytest.mark.parametrize("step, feasible", [(1, ALL), (3, BOUNDS[1]), (1, BOUNDS[3])], ids=str)
 def test_ways(step: int, feasible: Feasible, way: str, monkeypatch: pytest.MonkeyPatch) -> None:

@@ -9,17 +9,19 @@ from collections.abc import Callable
 from pathlib import Path
 from typing import Any
 
+import numpy as np
 import pandas as pd
 import pytest
 
 from crnplan.errors import Refused, RefusedFaults
-from crnplan.records import read_history, read_lead_times
+from crnplan.records import read_history, read_lead_times, sources
 from crnplan.records.catalogue_reading import Catalogue, read_catalogue
 from crnplan.records.columns import find_columns
 from crnplan.records.cells import Unreadable
 from crnplan.records.item import Item
 from crnplan.records.items import Words
 from crnplan.records.masters import leads_of
+from crnplan.records.observed import sums_of
 from crnplan.records.sources import opened
 from crnplan.remarks import Remark
 
@@ -155,6 +157,20 @@ def test_encodings_are_named(encoding: str, heading: str, unit: str, tmp_path: P
     with pytest.raises(RefusedFaults, match=f"say encoding={encoding},"):
         read_history(tmp_path / "demand.csv", demand=heading.split(",")[2])
     assert items_of(read(tmp_path, data, encoding=encoding))["A"].counts == (2,) * WEEKS
+
+
+def test_sums_are_exact() -> None:
+    """Also where a floating point number has no room for them."""
+    for most in (5, 1 << 53):
+        assert sums_of(np.array([0, 2, 0]), np.array([most, 7, 1]), 3).tolist() == [most + 1, 0, 7]
+
+
+def test_long_line(tmp_path: Path, monkeypatch: pytest.MonkeyPatch) -> None:
+    """It is named with its number, also behind a cell in quotes."""
+    monkeypatch.setattr(sources, "MOST_LETTERS", 60)
+    for text in ('A,2026-03-02,1\n', '"A",2026-03-02,1\n'):
+        with pytest.raises(RefusedFaults, match="demand.csv:3: the line has more than 59 letters"):
+            read(tmp_path, f"item,date,quantity\n{text}A,2026-03-09,{'1' * 60}\n".encode())
 
 
 def test_gigabyte_without_a_line_end(tmp_path: Path) -> None:
