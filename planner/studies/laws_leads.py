@@ -25,7 +25,7 @@ import pandas as pd
 
 from crnplan.demand.fitting import fit_lead
 from crnplan.law import Law
-from crnplan.scenario import Scenario
+from crnplan.scenario import Costs, Scenario
 from crnplan.theory.lattice import theories_of
 from crnplan.theory.long_run import LongRun
 from planner.studies.laws import BACKLOGS, COVERS, DESIGNED
@@ -54,14 +54,17 @@ def order_of(demand: str, cover: int) -> int:
     return round(float(law @ np.arange(len(law))) * cover**2 / 2)
 
 
+def priced(theory: LongRun, demand: str, cover: int, backlog: int) -> LongRun:
+    """Returns a theory with the costs of a setting."""
+    return theory.priced(Costs(order_of(demand, cover), 0, 1, backlog), theory.most, theory.feasible)
+
+
 @cache
 def policies_of(demand: str, leads: tuple[tuple[int, int], ...]) -> list[tuple[int, int]]:
     """Returns the best policy of each setting."""
-    theory, found = theory_of(demand, dict(leads)), []
-    for cover, theory.backlog in SETTINGS:
-        theory.setup = order_of(demand, cover)
-        found.append((theory.best().point, theory.best().level))
-    return found
+    theory = theory_of(demand, dict(leads))
+    found = (priced(theory, demand, cover, backlog).best() for cover, backlog in SETTINGS)
+    return [(policy.point, policy.level) for policy in found]
 
 
 def cell(job: tuple[str, str, int, int]) -> list[dict[str, object]]:
@@ -77,9 +80,8 @@ def cell(job: tuple[str, str, int, int]) -> list[dict[str, object]]:
             law = fit_lead(drawn, method=method)
             policies = policies_of(demand, tuple(zip(law.values, law.weights)))
             best = policies_of(demand, tuple(leads.items()))
-            for place, (cover, truth.backlog) in enumerate(SETTINGS):
-                truth.setup = order_of(demand, cover)
-                costs = [truth.figures(*it[place]).cost for it in (policies, best)]
+            for place, setting in enumerate(SETTINGS):
+                costs = [priced(truth, demand, *setting).figures(*it[place]).cost for it in (policies, best)]
                 regrets[record, at, place] = 100 * (costs[0] / costs[1] - 1)
     means = regrets.mean(axis=2)
     gains = means[:, :1] - means
