@@ -22,6 +22,7 @@ import hashlib
 import itertools
 import json
 import os
+import re
 import tempfile
 import time
 from collections import Counter
@@ -39,6 +40,9 @@ from .table import Json
 # Items of a chunk. Of small catalogues there are fewer, so that there are enough chunks for all workers.
 LEAST_ITEMS, MOST_ITEMS, MANY_CHUNKS = 8, 256, 256
 ENDING, PART = ".lines", ".part"
+# Names of files and of their parts, and of what a kill leaves of a file that is there whole or not at all.
+HEX, LEFT = f"[0-9a-f]{{{DIGITS}}}", rf"\.[0-9a-f]+\{PART}"
+OURS = re.compile(rf"{HEX}-{HEX}\{ENDING}(\.[0-9]+\{PART})?|{LEFT}")
 SOON = 1  # seconds by which the clock of a disk may be late
 AHEAD = 2  # chunks that are sent to a worker at a time
 COLUMNS = "columns"  # a fact: the columns of the answers in an index
@@ -354,7 +358,7 @@ class Chunked(Facts, Generic[Row]):
         return counts.total() + sum(it.items for it in made if it.file.partition(".")[0] not in counts)
 
     def commit(self, made: Sequence[Made], facts: Mapping[str, str]) -> None:
-        """Makes files the answers of this index, with facts, and removes all others."""
+        """Makes files the answers of this index, with facts, and removes all others that are named as ours."""
         with self.base:
             self.base.execute("DROP TABLE IF EXISTS answers")  # of an earlier version
             self.base.execute("DELETE FROM chunks")
@@ -364,7 +368,7 @@ class Chunked(Facts, Generic[Row]):
                 *facts.items(), (COLUMNS, self.lines.version)])
         self.made, names = [*made], {it.file for it in made}
         for path in self.folder.iterdir():
-            if path.name not in names:
+            if OURS.fullmatch(path.name) and path.name not in names:
                 path.unlink(missing_ok=True)
 
     def _line(self, name: str) -> bytes | None:

@@ -173,14 +173,16 @@ def test_bytes_and_what_is_kept(plan: Path, twenty: Path) -> None:
 @pytest.mark.parametrize("size", [1, 7])
 def test_parts_of_any_size(plan: Path, twenty: Path, size: int, monkeypatch: pytest.MonkeyPatch) -> None:
     """Writes the same bytes from parts of any size, also if other processes are asked, and what is kept of hulls is
-    damaged, or of other parts."""
+    damaged, or of other parts. Files beside the hulls that are not named as ours are kept."""
     monkeypatch.setattr(gathered, "MOST_ITEMS", size)
     monkeypatch.setattr(gathered, "MOST_PARTS", 2)
-    (plan / HULLS / "other.as_is").touch()
+    *ours, mine = (plan / HULLS / name for name in (f"{'0a' * 16}.as_is", ".0123456789abcdef.part", "mine.as_is"))
+    for path in (*ours, mine):
+        path.touch()
     for jobs in (2, 1):
         crn.exchange_curve(plan, jobs=jobs)
         assert tables_of(plan) == tables_of(twenty)
-        assert not (plan / HULLS / "other.as_is").exists()
+        assert mine.exists() and not any(path.exists() for path in ours)
         for path in (plan / HULLS).iterdir():
             path.write_bytes(path.read_bytes()[:-jobs])
         gathered.part_of.cache_clear()

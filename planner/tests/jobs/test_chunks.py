@@ -16,13 +16,15 @@ from unittest.mock import Mock
 import pytest
 
 from crnplan import chunks, jobs
-from crnplan.chunks import PART, Answering, Chunk, Chunked, chunks_of, finish, sum_of_digests
+from crnplan.chunks import ENDING, PART, Answering, Chunk, Chunked, chunks_of, finish, sum_of_digests
 from crnplan.errors import Failed
 from crnplan.plan.answer import Correction
 from crnplan.remarks import Remark
 from crnplan.stored import Damaged, digest_of
 
 NAMES = sorted(f'{place:02} "ä",' for place in range(40))
+MINE = "mine.txt"  # a file in the folder of the answers that is not ours
+DIGEST, HEX = "0123456789abcdef" * 2, "fedcba9876543210"
 Answers = dict[str, Correction | Remark]
 
 
@@ -102,6 +104,7 @@ def asked(folder: Path) -> list[int]:
 def store(tmp_path: Path) -> Iterator[Chunked[Correction]]:
     for name in ("room", "answers"):
         (tmp_path / name).mkdir()
+    (tmp_path / "answers" / MINE).write_text("mine")
     yield (it := Chunked(tmp_path / "index", Correction, tmp_path / "answers"))
     it.close()
 
@@ -119,7 +122,7 @@ def done(store: Chunked[Correction], function: Callable[..., Any] = squares, cou
     assert {name: store.answer(name) for name in wanted} == wanted and store.answer("none") is None
     assert store.digest == sum_of_digests(digest_of(*it) for it in squares_of.digests(Chunk()))
     assert sum(store.sums()) == sum(int(it[:2]) for it in squares_of.names if int(it[:2]) % 9 != 5)  # type: ignore
-    assert {path.name for path in store.folder.iterdir()} == {it.file for it in store.made}
+    assert {path.name for path in store.folder.iterdir()} == {it.file for it in store.made} | {MINE}
     return sum(it.kept for it in made)
 
 
@@ -202,13 +205,13 @@ def test_parts_that_are_cut(store: Chunked[Correction], monkeypatch: pytest.Monk
     """A part is taken over up to where it is cut, or changed. Others are no parts."""
     monkeypatch.setattr(chunks, "LEAST_ITEMS", 40)
     done(store)
-    folder, (file,) = store.path.parent, store.folder.iterdir()
+    folder, file = store.path.parent, store.folder / store.made[0].file
     lines = file.read_bytes().splitlines(keepends=True)
     asked(folder)
     for end in (b"", lines[30][:-1], lines[30].replace(b"[", b"(")):
         file.unlink()
         file.with_name(f"{file.name}.0{PART}").write_bytes(b"".join(lines[:30]) + end)
-        (store.folder / f"other{PART}").write_bytes(b"no part")
+        (store.folder / f".{HEX}{PART}").write_bytes(b"no part")
         assert done(store) == 29 and asked(folder) == [*range(29, 40)]
     file.write_bytes(b"".join(lines[:-1]))
     with pytest.raises(Damaged, match="its end is missing"):
@@ -221,6 +224,17 @@ def test_parts_that_are_cut(store: Chunked[Correction], monkeypatch: pytest.Monk
         file.write_bytes(text)
         with pytest.raises(Damaged):
             [*store.answers()]
+
+
+def test_files_that_are_not_ours(store: Chunked[Correction]) -> None:
+    """Files of other chunks, parts of these, and what a kill leaves of a file are removed, and no others."""
+    ours = f"{DIGEST}-{DIGEST}{ENDING}", f"{DIGEST}-{DIGEST}{ENDING}.12{PART}", f".{HEX}{PART}"
+    others = [f"my {ours[0]}", f"{ours[0]}.gz", f"{ours[1]}s", f"{HEX}-{DIGEST}{ENDING}", f"mine{PART}", f".my{PART}"]
+    for name in (*ours, *others):
+        (store.folder / name).write_text("text")
+    making = Answering(store.folder, store.path.parent, Correction, Squares(), squares, (store.path.parent, 0))
+    made = finish(store, making, lambda: NAMES, jobs.processes(1), {}, shown=False)
+    assert {path.name for path in store.folder.iterdir()} == {it.file for it in made} | {MINE, *others}
 
 
 def test_tasks_have_as_many_words(store: Chunked[Correction]) -> None:

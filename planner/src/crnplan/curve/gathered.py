@@ -9,6 +9,7 @@ import contextlib
 import functools
 import itertools
 import json
+import re
 import zipfile
 from collections.abc import Callable, Iterable, Iterator, Mapping, Sequence
 from dataclasses import dataclass
@@ -17,7 +18,7 @@ from typing import Any, NamedTuple, cast
 
 import numpy as np
 
-from ..chunks import Answering, Chunk, Chunked, Lines, finish
+from ..chunks import HEX, LEFT, Answering, Chunk, Chunked, Lines, finish
 from ..errors import Refused
 from ..files import Folder, new_bytes
 from ..jobs import Workers, workers_of
@@ -36,6 +37,9 @@ from .parts import AS_IS, Dearer, Hulls, Part, Point
 # The index of the candidates, the folder with their files, and that with what is made of these.
 CANDIDATES, IN_CHUNKS, HULLS = "curve.sqlite", "curve", "hulls"
 DEARER = "dearer"  # an array of a file with hulls
+# How files with what is made of candidates end: items, and hulls at costs as they are, and at others.
+ENDINGS = "items", "as_is", "dearer"
+OURS = re.compile(rf"{HEX}\.({'|'.join(ENDINGS)})|{LEFT}")
 # Codes of remarks on items that are not on the curve.
 NO_PRICE, NO_PLAN = "no price", "not planned"
 # Items of a part, and parts that a process keeps in memory. So many are looked at in this process alone.
@@ -158,13 +162,13 @@ class KeptPart(Part):
     def __init__(self, folder: Path, files: tuple[File, ...]) -> None:
         self._path = folder.with_name(HULLS) / digest_of(*files)
         whole = functools.cache(lambda: whole_part(folder, files))
-        kept = kept_arrays(self._path.with_suffix(".items"), lambda: {
+        kept = kept_arrays(self._path.with_suffix(f".{ENDINGS[0]}"), lambda: {
             "names": np.frombuffer(json.dumps(whole().names).encode(), np.uint8), "demand": whole().demand,
             "now": whole().now})
         super().__init__(tuple(json.loads(kept["names"].tobytes())), kept["demand"], kept["now"], lambda: whole().rows)
 
     def _hulls(self, dearer: Dearer) -> Hulls:
-        path = self._path.with_suffix(".dearer" if dearer != AS_IS else ".as_is")
+        path = self._path.with_suffix(f".{ENDINGS[1 if dearer == AS_IS else 2]}")
         return Hulls(**kept_arrays(path, lambda: vars(super(KeptPart, self)._hulls(dearer)), dearer))
 
 
@@ -243,7 +247,7 @@ def gather(own: Folder, folder: PlannedFolder, jobs: int | None, address: str | 
         raise no_item(folder, parts)
     hulls, stems = own.inner(HULLS), {digest_of(*files) for files in parts.parts}
     for path in hulls.iterdir():
-        if path.stem not in stems:
+        if OURS.fullmatch(path.name) and path.stem not in stems:
             path.unlink()
     with workers_of(jobs if len(parts.parts) > MOST_PARTS else 1, None) as workers:
         parts.workers = workers
