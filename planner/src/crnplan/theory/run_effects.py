@@ -29,21 +29,20 @@ difference of their final positions. `end_effects` replaces these by means over 
 from __future__ import annotations
 
 import dataclasses
-import itertools
 from collections.abc import Sequence
 from typing import TYPE_CHECKING, NamedTuple
 
 import numpy as np
 from scipy import fft
 
-from ..chances import Floats, Whole
-from ..compiled import compiled
+from ..chances import Floats
+from ..compiled import compiled, composed
 from ..scenario import Policy, Scenario
 from .feasible import ALL
 from .lattice import MOST_GAPS, NoTheory, lattice_of, shape_of, theory_on
 from .long_run import LongRun
 from .shortfalls import LEAST_CHANCE, renewed, transforms_of, waiting
-from .walk import EQUAL, NOTHING, LatticeLaw, Surplus, convolved, power_of, room_for, sum_of
+from .walk import EQUAL, NOTHING, LatticeLaw, Surplus, convolved, room_for, sum_of
 
 if TYPE_CHECKING:
     from ..crnsim.report import Row
@@ -66,12 +65,12 @@ class Start(NamedTuple):
 
 
 class Reviews(NamedTuple):
-    """The reviews of a run: how many orders they are expected to place, and the law of the position, in cells below S,
-    after one of the first reviews at random (of those whose orders matter for the stock) and after the last one."""
+    """The reviews of a run: how many orders they are expected to place, and how far the position is below S, in cells:
+    the sum of its laws after the first reviews, whose orders matter for the stock, and its mean after the last one."""
 
     orders: float
-    mean: LatticeLaw
-    last: LatticeLaw
+    first: LatticeLaw
+    last: float
 
 
 def reciprocal(series: Floats, count: int) -> Floats:
@@ -188,49 +187,45 @@ class Sums(NamedTuple):
         laws = (sums_one_by_one if is_short else sums_by_doubling)(law / (1 - never), reviews)
         return cls(reviews, counts_of(1 - never, reviews, len(laws)), laws)
 
-    def within(self, width: int) -> Floats:
-        """Returns the chances that 0, 1, .. reviews take at most so many cells."""
-        chances = np.zeros(self.reviews)
-        chances[:len(self.counts)] = self.counts @ self.laws[:, :max(width + 1, 0)].sum(axis=1)
-        return chances
-
-    def weighed(self, weights: Floats) -> Floats:
-        """Returns sums of the laws of 0, 1, .. reviews, each with a row of weights."""
-        chances: Floats = weights[:, :len(self.counts)] @ self.counts @ self.laws
-        return chances
-
 
 def most_sums(net: LatticeLaw, width: int) -> float:
     """Returns about how many net demands above 0 are at most a width together."""
     return 2 * width * net.above(0) / net.mean + 2
 
 
+@composed()
+def renewals(counts: Floats, laws: Floats, begun: Floats, low: int, gap: int, periods: int,
+             counted: int) -> tuple[float, Floats, float]:
+    """Returns what `falling` does. `begun` has the chances of the cells from `low` on after the first review, if that
+    places no order."""
+    used, early, places = len(counts), min(counted, len(counts)), np.flatnonzero(begun)
+    first, cycle, within, weights = np.zeros(periods), np.zeros(periods), np.zeros(periods), np.zeros((4, used))
+    first[0] = 1 - begun.sum()
+    for place in places:
+        within[:used] = counts @ laws[:, :max(gap - low - place + 1, 0)].sum(axis=1)
+        first[1:] -= begun[place] * np.diff(within)
+    within[:used] = counts @ laws[:, :gap + 1].sum(axis=1)
+    cycle[0], cycle[1:] = within[0], np.diff(within)
+    placing = quotient(first, cycle[:np.flatnonzero(cycle)[-1] + 1])
+    # How often the first laws and the last one have 0, 1, .. reviews since the start, and since an order.
+    weights[0, :early], weights[1, :early] = 1.0, np.cumsum(placing[:counted])[::-1][:early]
+    weights[2, -1], weights[3] = used == periods, placing[::-1][:used]
+    after, depths = weights @ counts @ laws, np.zeros((2, len(begun)))
+    for row in range(2):
+        depths[row, -low:] = after[2 * row + 1, :gap + 1]
+        for place in places:
+            depths[row, place:] += begun[place] * after[2 * row, :len(begun) - place]
+    depths = np.maximum(depths, 0.0)
+    return placing.sum(), depths[0], (depths[1] * (low + np.arange(len(begun)))).sum()
+
+
 def falling(sums: Sums, start: Start, gap: int, periods: int, counted: int) -> Reviews:
     """Returns the reviews of so many periods if nothing comes back, of which the first `counted` matter for the stock.
     `sums` go up to the most that can be asked for between the start and an order."""
-    low, cells = min(start.law.low, 0), zip(start.law.cells.tolist(), start.law.chances.tolist())
-    begun = [] if start.ordered else [(cell, chance) for cell, chance in cells if chance]
-    first = np.zeros(periods)
-    first[0] = start.ordered
-    for cell, chance in begun:
-        first[1:] -= chance * np.diff(sums.within(gap - cell))
-    cycle = np.diff(sums.within(gap), prepend=0.0)
-    placing = quotient(first, cycle[:np.flatnonzero(cycle)[-1] + 1])
-    # How often the mean law and the last one have 0, 1, .. reviews since the start, and since an order.
-    weights = np.zeros((4, periods))
-    weights[:2, :counted] = np.ones(counted), np.cumsum(placing[:counted])[::-1]
-    weights[:2] /= max(counted, 1)
-    weights[2, -1], weights[3] = 1, placing[::-1]
-
-    def law_of(after_start: Floats, after_order: Floats) -> LatticeLaw:
-        """Returns the sum of laws after the start and after orders."""
-        chances = np.zeros(gap - low + 1)
-        chances[-low:] = after_order[:gap + 1]
-        for cell, chance in begun:
-            chances[cell - low:] += chance * after_start[:gap - cell + 1]
-        return LatticeLaw(low, np.clip(chances, 0, None))
-    laws = sums.weighed(weights)
-    return Reviews(float(placing.sum()), law_of(*laws[:2]), law_of(*laws[2:]))
+    law, low = start.law, min(start.law.low, 0)
+    begun = law.between(low, gap) * (not start.ordered)
+    orders, first, last = renewals(sums.counts, sums.laws, begun, low, gap, periods, counted)
+    return Reviews(orders, LatticeLaw(low, first), last)
 
 
 def moving(net: LatticeLaw, start: Start, settled: LatticeLaw, orders: float, periods: int, counted: int) -> Reviews:
@@ -269,8 +264,7 @@ def moving(net: LatticeLaw, start: Start, settled: LatticeLaw, orders: float, pe
     first, excess = summed(start.law.chances - usual, counted)
     others, last = summed(excess, periods - 1 - counted)
     placed = start.ordered + (periods - 1) * orders + float((first + others) @ placing)
-    return Reviews(placed, LatticeLaw(low, np.clip(usual + first / max(counted, 1), 0, None)),
-                   LatticeLaw(low, usual + last))
+    return Reviews(placed, LatticeLaw(low, counted * usual + first), LatticeLaw(low, usual + last).mean)
 
 
 def theory_of(scenario: Scenario, most_gaps: int = MOST_GAPS) -> LongRun:
@@ -301,12 +295,6 @@ def start_of(theory: LongRun, initial: int, policy: Policy, gap: int) -> Start:
     return Start(LatticeLaw(low, chances), False)
 
 
-def difference(left: LatticeLaw, right: LatticeLaw) -> LatticeLaw:
-    """Returns the chances of a law less those of another one."""
-    ends = min(left.low, right.low), max(left.high, right.high)
-    return LatticeLaw(ends[0], left.between(*ends) - right.between(*ends))
-
-
 class Runs:
     """Runs of a scenario's policies from their common start. The orders of `counted` reviews all arrive within a run.
     """
@@ -317,12 +305,13 @@ class Runs:
         leads = scenario.lead.chances
         least, self.late = min(leads), theory.late
         self.counted = max(self.periods - max(leads), 0)
-        amounts = itertools.accumulate([theory.net] * (least + 1), sum_of)
-        *early, self.amount = (Surplus(amount, theory.step) for amount in amounts)
         # Periods before the shortest lead time has passed, and what they cost; then those before the longest one has.
-        self.before = min(least, self.periods)
-        self.first = sum(float(self._costs(it, np.array(scenario.initial))) for it in early[:self.before])
-        self.between = self.periods - self.counted - self.before
+        self.before, self.first, amount = min(least, self.periods), 0.0, theory.net
+        for _ in range(self.before):
+            left = float(amount.chances @ np.maximum(scenario.initial - theory.step * amount.cells, 0))
+            owed = left - scenario.initial + theory.step * amount.mean
+            self.first, amount = self.first + theory.holding * left + theory.backlog * owed, sum_of(amount, theory.net)
+        self.between, self.amount = self.periods - self.counted - self.before, Surplus(amount, theory.step)
         self.starts = {(policy, gap): start_of(theory, scenario.initial, policy, gap)
                        for policy in scenario.policies for gap, _ in theory.gaps_of(policy.s, policy.S)}
         widest = max(gap - min(start.law.low, 0) for (_, gap), start in self.starts.items())
@@ -344,42 +333,40 @@ class Runs:
         usual = theory.figures_of_gap(gap, policy.S).cost - theory.setup * orders
         bias = theory.setup * (reviews.orders - self.periods * orders)
         bias += self._stock_bias(policy, gap, start, reviews, usual)
-        depth = reviews.last.mean + theory.net.mean
+        depth = reviews.last + theory.net.mean
         return bias + unit * (policy.S - theory.step * depth - self.scenario.initial)
-
-    def _costs(self, amount: Surplus, levels: Whole) -> Floats:
-        """Returns the expected costs of a period with these levels, from which a random amount is taken."""
-        left = amount.left(levels)
-        costs: Floats = self.theory.holding * left + self.theory.backlog * (left - levels + amount.mean)
-        return costs
-
-    def _excess(self, short: LatticeLaw, level: int, usual: float) -> float:
-        """Returns what a period costs more than usual if the stock a shortest lead time before is so far below a level.
-        """
-        return float(short.chances @ (self._costs(self.amount, level - self.theory.step * short.cells) - usual))
 
     def _stock_bias(self, policy: Policy, gap: int, start: Start, reviews: Reviews, usual: float) -> float:
         """Returns the bias of stock and backlog of a policy, which usually cost so much in a period."""
-        settled, initial = self.theory.positions(gap), self.scenario.initial
-        deviation = difference(reviews.mean if self.counted else settled, settled)
-        *first, later = self._shortfalls(start.law, deviation, gap)
-        total = self.first - self.before * usual + self.counted * self._excess(later, policy.S, usual)
-        for law, late in zip(first[:self.between], self.late * start.ordered):
-            total += (1 - late) * self._excess(law, policy.S, usual) + late * self._excess(law, initial, usual)
-        return total
+        low, laws = self._shortfalls(start.law, reviews.first, gap)
 
-    def _shortfalls(self, start: LatticeLaw, deviation: LatticeLaw, gap: int) -> list[LatticeLaw]:
-        """Returns how far the stock is below S when all but late orders have arrived: the laws 0, 1, .. reviews after
-        the start, and at last what a deviation of the position makes of it, after as many as orders may be late."""
+        def excess(level: int) -> Floats:
+            """Returns what a period costs more than usual if the stock a shortest lead time before is so far below a
+            level as each cell of these laws."""
+            levels = level - self.theory.step * (low + np.arange(laws.shape[1]))
+            left = self.amount.left(levels)
+            costs: Floats = self.theory.holding * left + self.theory.backlog * (left - levels + self.amount.mean)
+            return costs - usual
+        late, costs = self.late[:self.between] * start.ordered, laws @ excess(policy.S)
+        total = self.first - self.before * usual + costs[-1] + (1 - late) @ costs[:len(late)]
+        if late.any():
+            total += late @ (laws[:len(late)] @ excess(self.scenario.initial))
+        return float(total)
+
+    def _shortfalls(self, start: LatticeLaw, first: LatticeLaw, gap: int) -> tuple[int, Floats]:
+        """Returns laws of how far the stock is below S when all but late orders have arrived, a row each, and their
+        first cell: 0, 1, .. reviews after the start, and at last what a law of the position makes of it, after as many
+        as orders may be late."""
         net, last = self.theory.net, len(self.late)
         if not last:
-            return [deviation]
-        above = max(0, -start.low, -deviation.low) + last * max(0, -net.low)
-        room = room_for(above + gap + max(net.high, power_of(net, last).high) + 1)
-        begun, (move,) = transforms_of([NOTHING, start, deviation], room)[:, None], transforms_of([net], room)
+            return first.low, first.chances[None]
+        above = max(0, -start.low, -first.low) + last * max(0, -net.low)
+        room = room_for(above + gap + self.theory.beside - self.theory.above + 1)
+        begun, (move,) = transforms_of([NOTHING, start, first], room)[:, None], transforms_of([net], room)
         kept = waiting(begun, np.array([gap]), move, last, room, above)
         transforms = [laws[-1, 0] for laws in renewed(kept, move, self.late)]
-        return [start, *(LatticeLaw(-above, row) for row in np.roll(fft.irfft(transforms, room), above, axis=1))]
+        rows = np.roll(fft.irfft(transforms, room), above, axis=1)
+        return -above, np.vstack([start.between(-above, room - above - 1), rows])
 
 
 class StartBias(NamedTuple):
@@ -408,9 +395,10 @@ def start_bias(scenario: Scenario, known: LongRun | None = None) -> StartBias:
     Costs of the long run leave `unit` out, which adds unit times the mean net demand to each; the biases have it.
     Raises NoTheory if there is no long run, or if the numbers of the scenario are too far apart.
     """
-    theory, policies = known.priced(scenario.costs, known.most, ALL) if known else None, scenario.policies
-    if theory is None or not is_fine(theory, scenario):
-        theory = theory_of(scenario, MOST_BIAS_GAPS)
+    costs, policies = scenario.costs, scenario.policies
+    theory = known if known and is_fine(known, scenario) else theory_of(scenario, MOST_BIAS_GAPS)
+    if (theory.setup, theory.holding, theory.backlog) != (costs.setup, costs.holding, costs.backlog):
+        theory = theory.priced(costs, theory.most, ALL)
     runs = Runs(theory, scenario)
     biases = (sum(share * runs.bias(policy, gap) for gap, share in theory.gaps_of(policy.s, policy.S))
               for policy in policies)
