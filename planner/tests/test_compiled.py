@@ -1,10 +1,13 @@
 """Loops that numba compiles, and what stands in for them."""
 from __future__ import annotations
 
+import importlib.util
+import multiprocessing
 import os
 import sys
-from collections.abc import Iterator
+from collections.abc import Callable, Iterator
 from pathlib import Path
+from types import ModuleType
 
 import numpy as np
 import pytest
@@ -65,6 +68,96 @@ def test_without_a_folder_it_is_compiled_each_time(monkeypatch: pytest.MonkeyPat
     monkeypatch.setattr(module, "numba_njit", lambda: lambda *words, **named: njit(*words, **named)
                         if words else lambda it: njit(it, **named))
     assert compiled(total_of)(loop)(np.ones(2)) == ("loop", 2.0)
+
+
+LOOPS = """
+from crnplan.compiled import composed
+
+def half(number):
+    return number / SHARE
+
+@composed()
+def halves(values):
+    total = 0.0
+    for value in values:
+        total += half(value)
+    return total
+"""
+
+
+@pytest.fixture
+def installed(tmp_path: Path, monkeypatch: pytest.MonkeyPatch) -> Iterator[Callable[..., ModuleType]]:
+    """Returns a function that installs a module of loops in a folder. Nothing is compiled yet, and nothing kept."""
+    from numba import config
+    monkeypatch.setattr(config, "CACHE_DIR", "")
+    monkeypatch.setenv("XDG_CACHE_HOME", str(tmp_path / "caches"))
+
+    def install(folder: str, text: str = LOOPS, share: float = 2) -> ModuleType:
+        path = tmp_path / folder / "loops.py"
+        path.parent.mkdir(exist_ok=True)
+        path.write_text(text, "utf-8")
+        spec = importlib.util.spec_from_file_location("loops", path)
+        assert spec and spec.loader
+        found = importlib.util.module_from_spec(spec)
+        vars(found)["SHARE"] = share
+        monkeypatch.setitem(sys.modules, "loops", found)
+        spec.loader.exec_module(found)
+        return found
+    yield install
+
+
+def sum_and_compiled(module: ModuleType, begins: Callable[[], object] = int) -> tuple[float, int]:
+    """Returns what a loop returns, and how many functions were compiled for it."""
+    from numba.core.event import install_recorder
+    numba_njit.cache_clear()
+    begins()
+    with install_recorder("numba:compile") as recorder:
+        found = module.halves(np.arange(4.0))
+    names = [str(event.data["dispatcher"]) for _, event in recorder.buffer if event.is_start]
+    return found, sum("half" in name or "halves" in name for name in names)
+
+
+def test_installations_share_loops(installed: Callable[..., ModuleType]) -> None:
+    """What one installation has compiled another one finds, whatever its folder and the time of its files."""
+    assert sum_and_compiled(installed("one")) == (3.0, 2)
+    path = Path(str(installed("two").__file__))
+    os.utime(path, (9, 9))
+    assert sum_and_compiled(installed("two")) == (3.0, 0)
+
+
+def test_changed_loops_are_compiled(installed: Callable[..., ModuleType]) -> None:
+    """A change of a loop, of a function that it calls, or of a number that these name, is heeded: also if the text was
+    changed after it was read."""
+    assert sum_and_compiled(installed("one")) == (3.0, 2)
+    assert sum_and_compiled(installed("one", LOOPS.replace("total = 0.0", "total = 1.0"))) == (4.0, 2)
+    assert sum_and_compiled(installed("one", LOOPS.replace("number /", "3 * number /"))) == (9.0, 2)
+    assert sum_and_compiled(installed("one", share=4)) == (1.5, 2)
+    before = installed("one", LOOPS.replace("number /", "5 * number /"))
+    installed("one", LOOPS.replace("number /", "7 * number /"))
+    assert sum_and_compiled(before) == (15.0, 2)
+    assert sum_and_compiled(installed("one", LOOPS.replace("number /", "7 * number /"))) == (21.0, 2)
+    assert sum_and_compiled(installed("one")) == (3.0, 0)
+
+
+def test_one_process_compiles(installed: Callable[..., ModuleType]) -> None:
+    """Of processes that need a loop at once, one compiles it."""
+    loops, context = installed("one"), multiprocessing.get_context("fork")
+    barrier, found = context.Barrier(3), context.SimpleQueue()
+    processes = [context.Process(target=lambda: found.put(sum_and_compiled(loops, barrier.wait))) for _ in range(3)]
+    for process in processes:
+        process.start()
+    for process in processes:
+        process.join()
+        assert process.exitcode == 0
+    assert sorted(found.get() for _ in processes) == [(3.0, 0), (3.0, 0), (3.0, 2)]
+
+
+def test_a_folder_that_cannot_be_written(installed: Callable[..., ModuleType], tmp_path: Path) -> None:
+    """Numba keeps loops elsewhere, or not at all."""
+    (tmp_path / "caches").touch()
+    assert sum_and_compiled(installed("one")) == (3.0, 2)
+    with module.kept(installed("one").half) as path:
+        assert path == str(tmp_path / "one/loops.py")
 
 
 def test_folder_of_loops(monkeypatch: pytest.MonkeyPatch, tmp_path: Path) -> None:

@@ -1,19 +1,22 @@
 """Compiles inner loops by numba, where that is installed; plain numpy stands in for it where it is not.
 
-A loop is compiled once, when it is first called, and kept in the user's folder for caches. Both ways give the same
-decisions, which the tests compare. A command that calls no loop doesn't import numba. A loop may call functions of its
-module.
+A loop is compiled once, when it is first called, and kept in the user's folder for caches, where all installations find
+it that have the same code. Both ways give the same decisions, which the tests compare. A command that calls no loop
+doesn't import numba. A loop may call functions of its module.
 """
 from __future__ import annotations
 
 import contextlib
+import fcntl
 import functools
+import hashlib
 import itertools
 import os
+import shutil
 from collections.abc import Callable, Iterator
 from pathlib import Path
 from types import FunctionType
-from typing import Any, TypeVar, cast
+from typing import Any, TypeVar
 
 Loop = TypeVar("Loop", bound=Callable[..., Any])
 left: list[bool] = []  # has one for each block that leaves loops plain
@@ -29,21 +32,52 @@ def cache_folder() -> Path:
 def numba_njit() -> Callable[..., Any] | None:
     """Returns numba's `njit`; None if numba is missing."""
     try:
-        from numba import config, njit
+        from numba import __version__, config, njit
     except ImportError:
         return None
-    config.CACHE_DIR = config.CACHE_DIR or str(cache_folder())  # Another may have imported numba before.
+    config.CACHE_DIR = config.CACHE_DIR or str(cache_folder() / __version__)  # Another may have imported it before.
     compiler: Callable[..., Any] = njit
     return compiler
 
 
-def compiled_by(njit: Callable[..., Any], loop: Callable[..., Any]) -> Callable[..., Any]:
-    """Returns a loop as numba compiles it, with the functions of its module that it calls."""
+def called_by(loop: Callable[..., Any]) -> dict[str, Callable[..., Any]]:
+    """Returns the functions of its module that a loop calls, by name."""
+    names = loop.__globals__
+    return {name: getattr(it, "loop", it) for name in loop.__code__.co_names
+            if isinstance(it := names.get(name), FunctionType) and it.__module__ == loop.__module__}
+
+
+def traits(loop: Callable[..., Any]) -> tuple[Any, ...]:
+    """Returns all that decides what a loop is compiled to: its code, the numbers that it names, and what it calls."""
     code, names = loop.__code__, loop.__globals__
-    called = {name: getattr(it, "loop", it) for name in code.co_names
-              if isinstance(it := names.get(name), FunctionType) and it.__module__ == loop.__module__}
-    parts = {name: compiled_by(njit, part) for name, part in called.items()}
-    whole = FunctionType(code, {**names, **parts}, closure=loop.__closure__) if parts else loop
+    numbers = [it for name in code.co_names if isinstance(it := names.get(name), (int, float, tuple))]
+    return (code.co_code, code.co_consts, code.co_names, code.co_varnames, numbers,
+            [traits(it) for it in called_by(loop).values()])
+
+
+@contextlib.contextmanager
+def kept(loop: Callable[..., Any]) -> Iterator[str]:
+    """Gives the path of a copy of the source of a loop, which follows from its traits: numba finds what it has kept by
+    the path and the time of a source. In the block one process compiles, and others wait for what it keeps."""
+    path = Path(loop.__code__.co_filename)
+    copy = cache_folder() / hashlib.sha256(repr(traits(loop)).encode()).hexdigest() / path.name
+    with contextlib.ExitStack() as stack:
+        with contextlib.suppress(OSError):  # no folder to keep it in
+            copy.parent.mkdir(parents=True, exist_ok=True)
+            folder = os.open(copy.parent, os.O_RDONLY)
+            stack.callback(os.close, folder)
+            fcntl.flock(folder, fcntl.LOCK_EX)
+            if not copy.exists():
+                shutil.copyfile(path, copy)
+            path = copy
+        yield str(path)
+
+
+def compiled_by(njit: Callable[..., Any], loop: Callable[..., Any], path: str) -> Callable[..., Any]:
+    """Returns a loop as numba compiles it, with the functions of its module that it calls, from a source at a path."""
+    parts = {name: compiled_by(njit, part, path) for name, part in called_by(loop).items()}
+    whole = FunctionType(loop.__code__.replace(co_filename=path), {**loop.__globals__, **parts},
+                         closure=loop.__closure__)
     try:
         made: Callable[..., Any] = njit(cache=True)(whole)
     except RuntimeError:  # no folder to keep it in
@@ -59,16 +93,21 @@ def compiled(plain: Loop, after: int = 0) -> Callable[[Callable[..., Any]], Loop
     numba would be imported. What is made of the results of both must then be equal to the last bit.
     """
     def decorated(loop: Callable[..., Any]) -> Loop:
-        @functools.cache
-        def chosen() -> Callable[..., Any]:
-            return compiled_by(njit, loop) if (njit := numba_njit()) else cast(Callable[..., Any], plain)
-
+        chosen: list[Callable[..., Any]] = []
         calls = itertools.count()
 
         @functools.wraps(loop)
         def run(*words: Any) -> Any:
-            is_plain = left or after and next(calls) < after
-            return plain(*words) if is_plain else chosen()(*words)
+            if left or after and next(calls) < after:
+                return plain(*words)
+            if chosen:
+                return chosen[0](*words)
+            if not (njit := numba_njit()):
+                chosen.append(plain)
+                return plain(*words)
+            with kept(loop) as path:
+                chosen.append(compiled_by(njit, loop, path))
+                return chosen[0](*words)
         run.loop, run.plain = loop, plain  # type: ignore[attr-defined]
         return run  # type: ignore[return-value]
     return decorated

@@ -7,7 +7,7 @@ import numpy as np
 import pytest
 from hypothesis import example, given, settings, strategies as st
 
-from crnplan.compiled import compiled_by, numba_njit
+from crnplan.compiled import composed
 from crnplan.decide.sensitivity import Case, move_of
 from crnplan.scenario import Costs, Scenario
 from crnplan.theory import feasible, long_run, one_lead
@@ -156,10 +156,8 @@ def test_levels_are_the_same_when_compiled(least: int) -> None:
     gaps, lows = np.arange(3, 50), theory.lows_of(60)
     table = theory.figures_from(np.arange(-2, 90))[:3]
     words = table, lows[::-1].copy(), gaps, np.cumsum(lows)[gaps], gaps + least, 0.2, theory.ratio
-    njit = numba_njit()
-    assert njit
     rows = levels_walked.loop(*words)
-    assert compiled_by(njit, levels_walked.loop)(*words).tolist() == rows.tolist() and len(rows) > 20
+    assert composed()(levels_walked.loop)(*words).tolist() == rows.tolist() and len(rows) > 20
 
 
 @pytest.mark.parametrize("share", [0.0, 0.95])
@@ -178,5 +176,4 @@ def test_levels_of_equal_lows_are_those_of_each_gap_alone(share: float) -> None:
     words = (first, np.cumsum(table, axis=1), lows[-1], gaps, np.cumsum(lows)[gaps], floors, allowed, theory.ratio)
     assert even_levels.loop(*words).tolist() == even_levels.plain(*words).tolist() == expected
     assert expected[0] > floors[0] and expected[3] == floors[3] and expected[-1] == most
-    if njit := numba_njit():
-        assert compiled_by(njit, even_levels.loop)(*words).tolist() == expected
+    assert composed()(even_levels.loop)(*words).tolist() == expected

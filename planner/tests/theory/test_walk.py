@@ -5,7 +5,7 @@ import numpy as np
 import pytest
 from hypothesis import given, settings, strategies as st
 
-from crnplan.compiled import compiled_by, numba_njit
+from crnplan.compiled import composed
 from crnplan.law import Law
 from crnplan.theory.walk import (MOST_PRODUCTS, NOTHING, LatticeLaw, Surplus, convolved, factors_of, power_of,
                                  renewal_sequence, room_for, sum_of)
@@ -137,7 +137,6 @@ def test_lows_are_a_renewal_sequence(weights: list[int], first: int, count: int)
 def test_lows_are_the_same_when_compiled(weights: list[int], known: int, count: int) -> None:
     """The first calls run as they are written, so both ways must be equal to the last bit."""
     pytest.importorskip("numba")
-    njit, falls, loop = numba_njit(), np.array([0.0, *weights]) / sum(weights), renewal_sequence.loop
-    assert njit
+    falls, loop = np.array([0.0, *weights]) / sum(weights), renewal_sequence.loop
     lows = loop(np.ones(1), falls, known)
-    assert compiled_by(njit, loop)(lows, falls, count).tolist() == loop(lows, falls, count).tolist()
+    assert composed()(loop)(lows, falls, count).tolist() == loop(lows, falls, count).tolist()
