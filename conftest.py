@@ -29,8 +29,10 @@ PROGRAM = TOP / "crates" / "crnsim" / "out" / "crnsim"
 # The property of a test that stands for so many cases.
 CASES = "cases"
 LOCK = "serial_lock"
-# The property of a run that has which lines are run.
+# The property of a run that has which lines are run, and the folders of the tests whose lines count: all that call
+# crnplan in this process. Others would take twice the processor time.
 MEASURED = "measured_lines"
+COUNTED = "planner", "tests/documents"
 # A worker of a parallel run has at most so many tests waiting, and gets more if half of them are done.
 MOST_WAITING = 6
 # A failure names so many of its cases, and says how many more there are.
@@ -51,7 +53,7 @@ def pytest_addoption(parser: pytest.Parser) -> None:
 
 def pytest_configure(config: pytest.Config) -> None:
     """Chooses the profile of hypothesis, makes the file whose lock the tests of a parallel run take, and measures which
-    lines are run."""
+    lines of crnplan are run."""
     shared: dict[str, Any] = {"deadline": None, "database": None, "suppress_health_check": [HealthCheck.too_slow]}
     settings.register_profile("gate", derandomize=True, **shared)
     settings.register_profile("free", print_blob=True, **shared)
@@ -121,9 +123,11 @@ def is_serial(item: pytest.Item) -> bool:
 def pytest_runtest_protocol(item: pytest.Item) -> Iterator[None]:
     """Runs a test, in a worker under a lock that all share but those that run alone. Waiting is not timed."""
     measured = getattr(item.config, MEASURED, None)
-    if measured and sys.gettrace() is None:  # A test has taken the measurement away.
+    is_counted = any(item.path.is_relative_to(TOP / it) for it in COUNTED)
+    if measured and is_counted == (sys.gettrace() is None):  # Perhaps a test has taken the measurement away.
         measured.stop()
-        measured.start()
+        if is_counted:
+            measured.start()
     if measured and item.config.getoption("--by-test"):
         measured.switch_context(item.nodeid)
     path = getattr(item.config, "workerinput", {}).get(LOCK)
