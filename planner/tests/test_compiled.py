@@ -78,9 +78,11 @@ def half(number):
 
 @composed()
 def halves(values):
+    def added(total, value):
+        return total + value
     total = 0.0
     for value in values:
-        total += half(value)
+        total = added(total, half(value))
     return total
 """
 
@@ -126,11 +128,12 @@ def test_installations_share_loops(installed: Callable[..., ModuleType]) -> None
 
 
 def test_changed_loops_are_compiled(installed: Callable[..., ModuleType]) -> None:
-    """A change of a loop, of a function that it calls, or of a number that these name, is heeded: also if the text was
-    changed after it was read."""
+    """A change of a loop, of a function in it or that it calls, or of a number that these name, is heeded: also if the
+    text was changed after it was read."""
     assert sum_and_compiled(installed("one")) == (3.0, 2)
     assert sum_and_compiled(installed("one", LOOPS.replace("total = 0.0", "total = 1.0"))) == (4.0, 2)
     assert sum_and_compiled(installed("one", LOOPS.replace("number /", "3 * number /"))) == (9.0, 2)
+    assert sum_and_compiled(installed("one", LOOPS.replace("total + value", "total - value"))) == (-3.0, 2)
     assert sum_and_compiled(installed("one", share=4)) == (1.5, 2)
     before = installed("one", LOOPS.replace("number /", "5 * number /"))
     installed("one", LOOPS.replace("number /", "7 * number /"))

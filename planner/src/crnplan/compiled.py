@@ -15,7 +15,7 @@ import os
 import shutil
 from collections.abc import Callable, Iterator
 from pathlib import Path
-from types import FunctionType
+from types import CodeType, FunctionType
 from typing import Any, TypeVar
 
 Loop = TypeVar("Loop", bound=Callable[..., Any])
@@ -47,12 +47,17 @@ def called_by(loop: Callable[..., Any]) -> dict[str, Callable[..., Any]]:
             if isinstance(it := names.get(name), FunctionType) and it.__module__ == loop.__module__}
 
 
-def traits(loop: Callable[..., Any]) -> tuple[Any, ...]:
-    """Returns all that decides what a loop is compiled to: its code, the numbers that it names, and what it calls."""
-    code, names = loop.__code__, loop.__globals__
+def traits_of_code(code: CodeType, names: dict[str, Any]) -> tuple[Any, ...]:
+    """Returns what decides what code is compiled to, if it finds names in a module: its text and that of functions in
+    it, and the numbers that it names."""
+    constants = [traits_of_code(it, names) if isinstance(it, CodeType) else it for it in code.co_consts]
     numbers = [it for name in code.co_names if isinstance(it := names.get(name), (int, float, tuple))]
-    return (code.co_code, code.co_consts, code.co_names, code.co_varnames, numbers,
-            [traits(it) for it in called_by(loop).values()])
+    return code.co_code, constants, code.co_names, code.co_varnames, numbers
+
+
+def traits(loop: Callable[..., Any]) -> tuple[Any, ...]:
+    """Returns all that decides what a loop is compiled to: its code, and that of the functions that it calls."""
+    return traits_of_code(loop.__code__, loop.__globals__), [traits(it) for it in called_by(loop).values()]
 
 
 @contextlib.contextmanager
