@@ -21,8 +21,9 @@ import pandas as pd
 
 from crnplan.demand.fitting import fit_demand
 from crnplan.law import Law
+from crnplan.theory.grid import search
 from crnplan.theory.lattice import theories_of
-from crnplan.theory.long_run import Candidate, search
+from crnplan.theory.long_run import Candidate
 from crnplan.theory.suggestions import FILLS
 from planner.studies.fills import HOLDING, scenario_of
 from planner.studies.laws import COVERS, Truth

@@ -130,6 +130,9 @@ def scaled_costs(costs: Mapping[str, Amount]) -> tuple[dict[str, int], Fraction]
     Each cost is an int, float, Decimal, Fraction or text, such as "12.50". The scale is 1 if that can be, or if all are
     whole. Raises Refused if no scale makes all costs whole and keeps them within their ranges.
     """
+    if len(its := {name: cost for name, cost in costs.items()
+                   if type(cost) is int and cost <= formats.limits("costs", name)[1]}) == len(costs):
+        return its, Fraction(1)
     amounts = dict[str, Fraction]()
     for name, cost in costs.items():
         amount = exact(cost)

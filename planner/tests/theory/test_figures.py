@@ -9,8 +9,9 @@ import pytest
 from hypothesis import given, settings, strategies as st
 
 from crnplan.scenario import Costs, Scenario
+from crnplan.theory.grid import gap_grid
 from crnplan.theory.lattice import NoTheory, shape_of, theories_of, theory_on
-from crnplan.theory.long_run import FEW, LongRun, Means, gap_grid
+from crnplan.theory.long_run import FEW, LongRun, Means
 from crnplan.theory.one_lead import OneLead
 from planner.tests.theory.chain import by_chain
 from planner.tests.theory.long_run_costs import cost_of, shortfall_of

@@ -11,10 +11,11 @@ from crnplan.compiled import composed
 from crnplan.decide.sensitivity import Case, move_of
 from crnplan.scenario import Costs, Scenario
 from crnplan.theory import feasible, long_run, one_lead
+from crnplan.theory.grid import search
 from crnplan.theory.lattice import NoTheory, shape_of, theory_on
-from crnplan.theory.long_run import NO_POLICY, Candidate, search
+from crnplan.theory.long_run import NO_POLICY, Candidate
 from crnplan.theory.many_laws import Promises
-from crnplan.theory.one_lead import even_levels, levels_walked
+from crnplan.theory.one_lead import gaps_walked
 from crnplan.theory.suggestions import MOST_EXCESS
 from planner.tests.theory.long_run_costs import costs_of, fills_of, shortfall_of
 from planner.tests.theory.scenarios import Pair, laws, scenario_of, table, theory_of
@@ -148,32 +149,29 @@ def test_no_policy_within_the_range(monkeypatch: pytest.MonkeyPatch) -> None:
         move_of(Case("as it is", scenario, None), (0, 5))
 
 
-@pytest.mark.parametrize("least", [0, 7])
-def test_levels_are_the_same_when_compiled(least: int) -> None:
-    """The first calls run as they are written, so both ways must be equal to the last bit."""
-    pytest.importorskip("numba")
-    theory = theory_of(scenario_of(((0, 1, 5), (3, 2, 1)), ((2,), (1,)), costs=Costs(60, 0, 1, 9)))
-    gaps, lows = np.arange(3, 50), theory.lows_of(60)
-    table = theory.figures_from(np.arange(-2, 90))[:3]
-    words = table, lows[::-1].copy(), gaps, np.cumsum(lows)[gaps], gaps + least, 0.2, theory.ratio
-    rows = levels_walked.loop(*words)
-    assert composed()(levels_walked.loop)(*words).tolist() == rows.tolist() and len(rows) > 20
-
-
 @pytest.mark.parametrize("share", [0.0, 0.95])
-def test_levels_of_equal_lows_are_those_of_each_gap_alone(share: float) -> None:
-    """Sums over all lows, level by level, beside running sums from some place on; and compiled."""
-    theory = theory_of(scenario_of(((1, 2, 3), (1, 2, 1)), ((5,), (1,)), costs=Costs(60, 0, 1, 9)))
-    lows, gaps, most = theory.lows_of(90), np.arange(60, 91, 5), 93
-    floors = np.maximum(gaps, 86 * (gaps >= 75))
-    table, allowed, even = theory.figures_from(np.arange(-2, most + 1))[:3], theory.allowed(share), 58
-    expected = []
-    for gap, floor in zip(gaps.tolist(), floors.tolist()):
-        sums = {level: table[:, level - gap + 2:level + 3] @ lows[gap::-1] for level in range(floor, most)}
-        expected.append(next((level for level, (_, unmet, held) in sums.items() if unmet <= allowed * lows[:gap + 1].sum()
-                              and held >= theory.ratio * lows[:gap + 1].sum()), most))
-    first = np.array([np.convolve(lows[:even] - lows[-1], row)[:len(row)] for row in table])
-    words = (first, np.cumsum(table, axis=1), lows[-1], gaps, np.cumsum(lows)[gaps], floors, allowed, theory.ratio)
-    assert even_levels.loop(*words).tolist() == even_levels.plain(*words).tolist() == expected
-    assert expected[0] > floors[0] and expected[3] == floors[3] and expected[-1] == most
-    assert composed()(even_levels.loop)(*words).tolist() == expected
+@pytest.mark.parametrize("step, even", [(1, 99), (1, 40), (3, 99), (3, 40)])
+def test_each_gap_beside_all_its_levels(step: int, even: int, share: float) -> None:
+    """Of each gap that is looked at the level is the cheapest one that is enough, and no other gap costs less: also with
+    equal lows from some place on. The first calls run as they are written: both ways are equal to the last bit."""
+    scenario = scenario_of(((1, 2, 3), (1, 2, 1)), ((5,), (1,)), costs=Costs(900, 0, 1, 9))
+    theory = theory_on(scenario, shape_of(scenario), step, step == 1)
+    lows, gaps, last = theory.lows_of(80), np.arange(8, 81), 120
+    table, leasts = theory.figures_from(step * np.arange(-2, last + 1)), step * gaps + 26 * (gaps >= 35 // step)
+    allowed, cycle, expected = theory.allowed(share) if share else math.inf, theory.setup / theory.span, []
+    for gap, least in zip(gaps.tolist(), leasts.tolist()):
+        sums, cells = [table[:2, it - gap + 2:it + 3] @ lows[gap::-1] for it in range(gap, last + 1)], range(gap, last + 1)
+        levels = np.arange(least, step * last + 1)
+        costs, unmet = (np.interp(levels, step * np.array(cells), its) / lows[:gap + 1].sum() for its in zip(*sums))
+        costs[unmet > allowed * (1 + 1e-12)] = math.inf
+        place = int(np.argmin(costs))
+        expected.append((levels[place], cycle / lows[:gap + 1].sum() + costs[place]))
+    added = [np.convolve(lows[:even] - lows[-1], row)[:len(row)] for row in table[:3]]
+    words = (gaps, leasts, lows, table, np.concatenate([added, np.cumsum(table[:3], axis=1)]), even, step, step * last,
+             cycle, np.zeros(2), allowed, theory.ratio, math.inf)
+    rows = gaps_walked.loop(*words)
+    for gap, level, cost in rows.tolist():
+        assert (level, pytest.approx(cost, rel=1e-12)) == expected[int(gap) - 8]
+    best = min(cost for _, cost in expected)
+    assert 20 < len(rows) < len(gaps) and rows[:, 2].min() == pytest.approx(best, rel=1e-12)
+    assert composed()(gaps_walked.loop)(*words).tolist() == rows.tolist()

@@ -1,14 +1,16 @@
 """Tests sums and tails of laws with direct sums, and the lows and heights of a walk with its steps one by one."""
 from __future__ import annotations
 
+from typing import Any
+
 import numpy as np
 import pytest
 from hypothesis import given, settings, strategies as st
 
 from crnplan.compiled import composed
 from crnplan.law import Law
-from crnplan.theory.walk import (MOST_PRODUCTS, NOTHING, LatticeLaw, Surplus, convolved, factors_of, power_of,
-                                 renewal_sequence, room_for, sum_of)
+from crnplan.theory.walk import (MOST_PRODUCTS, NOTHING, LatticeLaw, Surplus, convolved, cut, factors_of, figures_at,
+                                 power_of, renewal_sequence, room_for, shared, sum_of, summed)
 from planner.tests.theory.scenarios import table
 
 MOST_HEIGHT = 300
@@ -140,3 +142,24 @@ def test_lows_are_the_same_when_compiled(weights: list[int], known: int, count: 
     falls, loop = np.array([0.0, *weights]) / sum(weights), renewal_sequence.loop
     lows = loop(np.ones(1), falls, known)
     assert composed()(loop)(lows, falls, count).tolist() == loop(lows, falls, count).tolist()
+
+
+def same_of(loop: Any, *words: Any) -> list[Any]:
+    """Returns what a loop returns: to the last bit what stands in for it does, and what it is compiled to."""
+    results = [way(*words) for way in (loop.loop, loop.plain, composed()(loop.loop))]
+    first, *others = ([np.asarray(it).tolist() for it in (its if isinstance(its, tuple) else [its])] for its in results)
+    assert all(other == first for other in others)
+    return first
+
+
+@pytest.mark.parametrize("step", [1, 3])
+def test_sums_are_the_same_when_compiled(step: int) -> None:
+    """The first calls run in numpy, so both ways must be equal to the last bit."""
+    cells, = same_of(shared, np.array([2, 3, 7, 40]), np.array([0.2, 0.3, 0.1, 0.4]), step)
+    low, chances = same_of(cut, np.array([-1e-19, 1e-19, *cells, -1e-18, 1e-18]))
+    sums, = same_of(summed, np.array(chances), low, step)
+    figures, = same_of(figures_at, np.arange(-20, 99), step, low, *np.array(sums), 0, *np.array(sums)[:, 2:], 3, 7)
+    assert low == 4 - 2 * (step > 1) and len(chances) == 40 // step - low + 3 + (step > 1)
+    assert sum(cells) == pytest.approx(1) and sums[1][-1] == pytest.approx(step * sum(
+        cell * chance for cell, chance in enumerate(chances, low)))
+    assert figures[2][0] == 0 and figures[3][-1] == pytest.approx(98 - sums[1][-1])

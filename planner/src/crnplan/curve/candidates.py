@@ -20,7 +20,8 @@ from ..plan.one import or_fault
 from ..plan.question import Settings, Terms, rates_of
 from ..records.item import Item
 from ..remarks import Remark
-from ..theory.long_run import STOCK_LEFT, UNMET, LongRun, Means, gap_grid
+from ..theory.grid import gap_grid
+from ..theory.long_run import STOCK_LEFT, UNMET, LongRun, Means
 from ..theory.one_lead import OneLead
 from .every_gap import best_levels, best_policies
 

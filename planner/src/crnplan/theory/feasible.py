@@ -52,6 +52,8 @@ class Feasible:
         """Returns S - s for cells of a lattice: the least in the cell; if the lattice is not exact, one from its middle
         on if there is one, and room for it below the greatest S. If there is none in the cell, it is beyond."""
         low, most = cell * step, self.top - self.least
+        if exact and self.has_all_gaps:
+            return low
         near = low + (0 if exact else (step - 1) // 2)
         near -= (near - most) * (near > most) * (low <= most)
         if self.has_all_gaps:
@@ -61,9 +63,9 @@ class Feasible:
 
     def has(self, point: Any, level: Any) -> Any:
         """Returns whether pairs may be chosen, whatever S - s is but for multiples."""
-        multiple = self.multiple
-        return ((self.least <= point) & (point <= level) & (level <= self.top) & (point % multiple == 0)
-                & (level % multiple == 0))
+        is_within = (self.least <= point) & (point <= level) & (level <= self.top)
+        return is_within if self.multiple == 1 else (
+            is_within & (point % self.multiple == 0) & (level % self.multiple == 0))
 
     def allows(self, point: int, level: int) -> bool:
         """Returns whether a pair may be chosen."""

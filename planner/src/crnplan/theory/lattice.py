@@ -12,16 +12,15 @@ from dataclasses import dataclass
 
 import numpy as np
 
-from ..chances import Whole
 from ..errors import Refused
 from ..formats import MOST_ITEMS
-from ..law import Law
 from ..scenario import Scenario
 from .feasible import ALL, Feasible
-from .long_run import LongRun, gap_grid
+from .grid import gap_grid
+from .long_run import LongRun
 from .one_lead import OneLead
 from .shortfalls import work_of
-from .walk import DIGITS, LatticeLaw, decay_of, net_tables, sum_of
+from .walk import DIGITS, LatticeLaw, chances_in, decay_of, net_tables, sum_of
 
 # Tables of this size are searched in at most half a second: gaps with one lead time, and work for late orders with
 # several, by `work_of`.
@@ -92,12 +91,6 @@ class Shape:
         return self.has_room(step) and gap <= most_gaps and self.level / step <= MOST_CELLS
 
 
-def mean_of(table: Law, function: Callable[[Whole], Whole]) -> float:
-    """Returns the mean of a function of a table's values."""
-    values, weights = np.array(table.values), np.array(table.weights, float)
-    return float(weights @ function(values) / weights.sum())
-
-
 def shape_of(scenario: Scenario) -> Shape:
     """Returns the shape of a scenario. Raises NoTheory if it has no best policy."""
     costs, tables = scenario.costs, net_tables(scenario)
@@ -105,8 +98,9 @@ def shape_of(scenario: Scenario) -> Shape:
         if cost == 0:
             raise NoTheory(f"the cost {name} is 0, so there is no best policy: stock, or being short, costs nothing; "
                            "give it a cost above 0", "costs", name)
-    demand, back = (mean_of(table, lambda values: values) for table in tables)
-    mean, squares = demand - back, sum(mean_of(table, lambda values: values**2) for table in tables)
+    laws = [chances_in(table) for table in tables]
+    demand, back = (float(chances @ values) for values, chances in laws)
+    mean, squares = demand - back, float(sum(chances @ values**2 for values, chances in laws))
     variance = squares - demand**2 - back**2
     if mean <= 1e-9 * demand:
         raise NoTheory(f"on average {back:g} items come back and {demand:g} are asked for in a period, so there is "
@@ -114,19 +108,15 @@ def shape_of(scenario: Scenario) -> Shape:
                        "no item is ever asked for; give a demand above 0 a weight", "demand")
     rate = 2 * costs.setup * (costs.holding + costs.backlog) / (costs.holding * costs.backlog)
     order = math.sqrt(rate * mean) + (rate * variance)**(1 / 3)
-    values, leads = [*tables[0].chances, *tables[1].chances], scenario.lead.chances
-    height = 0.0
+    values, (leads, _), height = np.concatenate([values for values, _ in laws]), chances_in(scenario.lead), 0.0
+    high = int(values.max())
     if back:  # Returns may lift the stock so far above S: beyond, the chance is below any rounding.
-        step = max(1, max(values) // CELLS_OF_SHAPE)
+        step = max(1, high // CELLS_OF_SHAPE)
         net = sum_of(LatticeLaw.of(tables[0], step), LatticeLaw.of(tables[1], step).reflected)
         height = 0.0 if net.low >= 0 else step * DIGITS / decay_of(net)
     rise = max(0, max(tables[1].values) - min(tables[0].values))
-    return Shape(math.gcd(*values), mean, math.sqrt(variance), max(values), max(leads), len(leads), order, height, rise)
-
-
-def blur(scenario: Scenario, step: int) -> float:
-    """Returns the variance that a lattice adds to the demand and the returns of a period."""
-    return sum(mean_of(table, lambda values: values % step * (step - values % step)) for table in net_tables(scenario))
+    return Shape(int(np.gcd.reduce(values)), mean, math.sqrt(variance), high, int(leads[-1]), len(leads), order, height,
+                 rise)
 
 
 def finest(base: int, largest: float, excess: Callable[[int], float],
@@ -154,8 +144,12 @@ def lattice_of(scenario: Scenario, shape: Shape, widest: int, most_gaps: int = M
                        "runs")
     if least == base:
         return base, True
-    steps = range(least, int(COARSER * least) + 1, base)
-    return min(steps, key=lambda step: blur(scenario, step)), False
+    laws = [chances_in(table) for table in net_tables(scenario)]
+
+    def blur(step: int) -> float:
+        """Returns the variance that a lattice adds to the demand and the returns of a period."""
+        return sum(float(chances @ (values % step * (step - values % step))) for values, chances in laws)
+    return min(range(least, int(COARSER * least) + 1, base), key=blur), False
 
 
 def theory_on(scenario: Scenario, shape: Shape, step: int, exact: bool, feasible: Feasible = ALL,

@@ -31,17 +31,15 @@ from ..chances import Floats, Whole
 from ..formats import MOST_ITEMS
 from ..scenario import Costs, Scenario
 from .feasible import ALL, Feasible, Places
+from .grid import CLOSE, gap_grid, search
 from .least import NEAR, least_costs, least_enough, levels_within
 from .shortfalls import chances_of, falling, lateness, moving, transforms_of, work_of
-from .walk import LatticeLaw, Surplus, Walk, power_of, room_for, sum_of
+from .walk import LatticeLaw, Surplus, Walk, figures_at, power_of, room_for, sum_of
 
-GRID_GROWTH = 1.15
-SMALL_GAP = 8
 FEW = 4  # Of the gaps of a grid, one in so many is looked at for a first policy.
 MOST_CELLS = 50_000  # of tables with a row for each of many gaps
 MOST_FLOORS = 3_000  # Wider gaps are all looked at.
 MOST_WORK = 20_000_000  # for all gaps of a search, by `work_of`
-CLOSE = 1 + 1e-9  # Costs whose ratio is at most this are equal but for rounding.
 UNMET, STOCK_LEFT = 1, 3  # rows of `LongRun.figures_from`
 
 
@@ -91,7 +89,7 @@ class Means:
     def __init__(self, theory: LongRun, gaps: Whole) -> None:
         """Computes for each gap the chances of how far a low is below S, and the figures of all levels of lows."""
         self.gaps = gaps
-        low, self.chances = theory.rows_of(gaps)
+        low, self.chances = -theory.above, theory.rows_of(gaps)
         self.width = self.chances.shape[1]
         self.top = max(int(theory.floor(gaps[-1])), low + self.width + theory.after.high) + 1
         self.figures = theory.figures_from(theory.step * np.arange(-self.width - low, self.top - low + 1))
@@ -124,33 +122,6 @@ def place_of_least(costs: Floats) -> int:
     return int(np.argmax(costs <= costs.min() * (1 + NEAR)))
 
 
-def gap_grid(most: int) -> list[int]:
-    """Returns gaps from 0 to the most: all of them while they are small, and further apart as they grow."""
-    gaps, gap = [], 0
-    while gap < most:
-        gaps.append(gap)
-        gap = gap + 1 if gap < SMALL_GAP else max(gap + 1, int(gap * GRID_GROWTH))
-    return [*gaps, most]
-
-
-def search(policies_of: Callable[[Sequence[int]], Iterable[Candidate]], most: int) -> Candidate:
-    """Returns the cheapest policy over the gaps up to the most: on a grid of gaps, and then ever finer beside the best.
-
-    Costs may have several valleys over the gaps, so beyond the grid's first gaps a better one can be missed:
-    `planner.studies.search` measures by how much. Of costs that are equal but for rounding the first is taken.
-    """
-    grid = gap_grid(most)
-    known = dict(zip(grid, policies_of(grid)))
-    while True:
-        gaps, least = sorted(known), min(known.values()).cost
-        place, best = next((place, gap) for place, gap in enumerate(gaps) if known[gap].cost <= CLOSE * least)
-        below, above = gaps[max(place - 1, 0)], gaps[min(place + 1, len(gaps) - 1)]
-        between = sorted({(below + best) // 2, (best + above + 1) // 2} - known.keys())
-        if not between:
-            return known[best]
-        known.update(zip(between, policies_of(between)))
-
-
 class LongRun(Walk):
     """The figures of a scenario's policies on a lattice, and searches for the cheapest of feasible ones, which look at
     all gaps that matter, unless these take too long. With one lead time `OneLead` is faster."""
@@ -177,7 +148,7 @@ class LongRun(Walk):
         self.beside = self.above + max(self.net.high, power_of(self.net, len(self.late)).high)
         if len(leads) == 1:
             under_way = sum_of(under_way, self.above_low)
-            self.beside = under_way.high
+            self.above, self.beside = 0, under_way.high
         self.after = sum_of(under_way, self.net)
         self.one_period = Surplus(self.after, step)
         self.one_before = Surplus(sum_of(under_way, self.back.reflected), step)
@@ -203,7 +174,8 @@ class LongRun(Walk):
 
     def has(self, policy: Candidate) -> bool:
         """Returns whether a policy is feasible, or one with its gap and level."""
-        return self.policy(self.gap_of(policy.point, policy.level), policy.level).cost < math.inf
+        gap = self.gap_of(policy.point, policy.level)
+        return self.fits(gap, policy.level - self.items(gap), policy.level)
 
     @property
     def usual_gap(self) -> float:
@@ -218,22 +190,23 @@ class LongRun(Walk):
     def figures_from(self, levels: Whole) -> Floats:
         """Returns rows with stock costs, unmet demand, the chance of no backlog and the stock at the end of a period
         that starts from lows at these levels, in items."""
-        place = self.one_period.place(levels)
-        held = self.one_period.below[place]
-        stock = levels * held - self.one_period.taken[place]
-        owed = stock - levels + self.one_period.mean
-        costs = self.holding * stock + self.backlog * owed
-        return np.array([costs, owed - self.one_before.lacking(levels), held, stock])
+        after, before = self.one_period, self.one_before
+        return figures_at(levels, self.step, after.law.low, after.below, after.taken, before.law.low, before.below,
+                          before.taken, self.holding, self.backlog)
 
-    def rows_of(self, gaps: Whole) -> tuple[int, Floats]:
-        """Returns the chances of how far a low of `figures_from` is below S, a row for each gap, and their first cell."""
-        for some in self.parts(sorted({*gaps.tolist()} - self.shorts.keys())):
+    def lows_below(self, gaps: Sequence[int]) -> Iterable[Floats]:
+        """Returns for each gap the chances of how far a low of `figures_from` is below S, from the cell -above on."""
+        for some in self.parts(sorted({*gaps} - self.shorts.keys())):
             self.keep(some, self.shortfalls(some))
-        shorts = [self.shorts[gap] for gap in gaps.tolist()]
-        chances = np.zeros((len(shorts), max(map(len, shorts))))
-        for row, short in zip(chances, shorts):
-            row[:len(short)] = short
-        return -self.above, chances
+        return [self.shorts[gap] for gap in gaps]
+
+    def rows_of(self, gaps: Whole) -> Floats:
+        """Returns what `lows_below` does, a row for each gap."""
+        lows = [*self.lows_below(gaps.tolist())]
+        chances = np.zeros((len(lows), max(map(len, lows))))
+        for row, its in zip(chances, lows):
+            row[:len(its)] = its
+        return chances
 
     def keep(self, gaps: Whole, rows: Floats) -> None:
         """Keeps what `shortfalls` returns for some gaps."""
@@ -255,8 +228,8 @@ class LongRun(Walk):
 
     def below(self, gap: int) -> LatticeLaw:
         """Returns the law of how far the stock at the end of a period is below S, in cells."""
-        low, rows = self.rows_of(np.array([gap]))
-        return sum_of(LatticeLaw.scaled(low, rows[0]), self.after)
+        lows, = self.lows_below([gap])
+        return sum_of(LatticeLaw.scaled(-self.above, lows), self.after)
 
     def reach(self, cost: float) -> float:
         """Returns how high the lows of a policy are at most on average, in items, if it costs no more."""
@@ -273,14 +246,20 @@ class LongRun(Walk):
 
     def is_gap(self, gap: Places) -> Any:
         """Returns whether a feasible policy may have a gap."""
-        return self.items(gap) < (gap + 1) * self.step
+        return self.feasible.has_all_gaps or self.items(gap) < (gap + 1) * self.step
 
-    def gaps(self, first: int, most: int) -> list[int]:
+    def every_gap(self, first: int, most: int) -> Whole:
         """Returns the gaps from the first to the most that feasible policies may have."""
         most_items = self.feasible.top - self.feasible.least
         gaps = np.arange(first, min(most, most_items // self.step) + 1)
-        kept: list[int] = gaps[self.is_gap(gaps) & (self.items(gaps) <= most_items)].tolist()
+        if self.feasible.has_all_gaps:
+            return gaps
+        kept: Whole = gaps[self.is_gap(gaps) & (self.items(gaps) <= most_items)]
         return kept
+
+    def gaps(self, first: int, most: int) -> list[int]:
+        """Returns these as a list."""
+        return [*map(int, self.every_gap(first, most))]
 
     def grid(self) -> list[int]:
         """Returns a few gaps that feasible policies may have, further apart as they grow; none if there are none."""
@@ -306,21 +285,23 @@ class LongRun(Walk):
         """Computes the figures of gaps, each with an order-up-to level: together they take less time."""
         if not (new := sorted(asked - self.figured.keys())):
             return
-        gaps, levels = np.transpose(new)
-        low, rows = self.rows_of(gaps)
-        tables = self.figures_from(levels[:, None] - self.step * np.arange(low, low + rows.shape[1]))
-        for pair, table, row in zip(new, tables.transpose(1, 0, 2), rows):
-            (stock_cost, unmet, held, stock), orders = (table @ row).tolist(), 1 / self.periods(pair[0])
+        for (gap, level), row in zip(new, self.lows_below([gap for gap, _ in new])):
+            levels = level - self.step * (np.arange(len(row)) - self.above)
+            table, orders = self.figures_from(levels), 1 / self.periods(gap)
+            stock_cost, unmet, held, stock = (table @ row).tolist()
             cost = self.setup * orders + stock_cost
-            self.figured[pair] = Figures(cost, 1 - unmet / self.asked, 1 - held, stock, orders)
+            self.figured[gap, level] = Figures(cost, 1 - unmet / self.asked, 1 - held, stock, orders)
 
     def policy(self, gap: int, level: int, point: int | None = None) -> Candidate:
         """Returns the policy of a gap with a level, and perhaps a point; none if it is not feasible."""
         point = level - self.items(gap) if point is None else point
+        fits = self.fits(gap, point, level)
+        return Candidate(self.figures_of_gap(gap, level).cost, point, level) if fits else NO_POLICY
+
+    def fits(self, gap: int, point: int, level: int) -> bool:
+        """Returns whether a policy is feasible and has this gap."""
         is_gap = self.items(gap) <= level - point < (gap + 1) * self.step
-        if not (is_gap and self.feasible.has(point, level)):
-            return NO_POLICY
-        return Candidate(self.figures_of_gap(gap, level).cost, point, level)
+        return bool(is_gap and self.feasible.has(point, level))
 
     def allowed(self, share: float) -> float:
         """Returns how much demand of a period may not be met at once, in items, if this share is to be met."""
@@ -393,6 +374,8 @@ class LongRun(Walk):
 
     def spare_of(self, places: GapLevels, allowed: float) -> Whole:
         """Returns how far below these places a level can be, in items, less than a cell, if so much may be unmet."""
+        if self.step == 1:
+            return np.zeros(len(places.gaps), int)
         free, slope = allowed * places.totals - places.here[1], places.below[1] - places.here[1]
         spare = np.minimum(self.step * np.divide(free, slope, where=slope > 0, out=np.ones_like(free)), self.step - 1)
         least = self.items(places.gaps) + self.feasible.least
@@ -425,11 +408,11 @@ class LongRun(Walk):
     def cheapest(self, levels_of: LevelsOf, lowest: int, share: float = 0.0) -> tuple[int, int]:
         """Returns the gap and the level of the cheapest policy of all gaps that may cost least, if s is at least
         `lowest` and a share of demand is met at once; or what a search finds if these take too long."""
-        known, floors = math.inf, np.full(self.most + 1, -math.inf)
+        known, most, floors = math.inf, self.most, np.empty(0)
 
         def policies_of(gaps: Sequence[int]) -> list[Candidate]:
             """Returns policies of gaps, with infinite costs if they cost more than one that is known."""
-            looked = [gap for gap in gaps if gap >= len(floors) or floors[gap] <= CLOSE * known]
+            looked = [gap for gap in gaps if gap <= most and (gap >= len(floors) or floors[gap] <= CLOSE * known)]
             levels, costs = self.costed(levels_of, looked) if looked else (np.empty(0, int), np.empty(0))
             found = dict(zip(looked, zip(costs.tolist(), levels.tolist())))
             # Gaps stand in place of reorder points.
@@ -437,9 +420,9 @@ class LongRun(Walk):
         grid = self.grid()
         for some in ([min(grid, key=lambda gap: abs(gap - self.usual_gap))], grid) if grid else ():
             known = min(known, min(policies_of(some)).cost)
+            most = self.widest(known, lowest) if known < math.inf else most
             if len(self.late) and known < math.inf:
-                floors = self.floors(share, min(self.widest(known, lowest), MOST_FLOORS))
-        most = self.widest(known, lowest)
+                floors = self.floors(share, min(most, MOST_FLOORS))
         if known == math.inf:
             return 0, -1
         if (most + 1) * work_of(power_of(self.net, self.longest).high + most, self.longest) > self.most_work:
@@ -456,8 +439,9 @@ class LongRun(Walk):
         if it is feasible."""
         if share not in self.found:
             free = self.free.best(share) if self.feasible != ALL else NO_POLICY
-            here = self.policy(self.gap_of(free.point, free.level), free.level) if free.cost < math.inf else NO_POLICY
-            self.found[share] = here if here.cost < math.inf else self.best_within(share)
+            is_free = free.cost < math.inf and self.has(free)
+            point = free.level - self.items(self.gap_of(free.point, free.level))
+            self.found[share] = free._replace(point=point) if is_free else self.best_within(share)
         return self.found[share]
 
     def best_within(self, share: float) -> Candidate:

@@ -6,10 +6,13 @@ demand of L + 1 periods (Zipkin, Foundations of Inventory Management, 2000, chap
     C(g, S) = (setup / span + the sum of m(j) G(S - j) over j = 0 .. g) / M(g)
 
 a period, with m and M as in `long_run.py`. G(y) is the mean cost of stock and backlog of a period that starts from a
-low at y. Gaps up to `widest` are looked at, and s from `lowest` on: if G(s) is above C(g, S), the policy with the gap
-g - 1 and the same S costs less. It meets more demand at once too, since the lowest of all lows meets least. So the best
-policy, also with a fill rate, has G(s) of at most its cost, unless its gap is the least feasible one. That one is
-looked at in any case.
+low at y. If G(s) is above C(g, S), the policy with the gap g - 1 and the same S costs less. It meets more demand at once
+too, since the lowest of all lows meets least. So the best policy, also with a fill rate, has G(s) of at most its cost,
+unless its gap is the least feasible one.
+
+Let C be the least cost of the gap g, and F that of any low. The lows of a wider gap n cost M(g) C and F for each further
+one, if not more. So if a policy costs B, none with the gap n is better as long as M(n) - M(g) is less than
+M(g) (C - B) / (B - F).
 
 Of each gap the least level is sought that meets the share and is at least the newsvendor's (compare Zheng and
 Federgruen, Finding optimal (s,S) policies is about as simple as evaluating a single policy, 1991).
@@ -17,127 +20,97 @@ Federgruen, Finding optimal (s,S) policies is about as simple as evaluating a si
 from __future__ import annotations
 
 import math
-from typing import Any
+from collections.abc import Iterable, Sequence
 
 import numpy as np
 import numpy.typing as npt
 
 from ..chances import Floats, Whole
-from ..compiled import PLAIN_CALLS, compiled, composed
+from ..compiled import PLAIN_CALLS, composed
 from ..formats import MOST_ITEMS
-from .least import least_levels
-from .long_run import CLOSE, NO_POLICY, Candidate, GapLevels, LongRun, place_of_least
+from .grid import CLOSE
+from .least import NEAR
+from .long_run import NO_POLICY, Candidate, LongRun, place_of_least
 from .walk import convolved
 
 EVEN = 1e-10  # Chances that differ by no more than this share are taken as the same by a search, not for figures.
+MOST_WALKED = 1_000  # Up to so many lows, sums over them take less time than those of all levels at once.
 
 
-def is_enough(sums: Any, total: Any, allowed: float, ratio: float) -> Any:
-    """Returns whether a level with these sums is enough: see `Lows`."""
-    return (sums[1] <= allowed * total) & (sums[2] >= ratio * total)
+def sum_at(table: Floats, turned: Floats, evened: Floats, even: int, gap: int, level: int, row: int) -> float:
+    """Returns the sum of a figure over the lows of a gap with a level: see `gaps_walked`."""
+    here, below = level + 2, level + 1 - gap
+    if gap < even:
+        total: float = np.dot(table[row, below + 1:here + 1], turned[len(turned) - gap - 1:])
+    else:
+        total = evened[row, here] + turned[0] * (evened[row + 3, here] - evened[row + 3, below])
+    return total
 
 
-def sums_at(table: Floats, turned: Floats, gap: int, level: int) -> Floats:
-    """Returns the sums of a gap and a level."""
-    sums, own, first = np.empty(3), turned[len(turned) - gap - 1:], level - gap + 2
-    for row in range(3):
-        sums[row] = np.dot(table[row, first:first + gap + 1], own)
-    return sums
+def least_level(table: Floats, turned: Floats, evened: Floats, even: int, gap: int, low: int, allowed: float,
+                ratio: float) -> int:
+    """Returns the least level of a gap from one on that is enough, or the one above the table: it is looked for in
+    strides that double until they are too long. `allowed` and `ratio` are those of all lows together."""
+    high, place, stride, is_found = table.shape[1] - 2, low, 1, False
+    while low < high:
+        if sum_at(table, turned, evened, even, gap, place, 2) >= ratio and (
+                allowed == np.inf or sum_at(table, turned, evened, even, gap, place, 1) <= allowed):
+            high, is_found = place, True
+        else:
+            low = place + 1
+        place = (low + high) // 2 if is_found else min(low + stride, high) - 1
+        stride *= 2
+    return low
+
+
+def spare_at(table: Floats, turned: Floats, evened: Floats, even: int, gap: int, level: int, allowed: float,
+             ratio: float) -> float:
+    """Returns how far below a level, as a share of a cell, another one of a gap is enough: see `least_level`."""
+    if sum_at(table, turned, evened, even, gap, level - 1, 2) < ratio:
+        return 0.0
+    unmet = sum_at(table, turned, evened, even, gap, level, 1)
+    slope = sum_at(table, turned, evened, even, gap, level - 1, 1) - unmet
+    return (allowed - unmet) / slope if slope > 0 else 1.0
 
 
 @composed(after=PLAIN_CALLS)
-def levels_walked(table: Floats, turned: Floats, gaps: Whole, totals: Floats, floors: Whole, allowed: float,
-                  ratio: float) -> Floats:
-    """Returns a row for each gap of `Lows.walked`: its level, and the sums there and a cell below."""
-    level, last, rows, here, below = floors[0], table.shape[1] - 3, np.empty((len(gaps), 7)), np.zeros(3), np.zeros(3)
-    high = last
-    for each in range(len(gaps)):
-        gap, total, low = gaps[each], totals[each], turned[len(turned) - gaps[each] - 1]
-        while each == 0 and level < high:
-            middle = (level + high) // 2
-            if is_enough(sums_at(table, turned, gap, middle), total, allowed, ratio):
-                high = middle
-            else:
-                level = middle + 1
-        if each == 0 or level < floors[each]:
-            level = max(level, floors[each])
-            here, below = sums_at(table, turned, gap, level), sums_at(table, turned, gap, level - 1)
-        else:
-            here, below = here + low * table[:, level - gap + 2], below + low * table[:, level - gap + 1]
-        while level < last and not is_enough(here, total, allowed, ratio):
-            level, below = level + 1, here
-            here = sums_at(table, turned, gap, level)
-        if not is_enough(here, total, allowed, ratio):
-            return rows[:each]
-        rows[each, 0], rows[each, 1:4], rows[each, 4:] = level, here, below
-    return rows
+def gaps_walked(gaps: Whole, leasts: Whole, lows: Floats, table: Floats, evened: Floats, even: int, step: int, top: int,
+                setup: float, line: Floats, allowed: float, ratio: float, known: float) -> Floats:
+    """Returns rows with the gaps that are looked at, the best level of each, in items, and what both cost.
 
+    `gaps` rise, and `leasts` has the least feasible level of each, in items; the greatest is the `top`. `lows` has the
+    chances of the lows up to the widest gap. `table` has, for levels of lows from -2 cells on, the stock costs, the
+    unmet demand and the chance of no backlog of a period. From the gap `even` on sums over lows follow from `evened`:
+    rows with what the lows before `even` add to these three at each level, as far as they have other chances than the
+    last low, and rows with the sums of the table up to each level.
 
-def even_sums(first: Floats, summed: Floats, low: float, gaps: Whole, levels: Whole) -> Floats:
-    """Returns the sums of gaps with a level each. `first` has what uneven lows add at each level, and `summed` the sums
-    of the table up to each level."""
-    sums: Floats = first[:, levels + 2] + low * (summed[:, levels + 2] - summed[:, levels + 1 - gaps])
-    return sums
-
-
-def even_by_halving(first: Floats, summed: Floats, low: float, gaps: Whole, totals: Floats, floors: Whole,
-                    allowed: float, ratio: float) -> Whole:
-    """Returns the levels of `Lows.spread`, whose floors rise, or the last of the table if none is enough."""
-    highest = np.full(len(gaps), first.shape[1] - 3)  # no floor is beyond the table
-    return least_levels(floors, highest, lambda levels: is_enough(
-        even_sums(first, summed, low, gaps, levels), totals, allowed, ratio))
-
-
-@compiled(even_by_halving, PLAIN_CALLS)
-def even_levels(first: Floats, summed: Floats, low: float, gaps: Whole, totals: Floats, floors: Whole, allowed: float,
-                ratio: float) -> Whole:
-    levels, level, last = np.empty_like(gaps), 0, first.shape[1] - 3
-    for each, gap in enumerate(gaps):
-        level = max(level, floors[each])
-        while level < last:
-            here, below = level + 2, level + 1 - gap
-            unmet = first[1, here] + low * (summed[1, here] - summed[1, below])
-            held = first[2, here] + low * (summed[2, here] - summed[2, below])
-            if unmet <= allowed * totals[each] and held >= ratio * totals[each]:
-                break
-            level += 1
-        levels[each] = level
-    return levels
-
-
-class Lows:
-    """Sums over the lows of a policy: of stock costs, unmet demand and chances of no backlog, at the end of a period
-    that starts from a low.
-
-    `table` has these three as rows, and a column for each level from -2 on, in cells. A level is enough if the mean
-    unmet demand is at most `allowed`, and the mean chance of no backlog at least `ratio`. From the place `even` on all
-    places are lows with the same chance, so the sums of wider gaps follow from sums over all levels below.
+    A level is enough if the mean unmet demand is at most `allowed`, and the mean chance of no backlog at least `ratio`.
+    The least one does not fall from one gap to the next. Gaps are left out that cost more than `known`, or than one
+    before: see the module. `setup` is that of a cycle. All else costs at least `line[0]`, and `line[1]` more by cell.
     """
-
-    def __init__(self, lows: Floats, table: Floats, allowed: float, ratio: float) -> None:
-        """Takes the chances of the lows, up to the widest gap."""
-        self.turned, self.table = lows[::-1].copy(), table
-        self.allowed, self.ratio = allowed, ratio
-        self.chances, self.counts = lows, np.cumsum(lows)
-        self.last = table.shape[1] - 3
-        self.even = int(np.flatnonzero(np.append(1.0, abs(lows - lows[-1]) > EVEN * lows[-1]))[-1])
-
-    def walked(self, gaps: Whole, floors: Whole) -> GapLevels:
-        """Returns for each of some rising gaps the least level from a floor on that is enough, if the table has it: it
-        does not fall from one gap to the next. Between the gaps are no lows."""
-        totals = self.counts[gaps]
-        rows = levels_walked(self.table, self.turned, gaps, totals, floors, self.allowed, self.ratio)
-        return GapLevels(gaps[:len(rows)], rows[:, 0].astype(int), totals[:len(rows)], rows[:, 1:4].T, rows[:, 4:].T)
-
-    def spread(self, gaps: Whole, floors: Whole) -> GapLevels:
-        """Returns for gaps of at least `even` the least level from a floor on that is enough, if the table has it."""
-        low, totals = float(self.chances[-1]), self.counts[gaps]
-        uneven, summed = self.chances[:self.even] - low, np.cumsum(self.table, axis=1)
-        first = np.array([convolved(uneven, row)[:len(row)] for row in self.table]) if self.even else 0 * self.table
-        levels = even_levels(first, summed, low, gaps, totals, floors, self.allowed, self.ratio)
-        here, below = (even_sums(first, summed, low, gaps, cells) for cells in (levels, levels - 1))
-        kept = is_enough(here, totals, self.allowed, self.ratio)
-        return GapLevels(gaps[kept], levels[kept], totals[kept], here[:, kept], below[:, kept])
+    turned, last, least_cost, rows = lows[::-1].copy(), table.shape[1] - 3, table[0].min(), np.empty((len(gaps), 3))
+    count, added, level, total, due = 0, 0, 0, 0.0, 0.0
+    for each, gap in enumerate(gaps):
+        while added <= gap:
+            total, added = total + lows[added], added + 1
+        floor = least_cost if each == 0 else max(least_cost, line[0] + line[1] * gap)
+        first = max(level, -(-leasts[each] // step))
+        if total < due or first > last or setup / total + floor > CLOSE * known:
+            continue
+        level = least_level(table, turned, evened, even, gap, first, allowed * total, ratio * total)
+        if level > last:
+            break
+        cost, spare = sum_at(table, turned, evened, even, gap, level, 0), 0
+        if step > 1:
+            share = spare_at(table, turned, evened, even, gap, level, allowed * total, ratio * total)
+            spare = min(int(min(step * share, step - 1.0)), level * step - leasts[each])
+            cost += spare / step * (sum_at(table, turned, evened, even, gap, level - 1, 0) - cost)
+        if level * step - spare <= top:
+            rows[count, 0], rows[count, 1], rows[count, 2] = gap, level * step - spare, (setup + cost) / total
+            known, count = min(known, rows[count, 2] * (1 + NEAR)), count + 1
+            if known > least_cost:
+                due = total + max(0.0, setup + cost - total * known) / (known - least_cost)
+    return rows[:count]
 
 
 class OneLead(LongRun):
@@ -146,37 +119,47 @@ class OneLead(LongRun):
 
     most_work = math.inf
 
-    def rows_of(self, gaps: Whole) -> tuple[int, Floats]:
-        """Returns the chances of the lows, a row for each gap, and their first cell."""
+    def lows_below(self, gaps: Sequence[int]) -> Iterable[Floats]:
+        lows = self.lows_of(int(max(gaps)))
+        return (lows[:gap + 1] / lows[:gap + 1].sum() for gap in gaps)
+
+    def table_to(self, top: float) -> Floats:
+        """Returns the table of `gaps_walked` with the levels up to one, in cells."""
+        return self.figures_from(self.step * np.arange(-2, int(top) + 1))
+
+    def evened(self, lows: Floats, table: Floats) -> tuple[Floats, int]:
+        """Returns from where on lows have the same chance, with the sums from there on: see `gaps_walked`."""
+        if len(lows) < MOST_WALKED:
+            return table, len(lows)
+        low, rows = lows[-1], table[:3]
+        even = int(np.flatnonzero(np.append(1.0, abs(lows - low) > EVEN * low))[-1])
+        added = np.array([convolved(lows[:even] - low, row)[:len(row)] for row in rows]) if even else 0 * rows
+        return np.concatenate([added, np.cumsum(rows, axis=1)]), even
+
+    def cheapest_walked(self, gaps: Whole, table: Floats, share: float, known: float = math.inf, lowest: int = 0
+                        ) -> Candidate:
+        """Returns the cheapest feasible policy of rising gaps, if it costs no more than a known one and, but for the
+        first of them, has s of at least `lowest`; none if there is none."""
+        if not len(gaps):
+            return NO_POLICY
         lows = self.lows_of(int(gaps[-1]))
-        rows = np.where(np.arange(len(lows)) <= gaps[:, None], lows, 0.0)
-        return 0, rows / np.cumsum(lows)[gaps, None]
-
-    def lowest(self, cost: float) -> int:
-        """Returns the least low, in items, of a best policy that costs no more: see the module."""
-        levels = self.step * np.arange(int(min(MOST_ITEMS, self.reach(cost))) // self.step + 2)
-        cheap = np.flatnonzero(self.figures_from(levels)[0] <= CLOSE * cost)
-        return max(self.feasible.least, int(levels[cheap[0]]) - self.step + 1) if len(cheap) else self.feasible.least
-
-    def places_of(self, lows: Lows, known: Candidate) -> GapLevels:
-        """Returns the best level, in cells, of each gap that may cost no more than a known policy."""
-        most = len(lows.counts) - 1
-        first = max(self.first_gap(known.cost, most), self.feasible.least_gap // self.step)
-        gaps = np.arange(first, most + 1)
-        gaps = gaps[self.floor(gaps) <= lows.last]
-        even = gaps[gaps >= lows.even]
-        places = lows.spread(even, self.floor(even))
-        if len(even) == len(gaps):
-            return places
-        gaps = gaps[(gaps < lows.even) & ((gaps == first) | (lows.chances[gaps] > 0))]
-        return lows.walked(gaps, self.floor(gaps)).joined(places)
+        line = np.array([self.holding * (lowest - self.offset), self.holding * self.step / 2])
+        rows = gaps_walked(gaps, self.items(gaps) + self.feasible.least, lows, table, *self.evened(lows, table), self.step,
+                           self.feasible.top, self.setup / self.span, line,
+                           self.allowed(share) if share else math.inf, self.ratio, known)
+        if not len(rows):
+            return NO_POLICY
+        gap, level, cost = rows[place_of_least(rows[:, 2])].tolist()
+        return Candidate(cost, int(level) - self.items(int(gap)), int(level))
 
     def first_of_gaps(self, share: float) -> Candidate:
         """Returns the best policy of the gap of the economic order quantity, whose cost leaves out most others; the best
         of a grid of gaps if that one has none."""
-        usual = min(self.most, int(self.usual_gap))
-        known = min((self.cheapest_of_gaps([gap], share) for gap in self.gaps(usual, usual)), default=NO_POLICY)
-        if known.cost == math.inf and (grid := self.grid()):
+        gap = min(self.most, int(self.usual_gap))
+        usual = self.every_gap(gap, gap)
+        table = self.table_to(max(self.floor(gap), gap + self.after.high) + 1)
+        known = self.cheapest_walked(usual, table, share)
+        if known.cost == math.inf and (grid := sorted({*usual.tolist(), *self.grid()})):
             return self.cheapest_of_gaps(grid, share)
         return known
 
@@ -187,21 +170,18 @@ class OneLead(LongRun):
         """
         if self.feasible.multiple > 1:
             return super().best_within(share)
-        known, highest = self.first_of_gaps(share), self.feasible.top
+        known, highest, least = self.first_of_gaps(share), self.feasible.top, self.feasible.least_gap // self.step
         if known.cost == math.inf:
             return NO_POLICY
-        chances = self.lows_of(self.widest(known.cost, self.lowest(known.cost)))
-        top = int(min(-(-highest // self.step), (self.reach(known.cost) + len(chances) * self.step / 2) // self.step))
-        table = self.figures_from(self.step * np.arange(-2, top + 2))[:3]
-        lows = Lows(chances, table, self.allowed(share), self.ratio)
-        places = self.places_of(lows, known)
-        best = known
-        if len(places.gaps):
-            levels, costs = self.costs_of(places, self.spare_of(places, lows.allowed))
-            place = place_of_least(costs)
-            best = self.policy(int(places.gaps[place]), int(levels[place]))
-        is_cut = lows.last * self.step >= highest
-        return min(best, self.best_with_level(highest, share)) if is_cut else best
+        widest, most = self.widest(known.cost, self.feasible.least), -(-highest // self.step)
+        table = self.table_to(min(most, self.reach(known.cost) // self.step + widest // 2 + 1))
+        cheap = int(np.argmax(table[0, 2:] <= CLOSE * known.cost))
+        lowest = max(self.feasible.least, self.step * (cheap - 1) + 1)
+        gaps = self.every_gap(least, self.widest(known.cost, lowest))
+        found = self.cheapest_walked(gaps, table, share, known.cost, lowest)
+        point, level = (found if found.cost < math.inf else known)[1:]
+        best = self.policy(self.gap_of(point, level), level)
+        return min(best, self.best_with_level(highest, share)) if table.shape[1] - 3 >= most else best
 
     def least_of(self, stock_sums: Floats, is_allowed: npt.NDArray[np.bool_]) -> tuple[float, int]:
         """Returns the least cost, and its gap, from the costs of stock summed over the lows of each allowed gap."""

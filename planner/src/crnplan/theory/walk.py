@@ -12,12 +12,12 @@ from __future__ import annotations
 
 import math
 from dataclasses import dataclass
-from functools import cached_property
+from functools import cached_property, lru_cache
 
 import numpy as np
 
 from ..chances import Floats, Whole
-from ..compiled import PLAIN_CALLS, composed
+from ..compiled import PLAIN_CALLS, compiled, composed
 from ..law import Law
 from ..scenario import Scenario
 
@@ -27,6 +27,78 @@ DIGITS = 36  # e^-36 is below the rounding of a number.
 # Chances that differ by no more than this share are equal but for rounding. They are compared once in so many places.
 EQUAL = 1e-13
 LOOK_EVERY = 64
+
+
+@lru_cache(maxsize=16)
+def chances_in(table: Law) -> tuple[Whole, Floats]:
+    """Returns the values of a table that have a chance, and their chances."""
+    values, weights = np.array(table.values), np.array(table.weights, float)
+    if 0 in table.weights:
+        values, weights = values[weights > 0], weights[weights > 0]
+    return values, weights / table.size
+
+
+def shared_by_numpy(values: Whole, chances: Floats, step: int) -> Floats:
+    """Stands in for `shared`."""
+    cells, rests = np.divmod(values, step)
+    above = chances * rests / step
+    shares = np.transpose([chances - above, above]).ravel()
+    return np.bincount(np.transpose([cells, cells + 1]).ravel(), shares).astype(float)
+
+
+@compiled(shared_by_numpy, PLAIN_CALLS)
+def shared(values: Whole, chances: Floats, step: int) -> Floats:
+    """Returns the chances of the cells 0, 1, 2 and so on of some rising values: a value between two cells is shared by
+    both, such that the mean stays."""
+    cells = np.zeros(values[-1] // step + 2)
+    for value, chance in zip(values, chances):
+        above = chance * (value % step) / step
+        cells[value // step] += chance - above
+        cells[value // step + 1] += above
+    return cells
+
+
+def cut_by_numpy(chances: Floats) -> tuple[int, Floats]:
+    """Stands in for `cut`."""
+    chances = np.maximum(chances, 0.0)
+    kept = np.flatnonzero(chances > LEAST_CHANCE * np.cumsum(chances)[-1])
+    chances = chances[kept[0]:kept[-1] + 1]
+    return int(kept[0]), chances / np.cumsum(chances)[-1]
+
+
+@compiled(cut_by_numpy, PLAIN_CALLS)
+def cut(chances: Floats) -> tuple[int, Floats]:
+    """Returns the first place that is not all but impossible, and the chances from there on, scaled to a sum of 1. So
+    is their end cut."""
+    first, last, total = 0, len(chances) - 1, 0.0
+    for chance in chances:
+        total += max(chance, 0.0)
+    least = LEAST_CHANCE * total
+    while chances[first] <= least:
+        first += 1
+    while chances[last] <= least:
+        last -= 1
+    kept, total = np.maximum(chances[first:last + 1], 0.0), 0.0
+    for chance in kept:
+        total += chance
+    return first, kept / total
+
+
+def summed_by_numpy(chances: Floats, low: int, step: int) -> Floats:
+    """Stands in for `summed`."""
+    sums = np.zeros((2, len(chances) + 1))
+    np.cumsum([chances, chances * ((low + np.arange(len(chances))) * step)], axis=1, out=sums[:, 1:])
+    return sums
+
+
+@compiled(summed_by_numpy, PLAIN_CALLS)
+def summed(chances: Floats, low: int, step: int) -> Floats:
+    """Returns rows with the chances of all cells below each, from the first on, and with the sums of their items."""
+    sums = np.zeros((2, len(chances) + 1))
+    for place in range(len(chances)):
+        sums[0, place + 1] = sums[0, place] + chances[place]
+        sums[1, place + 1] = sums[1, place] + chances[place] * ((low + place) * step)
+    return sums
 
 
 @dataclass(frozen=True, eq=False)
@@ -39,18 +111,13 @@ class LatticeLaw:
     @classmethod
     def scaled(cls, low: int, chances: Floats) -> LatticeLaw:
         """Returns the law with these chances, cut where its ends are all but impossible, and scaled to a sum of 1."""
-        chances = np.maximum(chances, 0)
-        kept = np.flatnonzero(chances > LEAST_CHANCE * chances.sum())
-        chances = chances[kept[0]:kept[-1] + 1]
-        return cls(int(low + kept[0]), chances / chances.sum())
+        first, chances = cut(chances)
+        return cls(low + first, chances)
 
     @classmethod
     def of(cls, table: Law, step: int) -> LatticeLaw:
         """Returns the law of a table. A value between two cells is shared by both, such that the mean stays."""
-        weights, (cells, rests) = np.array(table.weights), np.divmod(np.array(table.values), step)
-        shares = np.transpose([weights * (step - rests) / step, weights * rests / step])
-        chances = np.bincount(np.transpose([cells, cells + 1]).ravel(), shares.ravel()).astype(float)
-        return cls.scaled(0, chances)
+        return cls.scaled(0, shared(*chances_in(table), step))
 
     @property
     def high(self) -> int:
@@ -63,6 +130,11 @@ class LatticeLaw:
     @cached_property
     def mean(self) -> float:
         return float(self.chances @ self.cells)
+
+    @cached_property
+    def twice(self) -> LatticeLaw:
+        """Returns the law of the sum of two independent numbers of this one."""
+        return sum_of(self, self)
 
     @property
     def variance(self) -> float:
@@ -106,6 +178,9 @@ def convolved(left: Floats, right: Floats) -> Floats:
 
 def sum_of(left: LatticeLaw, right: LatticeLaw) -> LatticeLaw:
     """Returns the law of the sum of two independent numbers."""
+    for law, other in ((left, right), (right, left)):
+        if len(other.chances) == 1:
+            return LatticeLaw(left.low + right.low, law.chances)
     return LatticeLaw.scaled(left.low + right.low, convolved(left.chances, right.chances))
 
 
@@ -115,7 +190,8 @@ def power_of(law: LatticeLaw, count: int) -> LatticeLaw:
     while count:
         if count & 1:
             total = sum_of(total, law)
-        law, count = (sum_of(law, law), count >> 1) if count > 1 else (law, 0)
+        count >>= 1
+        law = law.twice if count else law
     return total
 
 
@@ -124,9 +200,9 @@ class Surplus:
 
     def __init__(self, law: LatticeLaw, step: int) -> None:
         """Sums up the law of the amount, so that each level takes one look."""
-        self.law, self.step, self.mean = law, step, law.mean * step
-        self.below = np.concatenate([[0], np.cumsum(law.chances)])
-        self.taken = np.concatenate([[0], np.cumsum(law.chances * law.cells)]) * step
+        self.law, self.step = law, step
+        self.below, self.taken = summed(law.chances, law.low, step)
+        self.mean = float(self.taken[-1])
 
     def place(self, level: Whole) -> Whole:
         """Returns how many cells of the law are at most a level."""
@@ -141,6 +217,35 @@ class Surplus:
     def lacking(self, level: Whole) -> Floats:
         """Returns the expected surplus of the amount over a level, in items."""
         return self.left(level) - level + self.mean
+
+
+def figures_by_numpy(levels: Whole, step: int, low: int, below: Floats, taken: Floats, before: int,
+                     below_before: Floats, taken_before: Floats, holding: int, backlog: int) -> Floats:
+    """Stands in for `figures_at`."""
+    place, placed = (np.minimum(np.maximum(levels // step - first + 1, 0), len(sums) - 1)
+                     for first, sums in ((low, below), (before, below_before)))
+    held = below[place]
+    stock = levels * held - taken[place]
+    owed = stock - levels + taken[-1]
+    lacking = levels * below_before[placed] - taken_before[placed] - levels + taken_before[-1]
+    return np.array([holding * stock + backlog * owed, owed - lacking, held, stock])
+
+
+@compiled(figures_by_numpy, PLAIN_CALLS)
+def figures_at(levels: Whole, step: int, low: int, below: Floats, taken: Floats, before: int, below_before: Floats,
+               taken_before: Floats, holding: int, backlog: int) -> Floats:
+    """Returns what `LongRun.figures_from` does, by the sums of the law of what is taken from a level up to the end of a
+    period, and of that up to the period's demand: see `Surplus`."""
+    figures = np.empty((4, len(levels)))
+    for each, level in enumerate(levels):
+        place = min(max(level // step - low + 1, 0), len(below) - 1)
+        placed = min(max(level // step - before + 1, 0), len(below_before) - 1)
+        stock = level * below[place] - taken[place]
+        owed = stock - level + taken[-1]
+        lacking = level * below_before[placed] - taken_before[placed] - level + taken_before[-1]
+        figures[0, each], figures[1, each] = holding * stock + backlog * owed, owed - lacking
+        figures[2, each], figures[3, each] = below[place], stock
+    return figures
 
 
 def net_tables(scenario: Scenario) -> tuple[Law, Law]:
@@ -202,12 +307,12 @@ def renewal_sequence(lows: Floats, falls: Floats, count: int) -> Floats:
     longer[:len(lows)] = lows
     turned = falls[:0:-1].copy()
     for place in range(len(lows), count):
+        before = longer[max(place - reach, 0):place]
         is_due = place >= reach and (place % LOOK_EVERY == 0 or place == len(lows))
-        if is_due and np.ptp(longer[place - reach:place]) <= EQUAL * longer[place - 1]:
+        if is_due and before.max() - before.min() <= EQUAL * longer[place - 1]:
             longer[place:] = longer[place - 1]
             break
-        back = min(place, reach)
-        longer[place] = np.dot(turned[reach - back:], longer[place - back:place])
+        longer[place] = np.dot(turned[reach - len(before):], before)
     return longer
 
 
@@ -218,7 +323,8 @@ class Walk:
     def __init__(self, scenario: Scenario, step: int, exact: bool) -> None:
         """Makes the laws of the position. `exact` says that all demands and returns lie on the lattice."""
         self.step, self.exact = step, exact
-        self.demand, self.back = (LatticeLaw.of(table, step) for table in net_tables(scenario))
+        self.demand = LatticeLaw.of(scenario.demand, step)
+        self.back = LatticeLaw.of(scenario.returns, step) if scenario.returns else NOTHING
         self.net = sum_of(self.demand, self.back.reflected)
         self.visits, self.falls = factors_of(self.net)
         self.span = float(self.visits.sum())

@@ -61,7 +61,7 @@ _ring_faults = check_of("a whole number", is_whole, formats.RING_SIZES.__contain
 
 
 def _are_whole(values: Any) -> TypeGuard[list[int]]:
-    return isinstance(values, list) and all(type(value) is int for value in values)
+    return isinstance(values, list) and {*map(type, values)} <= {int}
 
 
 def _draws_faults(path: Path, table: Mapping[str, Any], _good: Container[str]) -> list[TreeFault]:
@@ -70,7 +70,7 @@ def _draws_faults(path: Path, table: Mapping[str, Any], _good: Container[str]) -
     if isinstance(values, list) and isinstance(weights, list) and len(values) != len(weights):
         faults.append(TreeFault(LENGTHS, path, f"there are {len(values)} values and {len(weights)} weights",
                                 "write one weight for each value"))
-    if _are_whole(values):
+    if _are_whole(values) and values != sorted({*values}):
         faults += once_each((ORDER, TreeFault(
             ORDER, (*path, "values", entry), f"{shown(high)} is not above the {shown(low)} before it",
             "write each value once, rising, with its weight"))
