@@ -55,7 +55,7 @@ def exact(value: Any) -> Fraction | None:
     if isinstance(value, bool):
         return None
     try:
-        return Fraction(str(value))
+        return Fraction(value if isinstance(value, (int, Fraction)) else str(value))
     except (ValueError, ZeroDivisionError):
         return None
 

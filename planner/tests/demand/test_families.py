@@ -267,7 +267,8 @@ def test_distances_by_definition(weights: list[int], histories: list[list[int]])
     assert guard.distances(rows, guard.Summed.of(chances)) + common == pytest.approx(expected, abs=1e-12)
 
 
-@pytest.mark.parametrize("chances", [[0.5, 0.5], [0.6, 0.0, 0.3, 0.1, 0.0], [0.1] * 10], ids=["two", "gaps", "even"])
+@pytest.mark.parametrize("chances", [[0.5, 0.5], [0.6, 0.0, 0.3, 0.1, 0.0], [0.1] * 10, [0.9, 0.03, 0.03, 0.04]],
+                         ids=["two", "gaps", "even", "rare"])
 @pytest.mark.parametrize("way", ["loop", "plain", "__call__"])
 def test_figures_of_drawn_histories(way: str, chances: list[float]) -> None:
     """Each way draws each number by its uniform number, none above the last that has a chance."""
@@ -276,7 +277,7 @@ def test_figures_of_drawn_histories(way: str, chances: list[float]) -> None:
     uniform[0, -1] = 1 - 1e-16
     drawn = [[next((it for it in range(last) if uniform < sum(chances[:it + 1])), last) for uniform in row]
              for row in uniform.tolist()]
-    squares, far = getattr(guard.drawn_figures, way)(uniform, last, *guard.Summed.of(law))
+    squares, far = getattr(guard.drawn_figures, way)(*guard.Uniform.of(uniform), last, *guard.Summed.of(law))
     assert squares == pytest.approx(144 * np.var(drawn, axis=1))
     shares = (np.array(drawn)[:, :, None] <= np.arange(len(law))).mean(axis=1)
     below = np.cumsum(law)

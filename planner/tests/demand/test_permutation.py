@@ -116,5 +116,5 @@ def test_seen_at_a_level(numbers: list[int]) -> None:
     orders = Orders(numbers)
     for name, statistics in orders.statistics(statistics_of(seasons)).items():
         p = p_value(statistics)
-        assert (name in orders.seen(seasons, p)) and (name in orders.seen(seasons, p + 1 / 1200))
-        assert name not in orders.seen(seasons, p - 1 / 1200)
+        assert orders.p_values(seasons, p)[name] == orders.p_values(seasons, p + 1 / 1200)[name] == p
+        assert name not in orders.p_values(seasons, p - 1 / 1200)

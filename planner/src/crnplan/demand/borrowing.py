@@ -15,6 +15,7 @@ from typing import Any
 import numpy as np
 
 from ..chances import Floats, Whole, cut, in_items, mixture, scaled
+from ..compiled import composed
 from ..formats import MOST_DEMAND
 from ..law import Law
 from ..records.observed import Observed
@@ -22,15 +23,27 @@ from ..remarks import Remark
 from .fitted import Borrowed, Diagnostics, FittedLaw
 from .fitting import boxes_of, cap_of, family_law, share_of
 from .learning import (FLAT, LEVELS, MOST_SIZE, NONE, SHARES, SIZE_CELLS, Prior, is_outside, share_likelihoods, size_laws,
-                       size_likelihoods, size_widths)
+                       size_likelihoods, size_table, size_widths)
 from .posterior import AllowedLaws, allowed_laws, law_of_chances, random_of, round_history, stratified
-from .sample import Sample, shares_of
+from .sample import PLAIN_CALLS, Sample, shares_of
 
 FAMILY = "borrowed"
 LEVEL = 0.05  # Each share of the guard is above it, else the law of the single item is taken.
 ROWS = 4  # of uniform numbers for a drawn law; the last one chooses its part
 # What each cell may lack of a predictive law: all 192 cells together a hundredth of the least weight, 1 / 65,536.
 LEAST_CHANCE = 1e-9
+
+
+@composed(after=PLAIN_CALLS)
+def weighed_sizes(weights: Floats, cells: Whole, widths: Whole, table: Floats, ends: Whole) -> Floats:
+    """Returns the sum of the laws of sizes in a table (see `size_table`), each up to the width of its cell, with a row
+    of weights for each cell."""
+    chances, points = np.zeros(widths.max()), weights.shape[1]
+    for row in range(len(cells)):
+        laws = table[ends[cells[row]]:ends[cells[row] + 1]].reshape(points, -1)
+        for point in range(points):
+            chances[:widths[row]] += weights[row, point] * laws[point, :widths[row]]
+    return chances
 
 
 @dataclass(frozen=True, eq=False)
@@ -66,14 +79,11 @@ class Posterior:
         share = float(demand @ means / (self.shares.mean(axis=1) @ self.prior @ means))
         weights = demand[:, None] * self.sizes
         weights /= weights.sum()
-        laws, own = size_laws(), weights.sum(axis=1)
+        own = weights.sum(axis=1)
         cells = np.flatnonzero(own > LEAST_CHANCE)
         levels = np.minimum(np.ceil(np.log10(own[cells] / LEAST_CHANCE)).astype(int), LEVELS - 1)
         widths = np.minimum(size_widths()[cells, levels], self.most)
-        chances = np.zeros(widths.max())
-        for cell, width in zip(cells, widths):
-            chances[:width] += weights[cell] @ laws[cell][:, :width]
-        return cut(np.concatenate([[1 - share], share * chances]))
+        return cut(np.concatenate([[1 - share], share * weighed_sizes(weights[cells], cells, widths, *size_table())]))
 
     @cached_property
     def share(self) -> float:

@@ -22,8 +22,8 @@ from ..records.observed import History, Observed
 from ..remarks import Remark, Value
 from ..words import advised, sentence
 from .fitted import numbers_of
-from .permutation import (Orders, autocorrelation_seen, autocorrelations, bound_of, centred, least_seen, p_value,
-                          places_of, season_seen, shift, statistics_of, steps, tilted, trend, trend_seen)
+from .permutation import (Orders, autocorrelation_seen, autocorrelations, bound_of, centred, least_seen, places_of,
+                          season_seen, shift, statistics_of, steps, tilted, trend, trend_seen)
 from .sample import Sample
 
 if TYPE_CHECKING:
@@ -175,27 +175,27 @@ def _change(before: Floats, after: Floats) -> float | None:
 def tests_of(facts: Facts, in_full: bool = True) -> tuple[Check, ...]:
     """Returns the tests of a history. It has none if it is short or all its numbers are equal.
 
-    Only `in_full` are there tests if none warns, and what each would have seen; else that takes a few milliseconds. If
-    a season is seen, a trend and a shift are looked for in what is left without it.
+    Only `in_full` are there tests if none warns, what each would have seen, and p values of those that don't warn; else
+    these are 1, and all takes a millisecond. If a season is seen, a trend and a shift are looked for in what is left
+    without it.
     """
     if len(facts.numbers) < LEAST_PERIODS or len({*facts.numbers}) == 1:
         return ()
     seasons = {season.name: season.part_of for season in facts.seasons}
     orders, kinds = Orders(facts.numbers), statistics_of(seasons)
     level = FALSE_ALARMS / len(kinds)
-    if not in_full and not orders.seen(seasons, level):
+    most = 1.0 if in_full else level
+    if not (p_values := orders.p_values(seasons, most)):
         return ()
-    statistics = orders.statistics(kinds)
-    p_values = {name: p_value(drawn) for name, drawn in statistics.items()}
-    rest = replace(facts, taken=tuple(season.name for season in facts.seasons if p_values[season.name] <= level))
+    rest = replace(facts, taken=tuple(name for name in seasons if p_values.get(name, 1.0) <= level))
     if rest.taken:
-        left = Orders(rest.rows[0]).statistics({name: kinds[name] for name in LEVELS})
-        p_values |= {name: p_value(drawn) for name, drawn in left.items()}
+        left = Orders(rest.rows[0]).p_values({}, most) if np.ptp(rest.rows) else {}
+        p_values |= {name: left.get(name, 1.0) for name in LEVELS}
     effects = {"autocorrelation": facts.autocorrelation(), "trend": rest.trend(), "shift": rest.shift(),
                **{season.name: facts.season(season) for season in facts.seasons}}
-    least = _least_seen(facts, {name: bound_of(drawn, level) for name, drawn in statistics.items()}, level) \
-        if in_full else {}
-    return tuple(Check(name, p_values[name], *effects[name], least.get(name)) for name in kinds)
+    least = _least_seen(facts, {name: bound_of(drawn, level) for name, drawn in orders.statistics(kinds).items()},
+                        level) if in_full else {}
+    return tuple(Check(name, p_values.get(name, 1.0), *effects[name], least.get(name)) for name in kinds)
 
 
 def _least_seen(facts: Facts, bounds: Mapping[str, float], level: float) -> dict[str, float]:
@@ -288,7 +288,7 @@ def _checked(numbers: Sequence[int], every: str | None, first: int, season: int 
     few = [Remark("few periods", {"periods": len(numbers)})] if len(numbers) < LEAST_PERIODS else []
     return replace(checks, warnings=tuple(_warnings(facts, checks)), notes=tuple(_notes(facts)),
                    unknown=(*silent, *untested) if checks.tests else tuple(few),
-                   largest=largest_periods(numbers, every, first))
+                   largest=largest_periods(numbers, every, first) if in_full else ())
 
 
 def _warnings(facts: Facts, checks: Checks) -> Iterator[Remark]:
@@ -392,6 +392,7 @@ def _largest(facts: Facts, count: int) -> dict[str, Value]:
     return demands | {f"period_{rank}": facts.name(place) for rank, place in enumerate(places, 1)}
 
 
+@functools.cache
 def rosner_bound(size: int, above: int, level: float) -> float:
     """Returns how many deviations above the mean the largest number may lie, if so many above it were taken away.
 

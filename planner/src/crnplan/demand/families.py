@@ -20,15 +20,17 @@ import math
 from abc import ABC, abstractmethod
 from collections.abc import Callable, Mapping
 from dataclasses import dataclass
+from functools import partial
 from typing import Any, NamedTuple
 
 import numpy as np
 from scipy import special
 
 from ..chances import DEMANDS, LEAST_TAIL, Floats, Whole, cut, scaled
+from ..compiled import composed
 from ..formats import MOST_DEMAND
 from . import FAMILIES, LEAST_DEMANDS
-from .sample import Sample
+from .sample import PLAIN_CALLS, Sample
 
 Parameters = tuple[Any, ...]  # of a family: numbers of a member, or columns with one for each of several
 WORSE = 10.0  # in BIC: families further behind the best are not looked at
@@ -165,6 +167,17 @@ class Geometric(Family):
         return (special.betaincinv(counted * sample.size + 1, counted * sample.total + 1, uniform[0]),)
 
 
+@composed(after=PLAIN_CALLS)
+def score_of_size(above: Whole, count: int, mean: float, logarithm: float) -> tuple[float, float]:
+    """Returns the derivative of a negative binomial likelihood's logarithm by the size k, and its own by the logarithm
+    of k. `above` has how many of so many numbers are above 0, 1 and so on: digamma(n + k) - digamma(k) is a sum over 0
+    to n - 1."""
+    size = math.exp(logarithm)
+    shares = 1 / (np.arange(len(above)) + size)
+    fall = count * mean / (size + mean) - size * np.dot(above * shares, shares)
+    return np.dot(above, shares) - count * math.log1p(mean / size), fall
+
+
 class NegativeBinomial(Family):
     """Negative binomial laws. The parameters are the size k and 1 - p; the mean is k (1 - p) / p."""
 
@@ -174,14 +187,7 @@ class NegativeBinomial(Family):
         likelihood functions are unimodal, 1977)."""
         if sample.squares <= sample.total:
             return None
-        places, above = DEMANDS[:sample.most], sample.above  # digamma(n + k) - digamma(k) is a sum over 0 to n - 1
-
-        def score(logarithm: float) -> tuple[float, float]:
-            """Returns the derivative of the likelihood's logarithm by k, and its own by the logarithm of k."""
-            size = math.exp(logarithm)
-            parts = above / (places + size)
-            fall = sample.size * sample.mean / (size + sample.mean) - size * float(parts @ (1 / (places + size)))
-            return float(parts.sum()) - sample.size * math.log1p(sample.mean / size), fall
+        score = partial(score_of_size, sample.above, sample.size, sample.mean)
         low, high = math.log(LEAST_SIZE), math.log(MOST_SIZE)
         if score(high)[0] >= 0:
             return None
@@ -259,13 +265,18 @@ def beta_negative_binomial(size: Floats, first: Floats, second: float, most_mean
     their mean is at most so much: a row for each size. Without the bound it is the beta negative binomial law (Johnson,
     Kemp and Kotz, Univariate Discrete Distributions, third edition, section 6.2.3)."""
     above = most_mean / (size + most_mean)  # the greatest value of 1 - p
-    (a, b), scale = (second + values, first + size), special.betaln(first + size, second + values)
+    (a, b), scale = (second + values, first + size), special.betaln(first + size, second)
+
+    def rising(start: Floats, ratios: Floats) -> Floats:
+        """Returns numbers by the logarithm of the first one, and the ratio of each further one to that before it."""
+        return np.asarray(np.exp(np.cumsum(np.hstack([start, np.log(ratios[:, :-1])]), axis=1)))
     # The chance that a beta number is below the bound falls from one a to the next one by what is known (Abramowitz and
     # Stegun, Handbook of Mathematical Functions, 26.5.16). It is summed from the last one on, so nothing cancels.
-    steps = np.exp(a * np.log(above) + b * np.log1p(-above) - scale) / a
+    steps = rising(second * np.log(above) + b * np.log1p(-above) - scale - math.log(second), above * (a + b) / (a + 1))
     steps[:, -1:] = special.betainc(a[-1], b, above)
     within = np.cumsum(steps[:, ::-1], axis=1)[:, ::-1]
-    return np.asarray(np.exp(ways(values, size) + scale - special.betaln(first, second)) * within)
+    ratios = (values + size) * a / ((values + 1) * (a + b))
+    return np.asarray(rising(scale - special.betaln(first, second), ratios) * within)
 
 
 def with_rest(chances: Floats, ends: Whole, total: float) -> Floats:

@@ -101,6 +101,13 @@ def size_laws() -> tuple[Floats, ...]:
 
 
 @cache
+def size_table() -> tuple[Floats, Whole]:
+    """Returns all laws of sizes one after the other, and the ends of those of each cell, from 0 on."""
+    laws = [law.ravel() for law in size_laws()]
+    return np.concatenate(laws), np.cumsum([0, *map(len, laws)])
+
+
+@cache
 def size_widths() -> Whole:
     """Returns after how many sizes what is left of the laws of each cell is at most 1, 0.1 and so on to 1e-9: of its
     greatest mean, of which most is left."""

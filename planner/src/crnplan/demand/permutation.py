@@ -34,7 +34,7 @@ TIMES = 1199  # orders; with the history there are 1,200, of which 5% over 2, 3,
 LAGS = 3  # More of them see less of a dependence between neighbours. Seasons, trends and shifts have their own tests.
 EDGE = 0.1  # the share of the periods at either end in which no shift is looked for
 MOST_CELLS = 1 << 18  # of the orders that are in memory at a time
-AT_ONCE = 150  # orders that are looked at before a test is left
+AT_ONCE = 50  # orders that are looked at before a test is left
 KEPT = 8  # such parts of the drawn orders, for further histories of as many periods
 ROUNDING = 1e-9  # Orders whose statistics differ by less are as suspicious.
 SEEN = 0.8
@@ -152,9 +152,9 @@ class Orders:
         parts = [{name: kind(*rows) for name, kind in kinds.items()} for rows in self.rows()]
         return {name: np.concatenate([part[name] for part in parts]) for name in kinds}
 
-    def seen(self, seasons: Mapping[str, Whole], level: float) -> set[str]:
-        """Returns the tests with a p value of at most a level. A test is left when enough orders are as suspicious. A
-        season has the part of each period."""
+    def p_values(self, seasons: Mapping[str, Whole], level: float) -> dict[str, float]:
+        """Returns the p values of all tests that have one of at most a level. A test is left when enough orders are as
+        suspicious. A season has the part of each period."""
         kinds, parts = statistics_of(seasons), np.array([*seasons.values()], np.int64).reshape(-1, len(self.codes))
         least = np.array([kind(self.far[None], self.ranks[None])[0] for kind in kinds.values()]) * (1 - ROUNDING)
         counts, most = np.ones(len(kinds), np.int64), most_of(level, TIMES + 1)
@@ -163,7 +163,7 @@ class Orders:
             least[counts > most] = math.inf
             if least.min() == math.inf:
                 break
-        return {name for name, count in zip(kinds, counts.tolist()) if count <= most}
+        return {name: count / (TIMES + 1) for name, count in zip(kinds, counts.tolist()) if count <= most}
 
 
 def as_suspicious(far: Floats, ranks: Floats, orders: Whole, parts: Whole, least: Floats) -> Whole:

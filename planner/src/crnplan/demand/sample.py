@@ -22,6 +22,7 @@ from ..formats import MOST_DEMAND
 # A pack is recognised after so many demands above 0, if they all have its divisor by luck with a chance of 2^-8.
 PACKED, PACK_BITS = 3, 8.0
 TIMES, SEED = 199, 1  # of drawn histories
+COUNTED = 32  # uniform numbers, after which those of each row are counted
 PLAIN_CALLS = 100  # more than the laws of an item, whose histories are drawn before numba is imported
 ROUNDING = 1e-9  # Histories with the same counts vary as much and are as far, however their sums are rounded.
 
@@ -151,40 +152,65 @@ def distances(histories: Whole, law: Summed) -> Floats:
     return np.asarray(law.tails[histories] @ weights - 2 * law.means[histories].sum(axis=1))
 
 
-def figures_of_histories(uniform: Floats, last: int, below: Floats, tails: Floats,
-                         means: Floats) -> tuple[Floats, Floats]:
-    """Returns of histories that are drawn by rows of rising uniform numbers their squared size times their variance, and
-    their `distances`. No number is above the last one."""
-    drawn = np.minimum(np.searchsorted(below, uniform, side="right"), last)
+class Uniform(NamedTuple):
+    """Uniform numbers for drawn histories, a row for each: the numbers of all rows, rising; the row of each, and its
+    place in that; and how many numbers of each row are among the first ones, once in so many."""
+
+    rising: Floats
+    rows: Whole
+    places: Whole
+    first: Whole
+
+    @classmethod
+    def of(cls, numbers: Floats) -> Uniform:
+        """Takes rows of rising numbers."""
+        order = np.argsort(numbers, axis=None)
+        rows, places = np.divmod(order, numbers.shape[1])
+        parts = [np.bincount(part, minlength=len(numbers)) for part in np.array_split(rows, range(
+            COUNTED, len(rows) + 1, COUNTED))]
+        return cls(numbers.ravel()[order], rows, places, np.cumsum([0 * parts[0], *parts], axis=0))
+
+
+def figures_of_histories(rising: Floats, rows: Whole, places: Whole, first: Whole, last: int, below: Floats,
+                         tails: Floats, means: Floats) -> tuple[Floats, Floats]:
+    """Returns of histories that are drawn by uniform numbers (see `Uniform`) their squared size times their variance,
+    and their `distances`. No number is above the last one."""
+    drawn = np.empty((first.shape[1], len(rising) // first.shape[1]), np.int64)
+    drawn[rows, places] = np.minimum(np.searchsorted(below, rising, side="right"), last)
     squares = (drawn * drawn).sum(axis=1) * drawn.shape[1] - drawn.sum(axis=1)**2
     return squares.astype(float), distances(drawn, Summed(below, tails, means))
 
 
 @compiled(figures_of_histories, after=PLAIN_CALLS)
-def drawn_figures(uniform: Floats, last: int, below: Floats, tails: Floats, means: Floats) -> tuple[Floats, Floats]:
-    """Returns what `figures_of_histories` does, without the numbers."""
-    times, size = uniform.shape
-    squares, far = np.empty(times), np.empty(times)
-    for row in range(times):
-        number = place = total = square = 0
-        distance = 0.0
-        while place < size:
-            first = place
-            while place < size and (number == last or uniform[row, place] < below[number]):
-                place += 1
-            if place > first:
-                total += (place - first) * number
-                square += (place - first) * number * number
-                distance += (place * place - first * first) / size * tails[number] - 2 * (place - first) * means[number]
-            number += 1
-        squares[row], far[row] = size * square - total * total, distance
-    return squares, far
+def drawn_figures(rising: Floats, rows: Whole, places: Whole, first: Whole, last: int, below: Floats, tails: Floats,
+                  means: Floats) -> tuple[Floats, Floats]:
+    """Returns what `figures_of_histories` does, number by number: its draws stand together, one by one or row by row."""
+    times, size, rank = first.shape[1], len(rising) // first.shape[1], 0
+    seen, now, totals = np.zeros(times, np.int64), np.zeros(times, np.int64), np.zeros(times)
+    squares, far = np.zeros(times), np.zeros(times)
+    for number in range(last + 1):
+        end, mean = len(rising) if number == last else np.searchsorted(rising, below[number]), 2 * means[number]
+        while end - rank < times // 2 and rank < end:
+            row = rows[rank]
+            seen[row], totals[row], squares[row] = seen[row] + 1, totals[row] + number, squares[row] + number * number
+            far[row] += (2 * places[rank] + 1) / size * tails[number] - mean
+            rank += 1
+        if rank < end:
+            rank, now[:] = end, first[end // COUNTED]
+            for row in rows[end - end % COUNTED:end]:
+                now[row] += 1
+            for row in range(times):
+                more = now[row] - seen[row]
+                totals[row], squares[row] = totals[row] + more * number, squares[row] + more * number * number
+                far[row] += ((now[row] + seen[row]) / size * tails[number] - mean) * more
+            seen[:] = now
+    return size * squares - totals**2, far
 
 
 @functools.lru_cache(maxsize=8)
-def uniforms(size: int) -> Floats:
-    """Returns uniform numbers for drawn histories of a size, rising in each row."""
-    return np.sort(np.random.default_rng(SEED).random((TIMES, size)), axis=1)
+def uniforms(size: int) -> Uniform:
+    """Returns uniform numbers for drawn histories of a size."""
+    return Uniform.of(np.sort(np.random.default_rng(SEED).random((TIMES, size)), axis=1))
 
 
 def shares_of(sample: Sample, chances: Floats) -> Shares:
@@ -193,7 +219,7 @@ def shares_of(sample: Sample, chances: Floats) -> Shares:
     law[:len(chances)] = chances / chances.sum()
     summed, size = Summed.of(law), sample.size
     below = summed.below
-    squares, far = drawn_figures(uniforms(size), len(chances) - 1, *summed)
+    squares, far = drawn_figures(*uniforms(size), len(chances) - 1, *summed)
     own, common = size * sample.squares, size * float(law @ below**2)
     own_far = float(distances(np.repeat(sample.values, sample.counts)[None], summed)[0])
     alike = (squares >= own * (1 - ROUNDING), squares <= own * (1 + ROUNDING),

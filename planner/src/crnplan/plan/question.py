@@ -246,7 +246,10 @@ class Question(Terms):
 
     def alone(self) -> Question:
         """Returns the question of an item that learns its law from no other."""
-        return dataclasses.replace(self, borrow=NONE, demand=fit_demand(self.item.counts, box=self.item.box))
+        demand = fit_demand(self.item.counts, box=self.item.box)
+        single = dataclasses.replace(self, borrow=NONE, demand=demand)
+        vars(single)["_scenario"] = dataclasses.replace(self._scenario, demand=demand.table)  # Laws that are fitted fit.
+        return single
 
 
 def finest(rates: Mapping[str, int], scale: Fraction) -> tuple[dict[str, int], Fraction]:
