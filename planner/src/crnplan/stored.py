@@ -51,7 +51,7 @@ KINDS: dict[Any, tuple[Callable[[Any], Cell], Callable[[Any], Any]]] = {
     int: (lambda number: number if -LARGEST <= number < LARGEST else str(number), int), float: (float, float),
     str: (str, str), bool: (int, bool), Fraction: (str, Fraction),
     bytes: (lambda data: base64.b64encode(data).decode(), base64.b64decode),
-    tuple: (lambda values: json.dumps(values, separators=(",", ":")), lambda text: _tuples(json.loads(text))),
+    tuple: (json.JSONEncoder(separators=(",", ":")).encode, lambda text: _tuples(json.loads(text))),
     Remark: (lambda remark: json.dumps([remark.code, remark.facts]), lambda text: Remark(*json.loads(text))),
     tuple[Remark, ...]: (lambda remarks: json.dumps([[remark.code, remark.facts] for remark in remarks]),
                          lambda text: tuple(Remark(*parts) for parts in json.loads(text)))}
@@ -99,7 +99,9 @@ class Columns(Generic[Row]):
             return [None] * len(self.names)
         if not self.parts:
             return [self.written(value)]
-        return [cell for field, part in self.parts for cell in part.cells(getattr(value, field))]
+        # A catalogue has a hundred cells an item, most of them without parts: these are made here, which is fast.
+        return [cell for field, part in self.parts for it in [getattr(value, field)] for cell in (
+            part.cells(it) if part.parts else [None if it is None else part.written(it)])]
 
     @property
     def answer_names(self) -> list[str]:
@@ -121,7 +123,6 @@ class Columns(Generic[Row]):
         have none."""
         if cells[0] is None:
             return typing.cast(Row, None)
-        # A catalogue has a hundred cells an item, most of them without parts: these are read here, which is fast.
         return self.kind(*[part.value(cells[start:stop]) if part.parts else
                            None if cells[start] is None else part.read(cells[start])
                            for start, stop, part in self.slots])

@@ -100,8 +100,6 @@ def named_lines(lines: Sequence[int | str]) -> str:
 def readings(text: str) -> dict[str, Fraction]:
     """Returns the numbers that a text may be, by decimal sign."""
     numbers = {}
-    if text.isascii() and text.isdecimal() and len(text) <= MOST_LETTERS:
-        return dict.fromkeys(DECIMALS, Fraction(int(text)))
     for sign in DECIMALS if len(text) <= MOST_LETTERS else ():
         form = FORMS[sign].fullmatch(text)
         if form is None or form["sign"] and form["after"]:
@@ -178,6 +176,8 @@ class AmountReader:
 
     def _read(self, text: str) -> Fraction:
         """Returns the number of a text. Raises Unreadable."""
+        if text.isascii() and text.isdecimal() and len(text) <= MOST_LETTERS:
+            return Fraction(int(text))
         numbers = readings(unwrapped(text) if self.currencies is None else split_money(text)[0])
         is_doubtful = len(numbers) > 1 and numbers["."] != numbers[","]
         if is_doubtful and self.sign is None:

@@ -157,6 +157,8 @@ class Reader:
         self.twice, self.master_twins = Counter[int](), rows["items"].twins()
         self.named = rows["demand"].by_item(rows["demand"].good)
         self.masters_of = rows["items"].by_item(rows["items"].good)
+        self.cells = {role: [its.distinct[code] for code in rows["items"].codes[role].tolist()]
+                      for role, its in rows["items"].columns.items()}
         self.moves_of, totals = self._moves()
         known = {code for its in rows.values() for code in np.unique(its.codes["item"][its.good]).tolist()}
         self.items = sorted(known - totals, key=self.names.__getitem__)
@@ -179,15 +181,14 @@ class Reader:
     def _value_of_demand(self, item: int) -> Fraction | None:
         moves = self.moves_of(item)
         asked = int(moves.asked.sum())
-        price = self.masters.price(self._cells(self.masters_of(item)[:1])) if asked > 0 else None
+        price = self.masters.price(self._cells(self.masters_of(item))) if asked > 0 else None
         if price is None:
             return None
         return price * Fraction(asked, self.record.periods.stop - self.record.first_of(int(moves.periods.min())))
 
     def _cells(self, masters: Numbers) -> dict[str, Cell]:
         """Returns the cells of the first of these rows of masters, by role; none without a row."""
-        table = self.rows["items"]
-        return {role: table.cell(role, row) for row in masters[:1].tolist() for role in table.columns}
+        return {role: cells[row] for row in masters[:1].tolist() for role, cells in self.cells.items()}
 
     def read(self, letters: Sequence[str]) -> Iterator[Item]:
         """Yields all items in order of names, in which their classes by value are given. Those of totals alone are
@@ -246,12 +247,9 @@ class Reader:
         self.inside = rows.by_item(rows.good & ~outside)
         bad = rows.faulty(faults)
         totals = self._reject_moves(np.flatnonzero(rows.good & bad), faults)
-        rows_of = rows.by_item(self._without_twins(rows.good & ~bad))
-
-        def moves_of(item: int) -> Moves:
-            mine = rows_of(item)
-            return Moves(rows.lines[mine], periods[mine], amounts["quantity"][mine], amounts["returned"][mine])
-        return moves_of, totals
+        moves = rows.by_item(self._without_twins(rows.good & ~bad), np.stack(
+            [rows.lines, periods, amounts["quantity"], amounts["returned"]]))
+        return lambda item: Moves(*moves(item)), totals
 
     def _reject_moves(self, bad: Numbers, faults: Mapping[str, Mapping[int, Remark]]) -> set[int]:
         """Rejects rows of demand with what is wrong with their cells, and returns the items that are no items: those of

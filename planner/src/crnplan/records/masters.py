@@ -102,7 +102,7 @@ class Masters:
         self.share = units["holding"] if units.get("holding") in ("share", "percent") else ""
         self.defaults, self.currencies = defaults, distinct(currencies)
         self.a_year = conversion("holding", "share", every)[0]
-        self.needed = NEEDED["items"] - defaults.roles
+        self.needed, self.blank = NEEDED["items"] - defaults.roles, dict.fromkeys(ROLES["items"][1:])
         self.known: dict[tuple[str, Cell], Any] = {}  # by role and cell, its value, or what is wrong with it
         self.readers: dict[str, Callable[[Cell], Any]] = {
             **{role: partial(amounts[role].number, kind=kind) for role, kind in READ_AS.items()},
@@ -156,7 +156,7 @@ class Masters:
         """Returns the values of a row by role, None of an empty cell, and all that is wrong with the row. `observed`
         are lead times of orders, for a row that says none, and `group` is the class of the item."""
         faults: list[CellFault] = []
-        read = {role: self._value(role, cells.get(role, ""), faults) for role in ROLES["items"][1:]}
+        read = self.blank | {role: self._value(role, cells[role], faults) for role in self.blank if role in cells}
         unread = {role for role, _, _ in faults}
         fill, _ = self.defaults.fill_of(group, read["fill"])
         if not unread & {"backlog", "fill"} and read["backlog"] is None and fill is None:

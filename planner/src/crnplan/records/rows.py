@@ -96,14 +96,15 @@ class Rows:
             counts = np.bincount(self.codes[role][self.good]).tolist()
             yield from ((cell, count) for cell, count in zip(self.columns[role].distinct, counts) if count)
 
-    def by_item(self, good: Flags) -> Callable[[int], Numbers]:
-        """Returns the function that gives the good rows of an item, in their order, by its code."""
+    def by_item(self, good: Flags, values: Numbers | None = None) -> Callable[[int], Numbers]:
+        """Returns the function that gives the good rows of an item, in their order, by its code; or their columns in a
+        table of values."""
         rows = np.flatnonzero(good)
         codes, count = self.codes["item"][rows], len(self.columns["item"].distinct)
         # numpy sorts whole numbers of 16 bits by their digits.
         order = rows[np.argsort(codes.astype(np.uint16) if count <= 1 << 16 else codes, kind="stable")]
-        ends = np.cumsum(np.bincount(codes, minlength=count))
-        return lambda item: order[ends[item - 1] if item else 0:ends[item]]
+        ends, its = [0, *np.cumsum(np.bincount(codes, minlength=count)).tolist()], order if values is None else values[:, order]
+        return lambda item: its[..., ends[item]:ends[item + 1]]
 
     def nameless(self) -> Iterator[tuple[int, CellFault]]:
         """Yields the rows that are not good: those that name no item, and those with too many cells, with what is
@@ -168,8 +169,7 @@ def rows_of(sheet: Sheet) -> Rows:
 
 def far_above(amounts: Numbers, times_of_few: int = TIMES_OF_FEW) -> int:
     """Returns how many amounts, at most MOST_FAR, are far above all others."""
-    above, most = amounts[amounts > 0], MOST_FAR + LEAST_OTHERS
-    ranked = sorted((above if len(above) <= most else np.partition(above, -most)[-most:]).tolist(), reverse=True)
+    ranked = [it for it in np.sort(amounts)[:-MOST_FAR - LEAST_OTHERS - 1:-1].tolist() if it > 0]
     for far, next_largest in enumerate(ranked[1:1 + MOST_FAR], 1):
         times = TIMES_NEXT if len(ranked) - far >= LEAST_OTHERS else times_of_few
         if ranked[far - 1] >= times * next_largest:
