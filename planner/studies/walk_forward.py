@@ -37,7 +37,7 @@ import crnplan
 from crnplan.backtesting import Backtests
 from crnplan.plan.backtest.one import Backtest
 from crnplan.plan.backtest.sums import SLACK, VERDICTS, Estimate, Sums
-from crnplan.records.items import KEEP
+from crnplan.records.defaults import KEEP
 from planner.studies.page import markdown
 from planner.studies.real_series import Series, real_series
 

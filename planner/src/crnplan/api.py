@@ -26,8 +26,8 @@ from .plan.item import Depth
 from .plan.question import Settings
 from .plan.survey import Survey
 from .records.catalogue_reading import CATALOGUE, READ, Catalogue, read_into
-from .records.defaults import Defaults
-from .records.items import KEEP, LEAVE_OUT, Words
+from .records.defaults import KEEP, LEAVE_OUT, Defaults
+from .records.items import Words
 from .records.sources import Table
 from .remarks import Remark
 from .table import DataTable, Result

@@ -3,6 +3,7 @@ from __future__ import annotations
 
 import base64
 import dataclasses
+import functools
 import hashlib
 import itertools
 import json
@@ -41,17 +42,23 @@ def quoted(names: Iterable[str]) -> str:
 
 
 def _tuples(value: list[Any]) -> tuple[Any, ...]:
-    """Returns a list as a tuple, and lists in it. Most are of numbers."""
-    return tuple(_tuples(it) if type(it) is list else it for it in value) if list in {*map(type, value)} else \
-        tuple(value)
+    """Returns a list as a tuple, and lists in it."""
+    return tuple(_tuples(it) if type(it) is list else it for it in value)
 
 
+def _tuple_of(text: str) -> tuple[Any, ...]:
+    """Returns the tuple of a text of JSON. Most are of numbers alone."""
+    value, _ = LIST.raw_decode(text)
+    return _tuples(value) if text.rfind("[") else tuple(value)
+
+
+LIST = json.JSONDecoder()
 # How values of a type are kept in a cell, and read again. Fractions, tuples, bytes and remarks are texts.
 KINDS: dict[Any, tuple[Callable[[Any], Cell], Callable[[Any], Any]]] = {
     int: (lambda number: number if -LARGEST <= number < LARGEST else str(number), int), float: (float, float),
-    str: (str, str), bool: (int, bool), Fraction: (str, Fraction),
+    str: (str, str), bool: (int, bool), Fraction: (str, functools.lru_cache(1 << 12)(Fraction)),
     bytes: (lambda data: base64.b64encode(data).decode(), base64.b64decode),
-    tuple: (json.JSONEncoder(separators=(",", ":")).encode, lambda text: _tuples(json.loads(text))),
+    tuple: (json.JSONEncoder(separators=(",", ":")).encode, _tuple_of),
     Remark: (lambda remark: json.dumps([remark.code, remark.facts]), lambda text: Remark(*json.loads(text))),
     tuple[Remark, ...]: (lambda remarks: json.dumps([[remark.code, remark.facts] for remark in remarks]),
                          lambda text: tuple(Remark(*parts) for parts in json.loads(text)))}

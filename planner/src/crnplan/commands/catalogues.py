@@ -20,9 +20,9 @@ from ..plan.settings import CONFIG, read_config
 from ..records.catalogue_reading import CATALOGUE, Catalogue, read_into
 from ..records.cells import DECIMALS, EVERY
 from ..records.columns import ROLES
-from ..records.defaults import Defaults
+from ..records.defaults import KEEP, LEAVE_OUT, Defaults
 from ..records.item import BORROW
-from ..records.items import KEEP, LEAVE_OUT, Words
+from ..records.items import Words
 from . import note
 from .histories import writing_options
 from .words import command, csv_style_option, pairs_of, share_of, together, worker_options

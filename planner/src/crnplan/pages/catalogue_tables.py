@@ -9,7 +9,6 @@ from typing import TYPE_CHECKING
 from ..plan.aims import CLASSES
 from ..plan.answer import RUN, THEORY, Answer, Figures
 from ..records.classes import xyz_of
-from ..records.items import FileCounts, Reject
 from ..records.item import NO_DEMAND, Item
 from ..remarks import Remark
 from ..table import MONEY, Cell, Column, DataTable, exact, number, text, whole
@@ -19,6 +18,7 @@ from .page import rendered
 if TYPE_CHECKING:
     from ..plan.catalogue import PlannedFolder
     from ..plan.totals import Totals
+    from ..records.items import FileCounts, Reject
 
 DECISIONS, EXACT, REJECTS = "decisions.csv", "exact.csv", "rejects.csv"
 PLANNED_BY = {THEORY: "theory", RUN: "crnsim"}

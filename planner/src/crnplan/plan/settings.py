@@ -18,9 +18,8 @@ from ..formats import MOST_ITEMS, MOST_PERIODS, MOST_REPLICATIONS, MOST_WEIGHT
 from ..money import amount_of, share_of
 from ..records.cells import DECIMALS, EVERY
 from ..records.columns import COLUMNS, ROLES, unit_fault
-from ..records.defaults import cuts_of, currency_of
+from ..records.defaults import KEEP, LEAVE_OUT, cuts_of, currency_of
 from ..records.item import BORROW
-from ..records.items import KEEP, LEAVE_OUT
 from ..records.sources import DELIMITERS
 from ..toml.documents import Path as Place, TreeFault, shown
 from ..toml.rules import (MISSING, RANGE, Check, Key, Table, choice, date, flag, money, number, numbers, read_tables,

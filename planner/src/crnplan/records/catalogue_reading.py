@@ -27,10 +27,10 @@ from ..words import message, sentence
 from .blocks import DATES, Sizes
 from .cells import NAMES, Unreadable, on_one_line, text_of
 from .columns import ROLES, converted
-from .defaults import SOURCES, Defaults, distinct
+from .defaults import KEEP, LEAVE_OUT, SOURCES, Defaults, distinct
 from .filed import AMOUNTS, FiledTable, Whole, read_tables
 from .item import PLANNED, Item
-from .items import KEEP, LEAVE_OUT, Counts, FileCounts, Reject, Words
+from .items import Counts, FileCounts, Reject, Words
 from .observed import Day
 from .parts import ITEM, REJECT, PartRead, read_parts, rows_in
 from .several import open_tables

@@ -6,6 +6,7 @@ limits of XYZ are a convention.
 from __future__ import annotations
 
 import math
+import operator
 from collections.abc import Hashable, Mapping, Sequence
 from fractions import Fraction
 from typing import TypeVar
@@ -36,5 +37,6 @@ def xyz_of(counts: Sequence[int]) -> str:
     the periods over their mean: X up to 0.5, Y up to 1, else Z. It is empty without demand."""
     if not any(counts):
         return ""
-    total, variance = sum(counts), len(counts) * sum(count**2 for count in counts) - sum(counts)**2
+    total, squares = sum(counts), sum(map(operator.mul, counts, counts))
+    variance = len(counts) * squares - total**2
     return VARIED[sum(variance > (most * total)**2 for most in MOST_VARIED)]

@@ -14,6 +14,7 @@ from .cells import HEADINGS, SIGNS, Cell, Unreadable
 
 Value = TypeVar("Value")
 ABC = (80, 95)
+KEEP, LEAVE_OUT = "keep", "leave-out"  # what is done with rows that stand twice, and with items with far amounts
 MOST_CLASSES = 10  # that are named
 SOURCES = MASTERS, CLASS, DEFAULT = "masters", "class", "default"  # where a value is from
 # The currencies that an ambiguous sign may stand for.

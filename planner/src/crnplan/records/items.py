@@ -17,7 +17,7 @@ from .blocks import Flags
 from .cells import (EVERY, TOTAL, UNPRINTABLE, Cell, CellFault, Numbers, fault, named_lines, on_one_line, period_name,
                     periods_of_days, text_of)
 from .columns import COLUMNS, ROLES, unit_fault
-from .defaults import Defaults
+from .defaults import KEEP, LEAVE_OUT, Defaults
 from .filed import Whole
 from .item import NEW, NO_DEMAND, USUAL, Item
 from .masters import Master, Masters
@@ -25,7 +25,6 @@ from .observed import Day, summed, sums_of
 from .rows import Rows, far_above
 from .sources import Rules, Sheet
 
-KEEP, LEAVE_OUT = "keep", "leave-out"
 OUTSIDE = ("before start", "far before", "after end", "late date")  # what is wrong with a date outside the record
 
 @dataclass(frozen=True)

@@ -181,9 +181,8 @@ class Masters:
         sources = {role: DEFAULT if read[role] is None else MASTERS for role in ("setup", "holding")}
         fill, sources["fill"] = defaults.fill_of(group, read["fill"])
         read["setup"] = setup = defaults.setup if read["setup"] is None else read["setup"]
-        denominators = [read[role].denominator for role in MONEY if read[role] is not None]
-        decimals = next(digits for digits in range(MOST_DECIMALS + 1) if not any(
-            10**digits % denominator for denominator in denominators))
+        unit = math.lcm(*(read[role].denominator for role in MONEY if read[role] is not None))
+        decimals = next(digits for digits in range(MOST_DECIMALS + 1) if 10**digits % unit == 0)
         read |= {role: read[role] * factor for role, factor in self.factors.items() if read[role] is not None}
         rate = self.a_year * (defaults.holding_rate or 0) if read["holding"] is None else read["holding"]
         holding = rate * (price or 0) if self.share or read["holding"] is None else rate
