@@ -4,6 +4,7 @@ A period goes through docs/FORMATS.md, "What happens in a period", step by step.
 """
 from __future__ import annotations
 
+import functools
 from typing import NamedTuple
 
 import numpy as np
@@ -56,23 +57,24 @@ def steps_of(scenario: Scenario) -> tuple[scipy.sparse.csr_matrix, np.ndarray]:
     """Returns the chances to move from each reachable state (column) to each (row), and what each counts on average."""
     policy, draws = scenario.policies[0], draws_of(scenario)
     start = (policy.S, *[0] * max(lead for _, lead, _, _ in draws))
-    numbers, waiting, moves, counts = {start: 0}, [start], [], []
-    while waiting:
-        state, total = waiting.pop(0), np.zeros(len(Counted._fields))
-        for *drawn, chance in draws:
+    numbers, states, to, counts = {start: 0}, [start], [], []
+    for state in states:
+        for *drawn, _ in draws:
             after, counted = period(state, (policy.s, policy.S), *drawn)
-            total += chance * np.array(counted, float)
+            counts.append(counted)
             if sum(after) > policy.S + MOST_HEIGHT:
                 after = state
             if after not in numbers:
                 numbers[after] = len(numbers)
-                waiting.append(after)
-            moves.append((chance, numbers[after], numbers[state]))
-        counts.append(total)
-    chances, to, place = zip(*moves)
-    return scipy.sparse.csr_matrix((chances, (to, place)), shape=(len(numbers), len(numbers))), np.array(counts)
+                states.append(after)
+            to.append(numbers[after])
+    chances, size = [chance for *_, chance in draws], len(states)
+    moves = np.tile(chances, size), (to, np.repeat(np.arange(size), len(draws)))
+    return (scipy.sparse.csr_matrix(moves, shape=(size, size)),
+            chances @ np.array(counts, float).reshape(size, len(draws), -1))
 
 
+@functools.cache
 def by_chain(scenario: Scenario) -> list[float]:
     """Returns cost, fill, short, stock, orders and mean position of the first policy in the long run.
 
