@@ -6,6 +6,7 @@ from collections.abc import Iterable, Mapping, Sequence
 from dataclasses import dataclass
 from fractions import Fraction
 from functools import cached_property
+from operator import mul
 from typing import TYPE_CHECKING
 
 from .formats import MOST_DEMAND, MOST_WEIGHT
@@ -74,7 +75,7 @@ class Law:
     @property
     def mean(self) -> Fraction:
         """Returns the exact mean."""
-        return Fraction(sum(value * weight for value, weight in zip(self.values, self.weights)), self.size)
+        return Fraction(sum(map(mul, self.values, self.weights)), self.size)
 
     @property
     def chances(self) -> dict[int, float]:

@@ -417,8 +417,8 @@ class LongRun(Walk):
             found = dict(zip(looked, zip(costs.tolist(), levels.tolist())))
             # Gaps stand in place of reorder points.
             return [Candidate(cost, gap, level) for gap in gaps for cost, level in [found.get(gap, (math.inf, -1))]]
-        grid = self.grid()
-        for some in ([min(grid, key=lambda gap: abs(gap - self.usual_gap))], grid) if grid else ():
+        grid, usual = self.grid(), min(self.most, round(self.usual_gap))
+        for some in (self.gaps(usual, usual) or grid[-1:], grid) if grid else ():
             known = min(known, min(policies_of(some)).cost)
             most = self.widest(known, lowest) if known < math.inf else most
             if len(self.late) and known < math.inf:

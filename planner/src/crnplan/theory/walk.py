@@ -129,7 +129,7 @@ class LatticeLaw:
 
     @cached_property
     def mean(self) -> float:
-        return float(self.chances @ self.cells)
+        return float(summed(self.chances, self.low, 1)[1, -1])
 
     @cached_property
     def twice(self) -> LatticeLaw:
@@ -153,7 +153,7 @@ class LatticeLaw:
     @property
     def reflected(self) -> LatticeLaw:
         """Returns the law of the number with the other sign."""
-        return LatticeLaw(-self.high, self.chances[::-1])
+        return LatticeLaw(-self.high, self.chances[::-1].copy())
 
 
 NOTHING = LatticeLaw(0, np.ones(1))
