@@ -13,7 +13,7 @@ from typing import TYPE_CHECKING
 import numpy as np
 from scipy import special
 
-from ..chances import DEMANDS, Floats, blurred, in_items, mixture, scaled
+from ..chances import DEMANDS, Floats, Whole, blurred, in_items, mixture, scaled
 from ..errors import Refused, argument
 from ..formats import MOST_DEMAND, MOST_LEAD
 from ..law import Law
@@ -56,6 +56,16 @@ def boxes_of(observed: Observed | Iterable[Number], box: int) -> list[int]:
     return [-(-number // box) for number in numbers_of(observed, "demand", wrong)]
 
 
+def risen(weights: Floats, counts: Whole) -> Floats:
+    """Returns the sums over the last axis of the logarithms of rising factorials: products of a weight, the weight plus
+    1 and so on, of as many factors as a count says."""
+    once = counts == 1
+    others = weights[..., ~once]
+    rises: Floats = np.log(weights[..., once]).sum(axis=-1)
+    rises += (special.gammaln(others + counts[~once]) - special.gammaln(others)).sum(axis=-1)
+    return rises
+
+
 def share_of(sample: Sample, base: Floats) -> float:
     """Returns the share of a law in its mixture with the sample: 1 if the sample does not speak against the law.
 
@@ -67,8 +77,7 @@ def share_of(sample: Sample, base: Floats) -> float:
     seen = np.maximum(chances[sample.values], 1e-9)
     periods = sample.size * PERIODS
     likelihood = special.gammaln(periods) - special.gammaln(periods + sample.size)
-    weights = periods[:, None] * seen
-    likelihood += (special.gammaln(weights + sample.counts) - special.gammaln(weights)).sum(axis=1)
+    likelihood += risen(periods[:, None] * seen, sample.counts)
     best = int(np.argmax(likelihood))
     if likelihood[best] - likelihood[-1] < LIKELIHOOD_RATIO:
         return 1.0

@@ -31,7 +31,7 @@ from ..formats import MOST_WEIGHT
 from ..law import Law
 from ..records.observed import Observed
 from .families import UNIFORMS, Family, Fit, Parameters, fits_of, near_of
-from .fitting import FEW, LEAST_LEADS, SIDES, boxes_of, counts_of, lead_law, leads_of, sides_of
+from .fitting import FEW, LEAST_LEADS, SIDES, boxes_of, counts_of, lead_law, leads_of, risen, sides_of
 from .sample import Sample
 
 FROM_HISTORY = "history"  # the name of the Bayesian bootstrap among the families
@@ -97,8 +97,7 @@ def members_of(fit: Fit, packs: Sample, random: np.random.Generator) -> Members:
     seen = np.maximum(fit.family.chances(packs.values, *parameters), LEAST_SEEN)
     own = np.log(seen) @ packs.counts
     periods = packs.size * CONCENTRATIONS[:, None, None]
-    weights = periods * seen
-    likely = (special.gammaln(weights + packs.counts) - special.gammaln(weights)).sum(axis=2)
+    likely = risen(periods * seen, packs.counts)
     likely += special.gammaln(periods[:, :, 0]) - special.gammaln(periods[:, :, 0] + packs.size)
     common = (PROPOSED - 1) * fit.log_likelihood - fit.bic / 2
     below = np.cumsum(np.exp((COUNTED - PROPOSED) * (own - own.max())))

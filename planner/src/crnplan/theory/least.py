@@ -14,20 +14,6 @@ from ..compiled import compiled, composed
 NEAR = 1e-12  # Shares, and costs by their ratio, that differ by less are equal but for rounding.
 
 
-def levels_within(unmet: Floats, allowed: Floats, step: int) -> Whole:
-    """Returns the least levels, in items, with at most some allowed unmet demands, a row for each gap. `unmet` has that
-    of all levels in cells of `step` items. Between two cells it is shared by both."""
-    counts = np.count_nonzero(unmet[:, None] <= allowed[:, None], axis=2)
-    places: Whole = unmet.shape[1] - np.maximum(counts, 1)
-    if step == 1:
-        return places
-    gaps = np.arange(len(unmet))[:, None]
-    here, below = (unmet[gaps, np.maximum(places - less, 0)] for less in (0, 1))
-    spare = np.divide(step * (allowed - here), below - here, where=below > here, out=np.zeros_like(here))
-    levels: Whole = places * step - np.minimum((spare + NEAR).astype(int), step - 1)
-    return levels
-
-
 def least_levels(low: Whole, high: Whole, is_enough: Callable[[Whole], Any]) -> Whole:
     """Returns the least levels from low to high that are enough, each by itself; high if none below it is."""
     while (low < high).any():

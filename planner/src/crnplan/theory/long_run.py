@@ -32,7 +32,7 @@ from ..formats import MOST_ITEMS
 from ..scenario import Costs, Scenario
 from .feasible import ALL, Feasible, Places
 from .grid import CLOSE, gap_grid, search
-from .least import NEAR, least_costs, least_enough, levels_within
+from .least import NEAR, least_costs, least_enough
 from .shortfalls import chances_of, falling, lateness, moving, transforms_of, work_of
 from .walk import LatticeLaw, Surplus, Walk, figures_at, power_of, room_for, sum_of
 
@@ -309,10 +309,20 @@ class LongRun(Walk):
 
     def levels_with_fill(self, gaps: Sequence[int], shares: Sequence[float]) -> Iterable[tuple[int, list[int]]]:
         """Yields rising gaps, each with the least levels, in items, that meet these shares of demand at once."""
-        allowed = np.array([*map(self.allowed, shares)])
         for some in self.parts(gaps):
-            unmet = next(Means(self, some).of_all_levels(UNMET))
-            yield from zip(some.tolist(), levels_within(unmet, allowed, self.step).tolist())
+            means = Means(self, some)
+            levels = [self.levels_within(means, self.allowed(share)) for share in shares]
+            yield from zip(some.tolist(), np.transpose(levels).tolist())
+
+    def levels_within(self, means: Means, allowed: float) -> Whole:
+        """Returns the least levels, in items, with at most so much unmet demand. Between two cells it is shared by both.
+        """
+        highest, unmet = np.full(len(means.gaps), means.top), slice(UNMET, STOCK_LEFT)
+        cells = least_enough(means.turned[unmet], means.chances, 0 * highest, highest, allowed, 0.0)
+        here, below = (means.at(np.maximum(cells - less, 0), unmet)[0] for less in (0, 1))
+        spare = np.divide(self.step * (allowed - here), below - here, where=below > here, out=np.zeros_like(here))
+        levels: Whole = cells * self.step - np.minimum((spare + NEAR).astype(int), self.step - 1)
+        return levels
 
     def first_gap(self, cost: float, most: int) -> int:
         """Returns the first gap up to the most whose orders alone cost no more."""

@@ -252,9 +252,9 @@ class Promises:
 
     def prepare(self, laws: Sequence[int], gaps: Sequence[int]) -> None:
         """Computes the levels of rising gaps under some laws at once, which is faster than one by one."""
-        compute_shortfalls((self.theories[law], [gap for gap in gaps if (law, gap) not in self.levels]) for law in laws)
-        for law in laws:
-            new = [gap for gap in gaps if (law, gap) not in self.levels]
+        asked = {law: new for law in laws if (new := [gap for gap in gaps if (law, gap) not in self.levels])}
+        compute_shortfalls((self.theories[law], new) for law, new in asked.items())
+        for law, new in asked.items():
             self.levels.update(((law, gap), dict(zip(self.shares, levels)))
                                for gap, levels in self.theories[law].levels_with_fill(new, self.shares))
 
