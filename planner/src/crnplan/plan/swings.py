@@ -167,7 +167,7 @@ def keep_swings(own: Folder, folder: PlannedFolder, survey: Survey, *, jobs: int
         return folder.read.item(name), folder.store.answer(name)
     with contextlib.closing(Store(own.store(SWINGS), Swing)) as kept:
         Work(kept, drawn_items(folder, survey)).finish(swing_batch, asked, folder.settings, folder.planned.prior,
-                                               workers=workers_of(jobs, address), shown=shown)
+                                               workers=workers_of(jobs, address), shown=shown, batch=1)
 
 
 def kept_swings(folder: PlannedFolder, survey: Survey) -> Swings | None:
