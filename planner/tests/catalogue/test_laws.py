@@ -18,8 +18,9 @@ from crnplan.demand.borrowing import law_of
 from crnplan.demand.learning import Prior
 from crnplan.files import own_folder
 from crnplan.plan.answer import Answer
+from crnplan.plan import learned
 from crnplan.plan.catalogue import take_prior
-from crnplan.plan.learned import PRIOR, PRIOR_WINDOW, drawn_of_groups, learned_of
+from crnplan.plan.learned import PRIOR, PRIOR_WINDOW, drawn_of_groups, learned_of, learners
 from crnplan.plan.one import allowed_by, plan_one
 from crnplan.plan.question import ALL, CLASS, NONE, Question, Settings, question_of
 from crnplan.records.catalogue_reading import ADD_ITEM, CATALOGUE as FOLDER, Catalogued, Writer
@@ -148,6 +149,20 @@ def test_of_each_class_as_many_are_drawn(most: int) -> None:
     wanted = [sorted((name for name, group in pairs if group == its), key=lambda name: hashlib.sha256(
         name.encode()).hexdigest())[:most] for its in "XYZ"]
     assert drawn_of_groups(pairs, most) == sorted(sum(wanted, []))
+
+
+@pytest.mark.parametrize("pulled, of_classes, by_class", [
+    (9, 99, [49, 49]), (48, 99, [49, 49]), (54, 99, [55, 55]), (70, 99, [60, 59]), (9, 118, [59, 59]),
+    (9, 119, [60, 59]), (9, 3, [10, 10])])
+@pytest.mark.parametrize("read", [(ITEMS - 1, {})], indirect=True)
+def test_of_many_items_some_teach(read: Catalogued, monkeypatch: pytest.MonkeyPatch, pulled: int, of_classes: int,
+                                  by_class: list[int]) -> None:
+    """From all learn as many as are asked for in all, and of each class as many: a share of these, but one more than
+    those that learn from other classes at least; and all, if no more are there than are asked for."""
+    for name, most in {"MOST_PULLED": pulled, "MOST_OF_CLASSES": of_classes, "MOST_READ": 70}.items():
+        monkeypatch.setattr(learned, name, most)
+    assert len({item.name for item in learners(read, False)}) == 70
+    assert [sum(item.group == its for item in learners(read, True)) for its in "XY"] == by_class
 
 
 @pytest.mark.parametrize("again", [False, True])
