@@ -13,9 +13,9 @@ from crnplan.scenario import Costs, Scenario
 from crnplan.theory import feasible, long_run, one_lead
 from crnplan.theory.grid import search
 from crnplan.theory.lattice import NoTheory, shape_of, theory_on
+from crnplan.theory.least import gaps_walked
 from crnplan.theory.long_run import NO_POLICY, Candidate
 from crnplan.theory.many_laws import Promises
-from crnplan.theory.one_lead import gaps_walked
 from crnplan.theory.suggestions import MOST_EXCESS
 from planner.tests.theory.long_run_costs import costs_of, fills_of, shortfall_of
 from planner.tests.theory.scenarios import Pair, laws, scenario_of, table, theory_of

@@ -6,7 +6,7 @@ import pytest
 
 from crnplan.scenario import Costs
 from crnplan.theory import long_run, shortfalls
-from crnplan.theory.least import least_enough
+from crnplan.theory.least import least_enough, sums_from
 from crnplan.theory.long_run import UNMET, Means
 from crnplan.theory.shortfalls import FAR
 from planner.tests.theory.long_run_costs import costs_of, fills_of, shortfall_of
@@ -47,6 +47,9 @@ def test_least_levels_that_are_enough(way: str, leads: list[int], share: float) 
         wanted = [next((it for it in range(floor, means.top) if row[it]), means.top)
                   for floor, row in zip(floors, enough)]
         assert found.tolist() == wanted
+    levels = np.array([0, 3, 1, means.top - 1, 9])
+    unmet, held = getattr(sums_from, way)(means.turned[1:3], means.chances, means.top - levels)
+    assert unmet == pytest.approx(tables[0][range(5), levels]) and held == pytest.approx(tables[1][range(5), levels])
 
 
 @pytest.mark.parametrize("share", [0.0, 0.9])
@@ -56,10 +59,10 @@ def test_floors_of_costs(back: Pair | None, leads: list[int], share: float, monk
     """No policy of a gap costs less. With one lead time the best one costs no more."""
     monkeypatch.setattr(long_run, "least_costs", long_run.least_costs.loop)
     scenario = scenario_of(([0, 1, 3], [3, 2, 1]), (leads, [1] * len(leads)), back, Costs(20, 0, 2, 9))
-    floors, levels = theory_of(scenario).floors(share, 20), np.arange(50)
-    for gap in (0, 1, 4, 20):
+    gaps, levels = [0, 1, 4, 20], np.arange(50)
+    for gap, floor in zip(gaps, theory_of(scenario).floors(share, gaps)):
         short = shortfall_of(scenario, gap)
         least = costs_of(scenario, short, levels)[fills_of(scenario, short, levels) >= share - 1e-9].min()
-        assert 0.5 * least < floors[gap] <= least + 1e-9
+        assert 0.5 * least < floor <= least + 1e-9
         if len(leads) == 1 and not share:
-            assert floors[gap] == pytest.approx(least)
+            assert floor == pytest.approx(least)

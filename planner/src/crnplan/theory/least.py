@@ -1,4 +1,5 @@
-"""Finds the least levels that are enough: for each of some gaps by itself, since higher levels are enough too."""
+"""Finds the least levels that are enough: for each of some gaps by itself, since higher levels are enough too; and with
+one lead time what they cost."""
 from __future__ import annotations
 
 from collections.abc import Callable
@@ -8,8 +9,8 @@ import numpy as np
 from numpy.lib.stride_tricks import sliding_window_view
 
 from ..chances import Floats, Whole
-from ..compiled import compiled, composed
-
+from ..compiled import PLAIN_CALLS, compiled, composed
+from .grid import CLOSE
 
 NEAR = 1e-12  # Shares, and costs by their ratio, that differ by less are equal but for rounding.
 
@@ -23,6 +24,23 @@ def least_levels(low: Whole, high: Whole, is_enough: Callable[[Whole], Any]) -> 
     return low
 
 
+def sums_by_windows(turned: Floats, chances: Floats, places: Whole) -> Floats:
+    """Stands in for `sums_from`."""
+    windows = sliding_window_view(turned, chances.shape[1], axis=1)
+    sums: Floats = np.einsum("fgx,gx->fg", windows[:, places], chances)
+    return sums
+
+
+@compiled(sums_by_windows)
+def sums_from(turned: Floats, chances: Floats, places: Whole) -> Floats:
+    """Returns the sums of figures from a place on for each gap, by its chances: rows by figure, columns by gap."""
+    sums, width = np.empty((len(turned), len(places))), chances.shape[1]
+    for row in range(len(turned)):
+        for gap, place in enumerate(places):
+            sums[row, gap] = np.dot(turned[row, place:place + width], chances[gap])
+    return sums
+
+
 def least_by_halving(turned: Floats, chances: Floats, floors: Whole, highest: Whole, allowed: float, ratio: float
                      ) -> Whole:
     """Returns the least level of each gap, from a floor on, with a mean unmet demand of at most `allowed` and a mean
@@ -31,10 +49,8 @@ def least_by_halving(turned: Floats, chances: Floats, floors: Whole, highest: Wh
     `turned` has a row with the unmet demand and one with the chance of no backlog, from the highest level of a low
     down, and `chances` a row with how far a low is below the level, for each gap.
     """
-    windows = sliding_window_view(turned, chances.shape[1], axis=1)
-
     def is_enough(levels: Whole) -> Any:
-        unmet, held = np.einsum("fgx,gx->fg", windows[:, highest - levels], chances)
+        unmet, held = sums_by_windows(turned, chances, highest - levels)
         return (unmet <= allowed) & (held >= ratio)
     return least_levels(floors, highest, is_enough)
 
@@ -60,26 +76,93 @@ def least_enough(turned: Floats, chances: Floats, floors: Whole, highest: Whole,
     return levels
 
 
-@composed()
-def least_costs(lows: Floats, table: Floats, setup: float, allowed: float, ratio: float) -> Floats:
-    """Returns for each gap from 0 on what a policy costs at least with one lead time, and a level that is enough.
+def sum_at(table: Floats, turned: Floats, evened: Floats, even: int, gap: int, place: int, row: int) -> float:
+    """Returns the sum of a figure over the lows of a gap, with the highest at a place: see `gaps_walked`."""
+    if gap < even:
+        total: float = np.dot(table[row, place - gap:place + 1], turned[len(turned) - gap - 1:])
+    else:
+        total = evened[row, place] + turned[0] * (evened[row + 3, place] - evened[row + 3, place - gap - 1])
+    return total
 
-    `lows` has the chances of the lows up to the widest gap, and `table` rows with the stock costs, the unmet demand and
-    the chance of no backlog of all levels of lows from the widest gap and one below 0 on, as far as any are enough.
-    `setup` is that of a cycle. Levels do not fall from one gap to the next.
-    """
-    most, turned, found = len(lows) - 1, lows[::-1].copy(), np.empty(len(lows))
-    costs, unmet, held = table[0], table[1], table[2]
-    place, total, here, below, lacking, enough = most + 1, 0.0, 0.0, 0.0, 0.0, 0.0
-    for gap, low in enumerate(lows):
-        total, here, below = total + low, here + low * costs[place - gap], below + low * costs[place - gap - 1]
-        lacking, enough, first = lacking + low * unmet[place - gap], enough + low * held[place - gap], place
-        while place < len(costs) - 1 and (enough < ratio * total or lacking > allowed * total):
-            place += 1
-            enough = np.dot(held[place - gap:place + 1], turned[most - gap:])
-            lacking = np.dot(unmet[place - gap:place + 1], turned[most - gap:])
-        if place > first:
-            here = np.dot(costs[place - gap:place + 1], turned[most - gap:])
-            below = np.dot(costs[place - gap - 1:place], turned[most - gap:])
-        found[gap] = (setup + min(here, below)) / total
+
+def least_place(table: Floats, turned: Floats, evened: Floats, even: int, gap: int, low: int, allowed: float,
+                ratio: float) -> int:
+    """Returns the least place of a gap from one on that is enough, or the end of the table: it is looked for in strides
+    that double until they are too long. `allowed` and `ratio` are those of all lows together."""
+    high, place, stride, is_found = table.shape[1], low, 1, False
+    while low < high:
+        if sum_at(table, turned, evened, even, gap, place, 2) >= ratio and (
+                allowed == np.inf or sum_at(table, turned, evened, even, gap, place, 1) <= allowed):
+            high, is_found = place, True
+        else:
+            low = place + 1
+        place = (low + high) // 2 if is_found else min(low + stride, high) - 1
+        stride *= 2
+    return low
+
+
+@composed()
+def least_costs(gaps: Whole, lows: Floats, table: Floats, setup: float, allowed: float, ratio: float) -> Floats:
+    """Returns for each of some rising gaps what a policy costs at least with one lead time, and a level that is enough:
+    see `gaps_walked`. But `table` has the levels of lows from the widest gap and one below 0 on."""
+    turned, found, place, added, total = lows[::-1].copy(), np.empty(len(gaps)), len(lows), 0, 0.0
+    for each, gap in enumerate(gaps):
+        while added <= gap:
+            total, added = total + lows[added], added + 1
+        place = least_place(table, turned, table, len(lows), gap, place, allowed * total, ratio * total)
+        place = min(place, table.shape[1] - 1)
+        here, below = (sum_at(table, turned, table, len(lows), gap, place, 0),
+                       sum_at(table, turned, table, len(lows), gap, place - 1, 0))
+        found[each] = (setup + min(here, below)) / total
     return found
+
+
+def spare_at(table: Floats, turned: Floats, evened: Floats, even: int, gap: int, place: int, allowed: float,
+             ratio: float) -> float:
+    """Returns how far below a place, as a share of a cell, a level of a gap is enough: see `least_place`."""
+    if sum_at(table, turned, evened, even, gap, place - 1, 2) < ratio:
+        return 0.0
+    unmet = sum_at(table, turned, evened, even, gap, place, 1)
+    slope = sum_at(table, turned, evened, even, gap, place - 1, 1) - unmet
+    return (allowed - unmet) / slope if slope > 0 else 1.0
+
+
+@composed(after=PLAIN_CALLS)
+def gaps_walked(gaps: Whole, leasts: Whole, lows: Floats, table: Floats, evened: Floats, even: int, step: int, top: int,
+                setup: float, line: Floats, allowed: float, ratio: float, known: float) -> Floats:
+    """Returns rows with the gaps that are looked at, the best level of each, in items, and what both cost.
+
+    `gaps` rise, and `leasts` has the least feasible level of each, in items; the greatest is the `top`. `lows` has the
+    chances of the lows up to the widest gap. `table` has, for levels of lows from -2 cells on, the stock costs, the
+    unmet demand and the chance of no backlog of a period. From the gap `even` on sums over lows follow from `evened`:
+    rows with what the lows before `even` add to these three at each level, as far as they have other chances than the
+    last low, and rows with the sums of the table up to each level.
+
+    A level is enough if the mean unmet demand is at most `allowed`, and the mean chance of no backlog at least `ratio`.
+    The least one does not fall from one gap to the next. Gaps are left out that cost more than `known`, or than one
+    before: see the module. `setup` is that of a cycle. All else costs at least `line[0]`, and `line[1]` more by cell.
+    """
+    turned, last, least_cost, rows = lows[::-1].copy(), table.shape[1] - 1, table[0].min(), np.empty((len(gaps), 3))
+    count, added, place, total, due = 0, 0, 0, 0.0, 0.0
+    for each, gap in enumerate(gaps):
+        while added <= gap:
+            total, added = total + lows[added], added + 1
+        floor = least_cost if each == 0 else max(least_cost, line[0] + line[1] * gap)
+        first = max(place, 2 - (-leasts[each] // step))
+        if total < due or first > last or setup / total + floor > CLOSE * known:
+            continue
+        place = least_place(table, turned, evened, even, gap, first, allowed * total, ratio * total)
+        if place > last:
+            break
+        cost, level = sum_at(table, turned, evened, even, gap, place, 0), (place - 2) * step
+        if step > 1:
+            share = spare_at(table, turned, evened, even, gap, place, allowed * total, ratio * total)
+            spare = min(int(min(step * share, step - 1.0)), level - leasts[each])
+            cost += spare / step * (sum_at(table, turned, evened, even, gap, place - 1, 0) - cost)
+            level -= spare
+        if level <= top:
+            rows[count, 0], rows[count, 1], rows[count, 2] = gap, level, (setup + cost) / total
+            known, count = min(known, rows[count, 2] * (1 + NEAR)), count + 1
+            if known > least_cost:
+                due = total + max(0.0, setup + cost - total * known) / (known - least_cost)
+    return rows[:count]

@@ -24,7 +24,6 @@ from functools import cached_property, partial
 from typing import Any, NamedTuple
 
 import numpy as np
-from numpy.lib.stride_tricks import sliding_window_view
 from scipy import fft
 
 from ..chances import Floats, Whole
@@ -32,13 +31,12 @@ from ..formats import MOST_ITEMS
 from ..scenario import Costs, Scenario
 from .feasible import ALL, Feasible, Places
 from .grid import CLOSE, gap_grid, search
-from .least import NEAR, least_costs, least_enough
+from .least import NEAR, least_costs, least_enough, sums_from
 from .shortfalls import chances_of, falling, lateness, moving, transforms_of, work_of
 from .walk import LatticeLaw, Surplus, Walk, figures_at, power_of, room_for, sum_of
 
 FEW = 4  # Of the gaps of a grid, one in so many is looked at for a first policy.
 MOST_CELLS = 50_000  # of tables with a row for each of many gaps
-MOST_FLOORS = 3_000  # Wider gaps are all looked at.
 MOST_WORK = 20_000_000  # for all gaps of a search, by `work_of`
 UNMET, STOCK_LEFT = 1, 3  # rows of `LongRun.figures_from`
 
@@ -95,15 +93,9 @@ class Means:
         self.figures = theory.figures_from(theory.step * np.arange(-self.width - low, self.top - low + 1))
         self.turned = self.figures[:, ::-1].copy()
 
-    @cached_property
-    def windows(self) -> Floats:
-        """Returns the figures of all lows of each level, from the top down."""
-        return sliding_window_view(self.turned, self.width, axis=1)
-
     def at(self, levels: Whole, figures: slice) -> Floats:
         """Returns the means of some figures, a row for each figure, with a level for each gap."""
-        means: Floats = np.einsum("fgx,gx->fg", self.windows[figures, self.top - levels], self.chances)
-        return means
+        return sums_from(self.turned[figures], self.chances, self.top - levels)
 
     def of_all_levels(self, *figures: int) -> Iterator[Floats]:
         """Yields means of some figures, a row for each gap, with each level from 0 on up to the one below the top."""
@@ -136,7 +128,7 @@ class LongRun(Walk):
         self.feasible, self.found = feasible, dict[float, Candidate]()
         costs, leads = scenario.costs, scenario.lead.chances
         self.setup, self.holding, self.backlog = costs.setup, costs.holding, costs.backlog
-        self.most, self.shorts, self.floored = most, dict[int, Floats](), dict[float, Floats]()
+        self.most, self.shorts = most, dict[int, Floats]()
         self.figured = dict[tuple[int, int], Figures]()
         self.asked = self.demand.mean * step  # the mean demand of a period, in items
         # How far the mean stock less the mean backlog is below the mean low, in items.
@@ -163,7 +155,7 @@ class LongRun(Walk):
         """Returns the same theory with other costs, another `most` and other feasible policies."""
         other = self.within(feasible)
         other.setup, other.holding, other.backlog, other.most = costs.setup, costs.holding, costs.backlog, most
-        other.figured, other.floored = {}, {}
+        other.figured = {}
         other.__dict__.pop("free", None)
         return other
 
@@ -405,24 +397,26 @@ class LongRun(Walk):
         best = place_of_least(costs)
         return self.policy(gaps[best], int(levels[best]))
 
-    def floors(self, share: float, most: int) -> Floats:
-        """Returns what a policy that meets a share of demand at once costs at least, by its gap up to the most: see the
+    def floors(self, share: float, gaps: Sequence[int]) -> Floats:
+        """Returns what a policy that meets a share of demand at once costs at least, by some rising gaps: see the
         module."""
-        if len(self.floored.get(share, ())) <= most:
-            levels = self.step * np.arange(-most - 1, most + self.after.high + 2)
-            costs = least_costs(self.lows_of(most), self.figures_from(levels)[:3], self.setup / self.span,
-                                self.allowed(share), self.ratio)
-            self.floored[share] = costs - self.holding * self.step * self.net.mean * float(self.late.sum())
-        return self.floored[share]
+        levels = self.step * np.arange(-gaps[-1] - 1, gaps[-1] + self.after.high + 2)
+        costs = least_costs(np.array(gaps), self.lows_of(gaps[-1]), self.figures_from(levels), self.setup / self.span,
+                            self.allowed(share), self.ratio)
+        floors: Floats = costs - self.holding * self.step * self.net.mean * float(self.late.sum())
+        return floors
 
     def cheapest(self, levels_of: LevelsOf, lowest: int, share: float = 0.0) -> tuple[int, int]:
         """Returns the gap and the level of the cheapest policy of all gaps that may cost least, if s is at least
         `lowest` and a share of demand is met at once; or what a search finds if these take too long."""
-        known, most, floors = math.inf, self.most, np.empty(0)
+        known, most = math.inf, self.most
 
         def policies_of(gaps: Sequence[int]) -> list[Candidate]:
             """Returns policies of gaps, with infinite costs if they cost more than one that is known."""
-            looked = [gap for gap in gaps if gap <= most and (gap >= len(floors) or floors[gap] <= CLOSE * known)]
+            looked = [gap for gap in gaps if gap <= most]
+            if len(self.late) and looked and known < math.inf:
+                floors = self.floors(share, looked).tolist()
+                looked = [gap for gap, floor in zip(looked, floors) if floor <= CLOSE * known]
             levels, costs = self.costed(levels_of, looked) if looked else (np.empty(0, int), np.empty(0))
             found = dict(zip(looked, zip(costs.tolist(), levels.tolist())))
             # Gaps stand in place of reorder points.
@@ -431,8 +425,6 @@ class LongRun(Walk):
         for some in (self.gaps(usual, usual) or grid[-1:], grid) if grid else ():
             known = min(known, min(policies_of(some)).cost)
             most = self.widest(known, lowest) if known < math.inf else most
-            if len(self.late) and known < math.inf:
-                floors = self.floors(share, min(most, MOST_FLOORS))
         if known == math.inf:
             return 0, -1
         if (most + 1) * work_of(power_of(self.net, self.longest).high + most, self.longest) > self.most_work:

@@ -26,91 +26,14 @@ import numpy as np
 import numpy.typing as npt
 
 from ..chances import Floats, Whole
-from ..compiled import PLAIN_CALLS, composed
 from ..formats import MOST_ITEMS
 from .grid import CLOSE
-from .least import NEAR
+from .least import gaps_walked
 from .long_run import NO_POLICY, Candidate, LongRun, place_of_least
 from .walk import convolved
 
 EVEN = 1e-10  # Chances that differ by no more than this share are taken as the same by a search, not for figures.
 MOST_WALKED = 1_000  # Up to so many lows, sums over them take less time than those of all levels at once.
-
-
-def sum_at(table: Floats, turned: Floats, evened: Floats, even: int, gap: int, level: int, row: int) -> float:
-    """Returns the sum of a figure over the lows of a gap with a level: see `gaps_walked`."""
-    here, below = level + 2, level + 1 - gap
-    if gap < even:
-        total: float = np.dot(table[row, below + 1:here + 1], turned[len(turned) - gap - 1:])
-    else:
-        total = evened[row, here] + turned[0] * (evened[row + 3, here] - evened[row + 3, below])
-    return total
-
-
-def least_level(table: Floats, turned: Floats, evened: Floats, even: int, gap: int, low: int, allowed: float,
-                ratio: float) -> int:
-    """Returns the least level of a gap from one on that is enough, or the one above the table: it is looked for in
-    strides that double until they are too long. `allowed` and `ratio` are those of all lows together."""
-    high, place, stride, is_found = table.shape[1] - 2, low, 1, False
-    while low < high:
-        if sum_at(table, turned, evened, even, gap, place, 2) >= ratio and (
-                allowed == np.inf or sum_at(table, turned, evened, even, gap, place, 1) <= allowed):
-            high, is_found = place, True
-        else:
-            low = place + 1
-        place = (low + high) // 2 if is_found else min(low + stride, high) - 1
-        stride *= 2
-    return low
-
-
-def spare_at(table: Floats, turned: Floats, evened: Floats, even: int, gap: int, level: int, allowed: float,
-             ratio: float) -> float:
-    """Returns how far below a level, as a share of a cell, another one of a gap is enough: see `least_level`."""
-    if sum_at(table, turned, evened, even, gap, level - 1, 2) < ratio:
-        return 0.0
-    unmet = sum_at(table, turned, evened, even, gap, level, 1)
-    slope = sum_at(table, turned, evened, even, gap, level - 1, 1) - unmet
-    return (allowed - unmet) / slope if slope > 0 else 1.0
-
-
-@composed(after=PLAIN_CALLS)
-def gaps_walked(gaps: Whole, leasts: Whole, lows: Floats, table: Floats, evened: Floats, even: int, step: int, top: int,
-                setup: float, line: Floats, allowed: float, ratio: float, known: float) -> Floats:
-    """Returns rows with the gaps that are looked at, the best level of each, in items, and what both cost.
-
-    `gaps` rise, and `leasts` has the least feasible level of each, in items; the greatest is the `top`. `lows` has the
-    chances of the lows up to the widest gap. `table` has, for levels of lows from -2 cells on, the stock costs, the
-    unmet demand and the chance of no backlog of a period. From the gap `even` on sums over lows follow from `evened`:
-    rows with what the lows before `even` add to these three at each level, as far as they have other chances than the
-    last low, and rows with the sums of the table up to each level.
-
-    A level is enough if the mean unmet demand is at most `allowed`, and the mean chance of no backlog at least `ratio`.
-    The least one does not fall from one gap to the next. Gaps are left out that cost more than `known`, or than one
-    before: see the module. `setup` is that of a cycle. All else costs at least `line[0]`, and `line[1]` more by cell.
-    """
-    turned, last, least_cost, rows = lows[::-1].copy(), table.shape[1] - 3, table[0].min(), np.empty((len(gaps), 3))
-    count, added, level, total, due = 0, 0, 0, 0.0, 0.0
-    for each, gap in enumerate(gaps):
-        while added <= gap:
-            total, added = total + lows[added], added + 1
-        floor = least_cost if each == 0 else max(least_cost, line[0] + line[1] * gap)
-        first = max(level, -(-leasts[each] // step))
-        if total < due or first > last or setup / total + floor > CLOSE * known:
-            continue
-        level = least_level(table, turned, evened, even, gap, first, allowed * total, ratio * total)
-        if level > last:
-            break
-        cost, spare = sum_at(table, turned, evened, even, gap, level, 0), 0
-        if step > 1:
-            share = spare_at(table, turned, evened, even, gap, level, allowed * total, ratio * total)
-            spare = min(int(min(step * share, step - 1.0)), level * step - leasts[each])
-            cost += spare / step * (sum_at(table, turned, evened, even, gap, level - 1, 0) - cost)
-        if level * step - spare <= top:
-            rows[count, 0], rows[count, 1], rows[count, 2] = gap, level * step - spare, (setup + cost) / total
-            known, count = min(known, rows[count, 2] * (1 + NEAR)), count + 1
-            if known > least_cost:
-                due = total + max(0.0, setup + cost - total * known) / (known - least_cost)
-    return rows[:count]
 
 
 class OneLead(LongRun):
