@@ -97,9 +97,8 @@ def whole(value: Any, name: str) -> int:
 
 def _beyond(amounts: Mapping[str, Fraction], scale: Fraction) -> str:
     """Returns the name of the first amount that a scale leaves in parts or above the program's range; empty if none."""
-    most = {name: formats.limits("costs", name)[1] for name in amounts}
     return next((name for name, amount in amounts.items()
-                 if (amount * scale).denominator > 1 or amount * scale > most[name]), "")
+                 if (own := amount * scale).denominator > 1 or own > formats.limits("costs", name)[1]), "")
 
 
 def rounded_costs(costs: Mapping[str, Fraction], exact_one: str) -> tuple[dict[str, int], Fraction, float]:
@@ -138,7 +137,7 @@ def scaled_costs(costs: Mapping[str, Amount]) -> tuple[dict[str, int], Fraction]
         amount = exact(cost)
         if amount is None:
             raise Refused(f"costs: {name}: {shown(cost)} is not an amount; write it as 12.50")
-        if (amount * 10**MOST_DECIMALS).denominator != 1:
+        if 10**MOST_DECIMALS % amount.denominator:
             raise Refused(f"costs: {name}: {shown(cost)} has more than {MOST_DECIMALS} decimals; round it")
         amounts[name] = amount
     scale = next((scale for scale in SCALES if not _beyond(amounts, scale)), None)

@@ -98,8 +98,8 @@ class Scenario:
         returns = {"returns": self.returns.tree} if self.returns else {}
         return {"version": self.version, "key": list(self.key), "periods": self.periods,
                 "replications": self.replications, "initial": self.initial, "ring": self.ring,
-                "costs": dataclasses.asdict(self.costs), "demand": self.demand.tree, "lead": self.lead.tree, **returns,
-                "policy": [dataclasses.asdict(policy) for policy in self.policies]}
+                "costs": {**vars(self.costs)}, "demand": self.demand.tree, "lead": self.lead.tree, **returns,
+                "policy": [{**vars(policy)} for policy in self.policies]}
 
     @classmethod
     def read(cls, path: str | Path) -> Scenario:
