@@ -6,6 +6,7 @@ from collections import Counter
 from collections.abc import Callable, Iterator, Mapping, Sequence
 from dataclasses import dataclass, field, replace
 from fractions import Fraction
+from functools import cached_property
 from typing import Literal, NamedTuple, TypedDict
 
 import numpy as np
@@ -154,7 +155,6 @@ class Reader:
                                words.defaults, whole.currencies)
         self.sources, self.letters = Counter[tuple[str, str]](), dict[int, str]()
         self.twice, self.master_twins = Counter[int](), rows["items"].twins()
-        self.named = rows["demand"].by_item(rows["demand"].good)
         self.masters_of = rows["items"].by_item(rows["items"].good)
         self.cells = {role: [its.distinct[code] for code in rows["items"].codes[role].tolist()]
                       for role, its in rows["items"].columns.items()}
@@ -172,6 +172,16 @@ class Reader:
         self.counts["files"][kind]["rejected"] += 1
         self._reject("row", kind, int(rows.lines[row]), str(rows.cell("item", row)) * is_named, faults,
                      int(kind == "demand"))
+
+    @cached_property
+    def named(self) -> Callable[[int], Numbers]:
+        """Returns the function that gives the rows of demand of an item."""
+        return self.rows["demand"].by_item(self.rows["demand"].good)
+
+    @cached_property
+    def inside(self) -> Callable[[int], Numbers]:
+        """Returns the function that gives those that are not outside the record."""
+        return self.rows["demand"].by_item(self.rows["demand"].good & ~self.outside)
 
     def values(self) -> list[Fraction | None]:
         """Returns the value of the mean demand of each item, in order of names; None without a price or demand."""
@@ -242,8 +252,7 @@ class Reader:
             units = rows.columns["measure"].distinct
             factors = np.array([self.words.factors.get(text_of(unit), 1) for unit in units], np.int64)
             amounts = {role: its * factors[rows.codes["measure"]] for role, its in amounts.items()}
-        outside = rows.having("date", [code for code, remark in dated.items() if remark.code in OUTSIDE])
-        self.inside = rows.by_item(rows.good & ~outside)
+        self.outside = rows.having("date", [code for code, remark in dated.items() if remark.code in OUTSIDE])
         bad = rows.faulty(faults)
         totals = self._reject_moves(np.flatnonzero(rows.good & bad), faults)
         moves = rows.by_item(self._without_twins(rows.good & ~bad), np.stack(
@@ -354,9 +363,10 @@ class Reader:
 
     def _check_measures(self, item: int) -> None:
         """Raises Left if the rows of an item are in several units of measure."""
-        rows, mine = self.rows["demand"], self.named(item)
+        rows = self.rows["demand"]
         if "measure" not in rows.columns:
             return
+        mine = self.named(item)
         _, places = np.unique(rows.codes["measure"][mine], return_index=True)
         units = {row: text_of(rows.cell("measure", row)) for row in mine[np.sort(places)].tolist()}
         unknown = [(row, unit) for row, unit in units.items() if unit not in self.words.factors]
