@@ -29,9 +29,9 @@ PROGRAM = TOP / "crates" / "crnsim" / "out" / "crnsim"
 # The property of a test that stands for so many cases.
 CASES = "cases"
 LOCK = "serial_lock"
-# The property of a run that has which lines are run, and the folders of the tests whose lines count: all that call
-# crnplan in this process. Others would take twice the processor time.
-MEASURED = "measured_lines"
+# The properties of a run that have which lines are run, and what traces them; and the folders of the tests whose lines
+# count: all that call crnplan in this process. Others would take twice the processor time.
+MEASURED, TRACER = "measured_lines", "tracer"
 COUNTED = "planner", "tests/documents"
 # A worker of a parallel run has at most so many tests waiting, and gets more if half of them are done.
 MOST_WAITING = 6
@@ -61,6 +61,7 @@ def pytest_configure(config: pytest.Config) -> None:
     if config.getoption("--lines"):
         from planner.lines import measure
         setattr(config, MEASURED, measure(config.getoption("--lines")))
+        setattr(config, TRACER, sys.gettrace())
     named = config.getoption("--program")
     if named and not os.access(named, os.X_OK):
         raise pytest.UsageError(f"--program {named}: there is no such program")
@@ -123,11 +124,9 @@ def is_serial(item: pytest.Item) -> bool:
 def pytest_runtest_protocol(item: pytest.Item) -> Iterator[None]:
     """Runs a test, in a worker under a lock that all share but those that run alone. Waiting is not timed."""
     measured = getattr(item.config, MEASURED, None)
-    is_counted = any(item.path.is_relative_to(TOP / it) for it in COUNTED)
-    if measured and is_counted == (sys.gettrace() is None):  # Perhaps a test has taken the measurement away.
-        measured.stop()
-        if is_counted:
-            measured.start()
+    if measured:  # A test may have taken the measurement away.
+        is_counted = any(item.path.is_relative_to(TOP / it) for it in COUNTED)
+        sys.settrace(getattr(item.config, TRACER) if is_counted else None)
     if measured and item.config.getoption("--by-test"):
         measured.switch_context(item.nodeid)
     path = getattr(item.config, "workerinput", {}).get(LOCK)
