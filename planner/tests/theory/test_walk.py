@@ -10,7 +10,7 @@ from hypothesis import given, settings, strategies as st
 from crnplan.compiled import composed
 from crnplan.law import Law
 from crnplan.theory.walk import (MOST_PRODUCTS, NOTHING, LatticeLaw, Surplus, convolved, cut, factors_of, figures_at,
-                                 power_of, renewal_sequence, room_for, shared, sum_of, summed)
+                                 power_of, renewal_sequence, room_for, sum_of, summed)
 from planner.tests.theory.scenarios import table
 
 MOST_HEIGHT = 300
@@ -155,7 +155,7 @@ def same_of(loop: Any, *words: Any) -> list[Any]:
 @pytest.mark.parametrize("step", [1, 3])
 def test_sums_are_the_same_when_compiled(step: int) -> None:
     """The first calls run in numpy, so both ways must be equal to the last bit."""
-    cells, = same_of(shared, np.array([2, 3, 7, 40]), np.array([0.2, 0.3, 0.1, 0.4]), step)
+    cells = LatticeLaw.of(Law((2, 3, 7, 40), (2, 3, 1, 4)), step).between(0, 40)
     low, chances = same_of(cut, np.array([-1e-19, 1e-19, *cells, -1e-18, 1e-18]))
     sums, = same_of(summed, np.array(chances), low, step)
     figures, = same_of(figures_at, np.arange(-20, 99), step, low, *np.array(sums), 0, *np.array(sums)[:, 2:], 3, 7)

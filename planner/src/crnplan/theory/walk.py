@@ -38,26 +38,6 @@ def chances_in(table: Law) -> tuple[Whole, Floats]:
     return values, weights / table.size
 
 
-def shared_by_numpy(values: Whole, chances: Floats, step: int) -> Floats:
-    """Stands in for `shared`."""
-    cells, rests = np.divmod(values, step)
-    above = chances * rests / step
-    shares = np.transpose([chances - above, above]).ravel()
-    return np.bincount(np.transpose([cells, cells + 1]).ravel(), shares).astype(float)
-
-
-@compiled(shared_by_numpy, PLAIN_CALLS)
-def shared(values: Whole, chances: Floats, step: int) -> Floats:
-    """Returns the chances of the cells 0, 1, 2 and so on of some rising values: a value between two cells is shared by
-    both, such that the mean stays."""
-    cells = np.zeros(values[-1] // step + 2)
-    for value, chance in zip(values, chances):
-        above = chance * (value % step) / step
-        cells[value // step] += chance - above
-        cells[value // step + 1] += above
-    return cells
-
-
 def cut_by_numpy(chances: Floats) -> tuple[int, Floats]:
     """Stands in for `cut`."""
     chances = np.maximum(chances, 0.0)
@@ -117,7 +97,11 @@ class LatticeLaw:
     @classmethod
     def of(cls, table: Law, step: int) -> LatticeLaw:
         """Returns the law of a table. A value between two cells is shared by both, such that the mean stays."""
-        return cls.scaled(0, shared(*chances_in(table), step))
+        values, chances = chances_in(table)
+        cells, rests = np.divmod(values, step)
+        above = chances * rests / step
+        shares = np.transpose([chances - above, above]).ravel()
+        return cls.scaled(0, np.bincount(np.transpose([cells, cells + 1]).ravel(), shares).astype(float))
 
     @property
     def high(self) -> int:
