@@ -16,10 +16,9 @@ import numpy as np
 from ..chances import Floats, Whole
 from ..compiled import compiled, composed
 from ..theory.grid import gap_grid
+from ..theory.least import NEAR
 from ..theory.long_run import STOCK_LEFT, UNMET
 from ..theory.one_lead import OneLead
-
-NEAR = 1e-12  # Of costs whose ratio is at most so much above 1, that of the narrowest gap is taken.
 
 
 def low_added(sums: Floats, table: Floats, place: int, low: float, before: Floats, line: Floats) -> None:

@@ -21,14 +21,13 @@ import numpy as np
 
 from ..chances import Floats, Whole
 from ..errors import Refused, argument
+from ..theory.least import NEAR
 from .candidates import PRICES
 from .parts import (AS_IS, COST, FIGURES, ORDERS, UNMET, VALUE, Choice, Dearer, Point, Steps, Chosen, bounds_of,
                     drawn_of, fitting, measured, policies_of, steps_of, stretches_of, summed, units_of)
 
 # A budget that is not used up is filled with steps whose price is at most so many times that of the step too many.
 FILL = 2.0
-# A bound is met if it is missed by no more than this share, which is rounding.
-NEAR = 1e-12
 # Costs of an order are doubled until there are few enough orders, then halved between the last two.
 DOUBLINGS, HALVINGS = 13, 16
 # Steps that are looked at one by one, at most, unless more have the same price; and into how many stretches more steps

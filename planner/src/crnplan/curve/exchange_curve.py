@@ -27,8 +27,9 @@ from ..plan.question import Levels, Question
 from ..records.catalogue_reading import CATALOGUE, Catalogued
 from ..scenario import Policy
 from ..table import Cell, Column, DataTable, MONEY, Result, aligned, number, text, whole
+from ..theory.least import NEAR
 from ..words import PREMISE, advice, sentence
-from .exchange import NEAR, Budget, Items, OffCurve, chosen_by, gap_of, with_more_orders
+from .exchange import Budget, Items, OffCurve, chosen_by, gap_of, with_more_orders
 from .gathered import Gathered, gather
 from .parts import Choice, Point
 
