@@ -155,7 +155,7 @@ def test_all_reviews_at_once(weights: list[int], lead: Pair, s: int, gap: int, i
 @pytest.mark.parametrize("case", ["one lead time", "least demand above 0"])
 def test_loops_and_what_stands_in(way: str, case: str, monkeypatch: pytest.MonkeyPatch) -> None:
     """Both ways have the biases of a chain, also if the chances of orders settle before the end."""
-    for name in ("quotient", "sums_one_by_one", "counts_of", "renewals"):
+    for name in ("quotient", "sums_one_by_one", "counts_of"):
         monkeypatch.setattr(run_effects, name, getattr(getattr(run_effects, name), way))
     for start in [(4, 11, 7), (2, 6, 15), (5, 5, 5)]:
         asked, (usual, costs) = asked_of(case, start, 40), costs_of_chain(case, start)

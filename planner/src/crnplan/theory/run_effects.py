@@ -36,7 +36,7 @@ import numpy as np
 from scipy import fft
 
 from ..chances import Floats
-from ..compiled import compiled, composed
+from ..compiled import compiled
 from ..scenario import Policy, Scenario
 from .feasible import ALL
 from .lattice import MOST_GAPS, NoTheory, lattice_of, shape_of, theory_on
@@ -193,7 +193,6 @@ def most_sums(net: LatticeLaw, width: int) -> float:
     return 2 * width * net.above(0) / net.mean + 2
 
 
-@composed()
 def renewals(counts: Floats, laws: Floats, begun: Floats, low: int, gap: int, periods: int,
              counted: int) -> tuple[float, Floats, float]:
     """Returns what `falling` does. `begun` has the chances of the cells from `low` on after the first review, if that
