@@ -17,14 +17,15 @@ from scipy import optimize, stats
 import crnplan as crn
 from crnplan.demand.checks import (STUDIED, Check, Checks, Loss, Season, check_history, largest_periods, loss_of, losses,
                                    outliers_of, remarks_of, rosner_bound, seasons_of)
-from crnplan.demand.permutation import (Orders, autocorrelation_seen, bound_of, drawn_orders, least_seen, p_value,
-                                        season_seen, statistics_of, tilted, trend_seen)
+from crnplan.demand.permutation import (Orders, autocorrelation_seen, bound_of, drawn_orders, least_seen, season_seen,
+                                        statistics_of, tilted, trend_seen)
 from crnplan.demand.sample import Sample
 from crnplan.errors import Refused, spelt
 from crnplan.records.cells import period_name, period_of
 from crnplan.remarks import Remark
 from crnplan.words import advised, sentence
 from planner.tests.conftest import Command
+from planner.tests.demand.made import p_value
 
 RANDOM = np.random.default_rng(8)
 YEARS = np.arange(208)

@@ -218,11 +218,6 @@ def most_of(level: float, orders: int) -> int:
     return math.floor(level * orders * (1 + ROUNDING))
 
 
-def p_value(statistics: Floats) -> float:
-    """Returns the share of orders that are as suspicious as the history, which is the first of them."""
-    return float((statistics >= statistics[0] * (1 - ROUNDING)).mean())
-
-
 def bound_of(statistics: Floats, level: float) -> float:
     """Returns the number above which a statistic has a p value of at most a level; infinity if none has."""
     allowed = most_of(level, len(statistics))
