@@ -98,6 +98,8 @@ class LatticeLaw:
     def of(cls, table: Law, step: int) -> LatticeLaw:
         """Returns the law of a table. A value between two cells is shared by both, such that the mean stays."""
         values, chances = chances_in(table)
+        if step == 1:
+            return cls.scaled(0, np.bincount(values, chances).astype(float))
         cells, rests = np.divmod(values, step)
         above = chances * rests / step
         shares = np.transpose([chances - above, above]).ravel()
