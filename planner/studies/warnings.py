@@ -32,7 +32,7 @@ import numpy.typing as npt
 import pandas as pd
 
 from crnplan.demand.checks import FALSE_ALARMS, Facts, outliers_of, seasons_of, tests_of
-from crnplan.demand.permutation import Orders, p_value, statistics_of
+from crnplan.demand.permutation import ROUNDING, Orders, statistics_of
 from crnplan.demand.sample import Sample
 from planner.studies import dependence, laws
 from planner.studies.dependence import effect_of
@@ -102,6 +102,11 @@ def histories(draw: Callable[[], Whole]) -> Iterator[list[int]]:
         numbers = draw()
         if np.count_nonzero(numbers) >= 2:
             yield numbers.tolist()
+
+
+def p_value(statistics: npt.NDArray[np.float64]) -> float:
+    """Returns the share of orders that are as suspicious as the history, which is the first of them."""
+    return float((statistics >= statistics[0] * (1 - ROUNDING)).mean())
 
 
 def p_values(numbers: list[int]) -> dict[str, float]:

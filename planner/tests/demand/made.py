@@ -9,7 +9,6 @@ from scipy import stats
 
 from crnplan.chances import Floats
 from crnplan.demand import learning as grid
-from crnplan.demand.permutation import ROUNDING
 from crnplan.law import Law
 
 ERRATIC = [0, 3, 1, 9, 0, 0, 2, 5, 14, 1, 0, 4, 2, 2, 7, 0, 1, 3, 21, 0, 6, 1]
@@ -25,11 +24,6 @@ def history(seed: int, periods: int = 52, share: float = TRUE_SHARE, mean: float
     random = np.random.default_rng(seed)
     sizes = 1 + random.negative_binomial(size, size / (size + mean), periods)
     return [int(it) for it in np.where(random.random(periods) < share, sizes, 0)]
-
-
-def p_value(statistics: Floats) -> float:
-    """Returns the share of orders that are as suspicious as the history, which is the first of them."""
-    return float((statistics >= statistics[0] * (1 - ROUNDING)).mean())
 
 
 def logarithms(numbers: Sequence[int]) -> Floats:

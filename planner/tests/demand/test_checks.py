@@ -24,8 +24,8 @@ from crnplan.errors import Refused, spelt
 from crnplan.records.cells import period_name, period_of
 from crnplan.remarks import Remark
 from crnplan.words import advised, sentence
+from planner.studies.warnings import p_value
 from planner.tests.conftest import Command
-from planner.tests.demand.made import p_value
 
 RANDOM = np.random.default_rng(8)
 YEARS = np.arange(208)

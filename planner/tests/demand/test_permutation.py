@@ -13,7 +13,7 @@ from scipy import stats
 
 from crnplan.demand import permutation
 from crnplan.demand.permutation import Orders, bound_of, centred, statistics_of
-from planner.tests.demand.made import p_value
+from planner.studies.warnings import p_value
 
 ALL_ORDERS = [*itertools.permutations([0, 5, 2, 0, 9, 1])]
 KINDS = statistics_of({"season": np.array([0, 1, 0, 1, 0, 1])})

@@ -162,7 +162,7 @@ def test_orders_that_are_rounded_up(changed: dict[str, Any], program: Path, monk
         position = sum(state)
         return period(state, (levels[0], position - (position - levels[1]) // 7 * 7), *drawn)
     monkeypatch.setattr(chain, "period", rounded)
-    more = (chain.by_chain(scenario)[0] - plain) / float(question.scale)
+    more = (chain.by_chain.__wrapped__(scenario)[0] - plain) / float(question.scale)
     assert more > 1 and remarks["rounded orders"]["cost"] == pytest.approx(more, abs=0.2)
     whole = asked(Bounds(pack=7), counts=tuple(7 * count for count in SEEN))
     assert "rounded orders" not in answer_of(whole, program)[1]
