@@ -14,7 +14,7 @@ import pytest
 from hypothesis import given, settings, strategies as st
 
 from crnplan.curve import exchange
-from crnplan.curve.candidates import (DEARER, PRICES, VARIANTS, Candidates, candidates_of, lower_hull, slopes,
+from crnplan.curve.candidates import (DEARER, PRICES, VARIANTS, Candidates, candidates_of, lower_hull, rounded, slopes,
                                       variants_of)
 from crnplan.curve.exchange import AS_IS, Budget, Items, chosen_by, gap_of
 from crnplan.curve.parts import UNMET, Dearer, Part, Point
@@ -65,6 +65,13 @@ def test_candidates_are_the_best_of_all(planned: Path, name: str) -> None:
             totals = found @ [order, holding, PRICES[place] * price]
             assert mine <= totals.min() * (1 + 1e-8)
             assert theory.figures(int(row[2]), int(row[3])).stock == pytest.approx(row[4])
+
+
+def test_figures_have_ten_digits() -> None:
+    """They are the numbers that Python reads from ten digits, and whole ones with more are as they were."""
+    figures = np.array([0, 1 / 3, 2 / 3, 7, 12345.678901234, 9876543210.4, 1e-9 / 7, 9.9999999999e-5, 1e5 / 3])
+    assert rounded(figures).tolist() == [float(f"{it:.10g}") for it in figures]
+    assert rounded(np.array([123456789012.0])) == 123456789012
 
 
 def made_item(source: np.random.Generator, count: int) -> tuple[Candidates, Any]:

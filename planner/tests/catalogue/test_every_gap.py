@@ -1,7 +1,8 @@
-"""Tests the search over every gap with one lead time against all policies one by one, and its loops against numpy."""
+"""Tests the searches for the best policies against all policies one by one, and their loops against numpy."""
 from __future__ import annotations
 
-from collections.abc import Iterator
+import functools
+from collections.abc import Iterator, Sequence
 from typing import Any
 
 import numpy as np
@@ -9,15 +10,16 @@ import pytest
 
 from crnplan.chances import Floats
 from crnplan.curve import every_gap
-from crnplan.curve.every_gap import best_levels, best_policies
-from crnplan.scenario import Costs
+from crnplan.curve.every_gap import GAIN, best_levels, best_policies, searched_policies
+from crnplan.scenario import Costs, Scenario
 from crnplan.theory.feasible import ALL, Feasible
 from crnplan.theory.lattice import shape_of, theory_on
-from crnplan.theory.long_run import STOCK_LEFT, UNMET
+from crnplan.theory.long_run import STOCK_LEFT, UNMET, LongRun, Means
 from crnplan.theory.one_lead import OneLead
-from planner.tests.theory.scenarios import scenario_of
+from planner.tests.theory.long_run_costs import fills_of, shortfall_of
+from planner.tests.theory.scenarios import Pair, means_by_level, scenario_of
 
-LOOPS = "add_low", "choose_points", "set_points", "compare_gap"
+LOOPS = "add_low", "choose_points", "set_points", "compare_gap", "set_means"
 # Costs of an order, of an item in stock, and of one that is not met at once, by case.
 CASES = np.array([(order, holding, price) for order, holding in ((30.0, 1.0), (90.0, 1.0), (30.0, 4.0), (0.0, 1.0))
                   for price in 10.0**np.arange(-3, 5)]).T
@@ -76,34 +78,114 @@ def test_vertices_by_hand() -> None:
     assert kept[:every_gap.vertices_of(stock, unmet, 0.1, kept)].tolist() == [0]
 
 
+@pytest.mark.parametrize("leads", [1, 3])
 @pytest.mark.parametrize("way", ["loop", "plain"])
 @pytest.mark.parametrize("step, feasible", [(1, ALL), (3, BOUNDS[1]), (1, BOUNDS[3])], ids=str)
-def test_ways(step: int, feasible: Feasible, way: str, monkeypatch: pytest.MonkeyPatch) -> None:
+def test_ways(step: int, feasible: Feasible, way: str, leads: int, monkeypatch: pytest.MonkeyPatch) -> None:
     """Finds the same as it is written, by numpy, and as it is compiled."""
-    theory = theory_by(LUMPY, step, feasible)
-    gaps, figures = best_policies(theory, CASES)
+    find, theory = (best_policies, theory_by(LUMPY, step, feasible)) if leads == 1 else (
+        searched_policies, late_theory(LUMPY, None, step)[0].within(feasible))
+    gaps, figures = find(theory, CASES)
     for name in LOOPS:
         monkeypatch.setattr(every_gap, name, getattr(getattr(every_gap, name), way))
-    monkeypatch.setattr(every_gap, "compare_gaps", every_gap.compare_gaps.loop)  # type: ignore[attr-defined]
-    its, others = best_policies(theory, CASES)
-    assert its.tolist() == gaps.tolist() and np.allclose(others, figures, 1e-12, 1e-15)
+    for name in ("compare_gaps", "best_levels"):
+        monkeypatch.setattr(every_gap, name, getattr(every_gap, name).loop)
+    its, others = find(theory, CASES)
+    assert its.tolist() == gaps.tolist() and np.allclose(others, figures, 1e-12, 1e-12)
 
 
-@pytest.mark.parametrize("way", ["run", "loop"])
+@pytest.mark.parametrize("way", ["run", "loop", "plain"])
+@pytest.mark.parametrize("low", [0, -2])
 @pytest.mark.parametrize("step", [1, 3])
-def test_best_levels(step: int, way: str) -> None:
-    """Of the least level and all higher ones, each price has the cheapest, by stock and unmet demand between cells."""
-    cells, levels, least = np.arange(9), np.arange(5, 40, 5), np.array([1, 7])
-    tables = np.array([[cells**2 / (8 + gap), (8.0 - cells)**2 / (1 + gap)] for gap in range(2)]).swapaxes(0, 1)
-    asked = np.array([1e-3, 0.2, 0.7, 5, 1e3])
+def test_best_levels(step: int, low: int, way: str, monkeypatch: pytest.MonkeyPatch) -> None:
+    """Of the least level and all higher ones, each case has the cheapest, by stock and unmet demand between cells."""
+    if way != "run":
+        monkeypatch.setattr(every_gap, "set_means", getattr(every_gap.set_means, way))
+    before = np.array([[5, 2, 1, 1, 1, 0, 0, 0], [1, 1, 3, 3, 1, 1, 0, 0.0]])
+    after = np.array([np.convolve(row, [3, 0, 1])[:8] for row in before])
+    taken, levels, least = low + np.arange(8), np.array([5, 10, 15, 20, 40]) / step, np.array([1, 22]) / step
+    asked, ranks, orders = np.array([1e-3, 0.2, 0.7, 5, 1e3]), np.array([4, 0, 1, 2, 3, 1]), np.array([0.4, 0.1])
+    costs = np.array([[7, 0, 1, 2, 3, 4], [1, 2, 1, 2, 1, 1], np.array([1, 2, 1, 2, 1, 1]) * asked[ranks]])
+    firsts = np.searchsorted(levels, least, "right")
     found = (best_levels if way == "run" else best_levels.loop)(  # type: ignore[attr-defined]
-        tables, step, levels, least, asked)
-    for gap, figures in enumerate(found):
-        its = [least[gap], *levels[levels > least[gap]]]
-        stock, unmet = (np.interp(np.array(its) / step, cells, table[gap]) for table in tables)
-        stock += np.maximum(np.array(its) - 8 * step, 0)
-        best = (stock[:, None] + asked * unmet[:, None]).argmin(axis=0)
-        assert figures == pytest.approx(np.array([its, stock, unmet])[:, best], abs=1e-12)
+        np.array([9 * before, 7 * after]), low, step, orders, np.array([[3, 9], firsts]), least, levels, asked, ranks,
+        costs)
+    for each, figures in enumerate(found):
+        its = np.array([least[each], *levels[levels > least[each]]])
+        short, owed = (np.maximum(taken - np.arange(43)[:, None], 0) @ row[each] / row[each].sum()
+                       for row in (before, after))
+        stock = np.maximum(np.arange(43)[:, None] - taken, 0) @ after[each] / after[each].sum()
+        stock, unmet = (step * np.interp(its, np.arange(43), row) for row in (stock, owed - short))
+        total = costs[0] * orders[each] + costs[1] * stock[:, None] + costs[2] * unmet[:, None]
+        best, cases = total.argmin(axis=0), np.arange(len(ranks))
+        assert figures == pytest.approx(np.array([its[best], stock[best], unmet[best], total[best, cases]]), abs=1e-12)
+
+
+def test_finer_by_hand() -> None:
+    """Stretches are halved where lines through the places beside them meet below the best, by more than a share."""
+    places = np.array([0, 4, 8, 10, 11, 20])
+
+    def due(*costs: Sequence[float] | Floats, gaps: int = 6400) -> list[int]:
+        return every_gap.finer(places, np.full(len(places), gaps), np.array(costs).T).tolist()
+    assert due([9, 2, 1, 2, 4, 40]) == [6, 9]  # lines meet at -1/3 and at 2/3
+    assert due([103, 100.9, 100, 100.9, 102, 120]) == [2, 6, 9, 16]  # near the ends there is one line alone
+    # Of a parabola with its least of 100, lines meet 32/7 and 8/3 times its bend below that: 0.005 is free.
+    assert [due(100 + bend * (places - 8)**2) for bend in (1e-4, 1.5e-3, 2e-3)] == [[2, 16], [2, 6, 16], [2, 6, 9, 16]]
+    assert due(100 + 1e-4 * (places - 8)**2, gaps=3 * 64) == [2, 6, 16]  # 4 is too wide beside the best one
+    assert due([1, 2, 3, 4, 5, 6], [6, 5, 4, 3, 2, 1]) == [2, 16]
+    assert due([5, 4, 3, 2, 1, 9], gaps=64) == [16]  # 1 is as short as can be
+
+
+def test_other_valleys_are_looked_at() -> None:
+    """Also where costs are nearly the best, but not where both ends of a stretch cost far more."""
+    places = np.arange(0, 28, 4)
+    for second, wanted in ((1.005, [6, 14, 18]), (1.2, [6])):
+        costs = np.array([[9, 2, 1, 2, second, 1.3, 9]]).T
+        assert every_gap.finer(places, np.full(7, 6400), costs).tolist() == wanted
+
+
+@functools.cache
+def late_theory(demand: Pair, back: Pair | None, step: int) -> tuple[LongRun, Scenario]:
+    """Returns the theory of a scenario with several lead times, on a lattice of some step."""
+    scenario = scenario_of(demand, ((1, 2, 4), (1, 2, 1)), back, Costs(30, 0, 1, 9))
+    return theory_on(scenario, shape_of(scenario), step, step == 1), scenario
+
+
+@functools.cache
+def figures_by_level(demand: Pair, back: Pair | None, step: int, gap: int) -> Floats:
+    """Returns stock, unmet demand and orders with a gap, by level in cells: of a chain that shares no code with theory,
+    if the lattice is exact."""
+    theory, scenario = late_theory(demand, back, step)
+    if not theory.exact:
+        stock, unmet = means_by_level(Means(theory, np.array([gap])), STOCK_LEFT, UNMET)[:, 0]
+        return np.array([stock, unmet, np.full(len(stock), 1 / theory.periods(gap))])
+    short, levels = shortfall_of(scenario, gap), np.arange(110)
+    stock = np.maximum(levels[:, None] - short.least - np.arange(len(short.chances)), 0) @ short.chances
+    unmet = float(scenario.demand.mean) * (1 - fills_of(scenario, short, levels))
+    return np.array([stock, unmet, np.full(len(levels), short.orders)])
+
+
+@pytest.mark.parametrize("feasible", BOUNDS, ids=str)
+@pytest.mark.parametrize("demand, back, step", [(LUMPY, None, 1), (SMOOTH, None, 1), (SMOOTH, None, 3),
+                                                (SMOOTH, ((0, 1), (3, 1)), 1)], ids=["lumpy", "smooth", "step", "back"])
+def test_search_with_several_lead_times(demand: Pair, back: Pair | None, step: int, feasible: Feasible) -> None:
+    """Has the figures of its policies. No other costs less by more than a share."""
+    theory = late_theory(demand, back, step)[0].within(feasible)
+    gaps, (levels, *figures) = searched_policies(theory, CASES)
+    least, (order, holding, price) = np.full(len(gaps), np.inf), CASES
+    for gap in theory.gaps(0, theory.most):
+        table = figures_by_level(demand, back, step, gap)
+        cells = table.shape[1]
+        its = np.arange(theory.items(gap) + feasible.least, step * (cells - 1))
+        its = its[(feasible.up(its) == its) & (its <= feasible.top) | (its == its[0])]
+        by_level = np.array([np.interp(its, step * np.arange(cells), row) for row in table])
+        least = np.minimum(least, (by_level.T @ [holding, price, order]).min(axis=0))
+        here = gaps == gap
+        assert {*levels[here].tolist()} <= {*its.tolist()}
+        own = by_level[:, np.searchsorted(its, levels[here])]
+        assert np.allclose(np.array(figures)[:, here], own, 1e-8, 1e-8)
+    costs = order * figures[2] + holding * figures[0] + price * figures[1]
+    assert (costs <= least * (1 + GAIN) + 1e-6).all()
 
 
 def test_gaps_are_left_out(monkeypatch: pytest.MonkeyPatch) -> None:

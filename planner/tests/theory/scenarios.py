@@ -3,12 +3,14 @@ from __future__ import annotations
 
 from collections.abc import Sequence
 
+import numpy as np
 from hypothesis import strategies as st
 
+from crnplan.chances import Floats
 from crnplan.law import Law
 from crnplan.scenario import Costs, Policy, Scenario
 from crnplan.theory.lattice import theories_of
-from crnplan.theory.long_run import LongRun
+from crnplan.theory.long_run import LongRun, Means
 
 # Values and their weights.
 Pair = tuple[Sequence[int], Sequence[int]]
@@ -46,3 +48,10 @@ def theory_of(scenario: Scenario) -> LongRun:
     theory, coarse = theories_of(scenario)
     assert coarse is None
     return theory
+
+
+def means_by_level(means: Means, *figures: int) -> Floats:
+    """Returns a table of means of some figures: a row for each gap, with each level from 0 on up to the one below the
+    top."""
+    levels = [means.at(np.full(len(means.gaps), level), slice(0, 4))[[*figures]] for level in range(means.top)]
+    return np.moveaxis(levels, 0, 2)

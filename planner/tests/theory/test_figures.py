@@ -102,16 +102,6 @@ def test_means(theory: LongRun) -> None:
     assert theory.figures_of_gap(GAPS[-1], theory.step * (means.top - 1)).short == pytest.approx(0, abs=1e-12)
 
 
-@pytest.mark.parametrize("figure", [1, 3])
-def test_means_of_all_levels(theory: LongRun, figure: int) -> None:
-    """The table of all levels has the means of each level."""
-    means = Means(theory, np.array(GAPS))
-    table, = means.of_all_levels(figure)
-    assert table.shape == (len(GAPS), means.top)
-    wanted = [means.at(np.full(len(GAPS), level), slice(figure, figure + 1))[0] for level in range(means.top)]
-    assert table == pytest.approx(np.transpose(wanted), abs=1e-9)
-
-
 DEMAND = list(range(61)), [1 + value % 7 for value in range(61)]
 # The first has a gap of less than a cell.
 POLICIES = [(90, 92), (100, 260), (131, 294), (160, 223), (140, 249), (150, 301)]

@@ -10,7 +10,7 @@ from crnplan.theory.least import least_enough, sums_from
 from crnplan.theory.long_run import UNMET, Means
 from crnplan.theory.shortfalls import FAR
 from planner.tests.theory.long_run_costs import costs_of, fills_of, shortfall_of
-from planner.tests.theory.scenarios import Pair, scenario_of, theory_of
+from planner.tests.theory.scenarios import Pair, means_by_level, scenario_of, theory_of
 
 WAYS = ["loop", "plain"]
 
@@ -32,6 +32,21 @@ def test_shortfalls_are_those_of_a_chain(way: str, back: Pair | None, leads: lis
         assert found.between(low, high) == pytest.approx(chances, abs=1e-9)
 
 
+@pytest.mark.parametrize("back, leads", [(None, [1, 2, 4]), (None, [4, 5]), (([0, 1, 2], [5, 3, 1]), [1, 3])],
+                         ids=["three lead times", "late", "returns"])
+def test_stocks_are_those_of_a_chain(back: Pair | None, leads: list[int]) -> None:
+    """How far the stock is below S, before the demand of a period and after it; demand may be above 0 in each."""
+    scenario, gaps = scenario_of(([1, 3, 4], [3, 2, 1]), (leads, [1] * len(leads)), back), np.array([0, 2, FAR + 3])
+    tables, low = theory_of(scenario).shortfalls.stocks(gaps)
+    for gap, *rows in zip(gaps.tolist(), *tables):
+        wanted = shortfall_of(scenario, gap)
+        for row, chances in zip(rows, (wanted.before, wanted.chances)):
+            places = wanted.least - low + np.arange(len(chances))
+            found = np.where((places >= 0) & (places < len(row)), row[np.clip(places, 0, len(row) - 1)], 0)
+            assert found * wanted.orders == pytest.approx(chances, abs=1e-9)
+            assert row.sum() * wanted.orders == pytest.approx(1)
+
+
 @pytest.mark.parametrize("way", WAYS)
 @pytest.mark.parametrize("leads", [[2], [1, 4]], ids=["one lead time", "two"])
 @pytest.mark.parametrize("share", [0.0, 0.6, 0.99])
@@ -39,7 +54,7 @@ def test_least_levels_that_are_enough(way: str, leads: list[int], share: float) 
     """They are the first ones in a table of all levels, from the floor on."""
     theory = theory_of(scenario_of(([0, 1, 3], [3, 2, 1]), (leads, [1] * len(leads))))
     means, allowed = Means(theory, np.array([0, 1, 2, 9, 25])), theory.allowed(share)
-    tables = [*means.of_all_levels(UNMET, 2)]
+    tables = means_by_level(means, UNMET, 2)
     enough = (tables[0] <= allowed + 1e-9) & (tables[1] >= theory.ratio - 1e-9)
     for floors in ([0, 0, 0, 0, 0], [3, 2, means.top - 3, 9, 0], [means.top] * 5):
         found = getattr(least_enough, way)(means.turned[1:3], means.chances, np.array(floors), np.full(5, means.top),

@@ -1,4 +1,4 @@
-"""Finds the best policies of an item with one lead time for many prices, among all gaps and all levels.
+"""Finds the best policies of an item for many prices, among all levels: with one lead time of all gaps.
 
 With one lead time, the stock of a policy and the demand that it does not meet at once are means over its lows (see
 `theory/one_lead.py`). Each gap adds its low to the sums of all levels, so each takes one look at the levels. Of these
@@ -8,6 +8,9 @@ Let M(g) be the sum of the chances of the lows up to the gap g, C(g) the least c
 cost of stock and unmet demand of any low. All further lows cost at least F, so M(n) C(n) is at least
 M(g) C(g) + (M(n) - M(g)) F for a wider gap n. So if a policy costs B, no gap is better for which M is less than
 M(g) (1 + (C(g) - B) / (B - F)). Gaps are left out that are better for no price. Costs B are first found on a grid.
+
+With several lead times each gap has its own law of the stock (see `theory/shortfalls.py`). Some are looked at on a grid,
+and others then ever finer beside the best and where costs that are convex may be lower by more than a share.
 """
 from __future__ import annotations
 
@@ -17,8 +20,13 @@ from ..chances import Floats, Whole
 from ..compiled import compiled, composed
 from ..theory.grid import gap_grid
 from ..theory.least import NEAR
-from ..theory.long_run import STOCK_LEFT, UNMET
+from ..theory.long_run import STOCK_LEFT, UNMET, LongRun
 from ..theory.one_lead import OneLead
+from ..theory.shortfalls import LEAST_CHANCE
+
+# Shares of the best cost: by which gaps may be better that are not looked at, and beyond which costs are far more.
+GAIN, FAR_MORE = 5e-5, 0.1
+FINE = 64  # Beside the best gap, others are looked at that are so many times narrower apart.
 
 
 def low_added(sums: Floats, table: Floats, place: int, low: float, before: Floats, line: Floats) -> None:
@@ -176,29 +184,58 @@ def compare_gaps(lows: Floats, span: float, table: Floats, line: Floats, gaps: W
     return looks
 
 
-@composed()
-def best_levels(tables: Floats, step: int, levels: Whole, least: Whole, asked: Floats) -> Floats:
-    """Returns a table for each of some gaps: rows with the best level in items, its stock and its unmet demand, with
-    the rising prices that are `asked` as columns.
+def means_set(chances: Floats, low: int, rounded: float, step: int, means: Floats) -> None:
+    """Stands in for `set_means`."""
+    tails = np.cumsum(np.where(chances > rounded, chances, 0.0)[:, ::-1], axis=1)
+    owed = np.cumsum(np.pad(tails[:, :-1], ((0, 0), (1, 0))), axis=1) / tails[:, -1:]
+    high, levels = low + chances.shape[1], np.arange(means.shape[1])
+    means[:] = 0.0
+    means[:, :high] = owed[:, :high][:, ::-1]
+    means[1], means[0] = means[1] - means[0], means[1] + levels - owed[1, -1] - low
+    means[:] = step * np.maximum(means, 0.0)
 
-    `tables` has stock and unmet demand by gap and by level, in cells from 0 on; between two cells they are a mean, and
-    beyond the last one, where all is met, an item more is one more in stock. Of a gap, the least level and those of the
-    rising `levels` that are higher are compared.
+
+@compiled(means_set)
+def set_means(chances: Floats, low: int, rounded: float, step: int, means: Floats) -> None:
+    """Sets the mean stock and unmet demand, in items, of each level in cells from 0 on. `chances` has rows by how far
+    the stock is below S, from the cell `low` on: before a period's demand, and after it. Their sum may be any, and those
+    of at most `rounded` are none. Stock less what is owed is the level less the mean of how far it is above the stock.
     """
-    last, found = tables.shape[2] - 1, np.empty((len(least), 3, len(asked)))
-    chosen = np.empty(len(asked), np.int64)
-    for gap in range(len(least)):
-        its = np.append(least[gap:gap + 1], levels[np.searchsorted(levels, least[gap], "right"):])
-        cells = np.minimum(its // step, last)
-        stock, unmet = tables[0, gap][cells], tables[1, gap][cells]
-        if step > 1:
-            above, shares = np.minimum(cells + 1, last), (its - step * cells) / step
-            stock += shares * (tables[0, gap][above] - stock)
-            unmet += shares * (tables[1, gap][above] - unmet)
-        stock += np.maximum(its - step * last, 0)
-        unmet = np.maximum(unmet, 0.0)
-        choose_points(stock, unmet, asked, chosen)
-        found[gap, 0], found[gap, 1], found[gap, 2] = its[chosen], stock[chosen], unmet[chosen]
+    size, cell = means.shape[1], low + chances.shape[1] - 1
+    means[:, cell + 1:] = 0.0
+    total_before, owed_before, total, owed = 0.0, 0.0, 0.0, 0.0
+    while cell >= low:
+        owed_before, owed = owed_before + total_before, owed + total
+        if cell >= 0:
+            means[0, cell], means[1, cell] = owed_before, owed
+        before, after = chances[0, cell - low], chances[1, cell - low]
+        total_before, total = total_before + (before > rounded) * before, total + (after > rounded) * after
+        cell -= 1
+    mean = owed / total + low
+    for level in range(size):
+        before, after = means[0, level] / total_before, means[1, level] / total
+        means[0, level], means[1, level] = step * max(after + level - mean, 0.0), step * max(after - before, 0.0)
+
+
+@composed()
+def best_levels(chances: Floats, low: int, step: int, orders: Floats, gaps: Whole, least: Floats, places: Floats,
+                asked: Floats, ranks: Whole, costs: Floats) -> Floats:
+    """Returns a table for each of some rising gaps: rows with the best level of each case, in cells, its stock, its
+    unmet demand and its cost. Words are as in `compare_gaps`. `chances` has two tables, as in `set_means`, with a row
+    for each gap."""
+    high = low + chances.shape[2]
+    enough = places[min(int(np.searchsorted(places, high)), len(places) - 1)]  # all is met there
+    means = np.empty((2, max(high, int(max(least[-1], float(enough))) + 2)))
+    points, chosen = np.empty((3, len(places) + 1)), np.empty(len(asked), np.int64)
+    levels, found = np.append(0.0, places), np.empty((len(least), 4, len(ranks)))
+    for each in range(len(least)):
+        first = gaps[1, each]
+        set_means(chances[:, each], low, LEAST_CHANCE / orders[each], step, means)
+        levels[first] = least[each]
+        count = set_points(means, 1.0, levels[first:], means.shape[1] - 1.0, points)
+        choose_points(points[1, :count], points[2, :count], asked, chosen)
+        found[each, :3] = points[:, chosen[ranks]]
+        found[each, 3] = costs[0] * orders[each] + costs[1] * found[each, 1] + costs[2] * found[each, 2]
     return found
 
 
@@ -211,30 +248,87 @@ def least_costs(table: Floats, asked: Floats, ranks: Whole, costs: Floats) -> Fl
     return least
 
 
-def best_policies(theory: OneLead, costs: Floats) -> tuple[Whole, Floats]:
-    """Returns the gaps of the policies that cost least of all feasible ones, in some cases, and their levels in items,
-    stock, unmet demand and orders. By case an order costs something, an item in stock, and one that is not met at once.
+class Cases:
+    """The policies that cost least of those that were compared. By case an order costs something, an item in stock, and
+    one that is not met at once.
+
+    `gaps` are those of feasible policies; narrower ones stand for those without a low. `levels` are feasible, in cells.
+    `best` has the least costs, and `found` rows with gaps, levels in cells, stock and unmet demand.
     """
+
+    def __init__(self, theory: LongRun, costs: Floats, width: int) -> None:
+        """Takes the costs as rows. Levels are looked at up to so many cells above the widest gap."""
+        self.theory, self.costs, feasible, step = theory, costs, theory.feasible, theory.step
+        self.gaps = np.array(theory.gaps(0, theory.most))
+        self.lows = theory.lows_of(int(self.gaps[-1]))
+        if feasible.has_all_gaps:
+            self.gaps = self.gaps[self.lows[self.gaps] > 0]
+        self.orders = 1 / (theory.span * np.cumsum(self.lows))
+        self.levels = np.unique(np.minimum(feasible.up(step * np.arange(self.gaps[-1] + width)), feasible.top)) / step
+        self.asked, self.ranks = np.unique(costs[2] / costs[1], return_inverse=True)
+        self.best, self.found = np.full(len(self.ranks), np.inf), np.zeros((4, len(self.ranks)))
+
+    def bounds(self, gaps: Whole) -> tuple[Whole, Floats]:
+        """Returns some gaps, for each the place of the first level above its least one, and that one, in cells."""
+        least = (self.theory.items(gaps) + self.theory.feasible.least) / self.theory.step
+        return np.array([gaps, np.searchsorted(self.levels, least, "right")]), least
+
+    def policies(self) -> tuple[Whole, Floats]:
+        """Returns the gaps of the best policies, and their levels in items, stock, unmet demand and orders."""
+        gaps = self.found[0].astype(int)
+        return gaps, np.array([np.rint(self.theory.step * self.found[1]), *self.found[2:], self.orders[gaps]])
+
+
+def best_policies(theory: OneLead, costs: Floats) -> tuple[Whole, Floats]:
+    """Returns the best of all feasible policies with one lead time: see `Cases`."""
     feasible, step = theory.feasible, theory.step
-    gaps = np.array(theory.gaps(0, theory.most))
-    lows = theory.lows_of(int(gaps[-1]))
-    if feasible.has_all_gaps:
-        gaps = gaps[lows[gaps] > 0]
     width = max(theory.after.high, feasible.least // step) + feasible.multiple // step + 3
-    table = np.maximum(theory.figures_from(step * np.arange(width))[[STOCK_LEFT, UNMET]], 0)
-    levels = np.unique(np.minimum(feasible.up(step * np.arange(gaps[-1] + width)), feasible.top))
-    least = theory.items(gaps) + feasible.least
-    asked, ranks = np.unique(costs[2] / costs[1], return_inverse=True)
-    floor = least_costs(table[:, feasible.least // step:], asked, ranks, costs)
+    its, table = Cases(theory, costs, width), theory.figures_from(step * np.arange(width))[[STOCK_LEFT, UNMET]]
+    table = np.maximum(table, 0)
+    floor = least_costs(table[:, feasible.least // step:], its.asked, its.ranks, costs)
     if min(feasible.multiple, step) > 1:  # the least level of a gap may be none of a narrower one
         floor[:] = -np.inf
-    best, found = np.full(len(ranks), np.inf), np.zeros((4, len(ranks)))
-    for some in (np.array(gap_grid(len(gaps) - 1)), np.arange(len(gaps))):
-        firsts = np.searchsorted(levels, least[some], "right")
-        compare_gaps(lows, theory.span, table, np.array([step, step * theory.after.mean]),
-                     np.array([gaps[some], firsts]), least[some] / step, levels / step, asked, ranks, costs, floor, best,
-                     found)
-        best *= 1 + NEAR
-    gap = found[0].astype(int)
-    orders = 1 / (theory.span * np.cumsum(lows)[gap])
-    return gap, np.array([np.rint(step * found[1]), found[2], found[3], orders])
+    for some in (its.gaps[gap_grid(len(its.gaps) - 1)], its.gaps):
+        compare_gaps(its.lows, theory.span, table, np.array([step, step * theory.after.mean]), *its.bounds(some),
+                     its.levels, its.asked, its.ranks, costs, floor, its.best, its.found)
+        its.best *= 1 + NEAR
+    return its.policies()
+
+
+def finer(places: Whole, gaps: Whole, costs: Floats) -> Whole:
+    """Returns places halfway between some rising ones, at which a case may cost less by more than a share: `GAIN`.
+    `costs` has a row for each place, whose gap is one of `gaps`, and a column for each case.
+
+    A convex function is above the lines through two places on either side of a stretch. Stretches are left out of which
+    both ends cost far more than the best. Those beside the best are halved until they are short in any case.
+    """
+    least, widths, best = costs.min(axis=0), np.diff(places), np.unique(costs.argmin(axis=0))
+    at, case = np.nonzero(np.minimum(costs[:-1], costs[1:]) <= (1 + FAR_MORE) * least)
+    beside = np.clip(at + np.arange(-1, 3)[:, None], 0, len(widths))
+    values, is_due = costs[beside, case], np.zeros(len(widths), bool)
+    with np.errstate(divide="ignore", invalid="ignore"):
+        before, here, after = np.diff(values, axis=0) / np.diff(places[beside], axis=0)
+        lowest = values[1] + before * (after - here) / (after - before) * widths[at]
+    is_due[at[~(lowest >= (1 - GAIN) * least[case])]] = True  # also at both ends, where it is no number
+    for near in (best - 1, best):
+        inside = (near >= 0) & (near < len(widths))
+        is_due[near[inside]] |= widths[near[inside]] > gaps[best[inside]] // FINE
+    is_due &= widths > 1
+    halves: Whole = places[:-1][is_due] + (widths[is_due] + 1) // 2
+    return halves
+
+
+def searched_policies(theory: LongRun, costs: Floats) -> tuple[Whole, Floats]:
+    """Returns the best policies of a grid of gaps, and then of gaps ever finer beside the best: see `Cases`."""
+    its = Cases(theory, costs, theory.beside + theory.after.high + theory.feasible.multiple // theory.step + 3)
+    new, places, tables = np.array(gap_grid(len(its.gaps) - 1)), np.empty(0, int), list[Floats]()
+    while len(new):
+        tables += (best_levels(*theory.shortfalls.stocks(some), theory.step, its.orders[some], *its.bounds(some),
+                               its.levels, its.asked, its.ranks, costs) for some in theory.parts(its.gaps[new]))
+        places = np.append(places, new)
+        order = np.argsort(places)
+        totals = np.concatenate([table[:, 3] for table in tables])[order]
+        new = finer(places[order], its.gaps[places[order]], totals)
+    best, cases = order[totals.argmin(axis=0)], np.arange(len(its.ranks))
+    its.found = np.vstack([its.gaps[places[best]], np.concatenate(tables)[best, :3, cases].T])
+    return its.policies()

@@ -24,7 +24,6 @@ from functools import cached_property, partial
 from typing import Any, NamedTuple
 
 import numpy as np
-from scipy import fft
 
 from ..chances import Floats, Whole
 from ..formats import MOST_ITEMS
@@ -32,8 +31,8 @@ from ..scenario import Costs, Scenario
 from .feasible import ALL, Feasible, Places
 from .grid import CLOSE, gap_grid, search
 from .least import NEAR, least_costs, least_enough, sums_from
-from .shortfalls import chances_of, falling, lateness, moving, transforms_of, work_of
-from .walk import LatticeLaw, Surplus, Walk, figures_at, power_of, room_for, sum_of
+from .shortfalls import Shortfalls, lateness, work_of
+from .walk import LatticeLaw, Surplus, Walk, figures_at, power_of, sum_of
 
 FEW = 4  # Of the gaps of a grid, one in so many is looked at for a first policy.
 MOST_CELLS = 50_000  # of tables with a row for each of many gaps
@@ -96,14 +95,6 @@ class Means:
     def at(self, levels: Whole, figures: slice) -> Floats:
         """Returns the means of some figures, a row for each figure, with a level for each gap."""
         return sums_from(self.turned[figures], self.chances, self.top - levels)
-
-    def of_all_levels(self, *figures: int) -> Iterator[Floats]:
-        """Yields means of some figures, a row for each gap, with each level from 0 on up to the one below the top."""
-        room = room_for(self.figures.shape[1])  # what is beyond comes round to the places before the first level
-        chances = fft.rfft(self.chances, room)
-        for figure in figures:
-            means: Floats = fft.irfft(chances * fft.rfft(self.figures[figure], room), room)
-            yield means[:, self.width:self.width + self.top]
 
 
 LevelsOf = Callable[[Means], Levels]
@@ -189,7 +180,7 @@ class LongRun(Walk):
     def lows_below(self, gaps: Sequence[int]) -> Iterable[Floats]:
         """Returns for each gap the chances of how far a low of `figures_from` is below S, from the cell -above on."""
         for some in self.parts(sorted({*gaps} - self.shorts.keys())):
-            self.keep(some, self.shortfalls(some))
+            self.keep(some, self.shortfalls.chances(some))
         return [self.shorts[gap] for gap in gaps]
 
     def rows_of(self, gaps: Whole) -> Floats:
@@ -201,22 +192,14 @@ class LongRun(Walk):
         return chances
 
     def keep(self, gaps: Whole, rows: Floats) -> None:
-        """Keeps what `shortfalls` returns for some gaps."""
+        """Keeps the chances of the shortfalls of some gaps."""
         ends = rows.shape[1] - np.argmax(rows[:, ::-1] > 0, axis=1)
         self.shorts.update((gap, row[:end]) for gap, row, end in zip(gaps.tolist(), rows, ends.tolist()))
 
-    def shortfalls(self, gaps: Whole) -> Floats:
-        """Returns the chances of the shortfalls of rising gaps, a row each, from the cell -above on."""
-        most = int(gaps[-1])
-        room = room_for(most + self.beside + 1)
-        (move, above), lows = transforms_of([self.net, self.above_low], room), self.lows_of(most)
-        if self.net.low < 0:
-            begun = fft.rfft(np.where(np.arange(most + 1) <= gaps[:, None], lows, 0.0), room) * above
-            last = moving(np.stack([np.ones_like(begun), begun]), gaps, move, self.late, room, self.above)
-        else:
-            begun = fft.rfft(lows, room)
-            last = falling(np.stack([np.ones_like(begun), begun]), gaps, move, self.late, room)
-        return np.roll(chances_of(last, room), self.above, axis=1)
+    @cached_property
+    def shortfalls(self) -> Shortfalls:
+        """Returns the shortfalls of the gaps, by which the stock before and after the demand of a period is known."""
+        return Shortfalls(self, self.late, self.above, self.beside, (self.one_before.law, self.one_period.law))
 
     def below(self, gap: int) -> LatticeLaw:
         """Returns the law of how far the stock at the end of a period is below S, in cells."""

@@ -114,7 +114,7 @@ def keep_shortfalls(theories: Sequence[LongRun], gaps: Sequence[list[int]]) -> N
     room = room_for(max(some[-1] + theory.beside for theory, some in zip(theories, gaps)) + 1)
     lows, ends = np.zeros((len(theories), room)), np.cumsum([*map(len, gaps)]).tolist()
     for row, theory, some in zip(lows, theories, gaps):
-        row[:some[-1] + 1] = theory.lows_of(some[-1])
+        row[:some[-1] + 1] = theory.span * theory.lows_of(some[-1])
     rows = falling_under(lows, transforms_of([theory.net for theory in theories], room),
                          np.transpose([theory.late for theory in theories]),
                          np.repeat(np.arange(len(theories)), np.diff(ends, prepend=0)), np.concatenate(gaps))

@@ -19,10 +19,16 @@ an order of the age a is late:
 
     R(n) = K(n) + the sum over t = 1 .. n of ((1 - late(n - t)) P(t)(1) + late(n - t) P(t)) R(n - t)
 
-The last of them starts from the law of the position after a review, in place of an order.
+From any review of the long run on, it follows likewise, from a position that no order has left. But there is a shorter
+way. Let C be the sum of the transforms of the position after all reviews of a cycle, K(0) + K(1) + .. without an end,
+and z the transform of a net demand. An order has the amount 1 - (1 - z) C, and orders are late at the ages 0 .. m - 1
+while the shortfall beside them is R(0) .. R(m - 1). So of a cycle, the shortfalls are together
+
+    C (1 - (1 - z) (late(0) R(0) + .. + late(m - 1) R(m - 1)))
 """
 from __future__ import annotations
 
+import functools
 from collections.abc import Iterator, Mapping, Sequence
 
 import numpy as np
@@ -31,9 +37,9 @@ from scipy import fft
 
 from ..chances import Floats, Whole
 from ..compiled import compiled
-from .walk import LatticeLaw
+from .walk import LatticeLaw, Walk, room_for
 
-FAR = 20  # cells between two gaps, from which on a transform takes less time than adding them one by one
+FAR = 6  # cells between two gaps, from which on a transform takes less time than adding them one by one
 LEAST_CHANCE = 1e-16  # Transforms round chances by about as much.
 
 Transforms = npt.NDArray[np.complex128]
@@ -95,27 +101,36 @@ def renewed(kept: Transforms, move: Transforms, late: Floats) -> list[Transforms
     return shortfalls
 
 
+def lasting(kept: Transforms, move: Transforms, late: Floats) -> Transforms:
+    """Returns the shortfall in the long run times the reviews of a cycle, for each of some gaps. `kept` has a row with
+    C, and one for each of K(1), K(2), .. of fewer reviews than an order may be late."""
+    waits = np.concatenate([np.ones_like(kept[:1]), kept[1:]])
+    shortfalls = [waits[0], *(laws[0] for laws in renewed(np.stack([waits, waits]), move, late[:-1]))]
+    under_way = sum(share * shortfall for share, shortfall in zip(late, shortfalls))
+    last: Transforms = kept[0] * (1 + (move - 1) * under_way)
+    return last
+
+
 def last_by_transforms(begun: Transforms, is_far: Truths, free: Floats, gaps: Whole, roots: Transforms, move: Transforms,
                        late: Floats) -> Transforms:
-    """Returns a row for each of some rising gaps: the last of what `renewed` returns, for two laws.
+    """Returns a row for each of some rising gaps: what `lasting` returns.
 
-    `begun` has what `waiting` returns for each gap that `is_far`, with the rows of both laws one after the other. For
-    the others these are the transforms, by some roots of unity, of `free` up to the gap.
+    `begun` has the rows that it takes for each gap that `is_far`. For the others these are the transforms, by some
+    roots of unity, of `free` up to the gap.
     """
     kept = np.empty((len(gaps), *begun.shape[1:]), complex)
     up_to = np.arange(free.shape[1]) <= gaps[~is_far, None, None]
     kept[is_far], kept[~is_far] = begun, fft.rfft(np.where(up_to, free, 0.0), len(roots))
-    laws = kept.reshape(len(gaps), 2, -1, len(move)).transpose(1, 2, 0, 3)
-    last: Transforms = renewed(laws, move, late)[-1][0]
-    return last
+    return lasting(kept.swapaxes(0, 1), move, late)
 
 
 @compiled(last_by_transforms)
 def last_shortfalls(begun: Transforms, is_far: Truths, free: Floats, gaps: Whole, roots: Transforms, move: Transforms,
                     late: Floats) -> Transforms:
     reviews, width, far, last = len(late), len(move), 0, 0
-    kept, moves = np.empty((2 * reviews + 2, 2, width)), np.stack((move.real, move.imag))
-    root, orders, solved = np.empty((2, width)), np.empty_like(kept), np.empty((reviews + 1, 2, width))
+    kept, moves = np.empty((reviews, 2, width)), np.stack((move.real, move.imag))
+    placed, solved, root = np.empty_like(kept), np.empty_like(kept), np.empty((2, width))
+    under_way, left, total = np.empty_like(root), np.empty_like(root), np.empty_like(root)
     found = np.empty((len(gaps), width), np.complex128)
 
     def add(total: Floats, share: float, sure: float, left: Floats, right: Floats) -> None:
@@ -129,69 +144,126 @@ def last_shortfalls(begun: Transforms, is_far: Truths, free: Floats, gaps: Whole
             total[1, k] += (share * left[0, k] + sure) * right[1, k] + share * left[1, k] * right[0, k]
             k += 1
     for place, gap in enumerate(gaps):
+        is_same = place > 0 and not is_far[place]
         if is_far[place]:
             kept[:, 0], kept[:, 1] = begun[far].real, begun[far].imag
             far, last = far + 1, gap
         for cell in range(last + 1, gap + 1):
-            turn = 0
-            for k in range(width):
-                root[0, k], root[1, k], turn = roots[turn].real, roots[turn].imag, (turn + cell) % len(roots)
+            turn, k = 0, 0
+            while k < width:
+                root[0, k], root[1, k] = roots[turn].real, roots[turn].imag
+                turn, k = turn + cell, k + 1
+                if turn >= len(roots):
+                    turn -= len(roots)
             for row in np.flatnonzero(free[:, cell]):
                 add(kept[row], 0.0, free[row, cell], root, root)
+                is_same = is_same and row == 0
         last = gap
-        for row in range(2 * reviews):
-            now = row + row // reviews
-            orders[row] = -kept[now + 1]
-            add(orders[row], 1.0, 0.0, kept[now], moves)
-        solved[:reviews], solved[reviews] = kept[:reviews], kept[-1]
-        for time in range(1, reviews + 1):
-            for ago in range(1, time + 1):
-                order, share = orders[time // reviews * reviews + ago - 1], late[time - ago]
-                add(solved[time], share, (1 - share) * order[0, 0], order, solved[time - ago])
-        found[place] = solved[reviews, 0] + 1j * solved[reviews, 1]
+        for time in range(1, 1 if is_same else reviews):
+            placed[time] = moves - kept[1] if time == 1 else -kept[time]
+            if time > 1:
+                add(placed[time], 1.0, 0.0, kept[time - 1], moves)
+            solved[time] = kept[time] + late[0] * placed[time]
+            solved[time, 0] += (1 - late[0]) * placed[time, 0, 0]
+            for ago in range(1, time):
+                if placed[ago, 0, 0] > LEAST_CHANCE:
+                    add(solved[time], late[time - ago], (1 - late[time - ago]) * placed[ago, 0, 0], placed[ago],
+                        solved[time - ago])
+        if not is_same:
+            under_way[0], under_way[1] = late[0], 0.0
+            for time in range(1, reviews):
+                under_way += late[time] * solved[time]
+            left[:] = -under_way
+            left[0] += 1.0
+            add(left, 1.0, 0.0, moves, under_way)
+        total[:] = 0.0
+        add(total, 1.0, 0.0, kept[0], left)
+        found[place] = total[0] + 1j * total[1]
     return found
 
 
-def falling(begun: Transforms, gaps: Whole, move: Transforms, late: Floats, room: int) -> Transforms:
-    """Returns the last of what `renewed` returns for each of some rising gaps, if nothing comes back: then what waits is
-    all that is within the gap. `begun` has the transforms of two laws up to the widest gap."""
-    states = [begun]
-    for _ in late:
-        states.append(states[-1] * move)
-    laws, most = np.stack(states, axis=1), int(gaps[-1])
-    free = fft.irfft(laws, room)
-    free[free <= LEAST_CHANCE] = 0.0
-    is_far = np.diff(gaps, prepend=-FAR) >= FAR
-    far, high, free = gaps[is_far], np.flatnonzero(free[0, -1])[-1], free[..., :most + 1].copy()
-    up_to, kept = np.arange(most + 1) <= far[:, None, None], np.empty((len(far), *laws.shape), complex)
-    cut = np.searchsorted(far, high)  # From here on, gaps cut nothing off the first law.
-    kept[:cut, 0], kept[cut:, 0] = fft.rfft(np.where(up_to[:cut], free[0], 0.0), room), laws[0]
-    kept[:, 1] = fft.rfft(np.where(up_to, free[1], 0.0), room)
+@functools.lru_cache(16)
+def roots_of(room: int) -> Transforms:
+    """Returns the roots of unity of a room, by which a transform takes the first cell."""
     angles = -2 * np.pi / room * np.arange(room)
-    return last_shortfalls(kept.reshape(len(far), -1, len(move)), is_far, free.reshape(-1, most + 1), gaps,
-                           np.cos(angles) + 1j * np.sin(angles), move, late)
+    roots: Transforms = np.cos(angles) + 1j * np.sin(angles)
+    return roots
 
 
-def falling_under(lows: Floats, moves: Transforms, late: Floats, laws: Whole, gaps: Whole) -> Floats:
+def demands_of(move: Transforms, reviews: int, room: int) -> Floats:
+    """Returns the chances of the net demand of 1, 2, .. less than so many reviews, a row each for each transform of
+    that of one review."""
+    powers = np.array([move**count for count in range(1, reviews)]).reshape(-1, *move.shape)
+    chances: Floats = fft.irfft(powers, room)
+    chances[chances <= LEAST_CHANCE] = 0.0
+    return chances
+
+
+def falling(cycle: Floats, demands: Floats, gaps: Whole, move: Transforms, late: Floats) -> Transforms:
+    """Returns what `lasting` returns for each of some rising gaps, if nothing comes back: then what waits is all that is
+    within the gap. `cycle` has C up to the widest gap, by depth, and `demands` is that of `demands_of`."""
+    is_far, free = np.append(True, gaps[1:] - gaps[:-1] >= FAR), np.empty((len(late), len(cycle)))
+    free[0], free[1:] = cycle, demands[:, :len(cycle)]
+    kept = fft.rfft(np.where(np.arange(len(cycle)) <= gaps[is_far, None, None], free, 0.0), demands.shape[1])
+    return last_shortfalls(kept, is_far, free, gaps, roots_of(demands.shape[1]), move, late)
+
+
+def falling_under(cycles: Floats, moves: Transforms, late: Floats, laws: Whole, gaps: Whole) -> Floats:
     """Returns the chances of the shortfalls of some gaps, a row each, under some laws without returns. `laws` has the
-    place of each gap's law. Each law has a row in `lows` with the chances of its lows and room for a transform, one in
-    `moves` with the transform of its net demand, and a column in `late`."""
-    room, most = lows.shape[1], int(gaps.max())
-    begun = fft.rfft(lows)
-    states = [np.stack([np.ones_like(begun), begun], axis=1)]
-    for _ in late:
-        states.append(states[-1] * moves[:, None])
-    free = fft.irfft(np.stack(states, axis=2), room)[..., :most + 1]
-    free[free <= LEAST_CHANCE] = 0.0
-    kept = fft.rfft(np.where(np.arange(most + 1) <= gaps[:, None, None, None], free[laws], 0.0), room)
-    return chances_of(renewed(kept.transpose(1, 2, 0, 3), moves[laws], late[:, laws, None])[-1][0], room)
+    place of each gap's law. Each law has a row in `cycles` with C and room for a transform, one in `moves` with the
+    transform of its net demand, and a column in `late`."""
+    room, most = cycles.shape[1], int(gaps.max())
+    free = np.stack([cycles, *demands_of(moves, len(late), room)], axis=1)[..., :most + 1]
+    kept = fft.rfft(np.where(np.arange(most + 1) <= gaps[:, None, None], free[laws], 0.0), room)
+    return chances_of(lasting(kept.swapaxes(0, 1), moves[laws], late[:, laws, None]), room)
 
 
-def moving(begun: Transforms, gaps: Whole, move: Transforms, late: Floats, room: int, above: int) -> Transforms:
-    """Returns the last of what `renewed` returns for each of some gaps, if items come back: see `waiting`."""
-    kept = waiting(begun, gaps, move, len(late), room, above).transpose(2, 0, 1, 3).reshape(len(gaps), -1, len(move))
-    is_far, free = np.ones(len(gaps), bool), np.empty((kept.shape[1], 0))
+def moving(cycle: Transforms, gaps: Whole, move: Transforms, late: Floats, room: int, above: int) -> Transforms:
+    """Returns what `lasting` returns for each of some gaps, if items come back: see `waiting`. `cycle` has C."""
+    waits = waiting(np.ones((1, *cycle.shape), complex), gaps, move, len(late) - 1, room, above)
+    kept = np.ascontiguousarray(np.concatenate([cycle[None], waits[0, 1:]]).swapaxes(0, 1))
+    is_far, free = np.ones(len(gaps), bool), np.empty((len(late), 0))
     return last_shortfalls(kept, is_far, free, gaps, np.empty(room, complex), move, late)
+
+
+class Shortfalls:
+    """The shortfalls of the gaps of a walk, in rooms of cells: those below 0 stand at the end."""
+
+    def __init__(self, walk: Walk, late: Floats, above: int, beside: int, taken: Sequence[LatticeLaw]) -> None:
+        """Takes how many cells a shortfall has above S, and beside those of its gap; and the laws of what is taken from
+        the stock before a period's demand, and with it."""
+        self.walk, self.late, self.above, self.beside, self.taken = walk, late, above, beside, taken
+        self.rooms = dict[int, tuple[Transforms, Floats]]()
+
+    def in_room(self, room: int) -> tuple[Transforms, Floats]:
+        """Returns the transforms of the net demand, of how far it is above a low, and of what is taken; and the net
+        demand of some reviews: see `demands_of`."""
+        if room not in self.rooms:
+            laws = transforms_of([self.walk.net, self.walk.above_low, *self.taken], room)
+            self.rooms[room] = laws, demands_of(laws[0], len(self.late), room)
+        return self.rooms[room]
+
+    def transforms(self, gaps: Whole, room: int) -> Transforms:
+        """Returns the transforms of the shortfalls of some rising gaps, a row each, times the reviews of a cycle."""
+        (move, above, *_), demands = self.in_room(room)
+        cycle = self.walk.span * self.walk.lows_of(int(gaps[-1]))
+        if self.walk.net.low >= 0:
+            return falling(cycle, demands, gaps, move, self.late)
+        begun = fft.rfft(np.where(np.arange(len(cycle)) <= gaps[:, None], cycle, 0.0), room) * above
+        return moving(begun, gaps, move, self.late, room, self.above)
+
+    def chances(self, gaps: Whole) -> Floats:
+        """Returns the chances of the shortfalls of some rising gaps, a row each, from the cell -above on."""
+        room = room_for(int(gaps[-1]) + self.beside + 1)
+        return np.roll(chances_of(self.transforms(gaps, room), room), self.above, axis=1)
+
+    def stocks(self, gaps: Whole) -> tuple[Floats, int]:
+        """Returns the chances of how far the stock before a period's demand is below S, and after it: a table each, with
+        a row for each of some rising gaps, times the reviews of a cycle; and the first cell of all."""
+        low = min(0, *(law.low for law in self.taken)) - self.above
+        room = room_for(int(gaps[-1]) + self.beside + max(law.high for law in self.taken) + 1 - low)
+        chances = fft.irfft(self.transforms(gaps, room) * self.in_room(room)[0][2:, None], room)
+        return np.roll(chances, -low, axis=2) if low else chances, low
 
 
 def lateness(chances: Mapping[int, float]) -> Floats:
