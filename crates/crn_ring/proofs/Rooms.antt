@@ -13,7 +13,7 @@ use Rattle.crn_ring.specs.Gates.{HaveRoom, Loaded, Passes, Remembers}
 use Rattle.crn_ring.specs.Inner.Gates.{LeastOf}
 use Rattle.crn_ring.specs.Plays.{by_producer}
 use Rattle.crn_ring.specs.Inner.Plays.{Gauged}
-use Rattle.crn_ring.specs.Parts.{IsFull, Publishes, Takes}
+use Rattle.crn_ring.specs.Parts.{IsFull, Publishes, Takes, TakesShown}
 use Rattle.crn_ring.specs.Inner.Rooms.{HasFound}
 use Rattle.crn_ring.proofs.Gauging.{least_room, loaded_more, gauged_same}
 use Rattle.crn_ring.proofs.Remembering.{after_full, all_fit}
@@ -79,38 +79,52 @@ publishes spec p found stored p' m count running rests f looked is stores last =
       );
     }
 
--- what was read was taken
-pub takes : (q looked read q' : ReaderPart) (cursor room count : ℕ) (ns : List ℕ) → ReaderMay q LoadCursor → looked ≡ reader_after q LoadCursor cursor → (cursor == 2 * q.taken + 1) ≡ false
-    → q.taken < cursor / 2 → q.seen ≤ cursor / 2 → 0 < room → count ≡ min room (cursor / 2 - q.taken) → ReaderReaches looked (BLOCK_WORDS * count) read → length ns ≡ BLOCK_WORDS * count
-    → read ≡ record looked { read = looked.read ++ ns; steps = looked.steps + length ns } → q' ≡ reader_after read (Take count) 0 → Takes q q' room count
-takes q looked read q' cursor room count ns may look running more seen places is reads long reading last =
-    let seen_looked : looked.seen ≡ cursor / 2 = ap (λ (z : ReaderPart). z.seen) look in
-    let seen_read : read.seen ≡ looked.seen = ap (λ (z : ReaderPart). z.seen) reading in
-    let seen_last : q'.seen ≡ read.seen = ap (λ (z : ReaderPart). z.seen) last in
-    let taken_looked : looked.taken ≡ q.taken = ap (λ (z : ReaderPart). z.taken) look in
-    let taken_read : read.taken ≡ looked.taken = ap (λ (z : ReaderPart). z.taken) reading in
+-- what had been seen was read and taken
+pub takes_shown : (q read q' : ReaderPart) (room count : ℕ) (ns : List ℕ) → q.left ≡ false → length q.read ≡ 0 → count ≡ min room (q.seen - q.taken) → 0 < count → ReaderReaches q (BLOCK_WORDS * count) read
+    → length ns ≡ BLOCK_WORDS * count → read ≡ record q { read = q.read ++ ns; steps = q.steps + length ns } → q' ≡ reader_after read (Take count) 0 → TakesShown q q' room count
+takes_shown q read q' room count ns here none is some reads long reading last =
+    let taken_read : read.taken ≡ q.taken = ap (λ (z : ReaderPart). z.taken) reading in
     let taken_last : q'.taken ≡ read.taken + count = ap (λ (z : ReaderPart). z.taken) last in
-    let read_looked : length looked.read ≡ length q.read = ap (λ (z : ReaderPart). length z.read) look in
-    let read_read : length read.read ≡ length (looked.read ++ ns) = ap (λ (z : ReaderPart). length z.read) reading in
-    let none : length q.read ≡ 0 = may.2 in record {
-      some = omega arith;
+    let read_read : length read.read ≡ length (q.read ++ ns) = ap (λ (z : ReaderPart). length z.read) reading in record {
+      at_most = is;
+      taken = omega arith;
+      seen = ap (λ (z : ReaderPart). z.seen) last ∙ ap (λ (z : ReaderPart). z.seen) reading;
+      same_end = ap (λ (z : ReaderPart). z.seen_end) last ∙ ap (λ (z : ReaderPart). z.seen_end) reading;
+      none = λ e. absurd (omega arith);
+      once = λ _. record {
+        read = read;
+        reading = reads;
+        not_yet = taken_read;
+        may = (ap (λ (z : ReaderPart). z.left) reading ∙ here, omega (arith, length-append q.read ns), some);
+        taken = last;
+      };
+    }
+
+-- what a look has shown was taken
+pub takes : (q looked q' : ReaderPart) (cursor room count : ℕ) → ReaderMay q LoadCursor → looked ≡ reader_after q LoadCursor cursor → (cursor == 2 * q.taken + 1) ≡ false → q.taken < cursor / 2 → q.seen ≤ cursor / 2 → 0 < room
+    → TakesShown looked q' room count → Takes q q' room count
+takes q looked q' cursor room count may look running more seen places shown =
+    let seen_looked : looked.seen ≡ cursor / 2 = ap (λ (z : ReaderPart). z.seen) look in
+    let taken_looked : looked.taken ≡ q.taken = ap (λ (z : ReaderPart). z.taken) look in
+    let is : count ≡ min room (looked.seen - looked.taken) = shown.at_most in
+    let seen_last : q'.seen ≡ looked.seen = shown.seen in
+    let taken_last : q'.taken ≡ looked.taken + count = shown.taken in
+    let some : 0 < count = omega arith in
+    let once = shown.once some in record {
+      some = some;
       at_most = omega arith;
       taken = omega arith;
-      running = ap (λ (z : ReaderPart). z.seen_end) last ∙ ap (λ (z : ReaderPart). z.seen_end) reading ∙ ap (λ (z : ReaderPart). z.seen_end) look ∙ running;
+      running = shown.same_end ∙ ap (λ (z : ReaderPart). z.seen_end) look ∙ running;
       seen = omega arith;
       once = record {
         may_look = may;
         cursor = cursor;
-        read = read;
-        reading = subst (λ (z : ReaderPart). ReaderReaches z (BLOCK_WORDS * count) read) look reads;
-        shown = seen_last ∙ seen_read ∙ seen_looked;
-        not_yet = taken_read ∙ taken_looked;
-        may = (
-          ap (λ (z : ReaderPart). z.left) reading ∙ ap (λ (z : ReaderPart). z.left) look ∙ may.0,
-          omega (arith, length-append looked.read ns),
-          omega arith,
-        );
-        taken = last;
+        read = once.read;
+        reading = subst (λ (z : ReaderPart). ReaderReaches z (BLOCK_WORDS * count) once.read) look once.reading;
+        shown = seen_last ∙ seen_looked;
+        not_yet = once.not_yet ∙ taken_looked;
+        may = once.may;
+        taken = once.taken;
       };
     }
 
@@ -147,10 +161,12 @@ pub publish_moves : (spec : RingSpec) (p found stored p' : ProducerPart) (count 
 publish_moves spec p found stored p' count a b c =
     reaches_join (ProducerMay spec) producer_after p stored p' (spec.readers + BLOCK_WORDS * count) 1 (reaches_join (ProducerMay spec) producer_after p found stored spec.readers (BLOCK_WORDS * count) a b) c
 
--- and of a taking
-pub take_moves : (q looked read q' : ReaderPart) (count : ℕ) → ReaderReaches q 1 looked → ReaderReaches looked (BLOCK_WORDS * count) read → ReaderReaches read 1 q' → ReaderReaches q (BLOCK_WORDS * count + 2) q'
-take_moves q looked read q' count a b c = reaches_more ReaderMay reader_after q q' ((1 + BLOCK_WORDS * count) + 1) (BLOCK_WORDS * count + 2) (omega arith)
-    (reaches_join ReaderMay reader_after q read q' (1 + BLOCK_WORDS * count) 1 (reaches_join ReaderMay reader_after q looked read 1 (BLOCK_WORDS * count) a b) c)
+-- and of a taking of what was seen, and of what a look has shown
+pub shown_moves : (q read q' : ReaderPart) (count : ℕ) → ReaderReaches q (BLOCK_WORDS * count) read → ReaderReaches read 1 q' → ReaderReaches q (BLOCK_WORDS * count + 1) q'
+shown_moves q read q' count a b = reaches_join ReaderMay reader_after q read q' (BLOCK_WORDS * count) 1 a b
+
+pub take_moves : (q looked q' : ReaderPart) (count : ℕ) → ReaderReaches q 1 looked → ReaderReaches looked (BLOCK_WORDS * count + 1) q' → ReaderReaches q (BLOCK_WORDS * count + 2) q'
+take_moves q looked q' count a b = reaches_more ReaderMay reader_after q q' (1 + (BLOCK_WORDS * count + 1)) (BLOCK_WORDS * count + 2) (omega arith) (reaches_join ReaderMay reader_after q looked q' 1 (BLOCK_WORDS * count + 1) a b)
 
 -- where each gate has room for all, the count remembered leaves room for all
 pub never_late : (spec : RingSpec) (v : View) (n m least : ℕ) → v.spec ≡ spec → n ≡ v.producer.published → n + m ≤ left_mark → Remembers v.spec.size n v.spec.readers v.producer.gates least → HaveRoom spec v.producer m

@@ -24,7 +24,7 @@ use Rattle.crn_ring.specs.declared.answers.Batch.{Batch}
 use Rattle.crn_ring.specs.declared.answers.Batch.TheVariants as Several
 use Rattle.crn_ring.specs.Holds.{Holds}
 use Rattle.crn_ring.specs.Seats.{Place, view_of, spec_in, producer_in, reader_in}
-use Rattle.crn_ring.specs.Parts.{Publishes, IsFull, Takes, SeesNothing, SeesEnd}
+use Rattle.crn_ring.specs.Parts.{Publishes, IsFull, Takes, TakesShown, SeesNothing, SeesEnd}
 
 -- the size, the number of readers and the stream that a ring was opened with
 abbrev pub spec_of : Ring → RingSpec
@@ -112,3 +112,7 @@ abbrev pub AfterBatch : RingSpec → ReaderPart → ReaderPart → List Block �
 AfterBatch spec q q' out out' (Several.Got count) = Takes q q' (length out) count × FollowOn spec.id.key q.taken count out' × (drop count out' ≡ drop count out)
 AfterBatch spec q q' out out' (Several.Empty published) = SeesNothing q q' published × (out' ≡ out)
 AfterBatch spec q q' out out' (Several.Ended published) = SeesEnd q q' published × (out' ≡ out)
+
+-- A reader's part and the blocks lent, after `take_shown` has taken so many.
+abbrev pub AfterShown : RingSpec → ReaderPart → ReaderPart → List Block → List Block → ℕ → Type 0
+AfterShown spec q q' out out' count = TakesShown q q' (length out) count × FollowOn spec.id.key q.taken count out' × (drop count out' ≡ drop count out)

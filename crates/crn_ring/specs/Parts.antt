@@ -55,6 +55,23 @@ pub record Takes (q q' : ReaderPart) (room count : ℕ) : Type 0 where
   pub seen : q.seen ≤ q'.seen
   pub once : TakesOnce q q' count
 
+-- Moves that take nothing, and then the one store that takes `count` blocks.
+pub record TakesRead (q q' : ReaderPart) (count : ℕ) : Type 0 where
+  pub read : ReaderPart
+  pub reading : ReaderReaches q (BLOCK_WORDS * count) read
+  pub not_yet : read.taken ≡ q.taken
+  pub may : ReaderMay read (Take count)
+  pub taken : q' ≡ reader_after read (Take count) 0
+
+-- As many of the blocks that were seen before were taken as there was room for. What was seen stays.
+pub record TakesShown (q q' : ReaderPart) (room count : ℕ) : Type 0 where
+  pub at_most : count ≡ min room (q.seen - q.taken)
+  pub taken : q'.taken ≡ q.taken + count
+  pub seen : q'.seen ≡ q.seen
+  pub same_end : q'.seen_end ≡ q.seen_end
+  pub none : count ≡ 0 → q' ≡ q
+  pub once : 0 < count → TakesRead q q' count
+
 -- One load of the ring cursor has shown that all published blocks are taken, and no end.
 pub record SeesNothing (q q' : ReaderPart) (published : ℕ) : Type 0 where
   pub all_taken : published ≡ q.taken

@@ -14,15 +14,19 @@ pub struct Reader {
     pub(crate) seat: Place,
     pub(crate) number: u32,
     pub(crate) taken: u64,
+    pub(crate) seen: u64,
     pub(crate) ended: bool,
     pub ghost role: { HasReader (view_of seat) },
     pub ghost numbered: { number ≡ (view_of seat).number },
     pub ghost counts: { taken ≡ (reader_in seat).taken },
+    pub ghost saw: { seen ≡ (reader_in seat).seen },
+    pub ghost ahead: { taken ≤ seen },
     pub ghost ends: { ended ≡ (reader_in seat).seen_end },
     pub ghost rests: { (reader_in seat).read ≡ [] },
     pub ghost here: { (reader_in seat).left ≡ false },
     pub ghost below: { number < (spec_in seat).readers },
     pub ghost within: { taken ≤ (spec_in seat).id.total },
+    pub ghost seen_within: { seen ≤ (spec_in seat).id.total },
 }
 
 /// A reader that has left its ring: it has stored [`LEFT`](crn_proto::LEFT) in its cursor. It has no calls.
@@ -36,7 +40,7 @@ pub struct LeftReader {
 impl Reader {
     ghost use Rattle.std.specs.Prelude.{◌+◌, ◌-◌, ◌*◌, length};
     ghost use Rattle.crn_proto.specs.Chains.{ReaderReaches};
-    ghost use Rattle.crn_ring.specs.Calls.{AfterBatch, AfterTake, HasLeft, IsReaderOf, left_part, reader_number, reader_part, reader_spec, spec_of};
+    ghost use Rattle.crn_ring.specs.Calls.{AfterBatch, AfterShown, AfterTake, HasLeft, IsReaderOf, left_part, reader_number, reader_part, reader_spec, spec_of};
 
     /// Returns the number of this reader, from 0 and below the ring's number of readers.
     #[inline(always)]
@@ -87,6 +91,7 @@ impl Reader {
         let number = self.taken;
         let cursor = ring.load_cursor(&mut self.seat);
         let published = cursor / 2;
+        self.seen = published;
         self.ended = cursor == 2 * number + 1;
         if self.ended {
             return Take::Ended { published };
@@ -122,6 +127,7 @@ impl Reader {
     {
         let cursor = ring.load_cursor(&mut self.seat);
         let published = cursor / 2;
+        self.seen = published;
         self.ended = cursor == 2 * self.taken + 1;
         if self.ended {
             return Batch::Ended { published };
@@ -129,11 +135,33 @@ impl Reader {
         if published == self.taken {
             return Batch::Empty { published };
         }
-        let count = out.len().min((published - self.taken) as usize);
+        let count = self.take_shown(ring, out);
+        Batch::Got { count }
+    }
+
+    /// Takes all blocks that fit into `out` of those that the last load of the ring cursor has shown, as
+    /// [`take_batch`](Reader::take_batch) does, without a load of it. Returns their number, 0 if none is left or `out` is
+    /// empty. Allocates nothing, never waits, and makes at most `BLOCK_WORDS * count + 1` loads and stores.
+    ///
+    /// # Asks
+    ///
+    /// This is a reader of the ring.
+    pub fn take_shown(&mut self, ring: &Ring, out: &mut [Block]) -> usize
+        requires ring { IsReaderOf ring.now self.old }
+        ensures ring { IsReaderOf ring.now self.new × (reader_number self.new ≡ reader_number self.old) }
+        ensures moves { ReaderReaches (reader_part self.old) (BLOCK_WORDS * result + 1) (reader_part self.new) }
+        ensures steps { (reader_part self.new).steps ≤ (reader_part self.old).steps + BLOCK_WORDS * result + 1 }
+        ensures answer { AfterShown (spec_of ring.now) (reader_part self.old) (reader_part self.new) out.old out.new result }
+        ensures within { (reader_part self.new).taken ≤ (spec_of ring.now).id.total }
+    {
+        let count = out.len().min((self.seen - self.taken) as usize);
+        if count == 0 {
+            return 0;
+        }
         ring.load_rows(&mut self.seat, self.taken, out, count);
         self.taken += count as u64;
         ring.store_taken(&mut self.seat, self.number, self.taken, count);
-        Batch::Got { count }
+        count
     }
 
     /// Leaves the ring by one store; after it the producer no longer waits for this reader. Allocates nothing and never
@@ -162,6 +190,7 @@ impl Reader {
             mut seat,
             number,
             taken: _,
+            seen: _,
             ended: _,
         } = self;
         ring.store_left(&mut seat, number);

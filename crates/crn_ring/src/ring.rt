@@ -122,6 +122,7 @@ impl Ring {
                 seat: cut,
                 number: r,
                 taken: self.spec.id.first,
+                seen: self.spec.id.first,
                 ended: false,
             });
         }

@@ -2,4 +2,5 @@
 pub mod Ends
 pub mod Jobs
 pub mod Refusals
+pub mod Turns
 pub mod Waits

@@ -9,6 +9,7 @@ ghost use Rattle.crn_run.specs.declared.worker.PolicyEnd.TheVariants.{Reached, S
 ghost use Rattle.crn_run.specs.Ends.{EndsAs, is_held};
 ghost use Rattle.crn_run.specs.Gates.{HeldAt, PassedUpTo, WasAsked};
 ghost use Rattle.crn_run.specs.Inner.Ends.{Advances};
+ghost use Rattle.crn_run.specs.Inner.Turns.{AfterTurn};
 
 use crate::batch::room;
 use crate::gate::{Gate, Permit, ask};
@@ -93,9 +94,33 @@ pub fn run_policy<R: Wait, G: Gate>(
     unreachable!()
 }
 
-// Takes all published blocks that fit into `blocks`. If its look at the ring shows none, and no end, it waits before it returns.
+// Takes all blocks that fit into `blocks` of those that the last look at the ring has shown, and looks again only if none is
+// left.
 #[inline(always)]
 fn take_or_wait<R: Wait>(
+    rt: &R,
+    ring: &Ring,
+    reader: &mut Reader,
+    blocks: &mut [Block],
+    waiting: &mut Waiting,
+) -> Batch
+    requires reader { IsReaderOf ring.now reader.old × ((reader_part reader.old).seen_end ≡ false) }
+    requires places { 0 < length blocks.old }
+    ensures reader { IsReaderOf ring.now reader.new × (reader_number reader.new ≡ reader_number reader.old) }
+    ensures places { length blocks.new ≡ length blocks.old }
+    ensures answer { AfterTurn (spec_of ring.now) (reader_part reader.old) (reader_part reader.new) blocks.old blocks.new result }
+    ensures within { (reader_part reader.new).taken ≤ (spec_of ring.now).id.total }
+{
+    let count = reader.take_shown(ring, blocks);
+    if count > 0 {
+        return Batch::Got { count };
+    }
+    look_or_wait(rt, ring, reader, blocks, waiting)
+}
+
+// Looks at the ring and takes all published blocks that fit into `blocks`. If its look shows none, and no end, it waits before
+// it returns.
+fn look_or_wait<R: Wait>(
     rt: &R,
     ring: &Ring,
     reader: &mut Reader,

@@ -123,3 +123,69 @@ fn one_slot_is_filled(alloc: Global) -> bool {
 fn a_batch_for_one_slot(rt: HostRuntime) {
     assert!(rt; one_slot_is_filled(rt.alloc()));
 }
+
+// Takes what the last look has shown into the first `places` of ten, and returns how many blocks that are. None if they are
+// not those from n on, or if a place after them was written to.
+fn shown(one: &mut One, places: usize, n: u64) -> Option<usize>
+    requires { places ≤ 10 }
+{
+    let mark = block([7; 4], 99);
+    let mut ten = [mark; 10];
+    let count = one.reader.take_shown(&one.ring, &mut ten[..places]);
+    let rest = ten.iter().skip(count).all(|b| *b == mark);
+    if rest && are_blocks(&ten[..count], n) {
+        Some(count)
+    } else {
+        None
+    }
+}
+
+// Takes nothing before the first look, then one block by a look, and two of the three others that it has shown. Returns
+// whether each answer was right.
+fn looks_once(one: &mut One) -> bool {
+    publish_from(one, 0, 6) == Some(PublishMany::Done { count: 4 })
+        && shown(one, 10, 0) == Some(0)
+        && one.takes(0)
+        && shown(one, 0, 1) == Some(0)
+        && shown(one, 2, 1) == Some(2)
+        && one.reader.taken() == 3
+}
+
+// Publishes three more blocks into the slots that are free by then. They are not among those shown before a look at them,
+// which takes two of them. Returns whether each answer was right.
+fn looks_again(one: &mut One, two: &mut [Block; 2]) -> bool {
+    publish_from(one, 4, 6) == Some(PublishMany::Done { count: 3 })
+        && shown(one, 10, 3) == Some(1)
+        && shown(one, 10, 4) == Some(0)
+        && take_into(one, two) == Some(Batch::Got { count: 2 })
+        && are_blocks(two, 4)
+        && shown(one, 10, 6) == Some(1)
+}
+
+// Marks the end, which only a look shows, and takes nothing before and after it. Returns whether each answer was right.
+fn sees_the_end(one: &mut One, two: &mut [Block; 2]) -> bool {
+    one.finish();
+    let is_none = shown(one, 10, 7) == Some(0) && !one.reader.ended();
+    is_none
+        && take_into(one, two) == Some(Batch::Ended { published: 7 })
+        && shown(one, 10, 7) == Some(0)
+        && one.reader.ended()
+}
+
+// Makes these calls on a ring of four slots; false also if it is not opened.
+fn shown_blocks_are_taken(alloc: Global) -> bool {
+    let mut two = [block([7; 4], 99); 2];
+    match One::open(alloc, 4, 10) {
+        None => false,
+        Some(mut one) => {
+            looks_once(&mut one)
+                && looks_again(&mut one, &mut two)
+                && sees_the_end(&mut one, &mut two)
+        }
+    }
+}
+
+#[test]
+fn a_reader_takes_what_its_last_look_has_shown(rt: HostRuntime) {
+    assert!(rt; shown_blocks_are_taken(rt.alloc()));
+}

@@ -1,9 +1,9 @@
-use Rattle.std.proofs.Common.{rules, ◌≡◌, ◌+◌, ◌<◌, ◌≤◌, length, slice_get, Some, refl, sym, ◌∙◌, arith}
-use Rattle.crn_cipher.specs.Following.{FollowOn}
+use Rattle.std.proofs.Common.{rules, ◌≡◌, ◌+◌, ◌<◌, ◌≤◌, slice_get, Some, refl, sym, ◌∙◌, arith}
 use Rattle.crn_stock.specs.Stock.{next_block}
 use Rattle.crn_ring.specs.Calls.{reader_number, reader_part, spec_of}
-use Rattle.crn_ring.specs.Parts.{Takes, SeesEnd}
+use Rattle.crn_ring.specs.Parts.{SeesEnd}
 use Rattle.crn_run.specs.Inner.Ends.{Advances}
+use Rattle.crn_run.specs.Inner.Turns.{TakesNext}
 use Rattle.crn_run.proofs.Asking.{held_then, passed_then}
 use Rattle.crn_run.proofs.Ending.{asked_whole, ends_as}
 use Rattle.crn_run.proofs.Advancing.{advances_then, advanced, follow_from, taken_on}
@@ -12,10 +12,9 @@ use Rattle.crn_run.proofs.worker.run_policy.Goals as goal
 
 pub apply_all-requires-clause-blocks : goal.apply_all-requires-clause-blocks
 apply_all-requires-clause-blocks g c =
-    let took : Takes (reader_part c.loop.reader) (reader_part c.take_or_wait.new.reader) (length c.loop.blocks) c.in-Got.count = search rules in
-    let follow : FollowOn (spec_of c.args.ring.now).id.key (reader_part c.loop.reader).taken c.in-Got.count c.take_or_wait.new.blocks = search rules in (
+    let took : TakesNext (spec_of c.args.ring.now) (reader_part c.loop.reader) (reader_part c.take_or_wait.new.reader) c.loop.blocks c.take_or_wait.new.blocks c.in-Got.count = search rules in (
       search rules,
-      follow_from (spec_of c.args.ring.now).id.key c.args.scenario.now.key (reader_part c.loop.reader).taken (next_block c.loop.state) c.in-Got.count c.take_or_wait.new.blocks c.requires.ring.0 c.loop.invariant.taken follow,
+      follow_from (spec_of c.args.ring.now).id.key c.args.scenario.now.key (reader_part c.loop.reader).taken (next_block c.loop.state) c.in-Got.count c.take_or_wait.new.blocks c.requires.ring.0 c.loop.invariant.taken took.follow,
     )
 
 pub returns-then-not-apply_all-clause-end : goal.returns-then-not-apply_all-clause-end
@@ -25,7 +24,7 @@ returns-then-not-apply_all-clause-end g c =
     let is_policy : slice_get s.policies c.args.policy ≡ Some p = read_policy s.policies c.policies.result.now c.args.policy p c.policies.ensures.value (search rules) c.index-policies-policy.is in
     let all : Advances s.model p s.key c.args.state c.apply_all.new.state =
     advances_then s.model p s.key c.args.state c.loop.state c.apply_all.new.state c.loop.invariant.advances c.apply_all.ensures.advances in
-    let took : Takes (reader_part c.loop.reader) (reader_part c.take_or_wait.new.reader) (length c.loop.blocks) c.in-Got.count = search rules in
+    let took : TakesNext (spec_of c.args.ring.now) (reader_part c.loop.reader) (reader_part c.take_or_wait.new.reader) c.loop.blocks c.take_or_wait.new.blocks c.in-Got.count = search rules in
     let within : (reader_part c.take_or_wait.new.reader).taken ≤ (spec_of c.args.ring.now).id.total = search rules in
     let before : next_block c.apply_all.new.state < next_block c.loop.state + c.in-Got.count = (c.apply_all.ensures.held (search rules)).0 in (
       omega (arith, before, within, took.taken, c.loop.invariant.taken),
@@ -42,7 +41,7 @@ pub loop-preserved-else-not-apply_all : goal.loop-preserved-else-not-apply_all
 loop-preserved-else-not-apply_all g c =
     let s = c.args.scenario.now in
     let p = c.index-policies-policy.result in
-    let took : Takes (reader_part c.loop.reader) (reader_part c.take_or_wait.new.reader) (length c.loop.blocks) c.in-Got.count = search rules in
+    let took : TakesNext (spec_of c.args.ring.now) (reader_part c.loop.reader) (reader_part c.take_or_wait.new.reader) c.loop.blocks c.take_or_wait.new.blocks c.in-Got.count = search rules in
     let went : next_block c.apply_all.new.state ≡ next_block c.loop.state + c.in-Got.count = search rules in
     record {
       reader = search rules;

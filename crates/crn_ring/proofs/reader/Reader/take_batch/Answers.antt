@@ -6,17 +6,14 @@ use Rattle.crn_ring.specs.Seats.{reader_in}
 use Rattle.crn_ring.proofs.reader.Reader.take_batch.Goals as goal
 
 pub returns-clause-moves : goal.returns-clause-moves
-returns-clause-moves c = let count : ℕ = c.min-count.result in
+returns-clause-moves c = let count : ℕ = c.take_shown-count.result in
     let q = reader_in c.args.self.now.seat in
     let looked = reader_in c.load_cursor-cursor.new.seat in
-    let read = reader_in c.load_rows.new.seat in
-    let q' = reader_in c.store_taken.new.seat in
+    let q' = reader_in c.take_shown-count.new.self.seat in
     let taken_looked : looked.taken ≡ q.taken = ap (λ m. m.0.reader.taken) c.load_cursor-cursor.ensures.view in
-    let taken_read : read.taken ≡ looked.taken = ap (λ m. m.0.reader.taken) c.load_rows.ensures.view.2 in
-    let taken_last : q'.taken ≡ read.taken + count = ap (λ m. m.0.reader.taken) c.store_taken.ensures.view in
+    let taken_last : q'.taken ≡ looked.taken + count = c.take_shown-count.ensures.answer.0.taken in
     let risen : count ≡ q'.taken - q.taken = omega arith in
-    subst (λ (z : ℕ). ReaderReaches q (BLOCK_WORDS * z + 2) q') risen
-    (take_moves q looked read q' count c.load_cursor-cursor.ensures.moved c.load_rows.ensures.moved c.store_taken.ensures.moved)
+    subst (λ (z : ℕ). ReaderReaches q (BLOCK_WORDS * z + 2) q') risen (take_moves q looked q' count c.load_cursor-cursor.ensures.moved c.take_shown-count.ensures.moves)
 
 pub returns-then-self-clause-ring : goal.returns-then-self-clause-ring
 returns-then-self-clause-ring c = search rules
@@ -68,21 +65,3 @@ load_cursor-cursor-requires-clause-own c = search rules
 
 pub load_cursor-cursor-requires-clause-at : goal.load_cursor-cursor-requires-clause-at
 load_cursor-cursor-requires-clause-at c = search rules
-
-pub load_rows-requires-clause-own : goal.load_rows-requires-clause-own
-load_rows-requires-clause-own c = search rules
-
-pub load_rows-requires-clause-at : goal.load_rows-requires-clause-at
-load_rows-requires-clause-at c = search rules
-
-pub load_rows-requires-clause-room : goal.load_rows-requires-clause-room
-load_rows-requires-clause-room c = search rules
-
-pub store_taken-requires-clause-own : goal.store_taken-requires-clause-own
-store_taken-requires-clause-own c = search rules
-
-pub store_taken-requires-clause-at : goal.store_taken-requires-clause-at
-store_taken-requires-clause-at c = search rules
-
-pub store_taken-requires-clause-whole : goal.store_taken-requires-clause-whole
-store_taken-requires-clause-whole c = search rules

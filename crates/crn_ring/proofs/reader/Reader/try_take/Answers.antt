@@ -1,9 +1,9 @@
 use Rattle.std.proofs.Common.{rules}
-use Rattle.crn_ring.proofs.Rooms.{take_moves}
+use Rattle.crn_ring.proofs.Rooms.{shown_moves, take_moves}
 use Rattle.crn_ring.proofs.reader.Reader.try_take.Goals as goal
 
 pub returns-clause-moves : goal.returns-clause-moves
-returns-clause-moves c = take_moves _ _ _ _ 1 c.load_cursor-cursor.ensures.moved c.load_row-words.ensures.moved c.store_taken.ensures.moved
+returns-clause-moves c = take_moves _ _ _ 1 c.load_cursor-cursor.ensures.moved (shown_moves _ _ _ 1 c.load_row-words.ensures.moved c.store_taken.ensures.moved)
 
 pub load_cursor-cursor-requires-clause-own : goal.load_cursor-cursor-requires-clause-own
 load_cursor-cursor-requires-clause-own c = search rules
