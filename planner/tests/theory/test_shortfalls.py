@@ -58,7 +58,7 @@ def test_least_levels_that_are_enough(way: str, leads: list[int], share: float) 
     enough = (tables[0] <= allowed + 1e-9) & (tables[1] >= theory.ratio - 1e-9)
     for floors in ([0, 0, 0, 0, 0], [3, 2, means.top - 3, 9, 0], [means.top] * 5):
         found = getattr(least_enough, way)(means.turned[1:3], means.chances, np.array(floors), np.full(5, means.top),
-                                           allowed, theory.ratio)
+                                           np.full(5, allowed), theory.ratio)
         wanted = [next((it for it in range(floor, means.top) if row[it]), means.top)
                   for floor, row in zip(floors, enough)]
         assert found.tolist() == wanted

@@ -24,11 +24,15 @@ def least_levels(low: Whole, high: Whole, is_enough: Callable[[Whole], Any]) -> 
     return low
 
 
-def sums_by_windows(turned: Floats, chances: Floats, places: Whole) -> Floats:
-    """Stands in for `sums_from`."""
-    windows = sliding_window_view(turned, chances.shape[1], axis=1)
+def sums_in(windows: Floats, chances: Floats, places: Whole) -> Floats:
+    """Returns what `sums_from` does, from windows on the figures."""
     sums: Floats = np.einsum("fgx,gx->fg", windows[:, places], chances)
     return sums
+
+
+def sums_by_windows(turned: Floats, chances: Floats, places: Whole) -> Floats:
+    """Stands in for `sums_from`."""
+    return sums_in(sliding_window_view(turned, chances.shape[1], axis=1), chances, places)
 
 
 @compiled(sums_by_windows)
@@ -41,22 +45,25 @@ def sums_from(turned: Floats, chances: Floats, places: Whole) -> Floats:
     return sums
 
 
-def least_by_halving(turned: Floats, chances: Floats, floors: Whole, highest: Whole, allowed: float, ratio: float
+def least_by_halving(turned: Floats, chances: Floats, floors: Whole, highest: Whole, allowed: Floats, ratio: float
                      ) -> Whole:
-    """Returns the least level of each gap, from a floor on, with a mean unmet demand of at most `allowed` and a mean
+    """Returns the least level of each gap, from a floor on, with a mean unmet demand of at most its `allowed` and a mean
     chance of no backlog of at least `ratio`; the highest if none below it has.
 
     `turned` has a row with the unmet demand and one with the chance of no backlog, from the highest level of a low
     down, and `chances` a row with how far a low is below the level, for each gap.
     """
+    windows = sliding_window_view(turned, chances.shape[1], axis=1)
+
     def is_enough(levels: Whole) -> Any:
-        unmet, held = sums_by_windows(turned, chances, highest - levels)
+        unmet, held = sums_in(windows, chances, highest - levels)
         return (unmet <= allowed) & (held >= ratio)
     return least_levels(floors, highest, is_enough)
 
 
 @compiled(least_by_halving)
-def least_enough(turned: Floats, chances: Floats, floors: Whole, highest: Whole, allowed: float, ratio: float) -> Whole:
+def least_enough(turned: Floats, chances: Floats, floors: Whole, highest: Whole, allowed: Floats, ratio: float
+                 ) -> Whole:
     levels, level, width = floors.copy(), 0, chances.shape[1]
     for gap in range(len(chances)):
         low, high, stride = floors[gap], highest[gap], 1
@@ -64,7 +71,7 @@ def least_enough(turned: Floats, chances: Floats, floors: Whole, highest: Whole,
             level = min(max(level, low), high - 1)
             first = highest[gap] - level
             is_enough = np.dot(turned[1, first:first + width], chances[gap]) >= ratio and np.dot(
-                turned[0, first:first + width], chances[gap]) <= allowed
+                turned[0, first:first + width], chances[gap]) <= allowed[gap]
             if is_enough:
                 high, level = level, level - stride
             else:

@@ -285,19 +285,19 @@ class LongRun(Walk):
     def levels_with_fill(self, gaps: Sequence[int], shares: Sequence[float]) -> Iterable[tuple[int, list[int]]]:
         """Yields rising gaps, each with the least levels, in items, that meet these shares of demand at once."""
         for some in self.parts(gaps):
-            means = Means(self, some)
-            levels = [self.levels_within(means, self.allowed(share)) for share in shares]
-            yield from zip(some.tolist(), np.transpose(levels).tolist())
+            levels = self.levels_within(Means(self, some), np.array([*map(self.allowed, shares)]))
+            yield from zip(some.tolist(), levels.T.tolist())
 
-    def levels_within(self, means: Means, allowed: float) -> Whole:
-        """Returns the least levels, in items, with at most so much unmet demand. Between two cells it is shared by both.
-        """
-        highest, unmet = np.full(len(means.gaps), means.top), slice(UNMET, STOCK_LEFT)
-        cells = least_enough(means.turned[unmet], means.chances, 0 * highest, highest, allowed, 0.0)
-        here, below = (means.at(np.maximum(cells - less, 0), unmet)[0] for less in (0, 1))
-        spare = np.divide(self.step * (allowed - here), below - here, where=below > here, out=np.zeros_like(here))
+    def levels_within(self, means: Means, allowed: Floats) -> Whole:
+        """Returns the least levels, in items, with at most so much unmet demand: a row for each amount. Between two
+        cells it is shared by both."""
+        turned, chances = means.turned[UNMET:STOCK_LEFT], np.tile(means.chances, (len(allowed), 1))
+        each, highest = np.repeat(allowed, len(means.gaps)), np.full(len(chances), means.top)
+        cells = least_enough(turned, chances, 0 * highest, highest, each, 0.0)
+        here, below = (sums_from(turned, chances, highest - np.maximum(cells - less, 0))[0] for less in (0, 1))
+        spare = np.divide(self.step * (each - here), below - here, where=below > here, out=np.zeros_like(here))
         levels: Whole = cells * self.step - np.minimum((spare + NEAR).astype(int), self.step - 1)
-        return levels
+        return levels.reshape(len(allowed), -1)
 
     def first_gap(self, cost: float, most: int) -> int:
         """Returns the first gap up to the most whose orders alone cost no more."""
@@ -319,8 +319,9 @@ class LongRun(Walk):
 
     def best_levels(self, means: Means, share: float) -> Levels:
         """Returns the cheapest feasible levels that meet a share of demand at once, or the newsvendor's if higher."""
-        allowed, highest = self.allowed(share), np.full(len(means.gaps), means.top)
-        levels = least_enough(means.turned[UNMET:STOCK_LEFT], means.chances, self.floor(means.gaps), highest, allowed, self.ratio)
+        allowed, count = self.allowed(share), len(means.gaps)
+        levels = least_enough(means.turned[UNMET:STOCK_LEFT], means.chances, self.floor(means.gaps),
+                              np.full(count, means.top), np.full(count, allowed), self.ratio)
         places = self.places(means, levels)
         spare = self.spare_of(places, allowed)
         if self.feasible.has_all_levels:
