@@ -101,11 +101,9 @@ class Columns(Generic[Row]):
         return f"INSERT INTO {table} VALUES ({', '.join('?' * len(self.names))})"
 
     def cells(self, value: Row | None) -> list[Cell]:
-        """Returns the cells of a value; all are None if there is none."""
+        """Returns the cells of a value with fields; all are None if there is none."""
         if value is None:
             return [None] * len(self.names)
-        if not self.parts:
-            return [self.written(value)]
         # A catalogue has a hundred cells an item, most of them without parts: these are made here, which is fast.
         return [cell for field, part in self.parts for it in [getattr(value, field)] for cell in (
             part.cells(it) if part.parts else [None if it is None else part.written(it)])]

@@ -74,10 +74,6 @@ class GapLevels(NamedTuple):
     here: Floats
     below: Floats
 
-    def joined(self, other: GapLevels) -> GapLevels:
-        """Returns these and others."""
-        return GapLevels(*(np.concatenate(columns, axis=-1) for columns in zip(self, other)))
-
 
 class Means:
     """Means of the figures of `LongRun.figures_from`, with a level for each of some rising gaps, in cells. Levels are
