@@ -114,9 +114,10 @@ class Drawn:
 
     def orders(self, start: int, end: int) -> Whole:
         """Returns some of them, in rows. They are drawn as they are needed, always the same."""
-        if end > len(self.rows):
-            places = np.tile(np.arange(self.rows.shape[1]), (end - len(self.rows), 1))
-            self.rows = np.vstack([self.rows, self.random.permuted(places, axis=1)])
+        known, size = self.rows.shape
+        if end > known:
+            more = max(end, min(2 * known, TIMES, MOST_CELLS // size)) - known  # so that few rows are copied again
+            self.rows = np.vstack([self.rows, self.random.permuted(np.tile(np.arange(size), (more, 1)), axis=1)])
         return self.rows[start:end]
 
 
