@@ -17,8 +17,8 @@ from crnplan.law import Law
 from crnplan.plan import swings
 from crnplan.plan.totals import Totals
 from crnplan.plan.question import question_of
-from crnplan.plan.swings import (BEST, BEST_FILL, CASES, KEPT, KEPT_FILL, TODAY, Swing, best_near, changed_lead, estimated,
-                                 shifted, swing_of, swings_of)
+from crnplan.plan.swings import (BEST, BEST_FILL, CASES, KEPT, KEPT_FILL, TODAY, Swing, changed_lead, estimated, shifted,
+                                 swing_of, swings_of)
 from crnplan.scenario import Policy, Scenario
 from planner.tests.pages.made_catalogue import made_pair
 from planner.tests.pages.page_reader import Page
@@ -65,23 +65,6 @@ def test_figures_are_those_of_a_chain(what: str, tenths: int) -> None:
         assert figures == pytest.approx((cost / MONEY, fill)[:len(figures)], rel=1e-6)
     least = min(cost_of(plain, shortfall_of(plain, gap), level) for gap in range(1, 14) for level in range(gap, 20))
     assert row[BEST] == pytest.approx(least / MONEY, rel=1e-6) and row[BEST] <= row[KEPT] and row[BEST_FILL] > 0.5
-
-
-@pytest.mark.parametrize("place, first", [(1, (2, 6)), (2, (0, 400)), (3, (50, 52)), (4, (9, 90))])
-def test_best_policy_is_beside_the_chosen_one(place: int, first: tuple[int, int]) -> None:
-    """Wherever it begins, a search of few gaps finds about the cheapest of all of them."""
-    question = question_of(item_of(place, leads=LEADS, setup=Fraction(300)), alone())
-    theory, all_gaps = question.theory(), question.theory()
-    least = all_gaps.cheapest_of_gaps(all_gaps.gaps(0, all_gaps.most), 0.0)
-    found = theory.figures(*best_near(theory, question, first)).cost
-    assert least.cost * (1 - 1e-9) <= found <= 1.001 * least.cost and len(theory.shorts) < len(all_gaps.shorts) / 2
-
-
-def test_best_policy_of_a_bounded_item() -> None:
-    """If no policy within its bounds meets the wanted share, the best one meets most: with the greatest S, two periods
-    of demand, and the least gap."""
-    question = question_of(item_of(backlog=None, fill=Fraction(99, 100), leads=LEADS), alone(max_coverage=2))
-    assert best_near(question.theory(), question, (1, 2)) == (most := int(2 * question.demand.mean), most)
 
 
 def test_item_without_a_backlog_cost() -> None:
