@@ -78,15 +78,15 @@ def kept(loop: Callable[..., Any]) -> Iterator[str]:
         yield str(path)
 
 
-def compiled_by(njit: Callable[..., Any], loop: Callable[..., Any], path: str, **words: Any) -> Callable[..., Any]:
+def compiled_by(njit: Callable[..., Any], loop: Callable[..., Any], path: str) -> Callable[..., Any]:
     """Returns a loop as numba compiles it, with the functions of its module that it calls, from a source at a path."""
-    parts = {name: compiled_by(njit, part, path, inline="always") for name, part in called_by(loop).items()}
+    parts = {name: compiled_by(njit, part, path) for name, part in called_by(loop).items()}
     whole = FunctionType(loop.__code__.replace(co_filename=path), {**loop.__globals__, **parts},
                          closure=loop.__closure__)
     try:
-        made: Callable[..., Any] = njit(cache=True, **words)(whole)
+        made: Callable[..., Any] = njit(cache=True)(whole)
     except RuntimeError:  # no folder to keep it in
-        made = njit(**words)(whole)
+        made = njit(whole)
     return made
 
 

@@ -124,73 +124,60 @@ def last_by_transforms(begun: Transforms, is_far: Truths, free: Floats, gaps: Wh
     return lasting(kept.swapaxes(0, 1), move, late)
 
 
-def add_product(total: Floats, share: float, sure: float, left: Floats, right: Floats) -> None:
-    """Adds a share of one row, with a constant, times another one. Rows have the real and the imaginary parts. Numba
-    makes fast code of `while` and of few arrays in a loop."""
-    width, k = total.shape[1], 0
-    while k < width:
-        total[0, k] += (share * left[0, k] + sure) * right[0, k] - share * left[1, k] * right[1, k]
-        k += 1
-    k = 0
-    while k < width:
-        total[1, k] += (share * left[0, k] + sure) * right[1, k] + share * left[1, k] * right[0, k]
-        k += 1
-
-
-def add_cell(kept: Floats, free: Floats, roots: Transforms, cell: int, root: Floats) -> bool:
-    """Adds the chances of a cell to the transforms of some laws, and returns whether any but the first one has some."""
-    turn, k, is_added = 0, 0, False
-    while k < root.shape[1]:
-        root[0, k], root[1, k] = roots[turn].real, roots[turn].imag
-        turn, k = turn + cell, k + 1
-        if turn >= len(roots):
-            turn -= len(roots)
-    for row in np.flatnonzero(free[:, cell]):
-        add_product(kept[row], 0.0, free[row, cell], root, root)
-        is_added = is_added or row > 0
-    return is_added
-
-
-def set_left(left: Floats, kept: Floats, moves: Floats, late: Floats, placed: Floats, solved: Floats) -> None:
-    """Sets what C is multiplied by, by the renewal equations, with room for the orders that are placed and for R."""
-    for time in range(1, len(late)):
-        placed[time] = moves - kept[1] if time == 1 else -kept[time]
-        if time > 1:
-            add_product(placed[time], 1.0, 0.0, kept[time - 1], moves)
-        solved[time] = kept[time] + late[0] * placed[time]
-        solved[time, 0] += (1 - late[0]) * placed[time, 0, 0]
-        for ago in range(1, time):
-            if placed[ago, 0, 0] > LEAST_CHANCE:
-                add_product(solved[time], late[time - ago], (1 - late[time - ago]) * placed[ago, 0, 0], placed[ago],
-                            solved[time - ago])
-    under_way = solved[0]
-    under_way[0], under_way[1] = late[0], 0.0
-    for time in range(1, len(late)):
-        under_way += late[time] * solved[time]
-    left[:] = -under_way
-    left[0] += 1.0
-    add_product(left, 1.0, 0.0, moves, under_way)
-
-
 @compiled(last_by_transforms)
 def last_shortfalls(begun: Transforms, is_far: Truths, free: Floats, gaps: Whole, roots: Transforms, move: Transforms,
                     late: Floats) -> Transforms:
     reviews, width, far, last = len(late), len(move), 0, 0
     kept, moves = np.empty((reviews, 2, width)), np.stack((move.real, move.imag))
-    placed, solved, found = np.empty_like(kept), np.empty_like(kept), np.empty((len(gaps), width), np.complex128)
-    root, left, total = np.empty_like(moves), np.empty_like(moves), np.empty_like(moves)
+    placed, solved, root = np.empty_like(kept), np.empty_like(kept), np.empty((2, width))
+    under_way, left, total = np.empty_like(root), np.empty_like(root), np.empty_like(root)
+    found = np.empty((len(gaps), width), np.complex128)
+
+    def add(total: Floats, share: float, sure: float, left: Floats, right: Floats) -> None:
+        """Adds a product, in real and imaginary parts. Numba makes fast code of `while` and of few arrays in a loop."""
+        k = 0
+        while k < width:
+            total[0, k] += (share * left[0, k] + sure) * right[0, k] - share * left[1, k] * right[1, k]
+            k += 1
+        k = 0
+        while k < width:
+            total[1, k] += (share * left[0, k] + sure) * right[1, k] + share * left[1, k] * right[0, k]
+            k += 1
     for place, gap in enumerate(gaps):
         is_same = place > 0 and not is_far[place]
         if is_far[place]:
             kept[:, 0], kept[:, 1] = begun[far].real, begun[far].imag
             far, last = far + 1, gap
         for cell in range(last + 1, gap + 1):
-            is_same = not add_cell(kept, free, roots, cell, root) and is_same
+            turn, k = 0, 0
+            while k < width:
+                root[0, k], root[1, k] = roots[turn].real, roots[turn].imag
+                turn, k = turn + cell, k + 1
+                if turn >= len(roots):
+                    turn -= len(roots)
+            for row in np.flatnonzero(free[:, cell]):
+                add(kept[row], 0.0, free[row, cell], root, root)
+                is_same = is_same and row == 0
         last = gap
+        for time in range(1, 1 if is_same else reviews):
+            placed[time] = moves - kept[1] if time == 1 else -kept[time]
+            if time > 1:
+                add(placed[time], 1.0, 0.0, kept[time - 1], moves)
+            solved[time] = kept[time] + late[0] * placed[time]
+            solved[time, 0] += (1 - late[0]) * placed[time, 0, 0]
+            for ago in range(1, time):
+                if placed[ago, 0, 0] > LEAST_CHANCE:
+                    add(solved[time], late[time - ago], (1 - late[time - ago]) * placed[ago, 0, 0], placed[ago],
+                        solved[time - ago])
         if not is_same:
-            set_left(left, kept, moves, late, placed, solved)
+            under_way[0], under_way[1] = late[0], 0.0
+            for time in range(1, reviews):
+                under_way += late[time] * solved[time]
+            left[:] = -under_way
+            left[0] += 1.0
+            add(left, 1.0, 0.0, moves, under_way)
         total[:] = 0.0
-        add_product(total, 1.0, 0.0, kept[0], left)
+        add(total, 1.0, 0.0, kept[0], left)
         found[place] = total[0] + 1j * total[1]
     return found
 
