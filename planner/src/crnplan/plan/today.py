@@ -16,6 +16,7 @@ from difflib import get_close_matches
 from fractions import Fraction
 from functools import cached_property
 
+from ..compiled import left_plain
 from ..errors import Refused, argument
 from ..records.cells import first_day
 from ..records.columns import DAYS
@@ -336,7 +337,8 @@ def today_of(folder: PlannedFolder, tables: Mapping[str, Table | None], words: W
             unknown.append((item, answer))
         if quiet and hand and hand.stock:
             dead.append(Lying(item, hand.stock, quiet))
-    standings.sort(key=lambda it: it.urgency if it.is_due else (math.inf, 0.0, it.item.name))
+    with left_plain():  # Each item has a few loops of its laws, which take less than a loop's compiled code to load.
+        standings.sort(key=lambda it: it.urgency if it.is_due else (math.inf, 0.0, it.item.name))
     end = first_day(folder.read.fact("periods")[1], folder.every) - datetime.timedelta(1)
     minimums = minimums_of((item for item, _, _ in known), stated)
     return Today(day, end, standings, unknown, dead, minimums, tables.get(ON_ORDER) is not None, holdings.counts,
