@@ -286,15 +286,16 @@ class Answering(Generic[Row]):
     def _write(self, begun: Asked, lines: Lines[Row], file: BinaryIO, path: Path) -> Made:
         """Writes a part, batch by batch, and gives it the name of the file."""
         file.write(lines.head(begun.chunk))
-        kept = sum(name in begun.known for name, *_ in begun.rows)
+        kept, made_now = sum(name in begun.known for name, *_ in begun.rows), dict[str, Row | Remark]()
         for some in batched(begun.rows, BATCH):
             new = [row for row in some if row[0] not in begun.known]
             answers = self.function([asked for *_, asked in new], *self.words) if new else []
-            begun.known |= {name: lines.line(name, digest, answer)
-                            for (name, digest, _), answer in zip(new, answers, strict=True)}
+            for (name, digest, _), answer in zip(new, answers, strict=True):
+                begun.known[name], made_now[name] = lines.line(name, digest, answer), answer
             file.write(b"".join(begun.known[name] for name, *_ in some))
             file.flush()
-        answered = ((asked, lines.columns.answer(opened(begun.known[name])[2:])) for name, _, asked in begun.rows)
+        answered = ((asked, made_now.get(name) or lines.columns.answer(opened(begun.known[name])[2:]))
+                    for name, _, asked in begun.rows)
         made = Made(begun.chunk, path.name, len(begun.rows), kept, begun.digest,
                     self.sums(answered) if self.sums else None)
         file.write(lines.end(made))

@@ -151,10 +151,16 @@ class Folder:
     def write(self, name: str, text: str | Iterable[str]) -> None:
         """Writes a text, or lines, as a whole file, and claims it. TOML has no raw control characters."""
         lines = [text] if isinstance(text, str) else text
+        with self.writing(name) as file:
+            file.writelines(map(escaped, lines) if name.endswith(".toml") else lines)
+
+    @contextlib.contextmanager
+    def writing(self, name: str) -> Iterator[IO[str]]:
+        """Gives a file of text that is there whole, or not at all, and claims it."""
         with faults_of(self.path):
             self.claim(name)
             with new_file(self.path / name, self.room()) as file:
-                file.writelines(map(escaped, lines) if name.endswith(".toml") else lines)
+                yield file
 
     def remove(self, *names: str) -> None:
         """Removes those of the files that are crnplan's."""

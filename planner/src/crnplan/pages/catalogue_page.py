@@ -3,13 +3,15 @@ writes all that a plan exports. None of it is read again, but by people."""
 from __future__ import annotations
 
 import hashlib
+import itertools
 import math
 from collections import Counter
-from collections.abc import Iterable, Mapping, Sequence
+from collections.abc import Iterable, Iterator, Mapping, Sequence
 from pathlib import Path
 from typing import NamedTuple
 from urllib.parse import quote
 
+from ..chunks import batched
 from ..crnsim.program import find_program
 from ..curve.parts import Point
 from ..curve.exchange_curve import kept_curve
@@ -28,7 +30,7 @@ from ..table import DataTable
 from .backtest_tables import past_line
 from .board import board_of
 from .catalogue_tables import (DECISION_COLUMNS, DECISIONS, EXACT, REJECTS, aims_of, catalogue_summary, decision_row,
-                               decisions_of, exact_of, planned_of, reasons_of, rejects_of)
+                               decisions_of, exact_of, reasons_of, rejects_of)
 from .change_tables import CHANGES, change_lines, changes_of, moved_rows
 from .item_page import ItemWords, item_page
 from .page import OF_CHOSEN, UNITS, Line, Money, Plot, Scale, curve_ends, percent, rendered
@@ -36,6 +38,7 @@ from .page import OF_CHOSEN, UNITS, Line, Money, Plot, Scale, curve_ends, percen
 SUMMARY, PAGE, FOUND = "summary.txt", "report.html", "found.toml"
 CATALOGUE_FILES = (DECISIONS, EXACT, REJECTS, SUMMARY, PAGE, FOUND)
 MOST_ROWS = 5_000  # items in the table
+ROWS_AT_ONCE = 100  # of the tables that are written side by side
 ROWS_A_GROUP = 45  # which are laid out together; the first group is printed
 MOST_SAVINGS = 15
 MOST_REASONS = 12  # of each kind
@@ -198,12 +201,19 @@ def write_rejects(folder: Folder, read: Catalogued) -> None:
     folder.write(REJECTS, rejects_of(read.rejects()).lines)
 
 
+def tabled(folder: Folder, planned: PlannedFolder) -> Iterator[Decided]:
+    """Yields all items of a planned catalogue, and writes them into the tables of decisions and of exact figures."""
+    with folder.writing(DECISIONS) as decisions, folder.writing(EXACT) as exact:
+        for place, pairs in enumerate(itertools.chain([list[Decided]()], batched(planned.answers(), ROWS_AT_ONCE))):
+            for file, table in ((decisions, decisions_of(planned, pairs)), (exact, exact_of(pairs))):
+                file.writelines(itertools.islice(table.lines, int(place > 0), None))  # The heading comes once.
+            yield from pairs
+
+
 def write_catalogue(folder: Folder, planned: PlannedFolder, totals: Totals, learned: Sequence[Remark],
                     missing: Sequence[str]) -> str:
     """Writes the tables, the summary and the page of a planned catalogue, and returns the summary."""
-    folder.write(DECISIONS, decisions_of(planned).lines)
-    folder.write(EXACT, exact_of(planned_of(planned)).lines)
-    survey = Survey(planned, MOST_ROWS)
+    survey = Survey(planned, MOST_ROWS, tabled(folder, planned))
     folder.write(REJECTS, rejects_of(planned.read.rejects(survey.faults)).lines)
     folder.remove(CHANGES)
     if planned.planned.earlier:

@@ -17,6 +17,7 @@ from .page import rendered
 
 if TYPE_CHECKING:
     from ..plan.catalogue import PlannedFolder
+    from ..plan.survey import Decided
     from ..plan.totals import Totals
     from ..records.items import FileCounts, Reject
 
@@ -155,26 +156,17 @@ def exact_row(item: Item, answer: Answer) -> list[Cell]:
             run.backlog, run.total_today, run.total_chosen, *costs, saving, variance]
 
 
-def planned_of(folder: PlannedFolder) -> Iterator[tuple[Item, Answer]]:
-    """Yields the items that are planned, with their answers."""
-    yield from ((item, answer) for item, answer in folder.answers() if isinstance(answer, Answer))
-
-
-def decided_of(folder: PlannedFolder) -> Iterator[tuple[Item, Answer | Remark]]:
-    """Yields the items that have a decision: planned ones with their answers, and those without demand with that."""
-    yield from ((item, answer) for item, answer in folder.answers()
-                if isinstance(answer, Answer) or item.past == NO_DEMAND)
-
-
-def decisions_of(folder: PlannedFolder) -> DataTable:
-    """Returns the decisions of a folder: a row for each item that is planned or has no demand."""
-    rows = (decision_row(*pair) for pair in decided_of(folder))
+def decisions_of(folder: PlannedFolder, pairs: Iterable[Decided] | None = None) -> DataTable:
+    """Returns the decisions of a folder, or of some of its items: a row for each that is planned or has no demand."""
+    rows = (decision_row(item, answer) for item, answer in (folder.answers() if pairs is None else pairs)
+            if isinstance(answer, Answer) or item.past == NO_DEMAND)
     return DataTable(DECISION_COLUMNS, rows, folder.decimals, "", currency=folder.currency.code, every=folder.every)
 
 
-def exact_of(planned: Iterable[tuple[Item, Answer]]) -> DataTable:
-    """Returns the exact figures of the runs of items."""
-    return DataTable(EXACT_COLUMNS, (exact_row(*pair) for pair in planned), missing="")
+def exact_of(pairs: Iterable[Decided]) -> DataTable:
+    """Returns the exact figures of the runs of the items that are planned."""
+    rows = (exact_row(item, answer) for item, answer in pairs if isinstance(answer, Answer))
+    return DataTable(EXACT_COLUMNS, rows, missing="")
 
 
 @dataclass

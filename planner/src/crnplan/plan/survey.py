@@ -3,7 +3,7 @@ from __future__ import annotations
 
 import heapq
 from collections import defaultdict
-from collections.abc import Iterator
+from collections.abc import Iterable, Iterator
 
 from ..records.columns import periods_a_year
 from ..records.item import NO_DEMAND, Item
@@ -36,18 +36,18 @@ class Survey:
     have a price, in money. `has_stock` says whether a master says what is in stock. `greatest` are the decisions with
     the greatest saving or loss: items that are planned or have no demand."""
 
-    def __init__(self, folder: PlannedFolder, most: int = 0) -> None:
-        """Looks at all items of a folder, of which the greatest ones are kept, at most so many."""
+    def __init__(self, folder: PlannedFolder, most: int = 0, pairs: Iterable[Decided] | None = None) -> None:
+        """Looks at all items of a folder, which are perhaps given, and keeps the greatest ones, at most so many."""
         self.classes: defaultdict[str, Totals] = defaultdict(Totals)
         self.faults, self.asked, self.has_stock = list[Reject](), list[float](), False
         self._most, self._pairs, self._names = most, list[Decided](), list[str]()
         self._masters, self._periods = folder.counts["files"]["items"]["name"], float(periods_a_year(folder.every))
-        self.totals = Totals.of(self._seen(folder))
+        self.totals = Totals.of(self._seen(folder.answers() if pairs is None else pairs))
         self.greatest, self.drawn = greatest(self._pairs, most), sorted(drawn_from(self._names, MOST_DRAWN))
 
-    def _seen(self, folder: PlannedFolder) -> Iterator[Decided]:
+    def _seen(self, pairs: Iterable[Decided]) -> Iterator[Decided]:
         """Yields all items, and notes each."""
-        for item, answer in folder.answers():
+        for item, answer in pairs:
             self.has_stock |= item.stock is not None
             if isinstance(answer, Remark) and item.past != NO_DEMAND:
                 self._note_fault(item, answer)
