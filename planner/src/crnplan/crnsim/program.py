@@ -23,6 +23,7 @@ from ..formats import STATUSES, status_of
 from ..scenario import Scenario
 
 VARIABLE = "CRNSIM"
+STREAMS = "input", "output", "errors"
 JOBS = 4  # runs at a time: a run itself uses several processors
 # Statuses with which no input is to blame.
 FAILURES = {STATUSES[line] for line in ("reading", "writing", "thread", "gate", "memory")}
@@ -31,6 +32,7 @@ FIELDS = 5
 # The greatest stock and position; more by MOST_DEMAND for each period that has passed, if there are returns. The stock
 # is at least as much below 0.
 MOST_STOCK = formats.MOST_ITEMS
+C_LIBRARY = ctypes.CDLL(None)
 
 
 def _named(path: str | Path, how: str) -> Path:
@@ -101,7 +103,7 @@ def own_processor() -> Iterator[None]:
         yield
         return
     allowed = os.sched_getaffinity(0)
-    os.sched_setaffinity(0, {ctypes.CDLL(None).sched_getcpu()})
+    os.sched_setaffinity(0, {C_LIBRARY.sched_getcpu()})
     try:
         yield
     finally:
@@ -109,19 +111,29 @@ def own_processor() -> Iterator[None]:
 
 
 def run_program(program: Path, text: str, *words: str) -> str:
-    """Runs the program with words on a text, and returns its standard output. Raises ProgramError with its line."""
-    try:
-        with own_processor():
-            ran = subprocess.run([program, *words], input=text.encode(), capture_output=True)
-    except OSError as fault:
-        raise ProgramError(f"{program}: {fault.strerror}; build crnsim, or name it with "
-                           f"{argument('program')}") from fault
-    if ran.returncode == 0:
-        return ran.stdout.decode()
-    line = "; ".join(ran.stderr.decode(errors="replace").splitlines()) or f"no output, status {ran.returncode}"
-    if ran.returncode < 0 or ran.returncode in FAILURES:
+    """Runs the program with words on a text, and returns its standard output. Raises ProgramError with its line.
+
+    Its streams are files in memory: pipes would wake both processes in turn.
+    """
+    with contextlib.ExitStack() as stack:
+        given, output, errors = (stack.enter_context(open(os.memfd_create(name), "w+b", 0)) for name in STREAMS)
+        given.write(text.encode())
+        given.seek(0)
+        try:
+            with own_processor():
+                status = subprocess.call([program, *words], stdin=given, stdout=output, stderr=errors)
+        except OSError as fault:
+            raise ProgramError(f"{program}: {fault.strerror}; build crnsim, or name it with "
+                               f"{argument('program')}") from fault
+        for file in (output, errors):
+            file.seek(0)
+        written, said = output.read(), errors.read()
+    if status == 0:
+        return written.decode()
+    line = "; ".join(said.decode(errors="replace").splitlines()) or f"no output, status {status}"
+    if status < 0 or status in FAILURES:
         raise ProgramFailed(f"{program}: {line}", "look for memory and processes of this machine, and run again")
-    raise ProgramError(f"{program}: {line}" + "; crnplan why says why" * (ran.returncode == status_of("scenario")))
+    raise ProgramError(f"{program}: {line}" + "; crnplan why says why" * (status == status_of("scenario")))
 
 
 def run_all(program: Path, runs: Iterable[tuple[str, ...]], jobs: int = JOBS) -> list[str]:
