@@ -8,7 +8,7 @@ from typing import Any
 import numpy as np
 import pytest
 
-from crnplan.chances import Floats
+from crnplan.chances import Floats, Whole
 from crnplan.curve import every_gap
 from crnplan.curve.every_gap import GAIN, best_levels, best_policies, searched_policies
 from crnplan.scenario import Costs, Scenario
@@ -19,7 +19,8 @@ from crnplan.theory.one_lead import OneLead
 from planner.tests.theory.long_run_costs import fills_of, shortfall_of
 from planner.tests.theory.scenarios import Pair, means_by_level, scenario_of
 
-LOOPS = "add_low", "choose_points", "set_points", "compare_gap", "set_means"
+LOOPS = "add_low", "choose_points", "set_points", "compare_gap", "set_means", "finer"
+WAYS = pytest.mark.parametrize("way", ["run", "loop", "plain"])
 # Costs of an order, of an item in stock, and of one that is not met at once, by case.
 CASES = np.array([(order, holding, price) for order, holding in ((30.0, 1.0), (90.0, 1.0), (30.0, 4.0), (0.0, 1.0))
                   for price in 10.0**np.arange(-3, 5)]).T
@@ -94,7 +95,7 @@ def test_ways(step: int, feasible: Feasible, way: str, leads: int, monkeypatch: 
     assert its.tolist() == gaps.tolist() and np.allclose(others, figures, 1e-12, 1e-12)
 
 
-@pytest.mark.parametrize("way", ["run", "loop", "plain"])
+@WAYS
 @pytest.mark.parametrize("low", [0, -2])
 @pytest.mark.parametrize("step", [1, 3])
 def test_best_levels(step: int, low: int, way: str, monkeypatch: pytest.MonkeyPatch) -> None:
@@ -121,12 +122,20 @@ def test_best_levels(step: int, low: int, way: str, monkeypatch: pytest.MonkeyPa
         assert figures == pytest.approx(np.array([its[best], stock[best], unmet[best], total[best, cases]]), abs=1e-12)
 
 
-def test_finer_by_hand() -> None:
+def finer(way: str, places: Whole, gaps: int, *costs: Sequence[float] | Floats) -> list[int]:
+    """Returns what `finer` does one way, of cases with costs by place; all places have equal gaps."""
+    loop = every_gap.finer if way == "run" else getattr(every_gap.finer, way)
+    halves: Whole = loop(places, np.full(len(places), gaps), np.transpose(costs).astype(float, order="C"))
+    return halves.tolist()
+
+
+@WAYS
+def test_finer_by_hand(way: str) -> None:
     """Stretches are halved where lines through the places beside them meet below the best, by more than a share."""
     places = np.array([0, 4, 8, 10, 11, 20])
 
     def due(*costs: Sequence[float] | Floats, gaps: int = 6400) -> list[int]:
-        return every_gap.finer(places, np.full(len(places), gaps), np.array(costs).T).tolist()
+        return finer(way, places, gaps, *costs)
     assert due([9, 2, 1, 2, 4, 40]) == [6, 9]  # lines meet at -1/3 and at 2/3
     assert due([103, 100.9, 100, 100.9, 102, 120]) == [2, 6, 9, 16]  # near the ends there is one line alone
     # Of a parabola with its least of 100, lines meet 32/7 and 8/3 times its bend below that: 0.005 is free.
@@ -136,12 +145,20 @@ def test_finer_by_hand() -> None:
     assert due([5, 4, 3, 2, 1, 9], gaps=64) == [16]  # 1 is as short as can be
 
 
-def test_other_valleys_are_looked_at() -> None:
+@WAYS
+def test_other_valleys_are_looked_at(way: str) -> None:
     """Also where costs are nearly the best, but not where both ends of a stretch cost far more."""
     places = np.arange(0, 28, 4)
     for second, wanted in ((1.005, [6, 14, 18]), (1.2, [6])):
-        costs = np.array([[9, 2, 1, 2, second, 1.3, 9]]).T
-        assert every_gap.finer(places, np.full(7, 6400), costs).tolist() == wanted
+        assert finer(way, places, 6400, [9, 2, 1, 2, second, 1.3, 9]) == wanted
+
+
+@WAYS
+def test_lines_that_never_meet(way: str) -> None:
+    """A stretch between parallel lines is halved if costs fall faster within it, which no convex costs do."""
+    places = np.arange(0, 28, 4)
+    assert finer(way, places, 6400, [120, 104, 103, 103, 102, 100, 120]) == [2, 22]
+    assert finer(way, places, 6400, [120, 104, 103, 101, 100, 100.5, 120]) == [2, 10, 14, 18, 22]
 
 
 @functools.cache

@@ -295,13 +295,8 @@ def best_policies(theory: OneLead, costs: Floats) -> tuple[Whole, Floats]:
     return its.policies()
 
 
-def finer(places: Whole, gaps: Whole, costs: Floats) -> Whole:
-    """Returns places halfway between some rising ones, at which a case may cost less by more than a share: `GAIN`.
-    `costs` has a row for each place, whose gap is one of `gaps`, and a column for each case.
-
-    A convex function is above the lines through two places on either side of a stretch. Stretches are left out of which
-    both ends cost far more than the best. Those beside the best are halved until they are short in any case.
-    """
+def finer_by_numpy(places: Whole, gaps: Whole, costs: Floats) -> Whole:
+    """Stands in for `finer`."""
     least, widths, best = costs.min(axis=0), np.diff(places), np.unique(costs.argmin(axis=0))
     at, case = np.nonzero(np.minimum(costs[:-1], costs[1:]) <= (1 + FAR_MORE) * least)
     beside = np.clip(at + np.arange(-1, 3)[:, None], 0, len(widths))
@@ -314,6 +309,46 @@ def finer(places: Whole, gaps: Whole, costs: Floats) -> Whole:
         inside = (near >= 0) & (near < len(widths))
         is_due[near[inside]] |= widths[near[inside]] > gaps[best[inside]] // FINE
     is_due &= widths > 1
+    halves: Whole = places[:-1][is_due] + (widths[is_due] + 1) // 2
+    return halves
+
+
+def may_gain(places: Whole, costs: Floats, least: Floats, at: int) -> bool:
+    """Returns whether a case may cost less by more than a share between a place and the next one: see `finer`."""
+    is_end, width = at == 0 or at == len(places) - 2, places[at + 1] - places[at]
+    for case in range(len(least)):
+        if min(costs[at, case], costs[at + 1, case]) > (1 + FAR_MORE) * least[case]:
+            continue
+        if is_end:
+            return True
+        here = (costs[at + 1, case] - costs[at, case]) / width
+        before = (costs[at, case] - costs[at - 1, case]) / (places[at] - places[at - 1])
+        after = (costs[at + 2, case] - costs[at + 1, case]) / (places[at + 2] - places[at + 1])
+        fall, bend = before * (after - here), after - before
+        if fall <= 0 if bend == 0 else costs[at, case] + fall / bend * width < (1 - GAIN) * least[case]:
+            return True
+    return False
+
+
+@compiled(finer_by_numpy)
+def finer(places: Whole, gaps: Whole, costs: Floats) -> Whole:
+    """Returns places halfway between some rising ones, at which a case may cost less by more than a share: `GAIN`.
+    `costs` has a row for each place, whose gap is one of `gaps`, and a column for each case.
+
+    A convex function is above the lines through two places on either side of a stretch. Stretches are left out of which
+    both ends cost far more than the best. Those beside the best are halved until they are short in any case.
+    """
+    least, best, widths = costs[0].copy(), np.zeros(costs.shape[1], np.int64), places[1:] - places[:-1]
+    for place in range(1, len(places)):
+        for case in range(len(best)):
+            if costs[place, case] < least[case]:
+                least[case], best[case] = costs[place, case], place
+    is_due = widths > 1
+    for at in np.flatnonzero(is_due):
+        is_due[at] = may_gain(places, costs, least, at)
+    for place in best:
+        for near in range(max(place - 1, 0), min(place + 1, len(widths))):
+            is_due[near] |= widths[near] > max(gaps[place] // FINE, 1)
     halves: Whole = places[:-1][is_due] + (widths[is_due] + 1) // 2
     return halves
 
