@@ -61,7 +61,7 @@ def bytes_of(plan: PlannedFolder, items: int) -> Iterator[Measured]:
 def looks_of(plan: PlannedFolder, items: int) -> Iterator[Measured]:
     """Yields how long the main process takes to look at an item with its plan."""
     start = time.process_time()
-    Survey(plan, MOST_ROWS)
+    Survey.of(plan, MOST_ROWS)
     yield LOOK, 1e6 * (time.process_time() - start) / items, "µs an item"
 
 

@@ -123,7 +123,7 @@ class Plan(Result):
     def table(self) -> DataTable:
         """Returns the decisions, by item."""
         with planned_folder(self.path) as folder:
-            table = decisions_of(folder)
+            table = decisions_of(folder, folder.answers())
             return replace(table, rows=[*table.rows])
 
     @property
@@ -137,7 +137,7 @@ class Plan(Result):
     def rejects(self) -> pd.DataFrame:
         """Returns what was left out or is suspicious: kind, file, line, item, column, text, reason, advice, rows."""
         with planned_folder(self.path) as folder:
-            return rejects_of(folder.read.rejects(self._survey.faults)).frame
+            return rejects_of(folder.read.rejects(Survey.of(folder).faults)).frame
 
     @cached_property
     def changes(self) -> pd.DataFrame:
@@ -147,14 +147,10 @@ class Plan(Result):
             return changes_of(folder).frame
 
     @cached_property
-    def _survey(self) -> Survey:
-        with planned_folder(self.path) as folder:
-            return Survey(folder)
-
-    @property
     def totals(self) -> Totals:
         """Returns the sums over all items, as `totals["saving"]`, and counts of items."""
-        return self._survey.totals
+        with planned_folder(self.path) as folder:
+            return folder.totals
 
     @cached_property
     def text(self) -> str:

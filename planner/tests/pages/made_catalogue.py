@@ -84,7 +84,7 @@ def keep_made(folder: Folder, planned: PlannedFolder) -> None:
     """Keeps what would change the answer: of each drawn item a tenth more cost in each case, and one point less service
     than planned."""
     with contextlib.closing(Store(folder.store(SWINGS), Swing)) as kept:
-        for name, digest in drawn_items(planned, Survey(planned)).items():
+        for name, digest in drawn_items(planned, Survey.of(planned)).items():
             answer = planned.answer(name)
             assert isinstance(answer, Answer)
             today, cost, fill = answer.cost_today, 1.1 * answer.cost_chosen, answer.chosen.fill - 0.01

@@ -213,7 +213,7 @@ def tabled(folder: Folder, planned: PlannedFolder) -> Iterator[Decided]:
 def write_catalogue(folder: Folder, planned: PlannedFolder, totals: Totals, learned: Sequence[Remark],
                     missing: Sequence[str]) -> str:
     """Writes the tables, the summary and the page of a planned catalogue, and returns the summary."""
-    survey = Survey(planned, MOST_ROWS, tabled(folder, planned))
+    survey = Survey.of(planned, MOST_ROWS, tabled(folder, planned))
     folder.write(REJECTS, rejects_of(planned.read.rejects(survey.faults)).lines)
     folder.remove(CHANGES)
     if planned.planned.earlier:
@@ -250,7 +250,7 @@ def report(folder: str | Path, items: Iterable[str] = (), *, jobs: int | None = 
             depth = Depth(planned.question(item), answer, str(find_program(program)))
             words = ItemWords(depth, planned.every, planned.currency)
             own.write(f"{ITEMS}/{file_name(name)}", item_page(words))
-        survey = Survey(planned, MOST_ROWS)
+        survey = Survey.of(planned, MOST_ROWS)
         keep_swings(own, planned, survey, jobs=jobs, address=cluster, shown=progress)
         own.write(PAGE, catalogue_page(planned, survey))
     return Path(folder) / PAGE

@@ -156,16 +156,17 @@ def exact_row(item: Item, answer: Answer) -> list[Cell]:
             run.backlog, run.total_today, run.total_chosen, *costs, saving, variance]
 
 
-def decisions_of(folder: PlannedFolder, pairs: Iterable[Decided] | None = None) -> DataTable:
-    """Returns the decisions of a folder, or of some of its items: a row for each that is planned or has no demand."""
-    rows = (decision_row(item, answer) for item, answer in (folder.answers() if pairs is None else pairs)
+def decisions_of(folder: PlannedFolder, answers: Iterable[Decided]) -> DataTable:
+    """Returns the decisions of a folder: of its items with their answers a row for each that is planned or has no
+    demand."""
+    rows = (decision_row(item, answer) for item, answer in answers
             if isinstance(answer, Answer) or item.past == NO_DEMAND)
     return DataTable(DECISION_COLUMNS, rows, folder.decimals, "", currency=folder.currency.code, every=folder.every)
 
 
-def exact_of(pairs: Iterable[Decided]) -> DataTable:
+def exact_of(answers: Iterable[Decided]) -> DataTable:
     """Returns the exact figures of the runs of the items that are planned."""
-    rows = (exact_row(item, answer) for item, answer in pairs if isinstance(answer, Answer))
+    rows = (exact_row(item, answer) for item, answer in answers if isinstance(answer, Answer))
     return DataTable(EXACT_COLUMNS, rows, missing="")
 
 

@@ -254,6 +254,6 @@ def orders_today(path: Path, tables: Mapping[str, Table | None], words: Words, d
     stated = {name: amount for name, value in minimums.items()
               if (amount := read_argument("supplier_min", value, amount_of)) is not None}
     with (tempfile.TemporaryDirectory(prefix="crnplan-") as room, copied_folder(path, Path(room)) as folder):
-        today = today_of(folder, tables, replace(words, every=folder.every),
+        today = today_of(folder, folder.answers(is_whole=True), tables, replace(words, every=folder.every),
                          stated_day("date", day) or datetime.date.today(), stated)
         return OrdersToday(today, folder.every, folder.currency)

@@ -9,7 +9,7 @@ import datetime
 import io
 import math
 import re
-from collections.abc import Iterator, Sequence
+from collections.abc import Iterable, Iterator, Sequence
 from pathlib import Path
 from typing import TYPE_CHECKING
 
@@ -20,7 +20,7 @@ from ..files import new_bytes
 from ..money import Currency
 from ..plan.answer import CHOSEN, TODAY
 from ..plan.catalogue import PlannedFolder, planned_folder
-from ..plan.survey import Survey
+from ..plan.survey import Decided, Survey
 from ..plan.totals import Totals
 from ..plan.today import today_of
 from ..records.cells import first_day
@@ -187,14 +187,14 @@ def class_rows(survey: Survey) -> Iterator[list[Cell]]:
                *(totals[f"value_{it}"] for it in POLICIES)]
 
 
-def orders_of(folder: PlannedFolder) -> OrdersToday:
-    """Returns the orders on the day after the record by the stock of the masters."""
-    day = first_day(folder.read.fact("periods")[1], folder.every)
-    return OrdersToday(today_of(folder, {}, Words(every=folder.every), day, {}), folder.every, folder.currency)
+def orders_of(folder: PlannedFolder, answers: Iterable[Decided]) -> OrdersToday:
+    """Returns the orders on the day after the record by the stock of the masters, of items by all their periods."""
+    day, words = first_day(folder.read.fact("periods")[1], folder.every), Words(every=folder.every)
+    return OrdersToday(today_of(folder, answers, {}, words, day, {}), folder.every, folder.currency)
 
 
 def fill_book(book: Book, folder: PlannedFolder) -> None:
-    """Writes all sheets of a planned folder. Raises Refused if one has too many rows."""
+    """Writes all sheets of a planned folder, whose items are read once. Raises Refused if one has too many rows."""
     survey, currency, curve = Survey(folder), folder.currency, kept_curve(folder.store)
 
     def table_of(columns: Sequence[Column], rows: Sequence[list[Cell]]) -> DataTable:
@@ -204,9 +204,14 @@ def fill_book(book: Book, folder: PlannedFolder) -> None:
     summary = table_of(SUM_COLUMNS, [row for row, _ in sums] + [[line, None, None] for line in ["", *lines]])
     styles = [[TEXT, *[number_format(column, summary)] * 2] for _, column in sums] + [[TEXT] * 3] * (len(lines) + 1)
     book.add(SUMMARY, summary, styles)
-    book.add("Decisions", decisions_of(folder))
-    if survey.has_stock:
-        book.add("Today", orders_of(folder).table)
+    answers: Iterable[Decided] = folder.answers(is_whole=True)
+    has_stock = any(stock is not None for (stock,) in folder.read.cells("stock"))
+    if has_stock:
+        answers = [*answers]
+    counting = ((folder.read.counting(item), answer) for item, answer in answers)
+    book.add("Decisions", decisions_of(folder, survey.seen(counting)))
+    if has_stock:
+        book.add("Today", orders_of(folder, answers).table)
     book.add("Left out", rejects_of(folder.read.rejects(survey.faults)))
     if curve:
         book.add_curve(curve, table_of(CURVE_COLUMNS, [[name, *point] for name, point in curve]), currency.code)

@@ -30,25 +30,38 @@ def greatest(pairs: list[Decided], most: int) -> list[Decided]:
 
 
 class Survey:
-    """What the items of a plan come to. `totals` are the sums of all, `classes` those of each class, with the name that
-    masters have for it, of items that are compared with a policy of today; `drawn` are the names of some of these, from
-    which all follow. `faults` are the items that have no plan, and `asked` is a year's demand for those of them that
-    have a price, in money. `has_stock` says whether a master says what is in stock. `greatest` are the decisions with
-    the greatest saving or loss: items that are planned or have no demand."""
+    """What the items of a plan come to, as they are seen. `totals` are the sums of all, `classes` those of each class,
+    with the name that masters have for it, of items that are compared with a policy of today. `faults` are the items
+    that have no plan, and `asked` is a year's demand for those of them that have a price, in money."""
 
-    def __init__(self, folder: PlannedFolder, most: int = 0, pairs: Iterable[Decided] | None = None) -> None:
-        """Looks at all items of a folder, which are perhaps given, and keeps the greatest ones, at most so many."""
-        self.classes: defaultdict[str, Totals] = defaultdict(Totals)
-        self.faults, self.asked, self.has_stock = list[Reject](), list[float](), False
+    def __init__(self, folder: PlannedFolder, most: int = 0) -> None:
+        """Prepares to look at the items of a folder, of which the greatest ones are kept, at most so many."""
+        self.totals, self.classes = folder.totals, defaultdict[str, Totals](Totals)
+        self.faults, self.asked = list[Reject](), list[float]()
         self._most, self._pairs, self._names = most, list[Decided](), list[str]()
         self._masters, self._periods = folder.counts["files"]["items"]["name"], float(periods_a_year(folder.every))
-        self.totals = Totals.of(self._seen(folder.answers() if pairs is None else pairs))
-        self.greatest, self.drawn = greatest(self._pairs, most), sorted(drawn_from(self._names, MOST_DRAWN))
 
-    def _seen(self, pairs: Iterable[Decided]) -> Iterator[Decided]:
-        """Yields all items, and notes each."""
-        for item, answer in pairs:
-            self.has_stock |= item.stock is not None
+    @classmethod
+    def of(cls, folder: PlannedFolder, most: int = 0, answers: Iterable[Decided] | None = None) -> Survey:
+        """Returns what all items of a folder come to, whose answers are perhaps given."""
+        survey = cls(folder, most)
+        for _ in survey.seen(folder.answers() if answers is None else answers):
+            pass
+        return survey
+
+    @property
+    def greatest(self) -> list[Decided]:
+        """Returns the decisions with the greatest saving or loss: items that are planned or have no demand."""
+        return greatest(self._pairs, self._most)
+
+    @property
+    def drawn(self) -> list[str]:
+        """Returns the names of some of the items that are compared, from which all follow."""
+        return sorted(drawn_from(self._names, MOST_DRAWN))
+
+    def seen(self, answers: Iterable[Decided]) -> Iterator[Decided]:
+        """Yields all items with their answers, and notes each."""
+        for item, answer in answers:
             if isinstance(answer, Remark) and item.past != NO_DEMAND:
                 self._note_fault(item, answer)
             else:

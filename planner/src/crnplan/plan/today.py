@@ -30,6 +30,7 @@ from ..theory.walk import NOTHING, LatticeLaw, power_of, sum_of
 from ..words import message
 from .answer import Answer, Laws
 from .catalogue import PlannedFolder
+from .survey import Decided
 
 OLD_DAYS = 56  # after its record, from which on the age of a plan is said
 MOST_DAYS = 36_525  # from today to a latest date
@@ -318,13 +319,14 @@ def hand_of(item: Item, holdings: Holdings) -> OnHand | None:
     return None if item.stock is None else OnHand.of(item.stock)
 
 
-def today_of(folder: PlannedFolder, tables: Mapping[str, Table | None], words: Words, day: Day,
-             stated: Mapping[str, Fraction]) -> Today:
-    """Returns what a planned folder says on a day, with tables of stock and of what is on order by kind. Without one of
-    stock, that of the masters counts. Raises Refused if no stock is known, and as `read_holdings` does."""
+def today_of(folder: PlannedFolder, answers: Iterable[Decided], tables: Mapping[str, Table | None], words: Words,
+             day: Day, stated: Mapping[str, Fraction]) -> Today:
+    """Returns what a planned folder, whose items have answers, says on a day, with tables of stock and of what is on
+    order by kind. Items are by all their periods. Without a table of stock, that of the masters counts. Raises Refused
+    if no stock is known, and as `read_holdings` does."""
     holdings = read_holdings(tables, words, {*folder.read.names()})
     standings, unknown, dead = list[Standing](), list[tuple[Item, Remark]](), list[Lying]()
-    known = [(item, answer, hand_of(item, holdings)) for item, answer in folder.answers(is_whole=True)]
+    known = [(item, answer, hand_of(item, holdings)) for item, answer in answers]
     if holdings.on_hand is None and all(hand is None for _, _, hand in known):
         raise Refused(f"{folder.path}: no item has a stock in its masters", f"name a table by {argument('stock')}")
     for item, answer, hand in known:
