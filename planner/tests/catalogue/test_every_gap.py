@@ -19,7 +19,7 @@ from crnplan.theory.one_lead import OneLead
 from planner.tests.theory.long_run_costs import fills_of, shortfall_of
 from planner.tests.theory.scenarios import Pair, means_by_level, scenario_of
 
-LOOPS = "add_low", "choose_points", "set_points", "compare_gap", "set_means", "finer"
+LOOPS = "add_low", "choose_points", "compare_gap", "set_means", "finer"
 WAYS = pytest.mark.parametrize("way", ["run", "loop", "plain"])
 # Costs of an order, of an item in stock, and of one that is not met at once, by case.
 CASES = np.array([(order, holding, price) for order, holding in ((30.0, 1.0), (90.0, 1.0), (30.0, 4.0), (0.0, 1.0))
@@ -73,10 +73,17 @@ def test_best_of_all(demand: tuple[tuple[int, ...], tuple[int, ...]], step: int,
 
 
 def test_vertices_by_hand() -> None:
-    """A point that meets no more demand is none, nor one above the line through others, nor one behind the dearest."""
-    stock, unmet, kept = np.arange(6.0), np.array([9.0, 9.0, 5.0, 4.0, 1.0, 0.9]), np.zeros(6, int)
-    assert kept[:every_gap.vertices_of(stock, unmet, 9.0, kept)].tolist() == [0, 4, 5]
-    assert kept[:every_gap.vertices_of(stock, unmet, 0.1, kept)].tolist() == [0]
+    """A point that meets no more demand is none, nor one above the line through others, nor one behind the dearest, nor
+    one before the best of the lowest price. Levels between two cells have means."""
+    sums, kept = np.array([np.arange(6.0), [9.0, 9.0, 5.0, 4.0, 1.0, 0.9]]), np.zeros(6, int)
+
+    def vertices(*prices: float, levels: Floats = np.arange(6.0)) -> list[int]:
+        size = every_gap.vertices_of(2 * sums, 2.0, levels, np.array(prices), np.empty((3, 6)), kept)
+        return kept[:size].tolist()
+    assert [vertices(0.1, most) for most in (9.0, 0.1)] == [[0, 4, 5], [0]]
+    assert [vertices(least, 9.0) for least in (0.49, 0.51, 9.9, 10.1)] == [[0, 4, 5], [4, 5], [4, 5], [5]]
+    # At 3.75, 1.75 is not met: above the line from 2 to 4, and below that to 5.
+    assert [vertices(0.1, 9.0, levels=np.array([2.0, 3.75, last])) for last in (4.0, 5.0)] == [[0, 2], [0, 1, 2]]
 
 
 @pytest.mark.parametrize("leads", [1, 3])

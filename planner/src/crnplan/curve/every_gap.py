@@ -7,7 +7,8 @@ the lower hull is found, and its vertex for each price is compared with the best
 Let M(g) be the sum of the chances of the lows up to the gap g, C(g) the least cost of g for a price, and F the least
 cost of stock and unmet demand of any low. All further lows cost at least F, so M(n) C(n) is at least
 M(g) C(g) + (M(n) - M(g)) F for a wider gap n. So if a policy costs B, no gap is better for which M is less than
-M(g) (1 + (C(g) - B) / (B - F)). Gaps are left out that are better for no price. Costs B are first found on a grid.
+M(g) (1 + (C(g) - B) / (B - F)). Gaps are left out that are better for no price, and of others the levels that are best
+for dearer prices or cheaper ones alone. Costs B are first found on a grid.
 
 With several lead times each gap has its own law of the stock (see `theory/shortfalls.py`). Some are looked at on a grid,
 and others then ever finer beside the best and where costs that are convex may be lower by more than a share.
@@ -26,6 +27,7 @@ from ..theory.shortfalls import LEAST_CHANCE
 
 # Shares of the best cost: by which gaps may be better that are not looked at, and beyond which costs are far more.
 GAIN, FAR_MORE = 5e-5, 0.1
+NEARLY = 1 - 1e-6  # times a price: with one so far below, the best level is not dearer by rounding.
 FINE = 64  # Beside the best gap, others are looked at that are so many times narrower apart.
 
 
@@ -54,106 +56,132 @@ def add_low(sums: Floats, table: Floats, place: int, low: float, before: Floats,
     before[1] += low * place
 
 
-def vertices_of(stock: Floats, unmet: Floats, most: float, kept: Whole) -> int:
-    """Finds the vertices of the lower hull of points with rising stock, until more stock costs more than it can gain at
-    a price of `most`. Returns how many there are, and sets their places."""
-    size, limit = 0, np.inf
-    for place in range(len(stock)):
-        if stock[place] > limit:
+def set_point(sums: Floats, total: float, levels: Floats, place: int, points: Floats) -> None:
+    """Sets a level, in cells, with the means of both sums: between two cells a mean."""
+    cell = int(levels[place])
+    share = levels[place] - cell
+    points[0, place] = levels[place]
+    for row in range(2):
+        mean = sums[row, cell]
+        if share > 0:
+            mean += share * (sums[row, cell + 1] - mean)
+        points[row + 1, place] = mean / total
+
+
+def first_of_price(sums: Floats, total: float, levels: Floats, price: float, points: Floats) -> tuple[int, int]:
+    """Returns the place of the level that is best for a price, and how many levels were set."""
+    first, least, place = 0, np.inf, 0
+    while place < len(levels):
+        set_point(sums, total, levels, place, points)
+        if points[1, place] > least:
             break
-        if size and unmet[place] >= unmet[kept[size - 1]]:
+        cost = points[1, place] + price * points[2, place]
+        if cost < least:
+            first, least = place, cost
+        place += 1
+    return first, place
+
+
+def vertices_of(sums: Floats, total: float, levels: Floats, prices: Floats, points: Floats, kept: Whole) -> int:
+    """Finds the vertices of the lower hull of levels with rising stock between two prices: from the first one on until
+    more stock costs more than it can gain. Returns how many there are, and sets their places."""
+    size, limit, (first, done) = 0, np.inf, first_of_price(sums, total, levels, NEARLY * prices[0], points)
+    for place in range(first, len(levels)):
+        if place >= done:
+            set_point(sums, total, levels, place, points)
+        stock, unmet = points[1, place], points[2, place]
+        if stock > limit:
+            break
+        if size and unmet >= points[2, kept[size - 1]]:
             continue
         while size > 1:
-            first, last = kept[size - 2], kept[size - 1]
-            if ((stock[place] - stock[last]) * (unmet[first] - unmet[last])
-                    > (stock[last] - stock[first]) * (unmet[last] - unmet[place])):
+            before, last = kept[size - 2], kept[size - 1]
+            if ((stock - points[1, last]) * (points[2, before] - points[2, last])
+                    > (points[1, last] - points[1, before]) * (points[2, last] - unmet)):
                 break
             size -= 1
         kept[size] = place
         size += 1
-        limit = min(limit, stock[place] + most * unmet[place])
+        limit = min(limit, stock + prices[-1] * unmet)
     return size
 
 
-def points_chosen(stock: Floats, unmet: Floats, asked: Floats, chosen: Whole) -> None:
+def points_chosen(sums: Floats, total: float, levels: Floats, prices: Floats, points: Floats, chosen: Whole) -> None:
     """Stands in for `choose_points`."""
+    cells = levels.astype(int)
+    points[0, :len(levels)] = levels
+    here, above = sums[:, cells], sums[:, np.minimum(cells + 1, sums.shape[1] - 1)]
+    points[1:, :len(levels)] = (here + (levels - cells) * (above - here)) / total
+    stock, unmet = points[1:, :len(levels)]
     least = np.minimum.accumulate(unmet)
     kept = np.flatnonzero(np.append(True, unmet[1:] < least[:-1]))
     while True:
-        prices = np.diff(stock[kept]) / -np.diff(unmet[kept])
-        is_vertex = np.append(-np.inf, prices) < np.append(prices, np.inf)
+        slopes = np.diff(stock[kept]) / -np.diff(unmet[kept])
+        is_vertex = np.append(-np.inf, slopes) < np.append(slopes, np.inf)
         if is_vertex.all():
             break
         kept = kept[is_vertex]
-    chosen[:] = kept[np.searchsorted(prices, asked)]
+    chosen[:] = kept[np.searchsorted(slopes, prices)]
 
 
 @compiled(points_chosen)
-def choose_points(stock: Floats, unmet: Floats, asked: Floats, chosen: Whole) -> None:
-    """Sets for rising prices which of some points with rising stock is best: of equal ones the first."""
-    kept = np.empty(len(stock), np.int64)
-    size, place = vertices_of(stock, unmet, asked[-1], kept), 0
-    for each in range(len(asked)):
+def choose_points(sums: Floats, total: float, levels: Floats, prices: Floats, points: Floats, chosen: Whole) -> None:
+    """Sets for rising prices the place of the level that is best, of equal ones the first. Levels rise, in cells, as
+    does the stock. `points` gets rows with levels that matter, and with the means of both sums, stock and unmet demand:
+    between two cells a mean."""
+    kept = np.empty(len(levels), np.int64)
+    size, place = vertices_of(sums, total, levels, prices, points, kept), 0
+    for each in range(len(prices)):
         while place + 1 < size:
             here, after = kept[place], kept[place + 1]
-            if stock[after] - stock[here] >= asked[each] * (unmet[here] - unmet[after]):
+            if points[1, after] - points[1, here] >= prices[each] * (points[2, here] - points[2, after]):
                 break
             place += 1
         chosen[each] = kept[place]
 
 
-def points_set(sums: Floats, total: float, places: Floats, most: float, points: Floats) -> int:
-    """Stands in for `set_points`."""
-    count = int(np.searchsorted(places, most))
-    cells = places[:count].astype(int)
-    points[0, :count] = places[:count]
-    points[1:, :count] = (sums[:, cells] + (places[:count] - cells) * (sums[:, cells + 1] - sums[:, cells])) / total
-    return count
-
-
-@compiled(points_set)
-def set_points(sums: Floats, total: float, places: Floats, most: float, points: Floats) -> int:
-    """Sets rising levels, in cells, with the means of both sums: between two cells a mean. Returns how many of the
-    levels are below the most."""
-    count = 0
-    while count < len(places) and places[count] < most:
-        cell = int(places[count])
-        share = places[count] - cell
-        points[0, count] = places[count]
-        for row in range(2):
-            points[row + 1, count] = (sums[row, cell] + share * (sums[row, cell + 1] - sums[row, cell])) / total
-        count += 1
-    return count
-
-
-def gap_compared(gap: int, orders: float, points: Floats, chosen: Whole, costs: Floats, floor: Floats, best: Floats,
-                 found: Floats) -> float:
+def gap_compared(gap: int, total: float, span: float, points: Floats, chosen: Whole, ranks: Whole, costs: Floats,
+                 floor: Floats, best: Floats, found: Floats, due: Floats) -> None:
     """Stands in for `compare_gap`."""
-    here = points[:, chosen]
-    cost = costs[0] * orders + costs[1] * here[1] + costs[2] * here[2]
-    is_better = cost < best * (1 - NEAR / 10)
-    best[is_better] = cost[is_better]
-    found[0, is_better], found[1:, is_better] = gap, here[:, is_better]
-    more, room = cost - best * (1 + NEAR), best - floor
-    return max(0.0, float(np.min(more[room > 0] / room[room > 0], initial=np.inf)))
+    some = np.flatnonzero(chosen[ranks] >= 0)
+    here = points[:, chosen[ranks[some]]]
+    cost = costs[0, some] * (1 / (span * total)) + costs[1, some] * here[1] + costs[2, some] * here[2]
+    is_better = cost < best[some] * (1 - NEAR / 10)
+    its = some[is_better]
+    best[its], found[0, its], found[1:, its] = cost[is_better], gap, here[:, is_better]
+    more, room = cost - best[some] * (1 + NEAR), best[some] - floor[some]
+    growth = np.divide(more, room, out=np.full(len(some), np.inf), where=room > 0)
+    due[some] = total * (1 + np.maximum(growth, 0.0))
 
 
 @compiled(gap_compared)
-def compare_gap(gap: int, orders: float, points: Floats, chosen: Whole, costs: Floats, floor: Floats, best: Floats,
-                found: Floats) -> float:
-    """Keeps for each case the gap and its chosen point if that costs less than the best so far, and returns by which
-    share M must grow until a wider gap may cost less in a case. `costs` are by case those of an order, of an item in
-    stock, and of one that is not met at once."""
-    growth = np.inf
+def compare_gap(gap: int, total: float, span: float, points: Floats, chosen: Whole, ranks: Whole, costs: Floats,
+                floor: Floats, best: Floats, found: Floats, due: Floats) -> None:
+    """Keeps for each case the gap and its chosen point if that costs less than the best so far, and sets when it is due:
+    from which M on a wider gap may cost less. `total` is that of this gap. Cases are left as they are if no point is
+    `chosen` for their rank, which is below 0 then. `costs` are by case those of an order, of an item in stock, and of
+    one that is not met at once."""
+    orders = 1 / (span * total)
     for case in range(len(best)):
-        level, stock, unmet = points[0, chosen[case]], points[1, chosen[case]], points[2, chosen[case]]
-        cost = costs[0, case] * orders + costs[1, case] * stock + costs[2, case] * unmet
+        place, growth = chosen[ranks[case]], np.inf
+        if place < 0:
+            continue
+        cost = costs[0, case] * orders + costs[1, case] * points[1, place] + costs[2, case] * points[2, place]
         if cost < best[case] * (1 - NEAR / 10):
-            best[case] = cost
-            found[0, case], found[1, case], found[2, case], found[3, case] = gap, level, stock, unmet
+            best[case], found[0, case] = cost, gap
+            found[1, case], found[2, case], found[3, case] = points[0, place], points[1, place], points[2, place]
         if best[case] > floor[case]:
-            growth = min(growth, (cost - best[case] * (1 + NEAR)) / (best[case] - floor[case]))
-    return max(0.0, growth)
+            growth = (cost - best[case] * (1 + NEAR)) / (best[case] - floor[case])
+        due[case] = total * (1 + max(0.0, growth))
+
+
+def ranks_due(ranks: Whole, due: Floats, total: float) -> tuple[int, int]:
+    """Returns the first rank of a case that is due, and the one after the last."""
+    start, stop = len(ranks), 0
+    for case in range(len(ranks)):
+        if due[case] <= total:
+            start, stop = min(start, ranks[case]), max(stop, ranks[case] + 1)
+    return start, stop
 
 
 @composed()
@@ -162,25 +190,24 @@ def compare_gaps(lows: Floats, span: float, table: Floats, line: Floats, gaps: W
     """Compares some rising gaps, and returns how many of them were looked at: see `compare_gap`.
 
     `gaps` has these, and for each which of the levels, its `places`, is the first above its least one. All levels are
-    in cells. The prices that are `asked` rise, and `ranks` says which of them is that of each case.
+    in cells. The prices that are `asked` rise, and `ranks` says which of them is that of each case. A gap is looked at
+    for the prices from the first to the last one of a case that is due.
     """
-    width, done, due, looks = table.shape[1], 0, 0.0, 0
+    width, done, looks, due = table.shape[1], 0, 0, np.zeros(len(ranks))
     sums, before = np.zeros((2, gaps[0, -1] + width)), np.zeros(2)
-    points, chosen = np.empty((3, len(places) + 1)), np.empty(len(asked), np.int64)
-    levels = np.append(0.0, places)
+    points, chosen, levels = np.empty((3, len(places) + 1)), np.empty(len(asked), np.int64), np.append(0.0, places)
     for each in range(gaps.shape[1]):
         gap, first = gaps[0, each], gaps[1, each]
         while done <= gap:
             add_low(sums, table, done, lows[done], before, line)
             done += 1
-        if before[0] < due:
+        start, stop = ranks_due(ranks, due, before[0])
+        if start >= stop:
             continue
-        levels[first] = least[each]
-        count = set_points(sums, before[0], levels[first:], gap + width - 1.0, points)
-        choose_points(points[1, :count], points[2, :count], asked, chosen)
-        orders = 1 / (span * before[0])
-        growth = compare_gap(gap, orders, points, chosen[ranks], costs, floor, best, found)
-        due, looks = before[0] * (1 + growth), looks + 1
+        levels[first], chosen[:], looks = least[each], -1, looks + 1
+        near = levels[first:int(np.searchsorted(levels, gap + width - 1.0))]
+        choose_points(sums, before[0], near, asked[start:stop], points, chosen[start:stop])
+        compare_gap(gap, before[0], span, points, chosen, ranks, costs, floor, best, found, due)
     return looks
 
 
@@ -232,8 +259,8 @@ def best_levels(chances: Floats, low: int, step: int, orders: Floats, gaps: Whol
         first = gaps[1, each]
         set_means(chances[:, each], low, LEAST_CHANCE / orders[each], step, means)
         levels[first] = least[each]
-        count = set_points(means, 1.0, levels[first:], means.shape[1] - 1.0, points)
-        choose_points(points[1, :count], points[2, :count], asked, chosen)
+        near = levels[first:int(np.searchsorted(levels, means.shape[1] - 1.0))]
+        choose_points(means, 1.0, near, asked, points, chosen)
         found[each, :3] = points[:, chosen[ranks]]
         found[each, 3] = costs[0] * orders[each] + costs[1] * found[each, 1] + costs[2] * found[each, 2]
     return found
@@ -241,9 +268,9 @@ def best_levels(chances: Floats, low: int, step: int, orders: Floats, gaps: Whol
 
 def least_costs(table: Floats, asked: Floats, ranks: Whole, costs: Floats) -> Floats:
     """Returns the least cost of stock and unmet demand of any low for each case."""
-    chosen = np.empty(len(asked), int)
-    choose_points(table[0], table[1], asked, chosen)
-    stock, unmet = table[:, chosen[ranks]]
+    points, chosen = np.empty((3, table.shape[1])), np.empty(len(asked), int)
+    choose_points(table, 1.0, np.arange(table.shape[1], dtype=float), asked, points, chosen)
+    stock, unmet = points[1:, chosen[ranks]]
     least: Floats = costs[1] * stock + costs[2] * unmet
     return least
 
@@ -285,7 +312,7 @@ def best_policies(theory: OneLead, costs: Floats) -> tuple[Whole, Floats]:
     width = max(theory.after.high, feasible.least // step) + feasible.multiple // step + 3
     its, table = Cases(theory, costs, width), theory.figures_from(step * np.arange(width))[[STOCK_LEFT, UNMET]]
     table = np.maximum(table, 0)
-    floor = least_costs(table[:, feasible.least // step:], its.asked, its.ranks, costs)
+    floor = least_costs(table[:, feasible.least // step:].copy(), its.asked, its.ranks, costs)
     if min(feasible.multiple, step) > 1:  # the least level of a gap may be none of a narrower one
         floor[:] = -np.inf
     for some in (its.gaps[gap_grid(len(its.gaps) - 1)], its.gaps):
