@@ -18,7 +18,7 @@ from scipy import special, stats
 import crnplan as crn
 from crnplan.chances import Floats
 from crnplan.demand import learning, learning as grid
-from crnplan.demand.borrowing import Posterior, borrowed_laws, law_of
+from crnplan.demand.borrowing import Posterior, borrowed_laws, law_of, weighed_sizes
 from crnplan.demand.fitted import Borrowed, FittedLaw
 from crnplan.demand.fitting import fit_demand, share_of
 from crnplan.demand.learning import Cells, Learned, Prior, chunks_of, learn, marginal
@@ -476,3 +476,12 @@ def test_blur(seed: int, part: float) -> None:
     """The blur of a step is a random walk by one cell on each axis, which stays where it would leave the grid."""
     prior = np.random.default_rng(seed).dirichlet(np.full(grid.FLAT.size, 0.01)).reshape(grid.FLAT.shape)
     assert np.allclose(grid.estimated([], prior, prior, steps=1, blur=part), walked(prior, part), rtol=0, atol=1e-14)
+
+
+@pytest.mark.parametrize("way", ["loop", "plain", "__call__"])
+def test_weighed_sizes(way: str) -> None:
+    """Each way adds up the laws of cells with their weights, up to their widths: of three cells, the last two."""
+    table, ends = np.array([9.0, 9.0, 0.5, 0.3, 0.2, 0.6, 0.4, 0.0, 1.0, 0.75]), np.array([0, 2, 8, 10])
+    words = np.array([[0.25, 0.25], [0.5, 0.0]]), np.array([1, 2]), np.array([2, 1]), table, ends
+    # 0.25 * 0.5 + 0.25 * 0.6 + 0.5 * 1.0, and 0.25 * 0.3 + 0.25 * 0.4
+    assert getattr(weighed_sizes, way)(*words) == pytest.approx([0.775, 0.175], rel=1e-15)

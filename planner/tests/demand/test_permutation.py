@@ -95,7 +95,7 @@ def test_bound(statistics: list[int], level: float) -> None:
 @pytest.mark.parametrize("way", ["loop", "plain", "__call__"])
 @pytest.mark.parametrize("size, lengths", [(8, ()), (13, (2,)), (24, (4, 7))])
 def test_suspicious_orders(size: int, lengths: tuple[int, ...], way: str) -> None:
-    """Each way counts the orders whose statistic is at least a bound; none for a test that was left."""
+    """Each way counts the orders whose statistic is at least a bound, until all tests have more than they may."""
     random = np.random.default_rng(size)
     numbers, orders = random.poisson(1.5, size), random.permuted(np.tile(np.arange(size), (40, 1)), axis=1)
     parts = np.array([np.arange(size) % length for length in lengths], np.int64).reshape(-1, size)
@@ -105,8 +105,11 @@ def test_suspicious_orders(size: int, lengths: tuple[int, ...], way: str) -> Non
     expected = [sum(value >= bound for value in its) for its, bound in zip(found, bounds)]
     far, ranks = centred(numbers.astype(float)), centred(stats.rankdata(numbers))
     counted = getattr(permutation.suspicious, way)
-    assert counted(far, ranks, orders, parts, np.array(bounds)).tolist() == expected
-    assert counted(far, ranks, orders, parts, np.array([math.inf, *bounds[1:]])).tolist() == [0, *expected[1:]]
+    words, enough = (far, ranks, orders, parts, np.array(bounds)), np.array(expected)
+    assert counted(*words, enough).tolist() == expected
+    assert counted(*words, np.append(-1, enough[1:])).tolist()[1:] == expected[1:]
+    for most in (enough - 1, enough // 2):
+        assert (most < counted(*words, most)).all() and (counted(*words, most) <= enough).all()
 
 
 @pytest.mark.parametrize("numbers", [[*range(6, 0, -1)], [3, 0, 0, 9, 1, 0, 2, 2], [0, 1] * 12],

@@ -15,7 +15,7 @@ from typing import Any
 import numpy as np
 
 from ..chances import Floats, Whole, cut, in_items, mixture, scaled
-from ..compiled import composed
+from ..compiled import compiled
 from ..formats import MOST_DEMAND
 from ..law import Law
 from ..records.observed import Observed
@@ -34,15 +34,27 @@ ROWS = 4  # of uniform numbers for a drawn law; the last one chooses its part
 LEAST_CHANCE = 1e-9
 
 
-@composed(after=PLAIN_CALLS)
+def weighed_by_rows(weights: Floats, cells: Whole, widths: Whole, table: Floats, ends: Whole) -> Floats:
+    """Stands in for `weighed_sizes`."""
+    chances = np.zeros(widths.max())
+    for its, cell, width in zip(weights, cells, widths):
+        for weight, law in zip(its, table[ends[cell]:ends[cell + 1]].reshape(len(its), -1)):
+            chances[:width] += weight * law[:width]
+    return chances
+
+
+@compiled(weighed_by_rows, PLAIN_CALLS)
 def weighed_sizes(weights: Floats, cells: Whole, widths: Whole, table: Floats, ends: Whole) -> Floats:
     """Returns the sum of the laws of sizes in a table (see `size_table`), each up to the width of its cell, with a row
     of weights for each cell."""
     chances, points = np.zeros(widths.max()), weights.shape[1]
     for row in range(len(cells)):
-        laws = table[ends[cells[row]]:ends[cells[row] + 1]].reshape(points, -1)
+        laws, sums = table[ends[cells[row]]:ends[cells[row] + 1]].reshape(points, -1), chances[:widths[row]]
         for point in range(points):
-            chances[:widths[row]] += weights[row, point] * laws[point, :widths[row]]
+            weight, law, size = weights[row, point], laws[point], 0
+            while size < len(sums):
+                sums[size] += weight * law[size]
+                size += 1
     return chances
 
 

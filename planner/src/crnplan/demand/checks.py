@@ -411,9 +411,11 @@ def outliers_of(demands: Sequence[int], pack: int) -> list[int]:
     if len(ranked) < LEAST_DEMANDS:
         return []
     packs, far = np.array(ranked) / pack, 0
+    logarithms, roundings = np.log(packs), 1 / (12 * packs**2)
     for above in range(MOST_OUTLIERS):
-        logarithms = np.log(packs[above:])
-        variance = logarithms.var(ddof=1) + (1 / (12 * packs[above:]**2)).mean()
-        if logarithms[0] - logarithms.mean() > rosner_bound(len(packs), above, OUTLIERS) * math.sqrt(variance):
+        left = len(packs) - above
+        distances = logarithms[above:] - logarithms[above:].sum() / left
+        variance = distances @ distances / (left - 1) + roundings[above:].sum() / left
+        if distances[0] > rosner_bound(len(packs), above, OUTLIERS) * math.sqrt(variance):
             far = above + 1
     return ranked[:far]

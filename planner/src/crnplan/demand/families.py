@@ -44,6 +44,7 @@ FIRST_WIDTH = 128  # of drawn laws; ever more until all but a tail is there
 LEAST_SIZE, MOST_SIZE = 1e-9, 1e4
 ROOT = 1e-12  # how exact the logarithm of a size is
 SIZES = 48  # over which the posterior is summed
+MIDDLES: Floats = (np.arange(SIZES) + 0.5) / SIZES  # of their equal parts, by logarithms
 LEAST_RATIO, MOST_RATIO, LARGE_MEAN = 0.02, 50.0, 20.0  # of mean to size k; it may be larger for means above LARGE_MEAN
 LEAST_SHARE = 1e-6  # of a size in the posterior
 LEAST_BEYOND = 1e-9  # of a law; a smaller part beyond its cells counts in the last one
@@ -228,8 +229,7 @@ class NegativeBinomial(Family):
     def _posterior(sample: Sample, counted: float) -> tuple[Floats, Floats]:
         """Returns the sizes over which the posterior is summed, and the logarithm of how likely each is."""
         most_ratio = MOST_RATIO * max(1.0, sample.mean / LARGE_MEAN)
-        edges = np.geomspace(sample.mean / most_ratio, sample.mean / LEAST_RATIO, SIZES + 1)
-        sizes = np.sqrt(edges[1:] * edges[:-1])
+        sizes = sample.mean / most_ratio * (most_ratio / LEAST_RATIO)**MIDDLES
         rises = special.gammaln(sample.values + sizes[:, None]) - special.gammaln(sizes)[:, None]
         likelihoods = counted * (rises @ sample.counts)
         return sizes, likelihoods + special.betaln(counted * sample.size * sizes, counted * sample.total)

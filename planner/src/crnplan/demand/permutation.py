@@ -160,25 +160,24 @@ class Orders:
         least = np.array([kind(self.far[None], self.ranks[None])[0] for kind in kinds.values()]) * (1 - ROUNDING)
         counts, most = np.ones(len(kinds), np.int64), most_of(level, TIMES + 1)
         for orders in self.drawn(AT_ONCE):
-            counts += suspicious(self.far, self.ranks, orders, parts, least)
-            least[counts > most] = math.inf
-            if least.min() == math.inf:
+            counts += suspicious(self.far, self.ranks, orders, parts, least, most - counts)
+            if counts.min() > most:
                 break
         return {name: count / (TIMES + 1) for name, count in zip(kinds, counts.tolist()) if count <= most}
 
 
-def as_suspicious(far: Floats, ranks: Floats, orders: Whole, parts: Whole, least: Floats) -> Whole:
+def as_suspicious(far: Floats, ranks: Floats, orders: Whole, parts: Whole, least: Floats, most: Whole) -> Whole:
     """Returns how many orders of distances and ranks have a statistic of at least so much, for each test: those of the
-    order of a history, and one for each row of parts."""
+    order of a history, and one for each row of parts. Tests are left, or all of them, that have more than `most`."""
     rows = far.take(orders), ranks.take(orders)
     kinds: list[Statistic] = [ljung_box, trend, shift, *(functools.partial(kruskal, its) for its in parts)]
-    return np.array([np.count_nonzero(kind(*rows) >= bound) if bound < math.inf else 0
-                     for kind, bound in zip(kinds, least)])
+    return np.array([np.count_nonzero(kind(*rows) >= bound) if its >= 0 else 0
+                     for kind, bound, its in zip(kinds, least, most)])
 
 
 @compiled(as_suspicious, after=PLAIN_CALLS)
-def suspicious(far: Floats, ranks: Floats, orders: Whole, parts: Whole, least: Floats) -> Whole:
-    """Returns what `as_suspicious` does, order by order, with three lags."""
+def suspicious(far: Floats, ranks: Floats, orders: Whole, parts: Whole, least: Floats, most: Whole) -> Whole:
+    """Returns what `as_suspicious` does, order by order, with three lags, until all tests are left."""
     size, seasons, squares, rank_squares, edge = len(far), len(parts), 0.0, 0.0, max(1, math.ceil(EDGE * len(far)))
     counts, weights, row, ranked = np.zeros(len(least), np.int64), np.zeros(size), np.zeros(size + LAGS), np.zeros(size)
     sums, sizes, found = np.zeros((seasons, size)), np.zeros((seasons, size)), np.zeros(len(least))
@@ -209,8 +208,12 @@ def suspicious(far: Floats, ranks: Floats, orders: Whole, parts: Whole, least: F
             for part in range(size):
                 if sizes[season, part] > 0:
                     found[3 + season] += sums[season, part]**2 / sizes[season, part] / rank_squares * (size - 1)
+        is_done = True
         for test in range(len(least)):
             counts[test] += found[test] >= least[test]
+            is_done = is_done and counts[test] > most[test]
+        if is_done:
+            break
     return counts
 
 

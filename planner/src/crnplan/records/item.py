@@ -4,6 +4,7 @@ from __future__ import annotations
 from collections.abc import Collection
 from dataclasses import dataclass, replace
 from fractions import Fraction
+from functools import cached_property
 
 from ..formats import MOST_DEMAND
 from ..remarks import Remark
@@ -66,7 +67,7 @@ class Item:
     rows: int = 0
     remarks: tuple[Remark, ...] = ()
 
-    @property
+    @cached_property
     def box(self) -> int:
         """Returns how many items are counted as one, so that the demand of a period is within the program's range."""
         return max(1, -(-max((*self.counts, *self.returns), default=0) // MOST_DEMAND))

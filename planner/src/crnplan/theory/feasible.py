@@ -51,10 +51,10 @@ class Feasible:
     def gap_in(self, cell: Places, step: int, exact: bool) -> Places:
         """Returns S - s for cells of a lattice: the least in the cell; if the lattice is not exact, one from its middle
         on if there is one, and room for it below the greatest S. If there is none in the cell, it is beyond."""
-        low, most = cell * step, self.top - self.least
+        low = cell * step
         if exact and self.has_all_gaps:
             return low
-        near = low + (0 if exact else (step - 1) // 2)
+        near, most = low + (0 if exact else (step - 1) // 2), self.top - self.least
         near -= (near - most) * (near > most) * (low <= most)
         if self.has_all_gaps:
             return near

@@ -243,9 +243,11 @@ class LongRun(Walk):
 
     def figures(self, point: int, level: int) -> Figures:
         """Returns the figures of a policy; if the lattice is not exact, between those of the gaps beside its own."""
-        gaps, shares = zip(*self.gaps_of(point, level))
-        figures = np.transpose([self.figures_of_gap(gap, level) for gap in gaps])
-        return Figures(*(figures * shares).sum(axis=1).tolist())
+        (gap, share), *others = self.gaps_of(point, level)
+        figures = self.figures_of_gap(gap, level)
+        for other, its in others:
+            figures = Figures(*(share * one + its * two for one, two in zip(figures, self.figures_of_gap(other, level))))
+        return figures
 
     def figures_of_gap(self, gap: int, level: int) -> Figures:
         """Returns the figures of a gap and an order-up-to level."""

@@ -123,14 +123,15 @@ def sums_by_doubling(law: Floats, count: int) -> Floats:
 
 @compiled(sums_by_doubling)
 def sums_one_by_one(law: Floats, count: int) -> Floats:
-    size, rows, used, first = len(law), np.zeros((count, len(law))), 1, 0
+    size, rows, used, first, numbers = len(law), np.zeros((count, len(law))), 1, 0, np.flatnonzero(law)
     rows[0, 0] = 1.0
     while used < count:
-        before, row = rows[used - 1], rows[used]
-        for more in np.flatnonzero(law[:size - first]):
-            cell, chance = first + more, law[more]
-            while cell < size:
-                row[cell] += chance * before[cell - more]
+        before, row = rows[used - 1, first:], rows[used]
+        for number in numbers[numbers < size - first]:
+            # Numba makes fast code of slices that are run through from 0 on.
+            chance, sums, cell = law[number], row[first + number:], 0
+            while cell < len(sums):
+                sums[cell] += chance * before[cell]
                 cell += 1
         while first < size and row[first] < LEAST_CHANCE:
             row[first] = 0.0

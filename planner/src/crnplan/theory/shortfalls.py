@@ -255,7 +255,8 @@ class Shortfalls:
     def chances(self, gaps: Whole) -> Floats:
         """Returns the chances of the shortfalls of some rising gaps, a row each, from the cell -above on."""
         room = room_for(int(gaps[-1]) + self.beside + 1)
-        return np.roll(chances_of(self.transforms(gaps, room), room), self.above, axis=1)
+        chances = chances_of(self.transforms(gaps, room), room)
+        return np.roll(chances, self.above, axis=1) if self.above else chances
 
     def stocks(self, gaps: Whole) -> tuple[Floats, int]:
         """Returns the chances of how far the stock before a period's demand is below S, and after it: a table each, with
