@@ -50,7 +50,7 @@ class Numbered:
     def asked(self, chunk: Chunk) -> list[str]:
         return [name + FACTS for name in self.names(chunk)]
 
-    def taken(self, chunk: Chunk, left: Mapping[str, str]) -> list[Any]:
+    def taken(self, chunk: Chunk, left: Mapping[str, str], asked: object) -> list[Any]:
         return []
 
 

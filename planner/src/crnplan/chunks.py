@@ -34,7 +34,7 @@ from typing import Any, BinaryIO, Generic, NamedTuple, Protocol, TypeVar
 from .files import new_bytes
 from .jobs import BATCH, Workers, progress
 from .remarks import Remark
-from .stored import DIGITS, Columns, Damaged, Facts, digest_of
+from .stored import DIGITS, Columns, Damaged, Facts, columns_of, digest_of
 from .table import Json
 
 # Items of a chunk. Of small catalogues there are fewer, so that there are enough chunks for all workers.
@@ -157,7 +157,7 @@ class Lines(Generic[Row]):
     """How answers are kept in the lines of files."""
 
     def __init__(self, kind: type[Row]) -> None:
-        self.columns = Columns(kind)
+        self.columns: Columns[Row] = columns_of(kind)
         self.version = digest_of(*self.columns.answer_names)
 
     def head(self, chunk: Chunk) -> bytes:
@@ -221,8 +221,8 @@ class Asking(Protocol):
     def asked(self, chunk: Chunk) -> Iterable[Any]:
         """Returns what the function is asked of each of these."""
 
-    def taken(self, chunk: Chunk, left: Mapping[str, str]) -> Iterable[tuple[str, Any]]:
-        """Returns answers that are known from elsewhere, to some of those that are left."""
+    def taken(self, chunk: Chunk, left: Mapping[str, str], asked: Sequence[Any]) -> Iterable[tuple[str, Any]]:
+        """Returns answers that are known from elsewhere, to some of those that are left. `asked` is of all."""
 
 
 @dataclass
@@ -263,10 +263,12 @@ class Answering(Generic[Row]):
             return made
         known = {name: line for other in others for name, line in lines.known(self.folder / other, digests)}
         left = {name: digest for name, digest in digests.items() if name not in known}
+        asked = [*self.asking.asked(chunk)]
         if left:
-            known |= {name: lines.line(name, digests[name], answer) for name, answer in self.asking.taken(chunk, left)}
-        asked = zip(digests.items(), self.asking.asked(chunk), strict=True)
-        return Asked(chunk, file, digest, [(*pair, words) for pair, words in asked], known)
+            known |= {name: lines.line(name, digests[name], answer)
+                      for name, answer in self.asking.taken(chunk, left, asked)}
+        rows = zip(digests.items(), asked, strict=True)
+        return Asked(chunk, file, digest, [(*pair, words) for pair, words in rows], known)
 
     def write(self, begun: Asked, folder: Path) -> Made:
         lines = Lines(self.kind)
@@ -322,8 +324,8 @@ class Chunked(Facts, Generic[Row]):
         self.folder, self.lines = folder, Lines(kind)
         self.base.execute("CREATE TABLE IF NOT EXISTS chunks (start TEXT PRIMARY KEY, stop, file, items, digest, sums)")
         is_ours = self.fact(COLUMNS) == self.lines.version
-        rows = self.base.execute("SELECT start, stop, file, items, digest FROM chunks ORDER BY start")
-        self.made = [Made(Chunk(*row[:2]), row[2], row[3], row[3], row[4]) for row in rows] if is_ours else []
+        rows = self.base.execute("SELECT start, stop, file, items, items, digest FROM chunks ORDER BY start")
+        self.made = [Made(Chunk(start, stop), *row) for start, stop, *row in rows] if is_ours else []
         self._last = "", list[bytes]()
 
     @property
@@ -395,10 +397,11 @@ class Chunked(Facts, Generic[Row]):
         value = self._opened(name)
         return None if value is None else str(value[1])
 
-    def answer(self, name: str) -> Row | Remark | None:
-        """Returns the answer to an item; None if there is none. Raises Damaged."""
+    def answer(self, name: str, digest: str | None = None) -> Row | Remark | None:
+        """Returns the answer to an item; None if there is none, or if it depends on something else than a digest says.
+        Raises Damaged."""
         value = self._opened(name)
-        return None if value is None else self.lines.columns.answer(value[2:])
+        return None if value is None or digest not in (None, value[1]) else self.lines.columns.answer(value[2:])
 
     def answers(self, chunk: Chunk = EVERYTHING) -> Iterator[tuple[str, str, Row | Remark]]:
         """Yields each name in order with the digest and the answer, of all chunks or of one. Raises Damaged."""

@@ -133,6 +133,10 @@ class Columns(Generic[Row]):
                            for start, stop, part in self.slots])
 
 
+# Returns the columns of a type, which are made once: that takes as long as to read ten answers.
+columns_of: Callable[[Any], Any] = functools.cache(Columns)
+
+
 class Facts:
     """Texts by name in a file of SQLite."""
 
@@ -168,7 +172,7 @@ class Store(Facts, Generic[Row]):
         Raises Damaged.
         """
         super().__init__(path)
-        self.columns = Columns(kind)
+        self.columns: Columns[Row] = columns_of(kind)
         names = ["item", "digest", "seal", *self.columns.answer_names]
         if [column[1] for column in self.base.execute("PRAGMA table_info(answers)")] != names:
             self.base.executescript("DROP TABLE IF EXISTS answers; CREATE TABLE answers (item TEXT PRIMARY KEY, "

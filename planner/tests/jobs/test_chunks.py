@@ -44,7 +44,7 @@ class Squares:
     def asked(self, chunk: Chunk) -> list[int]:
         return [int(name[:2]) for name in self.part(chunk)]
 
-    def taken(self, chunk: Chunk, left: Iterable[str]) -> list[tuple[str, Correction]]:
+    def taken(self, chunk: Chunk, left: Iterable[str], asked: object) -> list[tuple[str, Correction]]:
         return [(name, Correction(-1.0, self.added)) for name in left if name.startswith("07")]
 
 

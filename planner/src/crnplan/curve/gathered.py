@@ -95,14 +95,14 @@ class CurveAsking:
             return [(item, answer_of(planned, item, digest))
                     for item, (_, digest) in zip(planned.read.items(*chunk), digests, strict=True)]
 
-    def taken(self, chunk: Chunk, left: Mapping[str, str]) -> list[tuple[str, Remark]]:
-        return [(item.name, answer) for item, answer in self.asked(chunk)
-                if item.name in left and isinstance(answer, Remark)]
+    def taken(self, chunk: Chunk, left: Mapping[str, str],
+              asked: Sequence[tuple[Item, Answer | Remark]]) -> list[tuple[str, Remark]]:
+        return [(item.name, answer) for item, answer in asked if item.name in left and isinstance(answer, Remark)]
 
 
 def answer_of(planned: PlannedFolder, item: Item, digest: str) -> Answer | Remark:
     """Returns the answer to an item whose plan depends on what a digest says, or why it can't be on the curve."""
-    answer = planned.store.answer(item.name) if planned.store.digest_of(item.name) == digest else Remark(NO_PLAN)
+    answer = planned.store.answer(item.name, digest)
     if isinstance(answer, Answer) and not (item.price and item.price > 0):
         return Remark(NO_PRICE)
     return answer or Remark(NO_PLAN)

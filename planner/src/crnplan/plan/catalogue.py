@@ -240,7 +240,7 @@ class PlanAsking:
         with self._read() as read, self._earlier() as earlier:
             return [(item, policy_before(earlier, item.name)) for item in read.items(*chunk)]
 
-    def taken(self, chunk: Chunk, left: Mapping[str, str]) -> list[tuple[str, Answer | Remark]]:
+    def taken(self, chunk: Chunk, left: Mapping[str, str], asked: object) -> list[tuple[str, Answer | Remark]]:
         with self._read() as read, self._earlier() as earlier:
             return [*taken_over(read, self.planned, earlier, chunk, left)] if earlier else []
 

@@ -117,7 +117,7 @@ class TestAsking:
         with contextlib.closing(Catalogued(self.read, is_known=True)) as read:
             return [*read.items(*chunk)]
 
-    def taken(self, chunk: Chunk, left: Container[str]) -> Iterable[tuple[str, Backtest | Remark]]:
+    def taken(self, chunk: Chunk, left: Container[str], asked: object) -> Iterable[tuple[str, Backtest | Remark]]:
         return ()
 
 
