@@ -17,7 +17,7 @@ import numpy.typing as npt
 from ..chances import Floats, Whole
 from ..plan.answer import Laws
 from ..plan.one import or_fault
-from ..plan.question import Settings, Terms, rates_of
+from ..plan.question import Settings, Terms, terms_of
 from ..records.item import Item
 from ..remarks import Remark
 from ..theory.long_run import LongRun
@@ -139,12 +139,6 @@ def candidates_of(terms: Terms) -> Candidates:
     levels = np.array([level - theory.items(gaps[is_new]), level], int) * box
     columns = *np.nonzero(is_new), *levels, *rounded(np.array([stock * box, unmet * box, orders]))
     return Candidates.of(demand * box, setup, holding / box, [*zip(*(column.tolist() for column in columns))])
-
-
-def terms_of(item: Item, laws: Laws, settings: Settings) -> Terms:
-    """Returns the terms of an item with the laws of its plan."""
-    rates, scale, _ = rates_of(item)
-    return Terms(item, settings, rates, scale, laws.demand, laws.lead, laws.returns)
 
 
 def candidates_batch(batch: Sequence[tuple[Item, Laws]], settings: Settings) -> list[Candidates | Remark]:

@@ -33,7 +33,7 @@ from ..law import Law
 from ..records.item import NEW, NO_DEMAND, Item
 from ..remarks import Remark, Value
 from ..scenario import Policy, Scenario, key_words
-from ..theory.long_run import LongRun
+from ..theory.long_run import Candidate, LongRun
 from ..theory.lattice import NoTheory
 from ..theory.many_laws import Promises, figures_of_laws
 from ..theory.run_effects import start_bias
@@ -41,7 +41,7 @@ from .answer import (ALONE, BEFORE, BOUNDED, CHEAPER, CHOSEN, DAMPED, DEARER, ID
                      UNDAMPED, UNCOMPARED, UNDECIDED, Allowed, Answer, Correction, Figures, LawFacts, Laws, Run)
 from .bounds import COVERAGE, LEFT_OUT, binding
 from .packs import remarks_of_packs
-from .question import NONE, Levels, NoPolicy, Question, Settings, Unplanned, question_of
+from .question import NONE, Levels, NoPolicy, Question, Settings, Terms, Unplanned, question_of
 
 Result = TypeVar("Result")
 LAWS = 100  # that are drawn
@@ -91,18 +91,25 @@ def allowed_by(question: Question, laws: int = LAWS) -> tuple[tuple[Law, ...], t
     return drawn.laws, leads
 
 
-def choice_of(theory: LongRun, question: Question) -> Choice:
-    """Returns the best policy within the bounds of the item, or the cheapest that meets the share it aims at: with a
-    confidence, under so many of the laws that the history allows. If the bounds leave none, it is the one that meets
-    most. That of an earlier plan may stay: see `damped`. Raises NoPolicy if there is none."""
-    confidence, fill = question.settings.confidence, question.aim
+def best_of(theory: LongRun, terms: Terms) -> tuple[Candidate, bool]:
+    """Returns the best policy within the bounds of an item, or the cheapest that meets the share it aims at; and whether
+    the bounds leave none, and this one meets most. Raises NoPolicy if there is none."""
+    fill = terms.aim
     best = theory.best(fill or 0.0)
     is_bounded = best.cost == math.inf and theory.free.best(fill or 0.0).cost < math.inf
     if is_bounded:
         best = theory.fullest()
-    plain = best.point, best.level
     if best.cost == math.inf:
         raise NoPolicy(Remark("no policy", {"fill": fill}))
+    return best, is_bounded
+
+
+def choice_of(theory: LongRun, question: Question) -> Choice:
+    """Returns the policy of `best_of`; with a confidence, the cheapest that meets the share under so many of the laws
+    that the history allows. That of an earlier plan may stay: see `damped`. Raises NoPolicy if there is none."""
+    confidence, fill = question.settings.confidence, question.aim
+    best, is_bounded = best_of(theory, question)
+    plain = best.point, best.level
     if is_bounded:
         return Choice(plain, plain, is_bounded=True)
     if fill is None or confidence is None:
@@ -145,14 +152,14 @@ def levels_of(question: Question, choice: Choice) -> dict[str, Levels]:
     return levels
 
 
-def figures_of(question: Question, theory: LongRun, levels: Levels) -> Figures:
+def figures_of(terms: Terms, theory: LongRun, levels: Levels) -> Figures:
     """Returns theory's figures of a policy, whose levels are in boxes. Without a backlog cost only orders and stock
     cost something."""
-    known, box, rates = theory.figures(*levels), question.item.box, question.rates
-    cost = known.cost if question.has_backlog else rates["setup"] * known.orders + rates["holding"] * known.stock
-    today = question.item.levels if levels == question.levels else None
+    known, box, rates = theory.figures(*levels), terms.item.box, terms.rates
+    cost = known.cost if terms.has_backlog else rates["setup"] * known.orders + rates["holding"] * known.stock
+    today = terms.item.levels if levels == terms.levels else None
     point, level = today or (levels[0] * box, levels[1] * box)
-    return Figures(point, level, question.money(cost), known.fill, known.short, known.stock * box, known.orders)
+    return Figures(point, level, terms.money(cost), known.fill, known.short, known.stock * box, known.orders)
 
 
 def scenario_of(question: Question, theory: LongRun, levels: Levels) -> Scenario:

@@ -27,6 +27,7 @@ from ..theory.lattice import lattice_of, shape_of, theory_on
 from ..theory.long_run import LongRun
 from ..words import advice, sentence
 from .aims import Aims
+from .answer import Laws
 from .bounds import MOST_COVERAGE, feasible_of
 
 VERSION = 8  # Answers of others are not used again.
@@ -148,9 +149,22 @@ class Terms:
         return self.item.backlog is not None
 
     @property
+    def is_new(self) -> bool:
+        return self.item.past == NEW
+
+    @property
     def bounds(self) -> Bounds:
         """Returns the bounds of the item's policies, in items."""
         return self.settings.bounds_of(self.item)
+
+    @property
+    def aim(self) -> float | None:
+        """Returns the fill rate at which the plan aims by the law: the wanted one, or what the past of the catalogue
+        makes of it. None if none is wanted."""
+        wanted, aims = self.item.fill, self.settings.aims
+        if wanted is None or aims is None:
+            return None if wanted is None else float(wanted)
+        return aims.aim((float(self.demand.mean),) if self.is_new else self.item.counts, float(wanted))
 
     @property
     def implied_backlog(self) -> int:
@@ -227,19 +241,6 @@ class Question(Terms):
         borrowed = self.demand.diagnostics.borrowed
         return borrowed if borrowed and not borrowed.alone else None
 
-    @property
-    def aim(self) -> float | None:
-        """Returns the fill rate at which the plan aims by the law: the wanted one, or what the past of the catalogue
-        makes of it. None if none is wanted."""
-        wanted, aims = self.item.fill, self.settings.aims
-        if wanted is None or aims is None:
-            return None if wanted is None else float(wanted)
-        return aims.aim((float(self.demand.mean),) if self.is_new else self.item.counts, float(wanted))
-
-    @property
-    def is_new(self) -> bool:
-        return self.item.past == NEW
-
     def seed(self, purpose: str) -> int:
         """Returns the seed of random numbers for a purpose."""
         return self.settings.seed_of(purpose, self.item.name)
@@ -279,6 +280,12 @@ def rates_of(item: Item) -> tuple[dict[str, int], Fraction, float]:
         costs["unit"] = box * item.unit
     rates, scale, error = rounded_costs(costs, "holding")
     return (rates, scale, error) if item.backlog is not None else (*finest(rates, scale), error)
+
+
+def terms_of(item: Item, laws: Laws, settings: Settings) -> Terms:
+    """Returns the terms of an item with the laws of its plan. Raises Refused if its costs are too far apart."""
+    rates, scale, _ = rates_of(item)
+    return Terms(item, settings, rates, scale, laws.demand, laws.lead, laws.returns)
 
 
 def why_unknown(item: Item, prior: Prior, borrow: str) -> str | None:

@@ -13,7 +13,6 @@ import numpy as np
 
 from ..chances import Floats
 from ..decide.sensitivity import changed_demand
-from ..demand.learning import Prior
 from ..errors import Refused
 from ..files import Folder
 from ..jobs import Work, workers_of
@@ -24,8 +23,8 @@ from ..stored import Store, digest_of
 from ..theory.long_run import LongRun
 from .answer import Answer
 from .catalogue import PlannedFolder
-from .one import choice_of, figures_of, or_fault
-from .question import Levels, Question, Settings, question_of, rates_of
+from .one import best_of, figures_of, or_fault
+from .question import Levels, Settings, Terms, rates_of, terms_of
 from .survey import Survey
 from .totals import Totals
 
@@ -84,46 +83,45 @@ def changed_lead(lead: Law, tenths: int) -> Law:
     return Law.of(weights)
 
 
-def changed(question: Question, what: str, tenths: int) -> Question:
-    """Returns a question with so many tenths of a cost, of all demand, or of all lead times. Raises Refused if the
-    costs are too far apart."""
+def changed(terms: Terms, what: str, tenths: int) -> Terms:
+    """Returns terms with so many tenths of a cost, of all demand, or of all lead times. Raises Refused if the costs are
+    too far apart."""
     if what in LAWS:
-        law = question.lead if what == LEADS else question.demand
-        other = (changed_lead if what == LEADS else changed_demand)(law, tenths)
-        return replace(question, **{what: replace(law, values=other.values, weights=other.weights)})
-    item = replace(question.item, **{what: getattr(question.item, what) * Fraction(tenths, 10)})
-    rates, scale, error = rates_of(item)
-    return replace(question, item=item, rates=rates, scale=scale, rate_error=error)
+        change = changed_lead if what == LEADS else changed_demand
+        return replace(terms, **{what: change(getattr(terms, what), tenths)})
+    item = replace(terms.item, **{what: getattr(terms.item, what) * Fraction(tenths, 10)})
+    rates, scale, _ = rates_of(item)
+    return replace(terms, item=item, rates=rates, scale=scale)
 
 
-def figures_in(question: Question, known: LongRun | None, chosen: Levels, today: Levels) -> tuple[float, ...]:
+def figures_in(terms: Terms, known: LongRun | None, chosen: Levels, today: Levels) -> tuple[float, ...]:
     """Returns the figures of a case, without a confidence in the fill rate of its best policy; none without a plan.
     Theory of the same laws and other costs may be known."""
     try:
-        theory = question.theory(known)
-        best, kept, base = (figures_of(question, theory, levels) for levels in (
-            choice_of(theory, question).levels, chosen, today))
+        theory = terms.theory(known)
+        best, _ = best_of(theory, terms)
+        policies = (best.point, best.level), chosen, today
+        anew, kept, base = (figures_of(terms, theory, levels) for levels in policies)
     except Refused:
         return ()
-    return base.cost, kept.cost, best.cost, kept.fill, best.fill
+    return base.cost, kept.cost, anew.cost, kept.fill, anew.fill
 
 
-def swing_of(question: Question, chosen: Levels) -> Swing:
+def swing_of(terms: Terms, chosen: Levels) -> Swing:
     """Returns the figures of an item with a policy of today, and a chosen one in boxes. What it does not have can't
     change."""
-    question, today = replace(question, settings=replace(question.settings, confidence=None)), question.levels
+    theory, today = terms.theory(), terms.levels
     assert today is not None
-    theory = question.theory()
-    cases = ((question if what == BACKLOG and not question.has_backlog else changed(question, what, tenths),
+    cases = ((terms if what == BACKLOG and not terms.has_backlog else changed(terms, what, tenths),
               None if what in LAWS else theory) for what, tenths in CASES)
     return Swing(tuple(figures_in(*case, chosen, today) for case in cases))
 
 
-def swing_batch(batch: Sequence[tuple[Item, Answer]], settings: Settings, prior: Prior) -> list[Swing | Remark]:
+def swing_batch(batch: Sequence[tuple[Item, Answer]], settings: Settings) -> list[Swing | Remark]:
     """Returns the figures of items with their answers, or why an item has none."""
     def asked(item: Item, answer: Answer) -> Swing:
         chosen = answer.chosen.point // item.box, answer.chosen.level // item.box
-        return swing_of(question_of(item, settings, prior), chosen)
+        return swing_of(terms_of(item, answer.laws, settings), chosen)
     return [or_fault(lambda item: asked(item, answer), item) for item, answer in batch]
 
 
@@ -135,11 +133,11 @@ def drawn_items(folder: PlannedFolder, survey: Survey) -> dict[str, str]:
 def keep_swings(own: Folder, folder: PlannedFolder, survey: Survey, *, jobs: int | None = None, address: str | None = None,
                 shown: bool = False) -> None:
     """Computes the figures of a planned folder that are not kept yet, and keeps them."""
-    def asked(name: str) -> tuple[Item | None, Answer | Remark | None]:
-        return folder.read.item(name), folder.store.answer(name)
     with contextlib.closing(Store(own.store(SWINGS), Swing)) as kept:
-        Work(kept, drawn_items(folder, survey)).finish(swing_batch, asked, folder.settings, folder.planned.prior,
-                                               workers=workers_of(jobs, address), shown=shown, batch=1)
+        work = Work(kept, drawn_items(folder, survey))
+        if work.left:  # One item has this process load the compiled loops, which workers then have from the start.
+            swing_batch([folder.item(work.left[0])], folder.settings)
+        work.finish(swing_batch, folder.item, folder.settings, workers=workers_of(jobs, address), shown=shown, batch=1)
 
 
 def kept_swings(folder: PlannedFolder, survey: Survey) -> Swings | None:
@@ -151,9 +149,8 @@ def kept_swings(folder: PlannedFolder, survey: Survey) -> Swings | None:
         digests, drawn = kept.digests(), drawn_items(folder, survey)
         if not drawn or any(digests.get(name) != digest for name, digest in drawn.items()):
             return None
-        pairs = [(folder.read.item(name), folder.store.answer(name), kept.answer(name)) for name in drawn]
-    return swings_of([(item, answer, swing) for item, answer, swing in pairs
-                      if item and isinstance(answer, Answer) and isinstance(swing, Swing)], survey.totals)
+        known = [(*folder.item(name), kept.answer(name)) for name in drawn]
+    return swings_of([(item, answer, swing) for item, answer, swing in known if isinstance(swing, Swing)], survey.totals)
 
 
 def estimated(parts: Floats, sizes: Floats, total: float, items: int) -> tuple[float, float]:
