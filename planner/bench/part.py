@@ -12,7 +12,6 @@ from pathlib import Path
 
 import click
 
-from crnplan.plan.question import Settings
 from crnplan.records.items import Words
 from crnplan.records.catalogue_reading import CATALOGUE, READ, Catalogued, read_alone
 from crnplan.files import own_folder
@@ -30,6 +29,7 @@ def learn(folder: Path, jobs: int) -> None:
     """Learns laws of demand from all items, which the plan then uses."""
     from crnplan.plan.catalogue import ANSWERS
     from crnplan.plan.learned import learned_of
+    from crnplan.plan.question import Settings
     from crnplan.stored import Facts
     with (own_folder(folder / PLAN, CATALOGUE) as own, contextlib.closing(Catalogued(own.path / READ)) as its,
           contextlib.closing(Facts(own.store(ANSWERS))) as answers):
@@ -40,6 +40,7 @@ def plan(folder: Path, jobs: int) -> None:
     """Plans all items, and writes the tables."""
     from crnplan.pages.catalogue_page import CATALOGUE_FILES
     from crnplan.plan.catalogue import plan_into
+    from crnplan.plan.question import Settings
     with own_folder(folder / PLAN, CATALOGUE, CATALOGUE_FILES) as own:
         plan_into(own, Settings(), jobs=jobs)
 

@@ -243,7 +243,7 @@ class Sizes(NamedTuple):
     at most. pandas reads tables of at least `plain` bytes: others are read before it is imported."""
 
     range: int = 16_000_000
-    part: int = 8_000_000
+    part: int = 2_500_000
     parts: int = 256
     plain: int = 2_000_000
 
