@@ -281,7 +281,7 @@ def remarks_of(numbers: Sequence[int], every: str | None = None, first: int = 1,
 def _checked(numbers: Sequence[int], every: str | None, first: int, season: int | None, in_full: bool) -> Checks:
     seasons, untested = seasons_of(every, first, len(numbers), season)
     facts = Facts(numbers, seasons, every, first)
-    checks = Checks(len(numbers), sum(number > 0 for number in numbers), tests_of(facts, in_full))
+    checks = Checks(len(numbers), len(numbers) - numbers.count(0), tests_of(facts, in_full))
     seen = {test.name: test.least_seen for test in checks.tests
             if test.name not in checks.warned and test.least_seen is not None}
     silent = [Remark("silent tests", seen)] if seen else []
@@ -379,7 +379,7 @@ def share_of_variance(numbers: Sequence[int], places: Sequence[int]) -> float:
 def largest_periods(numbers: Sequence[int], every: str | None = None, first: int = 1) -> tuple[Remark, ...]:
     """Returns a remark on the three largest demands, with their periods and the share of the variance that they make;
     nothing if fewer than 10 periods have demand. `every` and `first` are those of `History`."""
-    if sum(number > 0 for number in numbers) < LEAST_DEMANDS:
+    if len(numbers) - numbers.count(0) < LEAST_DEMANDS:
         return ()
     share = share_of_variance(numbers, largest_places(numbers))
     return Remark("largest periods", {"share": share, **_largest(Facts(numbers, (), every, first), MOST_LARGEST)}),

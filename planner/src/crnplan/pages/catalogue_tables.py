@@ -137,7 +137,7 @@ def decision_row(item: Item, answer: Answer | Remark) -> list[Cell]:
             correction.aim if correction else None, *fills, *stocks, correction.plain_stock if correction else None,
             *values, *orders, answer.confidence_cost, answer.coverage_cost, *level_cells(alone),
             alone.cost if alone else None, alone.fill if alone else None, answer.law.mean, len(item.counts),
-            sum(count > 0 for count in item.counts), answer.law.family, answer.law.share, answer.law.log10_bayes,
+            item.demands, answer.law.family, answer.law.share, answer.law.log10_bayes,
             item.abc, xyz_of(item.counts), *(astuple(allowed) if allowed else [None] * 4),
             *said_of(item, *answer.remarks).values()]
 

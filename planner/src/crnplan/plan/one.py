@@ -369,9 +369,8 @@ def remarks_of_past(question: Question, allowed: Allowed | None) -> Iterator[Rem
     yield from checked(item.counts, settings.every, item.first, settings.season)
     if question.demand.lower:
         yield question.demand.lower
-    demands = sum(count > 0 for count in item.counts)
-    if demands < LEAST_DEMANDS:
-        yield Remark("few demands", {"demands": demands, "learned": bool(learned and learned.few)})
+    if item.demands < LEAST_DEMANDS:
+        yield Remark("few demands", {"demands": item.demands, "learned": bool(learned and learned.few)})
 
 
 def remarks_of(question: Question, theory: LongRun, sample: Sample, choice: Choice) -> Iterator[Remark]:

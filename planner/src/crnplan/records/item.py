@@ -8,7 +8,7 @@ from functools import cached_property
 
 from ..formats import MOST_DEMAND
 from ..remarks import Remark
-from ..stored import Columns
+from ..stored import columns_of
 from .bounds import Bounds
 
 # What an item's record says of its past: enough; too little, so that others say what to expect; or that nothing was asked
@@ -73,6 +73,11 @@ class Item:
         return max(1, -(-max((*self.counts, *self.returns), default=0) // MOST_DEMAND))
 
     @property
+    def demands(self) -> int:
+        """Returns how many periods have demand."""
+        return len(self.counts) - self.counts.count(0)
+
+    @property
     def value(self) -> Fraction | None:
         """Returns what today's stock is worth: nothing if it is below 0, None if it or the price is not known."""
         return value_of(self.stock, self.price)
@@ -97,4 +102,4 @@ class Item:
 
 
 # The columns of the facts that a plan depends on.
-PLANNED = Columns(Item).names[:Columns(Item).names.index("stock")]
+PLANNED = columns_of(Item).names[:columns_of(Item).names.index("stock")]

@@ -34,7 +34,7 @@ from .least import NEAR, least_costs, least_enough, sums_from
 from .shortfalls import Shortfalls, lateness, work_of
 from .walk import LatticeLaw, Surplus, Walk, figures_at, power_of, sum_of
 
-FEW = 4  # Of the gaps of a grid, one in so many is looked at for a first policy.
+FEW = 4  # Of the gaps of a grid, one in so many is looked at for a first policy. So many are looked at without floors.
 MOST_CELLS = 50_000  # of tables with a row for each of many gaps
 MOST_WORK = 20_000_000  # for all gaps of a search, by `work_of`
 UNMET, STOCK_LEFT = 1, 3  # rows of `LongRun.figures_from`
@@ -396,7 +396,7 @@ class LongRun(Walk):
         def policies_of(gaps: Sequence[int]) -> list[Candidate]:
             """Returns policies of gaps, with infinite costs if they cost more than one that is known."""
             looked = [gap for gap in gaps if gap <= most]
-            if len(self.late) and looked and known < math.inf:
+            if len(self.late) and len(looked) > FEW and known < math.inf:
                 floors = self.floors(share, looked).tolist()
                 looked = [gap for gap, floor in zip(looked, floors) if floor <= CLOSE * known]
             levels, costs = self.costed(levels_of, looked) if looked else (np.empty(0, int), np.empty(0))
