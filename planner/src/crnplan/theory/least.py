@@ -6,7 +6,6 @@ from collections.abc import Callable
 from typing import Any
 
 import numpy as np
-from numpy.lib.stride_tricks import sliding_window_view
 
 from ..chances import Floats, Whole
 from ..compiled import PLAIN_CALLS, compiled, composed
@@ -24,6 +23,13 @@ def least_levels(low: Whole, high: Whole, is_enough: Callable[[Whole], Any]) -> 
     return low
 
 
+def windows_on(turned: Floats, width: int) -> Floats:
+    """Returns all windows of a width on rows of figures. numpy's `sliding_window_view` takes twenty times as long."""
+    rows = np.ascontiguousarray(turned)
+    across, along = rows.strides
+    return np.ndarray((len(rows), rows.shape[1] - width + 1, width), rows.dtype, rows, 0, (across, along, along))
+
+
 def sums_in(windows: Floats, chances: Floats, places: Whole) -> Floats:
     """Returns what `sums_from` does, from windows on the figures."""
     sums: Floats = np.einsum("fgx,gx->fg", windows[:, places], chances)
@@ -32,7 +38,7 @@ def sums_in(windows: Floats, chances: Floats, places: Whole) -> Floats:
 
 def sums_by_windows(turned: Floats, chances: Floats, places: Whole) -> Floats:
     """Stands in for `sums_from`."""
-    return sums_in(sliding_window_view(turned, chances.shape[1], axis=1), chances, places)
+    return sums_in(windows_on(turned, chances.shape[1]), chances, places)
 
 
 @compiled(sums_by_windows)
@@ -53,7 +59,7 @@ def least_by_halving(turned: Floats, chances: Floats, floors: Whole, highest: Wh
     `turned` has a row with the unmet demand and one with the chance of no backlog, from the highest level of a low
     down, and `chances` a row with how far a low is below the level, for each gap.
     """
-    windows = sliding_window_view(turned, chances.shape[1], axis=1)
+    windows = windows_on(turned, chances.shape[1])
 
     def is_enough(levels: Whole) -> Any:
         unmet, held = sums_in(windows, chances, highest - levels)
