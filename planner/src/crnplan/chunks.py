@@ -26,7 +26,7 @@ import re
 import tempfile
 import time
 from collections import Counter
-from collections.abc import Callable, Iterable, Iterator, Mapping, Sequence
+from collections.abc import Callable, Generator, Iterable, Iterator, Mapping, Sequence
 from dataclasses import dataclass, field
 from pathlib import Path
 from typing import Any, BinaryIO, Generic, NamedTuple, Protocol, TypeVar
@@ -410,22 +410,32 @@ class Chunked(Facts, Generic[Row]):
                 yield from self.lines.answers(self.folder / made.file)
 
 
-def finish(answers: Chunked[Row], making: Answering[Row], names: Callable[[], Iterable[str]],
-           workers: contextlib.AbstractContextManager[Workers], facts: Mapping[str, str], *, shown: bool,
-           unit: str = "items") -> list[Made]:
-    """Answers all names, which are given in order, each time anew, and commits the answers with facts. If they are all
-    there, no worker is asked."""
+def finishing(answers: Chunked[Row], making: Answering[Row], names: Callable[[], Iterable[str]],
+              workers: contextlib.AbstractContextManager[Workers], facts: Mapping[str, str], *, shown: bool,
+              unit: str = "items") -> Generator[Made, None, None]:
+    """Answers all names, which are given in order, each time anew. Yields the files in this order, each as soon as all
+    before it are done, and commits the answers with facts after the last one. If they are all there, no worker is
+    asked. If it is not run to its end, it has to be closed, so that the workers end."""
     count = sum(1 for _ in names())
-    chunks, made = chunks_of(names(), count), list[Made]()
+    chunks, found, place = chunks_of(names(), count), dict[Chunk, Made](), 0
     if [it.chunk for it in answers.made] == chunks and all(making.has(it) for it in answers.made):
         answers.keep_facts(facts)
-        return [it._replace(kept=it.items) for it in answers.made]
+        answers.made = [it._replace(kept=it.items) for it in answers.made]
+        yield from answers.made
+        return
     tasks, start = answers.tasks(chunks), time.time() - SOON
-    with progress(count, shown, unit, kept_now=lambda its: answers.kept_now(made, start)) as done, workers as running:
+    with (progress(count, shown, unit, kept_now=lambda its: answers.kept_now(found.values(), start)) as done,
+          workers as running):
         done.add(0)
         for one in made_by(running, making, tasks):
-            made.append(one)
+            found[one.chunk] = one
             done.add(one.items, one.kept)
-    made.sort()
-    answers.commit(made, facts)
-    return made
+            while place < len(chunks) and chunks[place] in found:
+                yield found[chunks[place]]
+                place += 1
+    answers.commit([found[chunk] for chunk in chunks], facts)
+
+
+def finish(*words: Any, **named: Any) -> list[Made]:
+    """Does what `finishing` does, and returns the files."""
+    return [*finishing(*words, **named)]

@@ -16,7 +16,7 @@ from unittest.mock import Mock
 import pytest
 
 from crnplan import chunks, jobs
-from crnplan.chunks import ENDING, PART, Answering, Chunk, Chunked, chunks_of, finish, sum_of_digests
+from crnplan.chunks import ENDING, PART, Answering, Chunk, Chunked, chunks_of, finish, finishing, sum_of_digests
 from crnplan.errors import Failed
 from crnplan.plan.answer import Correction
 from crnplan.remarks import Remark
@@ -235,6 +235,26 @@ def test_files_that_are_not_ours(store: Chunked[Correction]) -> None:
     making = Answering(store.folder, store.path.parent, Correction, Squares(), squares, (store.path.parent, 0))
     made = finish(store, making, lambda: NAMES, jobs.processes(1), {}, shown=False)
     assert {path.name for path in store.folder.iterdir()} == {it.file for it in made} | {MINE, *others}
+
+
+class Turned(jobs.Workers):
+    """Is done with the last two batches first, and then with the first ones."""
+
+    def answers(self, *words: Any) -> Iterator[Any]:
+        answers = [*super().answers(*words)]
+        yield from (*answers[:-3:-1], *answers[:-2])
+
+
+def test_files_come_in_order(store: Chunked[Correction]) -> None:
+    """Files come in the order of names, each when all before it are done. An early end keeps what is done."""
+    making = Answering(store.folder, store.path.parent, Correction, Squares(), squares, (store.path.parent, 0))
+    words: Any = store, making, lambda: NAMES, contextlib.nullcontext(Turned()), {"a": "fact"}
+    with contextlib.closing(finishing(*words, shown=False)) as files:
+        assert next(files).chunk == chunks_of(NAMES, len(NAMES))[0] and not store.made
+    assert store.fact("a") is None
+    files = finishing(*words, shown=False)
+    assert [made.chunk for made in files] == chunks_of(NAMES, len(NAMES)) == [made.chunk for made in store.made]
+    assert store.fact("a") == "fact" and sum(made.kept for made in store.made) == len(NAMES)
 
 
 def test_tasks_have_as_many_words(store: Chunked[Correction]) -> None:

@@ -17,7 +17,7 @@ from crnplan.demand.learning import Prior
 from crnplan.files import Folder, own_folder
 from crnplan.jobs import Workers
 from crnplan.law import Law
-from crnplan.pages.catalogue_page import CATALOGUE_FILES, write_catalogue
+from crnplan.pages.catalogue_page import CATALOGUE_FILES, write_catalogue, write_tables
 from crnplan.plan.answer import CHEAPER, RUN, SAME, SERVICE, THEORY, UNDECIDED, Answer, Figures, LawFacts, Laws, Run
 from crnplan.plan.catalogue import ANSWERS, IN_CHUNKS, PlanAsking, Planned, PlannedFolder, sums_of
 from crnplan.plan.question import Settings
@@ -71,7 +71,7 @@ def made_folder(path: Path, items: int, names: Sequence[str] = (), has_curve: bo
             its = PlannedFolder(path, read, answers, planned)
             if has_swings:
                 keep_made(folder, its)
-            write_catalogue(folder, its, its.totals, (), ())
+            write_catalogue(folder, its, write_tables(folder, its, its.answers()), (), ())
     return path
 
 

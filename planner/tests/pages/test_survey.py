@@ -20,11 +20,12 @@ def test_what_is_kept(tmp_path: Path, monkeypatch: pytest.MonkeyPatch) -> None:
     monkeypatch.setattr(survey, "MOST_NAMES", 7)
     with planned_folder(made_folder(tmp_path / "plan", 40)) as folder:
         found, pairs = Survey.of(folder, 4), [*folder.answers()]
+        totals = found.totals
     compared = [(item, answer) for item, answer in pairs if isinstance(answer, Answer) and answer.verdict in COMPARED]
     names = sorted((item.name for item, _ in compared), key=lambda name: hashlib.sha256(name.encode()).hexdigest())
     assert found.drawn == sorted(names[:5])
     sizes = sorted((abs(answer.saving or 0.0) for _, answer in compared), reverse=True)
     assert [abs(answer.saving or 0.0) for _, answer in found.greatest if isinstance(answer, Answer)] == sizes[:4]
-    assert {name: totals.compared for name, totals in found.classes.items()} == Counter(
+    assert {name: its.compared for name, its in found.classes.items()} == Counter(
         item.category for item, _ in compared)
-    assert found.totals.compared == len(compared)
+    assert totals.compared == len(compared)

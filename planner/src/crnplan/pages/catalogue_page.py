@@ -19,7 +19,6 @@ from ..files import Folder, own_folder
 from ..plan.answer import BOUNDED, CHEAPER, COMPARED, DEARER, SAME, SERVICE, UNCOMPARED, UNDECIDED, Answer
 from ..plan.backtest.catalogue import past_of
 from ..plan.catalogue import PlannedFolder, planned_folder
-from ..plan.totals import Totals
 from ..plan.item import Depth
 from ..plan.survey import Decided, Survey, saving_of
 from ..plan.swings import keep_swings
@@ -201,24 +200,28 @@ def write_rejects(folder: Folder, read: Catalogued) -> None:
     folder.write(REJECTS, rejects_of(read.rejects()).lines)
 
 
-def tabled(folder: Folder, planned: PlannedFolder) -> Iterator[Decided]:
-    """Yields all items of a planned catalogue, and writes them into the tables of decisions and of exact figures."""
+def tabled(folder: Folder, planned: PlannedFolder, answers: Iterable[Decided]) -> Iterator[Decided]:
+    """Yields items with their answers, and writes them into the tables of decisions and of exact figures."""
     with folder.writing(DECISIONS) as decisions, folder.writing(EXACT) as exact:
-        for place, pairs in enumerate(itertools.chain([list[Decided]()], batched(planned.answers(), ROWS_AT_ONCE))):
+        for place, pairs in enumerate(itertools.chain([list[Decided]()], batched(answers, ROWS_AT_ONCE))):
             for file, table in ((decisions, decisions_of(planned, pairs)), (exact, exact_of(pairs))):
                 file.writelines(itertools.islice(table.lines, int(place > 0), None))  # The heading comes once.
             yield from pairs
 
 
-def write_catalogue(folder: Folder, planned: PlannedFolder, totals: Totals, learned: Sequence[Remark],
+def write_tables(folder: Folder, planned: PlannedFolder, answers: Iterable[Decided]) -> Survey:
+    """Writes the tables of all items of a catalogue as they are planned, and returns what they come to."""
+    return Survey.of(planned, MOST_ROWS, tabled(folder, planned, answers))
+
+
+def write_catalogue(folder: Folder, planned: PlannedFolder, survey: Survey, learned: Sequence[Remark],
                     missing: Sequence[str]) -> str:
-    """Writes the tables, the summary and the page of a planned catalogue, and returns the summary."""
-    survey = Survey.of(planned, MOST_ROWS, tabled(folder, planned))
+    """Writes what a planned catalogue has beside its tables, the summary and the page, and returns the summary."""
     folder.write(REJECTS, rejects_of(planned.read.rejects(survey.faults)).lines)
     folder.remove(CHANGES)
     if planned.planned.earlier:
         folder.write(CHANGES, changes_of(planned).lines)
-    summary = catalogue_summary(planned, totals, learned, change_lines(planned), missing)
+    summary = catalogue_summary(planned, survey.totals, learned, change_lines(planned), missing)
     folder.write(SUMMARY, summary)
     folder.write(PAGE, catalogue_page(planned, survey))
     return summary

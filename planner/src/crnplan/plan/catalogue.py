@@ -10,7 +10,7 @@ from dataclasses import dataclass
 from difflib import get_close_matches
 from pathlib import Path
 
-from ..chunks import Answering, Chunk, Chunked, finish, sum_of_digests
+from ..chunks import Answering, Chunk, Chunked, Made, finishing, sum_of_digests
 from ..crnsim.program import program_for
 from ..demand.learning import Prior
 from ..errors import Failed, Refused, argument
@@ -121,6 +121,13 @@ class PlannedFolder:
         kept = self.store.answers(chunk)
         for item in (self.read.whole_items if is_whole else self.read.items)(*chunk):
             yield item, next(answer for name, _, answer in kept if name == item.name)
+
+    def answers_in(self, files: Iterable[Made]) -> Iterator[tuple[Item, Answer | Remark]]:
+        """Yields what `answers` does, of some files, which perhaps are not yet those of the store."""
+        for made in files:
+            kept = self.store.lines.answers(self.store.folder / made.file)
+            for item in self.read.items(*made.chunk):
+                yield item, next(answer for name, _, answer in kept if name == item.name)
 
     def item(self, name: str) -> tuple[Item, Answer]:
         """Returns an item with its answer. Raises Refused if it is not there, left out, or not planned as its rows are
@@ -271,7 +278,7 @@ def plan_into(folder: Folder, settings: Settings, *, after: Path | None = None, 
               address: str | None = None, program: str | Path | None = None, again: bool = False,
               shown: bool = False) -> Done:
     """Plans the catalogue that was read into a folder, and writes its tables and pages: see `plan`."""
-    from ..pages.catalogue_page import write_catalogue, write_rejects
+    from ..pages.catalogue_page import write_catalogue, write_rejects, write_tables
     path = program_for(program, address)
     with (faults_of(folder.path), earlier_folder(after, folder) as earlier,
           contextlib.closing(Catalogued(folder.path / READ, settings.window)) as read,
@@ -293,11 +300,13 @@ def plan_into(folder: Folder, settings: Settings, *, after: Path | None = None, 
                             (earlier.path.resolve(), earlier.store.path.resolve()) if earlier else None)
         making = Answering(answers.folder.resolve(), folder.room().resolve(), Answer, asking, plan_batch,
                            (settings, prior, path), sums_of)
-        made = finish(answers, making, read.names, workers_of(jobs, address, path), planned.facts, shown=shown)
         catalogue = PlannedFolder(folder.path, read, answers, planned)
+        with contextlib.closing(finishing(answers, making, read.names, workers_of(jobs, address, path), planned.facts,
+                                          shown=shown)) as files:
+            survey = write_tables(folder, catalogue, catalogue.answers_in(files))
         if earlier:
             keep_changes(folder, catalogue.digest, changes_since(earlier, catalogue))
-        totals, kept = catalogue.totals, sum(one.kept for one in made)
+        totals, kept = survey.totals, sum(one.kept for one in answers.made)
         missing = missing_of(catalogue.counts, totals.answered)
-        summary = write_catalogue(folder, catalogue, totals, remarks, missing)
-        return Done(sum(one.items for one in made) - kept, kept, totals, remarks, missing, summary)
+        summary = write_catalogue(folder, catalogue, survey, remarks, missing)
+        return Done(sum(one.items for one in answers.made) - kept, kept, totals, remarks, missing, summary)

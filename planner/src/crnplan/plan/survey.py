@@ -4,6 +4,7 @@ from __future__ import annotations
 import heapq
 from collections import defaultdict
 from collections.abc import Iterable, Iterator
+from functools import cached_property
 
 from ..records.columns import periods_a_year
 from ..records.item import NO_DEMAND, Item
@@ -30,13 +31,13 @@ def greatest(pairs: list[Decided], most: int) -> list[Decided]:
 
 
 class Survey:
-    """What the items of a plan come to, as they are seen. `totals` are the sums of all, `classes` those of each class,
-    with the name that masters have for it, of items that are compared with a policy of today. `faults` are the items
-    that have no plan, and `asked` is a year's demand for those of them that have a price, in money."""
+    """What the items of a plan come to, as they are seen. `classes` has the sums of each class, with the name that
+    masters have for it, of items that are compared with a policy of today. `faults` are the items that have no plan, and
+    `asked` is a year's demand for those of them that have a price, in money."""
 
     def __init__(self, folder: PlannedFolder, most: int = 0) -> None:
         """Prepares to look at the items of a folder, of which the greatest ones are kept, at most so many."""
-        self.totals, self.classes = folder.totals, defaultdict[str, Totals](Totals)
+        self._folder, self.classes = folder, defaultdict[str, Totals](Totals)
         self.faults, self.asked = list[Reject](), list[float]()
         self._most, self._pairs, self._names = most, list[Decided](), list[str]()
         self._masters, self._periods = folder.counts["files"]["items"]["name"], float(periods_a_year(folder.every))
@@ -48,6 +49,11 @@ class Survey:
         for _ in survey.seen(folder.answers() if answers is None else answers):
             pass
         return survey
+
+    @cached_property
+    def totals(self) -> Totals:
+        """Returns the sums of all items, which are known when the last one is planned."""
+        return self._folder.totals
 
     @property
     def greatest(self) -> list[Decided]:
