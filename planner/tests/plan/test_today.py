@@ -21,7 +21,7 @@ from crnplan.law import Law
 from crnplan.pages.today_tables import OrdersToday, orders_today
 from crnplan.plan.answer import IDLE, Answer, Laws
 from crnplan.plan.catalogue import ANSWERS, PLANNED
-from crnplan.plan.today import Group, Lying, Standing, Today, minimums_of, quiet_periods
+from crnplan.plan.today import Group, Lying, Standing, Today, by_urgency, minimums_of, quiet_periods
 from crnplan.records.bounds import Bounds
 from crnplan.records.catalogue_reading import READ
 from crnplan.records.item import NO_DEMAND
@@ -71,6 +71,14 @@ def test_order_by_hand(standing: Standing, position: int, placed: int, weeks: fl
     assert (standing.position, standing.placed, standing.latest) == (position, placed, latest)
     assert standing.is_due and standing.to_level == 20 - position and standing.worth(standing.placed) == 3 * placed
     assert [standing.weeks, standing.chance] == pytest.approx([weeks, chance])
+
+
+def test_the_most_urgent_order_comes_first() -> None:
+    """What lasts shortest comes first, then what is likelier to be short: 7 of 8 for B and D, half for C, whose order
+    comes before most of its demand. E is not ordered."""
+    standings = [standing_of(stock=40, name="E"), standing_of(name="A"), standing_of(stock=0, name="D"),
+                 standing_of(2, 3, [Arrival(Fraction(6), days(20))], name="C"), standing_of(stock=0, name="B")]
+    assert "".join(it.item.name for it in by_urgency(standings)) == "BDCAE"
 
 
 def test_an_order_is_due_below_s_alone() -> None:

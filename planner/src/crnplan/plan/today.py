@@ -8,6 +8,7 @@ when it is due; what has no date, or is overdue, comes in time.
 from __future__ import annotations
 
 import datetime
+import itertools
 import math
 from collections import defaultdict
 from collections.abc import Iterable, Iterator, Mapping, Sequence
@@ -15,6 +16,7 @@ from dataclasses import dataclass
 from difflib import get_close_matches
 from fractions import Fraction
 from functools import cached_property
+from operator import attrgetter
 
 from ..compiled import left_plain
 from ..errors import Refused, argument
@@ -123,16 +125,22 @@ class Standing:
     def chance(self) -> float:
         """Returns the chance of a shortage before delivery: see the module."""
         laws, total, periods, chance = self.answer.laws, NOTHING, 0, 0.0
-        net = net_demand(laws)
-        for lead, share in laws.lead.chances.items():
-            total, periods = sum_of(total, power_of(net, lead + 1 - periods)), lead + 1
-            chance += share * total.above(math.floor(self.there_within(periods) / laws.box))
+        with left_plain():  # The few loops of an item take less than a loop's compiled code to load.
+            net = net_demand(laws)
+            for lead, share in laws.lead.chances.items():
+                total, periods = sum_of(total, power_of(net, lead + 1 - periods)), lead + 1
+                chance += share * total.above(math.floor(self.there_within(periods) / laws.box))
         return chance
 
     @property
-    def urgency(self) -> tuple[float, float, str]:
-        """Returns what sorts the most urgent item first."""
-        return (math.inf if self.weeks is None else self.weeks), -self.chance, self.item.name
+    def time(self) -> float:
+        """Returns the weeks until a shortage of an item that is ordered, by which the most urgent one comes first."""
+        return math.inf if not self.is_due or self.weeks is None else self.weeks
+
+    @property
+    def urgency(self) -> tuple[float, str]:
+        """Returns what sorts the most urgent of items with one time first."""
+        return -self.chance if self.is_due else 0.0, self.item.name
 
     @property
     def reason(self) -> Remark:
@@ -282,6 +290,13 @@ class Today:
         return days // 7 if days > OLD_DAYS else None
 
 
+def by_urgency(standings: Iterable[Standing]) -> Iterator[Standing]:
+    """Yields the most urgent item first. The chance of a shortage takes long, and decides between few items alone."""
+    for _, tied in itertools.groupby(sorted(standings, key=attrgetter("time")), attrgetter("time")):
+        several = [*tied]
+        yield from sorted(several, key=attrgetter("urgency")) if len(several) > 1 else several
+
+
 def quiet_periods(item: Item, every: str) -> int | None:
     """Returns for how many of its last periods nobody has asked for an item; None if that is no year."""
     quiet = next((place for place, count in enumerate(reversed(item.counts)) if count), len(item.counts))
@@ -339,9 +354,7 @@ def today_of(folder: PlannedFolder, answers: Iterable[Decided], tables: Mapping[
             unknown.append((item, answer))
         if quiet and hand and hand.stock:
             dead.append(Lying(item, hand.stock, quiet))
-    with left_plain():  # Each item has a few loops of its laws, which take less than a loop's compiled code to load.
-        standings.sort(key=lambda it: it.urgency if it.is_due else (math.inf, 0.0, it.item.name))
     end = first_day(folder.read.fact("periods")[1], folder.every) - datetime.timedelta(1)
     minimums = minimums_of((item for item, _, _ in known), stated)
-    return Today(day, end, standings, unknown, dead, minimums, tables.get(ON_ORDER) is not None, holdings.counts,
+    return Today(day, end, [*by_urgency(standings)], unknown, dead, minimums, tables.get(ON_ORDER) is not None, holdings.counts,
                  holdings.rejects)
