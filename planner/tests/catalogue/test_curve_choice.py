@@ -87,7 +87,7 @@ def made_item(source: np.random.Generator, count: int) -> tuple[Candidates, Any]
             if best != last:
                 rows.append((variant, place, best, best, *points[best]))
                 last = best
-    return Candidates.of(demand, setup, holding, rows), points
+    return Candidates.of(demand, setup, holding, np.transpose(rows)), points
 
 
 def in_parts(answers: Sequence[tuple[str, float, Candidates, Any]], size: int) -> Items:

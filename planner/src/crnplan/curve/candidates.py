@@ -8,7 +8,7 @@ others may be better. There are candidates for dearer orders too, of which fewer
 """
 from __future__ import annotations
 
-from collections.abc import Callable, Iterator, Sequence
+from collections.abc import Callable, Iterable, Sequence
 from dataclasses import dataclass
 
 import numpy as np
@@ -110,9 +110,9 @@ class Candidates:
     data: bytes
 
     @classmethod
-    def of(cls, demand: float, setup: float, holding: float, rows: Sequence[tuple[float, ...]]) -> Candidates:
-        """Takes the rows as tuples."""
-        return cls(demand, setup, holding, np.array([(*row,) for row in rows], ROW).tobytes())
+    def of(cls, demand: float, setup: float, holding: float, columns: Iterable[Whole | Floats]) -> Candidates:
+        """Takes the candidates by the columns of ROW."""
+        return cls(demand, setup, holding, np.rec.fromarrays([*columns], ROW).tobytes())
 
     @property
     def rows(self) -> npt.NDArray[np.void]:
@@ -138,7 +138,7 @@ def candidates_of(terms: Terms) -> Candidates:
     level, stock, unmet, orders = np.moveaxis(figures, 1, 0)[:, is_new]
     levels = np.array([level - theory.items(gaps[is_new]), level], int) * box
     columns = *np.nonzero(is_new), *levels, *rounded(np.array([stock * box, unmet * box, orders]))
-    return Candidates.of(demand * box, setup, holding / box, [*zip(*(column.tolist() for column in columns))])
+    return Candidates.of(demand * box, setup, holding / box, columns)
 
 
 def candidates_batch(batch: Sequence[tuple[Item, Laws]], settings: Settings) -> list[Candidates | Remark]:

@@ -286,7 +286,7 @@ class Cases:
     def __init__(self, theory: LongRun, costs: Floats, width: int) -> None:
         """Takes the costs as rows. Levels are looked at up to so many cells above the widest gap."""
         self.theory, self.costs, feasible, step = theory, costs, theory.feasible, theory.step
-        self.gaps = np.array(theory.gaps(0, theory.most))
+        self.gaps = theory.every_gap(0, theory.most)
         self.lows = theory.lows_of(int(self.gaps[-1]))
         if feasible.has_all_gaps:
             self.gaps = self.gaps[self.lows[self.gaps] > 0]
@@ -385,12 +385,14 @@ def searched_policies(theory: LongRun, costs: Floats) -> tuple[Whole, Floats]:
     its = Cases(theory, costs, theory.beside + theory.after.high + theory.feasible.multiple // theory.step + 3)
     new, places, tables = np.array(gap_grid(len(its.gaps) - 1)), np.empty(0, int), list[Floats]()
     while len(new):
-        tables += (best_levels(*theory.shortfalls.stocks(some), theory.step, its.orders[some], *its.bounds(some),
-                               its.levels, its.asked, its.ranks, costs) for some in theory.parts(its.gaps[new]))
+        for some in theory.parts(its.gaps[new]):
+            tables.extend(best_levels(*theory.shortfalls.stocks(some), theory.step, its.orders[some],
+                                      *its.bounds(some), its.levels, its.asked, its.ranks, costs))
         places = np.append(places, new)
         order = np.argsort(places)
-        totals = np.concatenate([table[:, 3] for table in tables])[order]
+        totals = np.array([tables[place][3] for place in order])
         new = finer(places[order], its.gaps[places[order]], totals)
-    best, cases = order[totals.argmin(axis=0)], np.arange(len(its.ranks))
-    its.found = np.vstack([its.gaps[places[best]], np.concatenate(tables)[best, :3, cases].T])
+    best, own = np.unique(order[totals.argmin(axis=0)], return_inverse=True)
+    levels = np.array([tables[place][:3] for place in best])[own, :, np.arange(len(own))]
+    its.found = np.vstack([its.gaps[places[best]][own], levels.T])
     return its.policies()
