@@ -111,30 +111,40 @@ def lasting(kept: Transforms, move: Transforms, late: Floats) -> Transforms:
     return last
 
 
-def last_by_transforms(begun: Transforms, is_far: Truths, free: Floats, gaps: Whole, roots: Transforms, move: Transforms,
-                       late: Floats) -> Transforms:
+def last_by_transforms(cycles: Transforms, waits: Transforms, is_far: Truths, free: Floats, gaps: Whole,
+                       roots: Transforms, move: Transforms, late: Floats) -> Transforms:
     """Returns a row for each of some rising gaps: what `lasting` returns.
 
-    `begun` has the rows that it takes for each gap that `is_far`. For the others these are the transforms, by some
-    roots of unity, of `free` up to the gap.
+    `cycles` and `waits` have the rows that it takes for each gap that `is_far`, the first row and all others; the last
+    of `waits` is that of all further gaps. For other gaps these are the transforms, by some roots of unity, of `free`
+    up to the gap.
     """
-    kept = np.empty((len(gaps), *begun.shape[1:]), complex)
+    kept, far = np.empty((len(gaps), len(late), len(move)), complex), np.arange(len(cycles))
     up_to = np.arange(free.shape[1]) <= gaps[~is_far, None, None]
-    kept[is_far], kept[~is_far] = begun, fft.rfft(np.where(up_to, free, 0.0), len(roots))
+    kept[is_far, 0], kept[is_far, 1:] = cycles, waits[np.minimum(far, len(waits) - 1)]
+    kept[~is_far] = fft.rfft(np.where(up_to, free, 0.0), len(roots))
     return lasting(kept.swapaxes(0, 1), move, late)
 
 
 @compiled(last_by_transforms)
-def last_shortfalls(begun: Transforms, is_far: Truths, free: Floats, gaps: Whole, roots: Transforms, move: Transforms,
-                    late: Floats) -> Transforms:
+def last_shortfalls(cycles: Transforms, waits: Transforms, is_far: Truths, free: Floats, gaps: Whole,
+                    roots: Transforms, move: Transforms, late: Floats) -> Transforms:
     reviews, width, far, last = len(late), len(move), 0, 0
     kept, moves = np.empty((reviews, 2, width)), np.stack((move.real, move.imag))
-    placed, solved, root = np.empty_like(kept), np.empty_like(kept), np.empty((2, width))
+    placed, solved, root, start = np.empty_like(kept), np.empty_like(kept), np.empty((2, width)), np.zeros((2, width))
     under_way, left, total = np.empty_like(root), np.empty_like(root), np.empty_like(root)
     found = np.empty((len(gaps), width), np.complex128)
+    start[0] = 1.0
+
+    def split(row: Floats, numbers: Transforms) -> None:
+        """Sets the real and the imaginary parts. Numba makes fast code of `while` and of few arrays in a loop."""
+        k = 0
+        while k < width:
+            row[0, k], row[1, k] = numbers[k].real, numbers[k].imag
+            k += 1
 
     def add(total: Floats, share: float, sure: float, left: Floats, right: Floats) -> None:
-        """Adds a product, in real and imaginary parts. Numba makes fast code of `while` and of few arrays in a loop."""
+        """Adds a product."""
         k = 0
         while k < width:
             total[0, k] += (share * left[0, k] + sure) * right[0, k] - share * left[1, k] * right[1, k]
@@ -143,10 +153,20 @@ def last_shortfalls(begun: Transforms, is_far: Truths, free: Floats, gaps: Whole
         while k < width:
             total[1, k] += (share * left[0, k] + sure) * right[1, k] + share * left[1, k] * right[0, k]
             k += 1
+
+    def add_share(total: Floats, share: float, right: Floats) -> None:
+        """Adds a share."""
+        k = 0
+        while k < width:
+            total[0, k] += share * right[0, k]
+            total[1, k] += share * right[1, k]
+            k += 1
     for place, gap in enumerate(gaps):
-        is_same = place > 0 and not is_far[place]
+        is_same = place > 0 and (not is_far[place] or far >= len(waits))
         if is_far[place]:
-            kept[:, 0], kept[:, 1] = begun[far].real, begun[far].imag
+            split(kept[0], cycles[far])
+            for row in range(1, 1 if is_same else reviews):
+                split(kept[row], waits[far, row - 1])
             far, last = far + 1, gap
         for cell in range(last + 1, gap + 1):
             turn, k = 0, 0
@@ -156,29 +176,38 @@ def last_shortfalls(begun: Transforms, is_far: Truths, free: Floats, gaps: Whole
                 if turn >= len(roots):
                     turn -= len(roots)
             for row in np.flatnonzero(free[:, cell]):
-                add(kept[row], 0.0, free[row, cell], root, root)
+                add_share(kept[row], free[row, cell], root)
                 is_same = is_same and row == 0
         last = gap
         for time in range(1, 1 if is_same else reviews):
-            placed[time] = moves - kept[1] if time == 1 else -kept[time]
-            if time > 1:
-                add(placed[time], 1.0, 0.0, kept[time - 1], moves)
-            solved[time] = kept[time] + late[0] * placed[time]
-            solved[time, 0] += (1 - late[0]) * placed[time, 0, 0]
+            before, here = kept[time - 1] if time > 1 else start, kept[time]
+            orders, law, k = placed[time], solved[time], 0
+            while k < width:
+                orders[0, k] = before[0, k] * moves[0, k] - before[1, k] * moves[1, k] - here[0, k]
+                k += 1
+            k = 0
+            while k < width:
+                orders[1, k] = before[0, k] * moves[1, k] + before[1, k] * moves[0, k] - here[1, k]
+                k += 1
+            k, sure = 0, (1 - late[0]) * orders[0, 0]
+            while k < width:
+                law[0, k] = here[0, k] + late[0] * orders[0, k] + sure
+                law[1, k] = here[1, k] + late[0] * orders[1, k]
+                k += 1
             for ago in range(1, time):
                 if placed[ago, 0, 0] > LEAST_CHANCE:
-                    add(solved[time], late[time - ago], (1 - late[time - ago]) * placed[ago, 0, 0], placed[ago],
+                    add(law, late[time - ago], (1 - late[time - ago]) * placed[ago, 0, 0], placed[ago],
                         solved[time - ago])
         if not is_same:
-            under_way[0], under_way[1] = late[0], 0.0
+            under_way[0], under_way[1], left[0], left[1] = late[0], 0.0, 1.0, 0.0
             for time in range(1, reviews):
-                under_way += late[time] * solved[time]
-            left[:] = -under_way
-            left[0] += 1.0
+                add_share(under_way, late[time], solved[time])
+            add_share(left, -1.0, under_way)
             add(left, 1.0, 0.0, moves, under_way)
-        total[:] = 0.0
+        total[:], k = 0.0, 0
         add(total, 1.0, 0.0, kept[0], left)
-        found[place] = total[0] + 1j * total[1]
+        while k < width:
+            found[place, k], k = complex(total[0, k], total[1, k]), k + 1
     return found
 
 
@@ -203,9 +232,13 @@ def falling(cycle: Floats, demands: Floats, gaps: Whole, move: Transforms, late:
     """Returns what `lasting` returns for each of some rising gaps, if nothing comes back: then what waits is all that is
     within the gap. `cycle` has C up to the widest gap, by depth, and `demands` is that of `demands_of`."""
     is_far, free = np.append(True, gaps[1:] - gaps[:-1] >= FAR), np.empty((len(late), len(cycle)))
-    free[0], free[1:] = cycle, demands[:, :len(cycle)]
-    kept = fft.rfft(np.where(np.arange(len(cycle)) <= gaps[is_far, None, None], free, 0.0), demands.shape[1])
-    return last_shortfalls(kept, is_far, free, gaps, roots_of(demands.shape[1]), move, late)
+    free[0], free[1:], room = cycle, demands[:, :len(cycle)], demands.shape[1]
+    up_to = np.arange(len(cycle)) <= gaps[is_far, None]
+    # All demand is within a gap that is wide enough, and all further ones.
+    most = int(np.flatnonzero(np.append(True, free[1:].any(axis=0)))[-1]) - 1
+    narrow = up_to[:int(np.searchsorted(gaps[is_far], most)) + 1, None]
+    cycles, waits = (fft.rfft(np.where(some, its, 0.0), room) for some, its in ((up_to, cycle), (narrow, free[1:])))
+    return last_shortfalls(cycles, waits, is_far, free, gaps, roots_of(room), move, late)
 
 
 def falling_under(cycles: Floats, moves: Transforms, late: Floats, laws: Whole, gaps: Whole) -> Floats:
@@ -220,10 +253,10 @@ def falling_under(cycles: Floats, moves: Transforms, late: Floats, laws: Whole, 
 
 def moving(cycle: Transforms, gaps: Whole, move: Transforms, late: Floats, room: int, above: int) -> Transforms:
     """Returns what `lasting` returns for each of some gaps, if items come back: see `waiting`. `cycle` has C."""
-    waits = waiting(np.ones((1, *cycle.shape), complex), gaps, move, len(late) - 1, room, above)
-    kept = np.ascontiguousarray(np.concatenate([cycle[None], waits[0, 1:]]).swapaxes(0, 1))
+    waits = waiting(np.ones((1, *cycle.shape), complex), gaps, move, len(late) - 1, room, above)[0, 1:]
     is_far, free = np.ones(len(gaps), bool), np.empty((len(late), 0))
-    return last_shortfalls(kept, is_far, free, gaps, np.empty(room, complex), move, late)
+    return last_shortfalls(cycle, np.ascontiguousarray(waits.swapaxes(0, 1)), is_far, free, gaps,
+                           np.empty(room, complex), move, late)
 
 
 class Shortfalls:
