@@ -17,14 +17,17 @@ import bisect
 import functools
 import math
 from collections.abc import Callable, Iterator, Mapping, Sequence
+from typing import Any
 
 import numpy as np
+import numpy.typing as npt
 from scipy import special
 
 from ..chances import Floats, Whole
 from ..compiled import compiled
 from .sample import PLAIN_CALLS, Sample
 
+Places = npt.NDArray[np.integer[Any]]
 Statistic = Callable[[Floats, Floats], Floats]  # of the numbers' distances from their mean, and of their ranks'
 # The mean and the variance of a number's rank for each factor of the mean, and the variance of all ranks.
 Scores = Callable[[Floats], tuple[Floats, Floats, float]]
@@ -107,17 +110,19 @@ def statistics_of(seasons: Mapping[str, Whole]) -> dict[str, Statistic]:
 
 
 class Drawn:
-    """Drawn orders of the places of so many periods, from the number of the first of them on."""
+    """Drawn orders of the places of so many periods, from the number of the first of them on. A history has at most
+    65,536 periods; small numbers are read faster."""
 
     def __init__(self, size: int, first: int) -> None:
-        self.random, self.rows = np.random.default_rng([SEED, first]), np.empty((0, size), np.int64)
+        self.random, self.rows = np.random.default_rng([SEED, first]), np.empty((0, size), np.uint16)
 
-    def orders(self, start: int, end: int) -> Whole:
+    def orders(self, start: int, end: int) -> Places:
         """Returns some of them, in rows. They are drawn as they are needed, always the same."""
         known, size = self.rows.shape
         if end > known:
             more = max(end, min(2 * known, TIMES, MOST_CELLS // size)) - known  # so that few rows are copied again
-            self.rows = np.vstack([self.rows, self.random.permuted(np.tile(np.arange(size), (more, 1)), axis=1)])
+            places = np.tile(np.arange(size, dtype=np.uint16), (more, 1))
+            self.rows = np.vstack([self.rows, self.random.permuted(places, axis=1)])
         return self.rows[start:end]
 
 
@@ -132,7 +137,7 @@ class Orders:
         ranks = np.cumsum(self.counts) - self.counts / 2 - len(numbers) / 2
         self.far, self.ranks = (self.values - np.mean(numbers))[self.codes], ranks[self.codes]
 
-    def drawn(self, at_once: int = TIMES) -> Iterator[Whole]:
+    def drawn(self, at_once: int = TIMES) -> Iterator[Places]:
         """Yields drawn orders of the places, so many in each array."""
         size = len(self.codes)
         many = max(1, MOST_CELLS // size)
@@ -166,7 +171,7 @@ class Orders:
         return {name: count / (TIMES + 1) for name, count in zip(kinds, counts.tolist()) if count <= most}
 
 
-def as_suspicious(far: Floats, ranks: Floats, orders: Whole, parts: Whole, least: Floats, most: Whole) -> Whole:
+def as_suspicious(far: Floats, ranks: Floats, orders: Places, parts: Whole, least: Floats, most: Whole) -> Whole:
     """Returns how many orders of distances and ranks have a statistic of at least so much, for each test: those of the
     order of a history, and one for each row of parts. Tests are left, or all of them, that have more than `most`."""
     rows = far.take(orders), ranks.take(orders)
@@ -176,11 +181,12 @@ def as_suspicious(far: Floats, ranks: Floats, orders: Whole, parts: Whole, least
 
 
 @compiled(as_suspicious, after=PLAIN_CALLS)
-def suspicious(far: Floats, ranks: Floats, orders: Whole, parts: Whole, least: Floats, most: Whole) -> Whole:
+def suspicious(far: Floats, ranks: Floats, orders: Places, parts: Whole, least: Floats, most: Whole) -> Whole:
     """Returns what `as_suspicious` does, order by order, with three lags, until all tests are left."""
     size, seasons, squares, rank_squares, edge = len(far), len(parts), 0.0, 0.0, max(1, math.ceil(EDGE * len(far)))
     counts, weights, row, ranked = np.zeros(len(least), np.int64), np.zeros(size), np.zeros(size + LAGS), np.zeros(size)
-    sums, sizes, found = np.zeros((seasons, size)), np.zeros((seasons, size)), np.zeros(len(least))
+    most_parts = parts.max() + 1 if seasons else 0
+    sums, sizes, found = np.zeros((seasons, most_parts)), np.zeros((seasons, most_parts)), np.zeros(len(least))
     for place in range(size):
         squares, rank_squares = squares + far[place]**2, rank_squares + ranks[place]**2
         if edge <= place + 1 <= size - edge:
@@ -205,14 +211,12 @@ def suspicious(far: Floats, ranks: Floats, orders: Whole, parts: Whole, least: F
             sums[season], found[3 + season] = 0.0, 0.0
             for place in range(size):
                 sums[season, parts[season, place]] += ranked[place]
-            for part in range(size):
+            for part in range(most_parts):
                 if sizes[season, part] > 0:
                     found[3 + season] += sums[season, part]**2 / sizes[season, part] / rank_squares * (size - 1)
-        is_done = True
         for test in range(len(least)):
             counts[test] += found[test] >= least[test]
-            is_done = is_done and counts[test] > most[test]
-        if is_done:
+        if (counts > most).all():
             break
     return counts
 

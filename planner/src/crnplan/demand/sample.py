@@ -60,7 +60,7 @@ class Sample:
     def mean(self) -> float:
         return self.total / self.size
 
-    @property
+    @cached_property
     def squares(self) -> float:
         """Returns the sum of the squared distances from the mean."""
         return float(self.counts @ (self.values - self.mean)**2)

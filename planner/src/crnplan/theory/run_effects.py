@@ -97,7 +97,8 @@ def quotient(series: Floats, divisor: Floats) -> Floats:
     for place in range(len(found) - 1):
         if place % LOOK_EVERY == 0 and place > max(reach, end):
             last = found[place - reach:place]
-            if last.max() - last.min() <= EQUAL * last.max():  # So are all others.
+            is_near = abs(last[0] - last[-1]) <= 2 * EQUAL * last[-1]
+            if is_near and last.max() - last.min() <= EQUAL * last.max():  # So are all others.
                 found[place:] = found[place - 1]
                 break
         more, most, value = 1, min(reach, len(found) - 1 - place), found[place]
