@@ -84,13 +84,13 @@ def with_places(whole_part: str, digits: int) -> str:
 
 def write_cell(sheet: Worksheet, row: int, place: int, cell: Cell, style: Format) -> int:
     """Writes a cell, empty for no figure, and returns how many letters it needs."""
-    if isinstance(cell, str) or cell is None or is_missing(cell) or math.isinf(cell):
-        shown = "" if cell is None or is_missing(cell) else str(cell)
-        if shown:
-            sheet.write_string(row, place, shown, style)
-        return len(shown)
-    sheet.write_number(row, place, float(cell), style)
-    return len(f"{float(cell):,.2f}") + ROOM
+    if not isinstance(cell, str) and cell is not None and math.isfinite(cell):
+        sheet.write_number(row, place, figure := float(cell), style)
+        return len(f"{figure:,.2f}") + ROOM
+    shown = "" if is_missing(cell) else str(cell)
+    if shown:
+        sheet.write_string(row, place, shown, style)
+    return len(shown)
 
 
 def series_of(first: int, last: int, **style: object) -> dict[str, object]:
