@@ -10,15 +10,15 @@ use std::snapshot::Snapshot;
 use std::sync::Wait;
 use std::time::Duration;
 
-// How many waits in a row only spin.
+// The least size of a large ring, where each wait sleeps: so many slots keep the other threads at work meanwhile.
+const LARGE_RING: u64 = 128;
+
+// How many waits in a row only spin on a smaller ring: its threads need one another after a few blocks.
 const SPINS: u32 = 4;
 
-// How many waits in a row yield after that, on a ring that is not large: its threads need one another after a few blocks.
-// If other work has the processors, a yield gives it a whole turn, so that more of them would cost more than a sleep.
+// How many waits in a row yield there after that. If other work has the processors, a yield gives it a whole turn, so that
+// more of them would cost more than a sleep.
 const YIELDS: u32 = 16;
-
-// The least size of a large ring, where a wait that has spun sleeps: so many slots keep the other threads at work meanwhile.
-const LARGE_RING: u64 = 128;
 
 // A reader sleeps a microsecond for so many slots, about as long as the producer takes to fill the ring.
 const READER_SLOTS: u64 = 8;
@@ -52,8 +52,8 @@ impl Waiting {
         }
     }
 
-    /// Waits before a reader's next look for a block, and returns the pause that it made. The first few waits for the same
-    /// block keep the processor.
+    /// Waits before a reader's next look for a block, and returns the pause that it made. On a small ring the first few waits
+    /// for the same block do not sleep.
     ///
     /// # Asks
     ///
@@ -75,8 +75,8 @@ impl Waiting {
         self.pauses.make(rt, pause)
     }
 
-    /// Waits before the producer's next look for a free slot, and returns the pause that it made. The first few waits for the
-    /// same block keep the processor.
+    /// Waits before the producer's next look for a free slot, and returns the pause that it made. On a small ring the first
+    /// few waits for the same block do not sleep.
     ///
     /// # Asks
     ///
@@ -126,12 +126,13 @@ impl Waiting {
             self.awake = 0;
             self.pauses.begin_anew();
         }
+        if size >= LARGE_RING || self.awake >= SPINS + YIELDS {
+            return Pause::Sleep(sleep);
+        }
         let pause = if self.awake < SPINS {
             Pause::Spin
-        } else if size < LARGE_RING && self.awake < SPINS + YIELDS {
-            Pause::Yield
         } else {
-            return Pause::Sleep(sleep);
+            Pause::Yield
         };
         self.awake += 1;
         pause

@@ -30,12 +30,12 @@ reader_sleep size = max (size / READER_SLOTS - LATENESS) 1 * 1_000
 abbrev pub producer_sleep : ℕ → ℕ
 producer_sleep size = max (size / PRODUCER_SLOTS) 1 * 1_000
 
--- A pause after `awake` waits for the same block that did not sleep, on a ring of so many slots: the first waits spin, then
--- some yield unless the ring is large, and all others sleep for so many nanoseconds.
+-- A pause after `awake` waits for the same block that did not sleep, on a ring of so many slots: on a large ring it is a sleep
+-- for so many nanoseconds, and on another the first waits spin, then some yield, and all others sleep for that time.
 abbrev pub Comes : ℕ → ℕ → ℕ → Pause → Type 0
-Comes size nanos awake Spin = awake < SPINS
+Comes size nanos awake Spin = (awake < SPINS) × (size < LARGE_RING)
 Comes size nanos awake Yield = (SPINS ≤ awake) × (awake < SPINS + YIELDS) × (size < LARGE_RING)
-Comes size nanos awake (Sleep time) = (SPINS ≤ awake) × (size < LARGE_RING → SPINS + YIELDS ≤ awake) × (as_nanos time ≡ nanos)
+Comes size nanos awake (Sleep time) = (size < LARGE_RING → SPINS + YIELDS ≤ awake) × (as_nanos time ≡ nanos)
 
 -- how many waits did not sleep, one more wait counted
 abbrev pub with_pause : ℕ → Pause → ℕ
