@@ -28,6 +28,7 @@ from ..theory.shortfalls import LEAST_CHANCE
 # Shares of the best cost: by which gaps may be better that are not looked at, and beyond which costs are far more.
 GAIN, FAR_MORE = 5e-5, 0.1
 NEARLY = 1 - 1e-6  # times a price: with one so far below, the best level is not dearer by rounding.
+FEW = 2  # One in so many gaps of a grid is looked at first.
 FINE = 64  # Beside the best gap, others are looked at that are so many times narrower apart.
 
 
@@ -44,14 +45,16 @@ def low_added(sums: Floats, table: Floats, place: int, low: float, before: Float
 def add_low(sums: Floats, table: Floats, place: int, low: float, before: Floats, line: Floats) -> None:
     """Adds a low, so many cells below S, to the sums of all levels from there on. `table` has by level of a low, in
     cells from 0 on, stock and unmet demand. Beyond it stock rises by the items of a cell, and is less by the mean
-    demand: both are the `line`. `before` has the sum of the chances of the lows before, and that of their places."""
+    demand: both are the `line`. `before` has the sum of the chances of the lows before, and that of their places. Numba
+    makes fast code of `while`."""
     width = table.shape[1]
     last = place + width - 1
     sums[0, last] = line[0] * (last * before[0] - before[1]) - line[1] * before[0]
     for row in range(2):
-        here, added = sums[row, place:place + width], table[row]
-        for cell in range(width):
+        here, added, cell = sums[row, place:place + width], table[row], 0
+        while cell < width:
             here[cell] += low * added[cell]
+            cell += 1
     before[0] += low
     before[1] += low * place
 
@@ -236,12 +239,14 @@ def set_means(chances: Floats, low: int, rounded: float, step: int, means: Float
         if cell >= 0:
             means[0, cell], means[1, cell] = owed_before, owed
         before, after = chances[0, cell - low], chances[1, cell - low]
-        total_before, total = total_before + (before > rounded) * before, total + (after > rounded) * after
+        total_before += before if before > rounded else 0.0
+        total += after if after > rounded else 0.0
         cell -= 1
-    mean = owed / total + low
-    for level in range(size):
-        before, after = means[0, level] / total_before, means[1, level] / total
-        means[0, level], means[1, level] = step * max(after + level - mean, 0.0), step * max(after - before, 0.0)
+    mean, stock, unmet, level = owed / total + low, means[0], means[1], 0
+    while level < size:
+        before, after = stock[level] / total_before, unmet[level] / total
+        stock[level], unmet[level] = step * max(after + level - mean, 0.0), step * max(after - before, 0.0)
+        level += 1
 
 
 @composed()
@@ -315,7 +320,7 @@ def best_policies(theory: OneLead, costs: Floats) -> tuple[Whole, Floats]:
     floor = least_costs(table[:, feasible.least // step:].copy(), its.asked, its.ranks, costs)
     if min(feasible.multiple, step) > 1:  # the least level of a gap may be none of a narrower one
         floor[:] = -np.inf
-    for some in (its.gaps[gap_grid(len(its.gaps) - 1)], its.gaps):
+    for some in (its.gaps[gap_grid(len(its.gaps) - 1)[::FEW]], its.gaps):
         compare_gaps(its.lows, theory.span, table, np.array([step, step * theory.after.mean]), *its.bounds(some),
                      its.levels, its.asked, its.ranks, costs, floor, its.best, its.found)
         its.best *= 1 + NEAR
@@ -367,9 +372,11 @@ def finer(places: Whole, gaps: Whole, costs: Floats) -> Whole:
     """
     least, best, widths = costs[0].copy(), np.zeros(costs.shape[1], np.int64), places[1:] - places[:-1]
     for place in range(1, len(places)):
-        for case in range(len(best)):
-            if costs[place, case] < least[case]:
-                least[case], best[case] = costs[place, case], place
+        here, case = costs[place], 0
+        while case < len(best):
+            if here[case] < least[case]:
+                least[case], best[case] = here[case], place
+            case += 1
     is_due = widths > 1
     for at in np.flatnonzero(is_due):
         is_due[at] = may_gain(places, costs, least, at)
