@@ -32,8 +32,8 @@ def greatest(pairs: list[Decided], most: int) -> list[Decided]:
 
 class Survey:
     """What the items of a plan come to, as they are seen. `classes` has the sums of each class, with the name that
-    masters have for it, of items that are compared with a policy of today. `faults` are the items that have no plan, and
-    `asked` is a year's demand for those of them that have a price, in money."""
+    masters have for it, of items that are compared with a policy of today. `faults` are the items that have no plan,
+    and `asked` is a year's demand for those of them that have a price, in money."""
 
     def __init__(self, folder: PlannedFolder, most: int = 0) -> None:
         """Prepares to look at the items of a folder, of which the greatest ones are kept, at most so many."""

@@ -149,8 +149,8 @@ def kept_swings(folder: PlannedFolder, survey: Survey) -> Swings | None:
         digests, drawn = kept.digests(), drawn_items(folder, survey)
         if not drawn or any(digests.get(name) != digest for name, digest in drawn.items()):
             return None
-        known = [(*folder.item(name), kept.answer(name)) for name in drawn]
-    return swings_of([(item, answer, swing) for item, answer, swing in known if isinstance(swing, Swing)], survey.totals)
+        pairs = [(folder.item(name), kept.answer(name)) for name in drawn]
+    return swings_of([(*planned, swing) for planned, swing in pairs if isinstance(swing, Swing)], survey.totals)
 
 
 def estimated(parts: Floats, sizes: Floats, total: float, items: int) -> tuple[float, float]:
