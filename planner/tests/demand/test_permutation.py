@@ -95,19 +95,18 @@ def test_bound(statistics: list[int], level: float) -> None:
 @pytest.mark.parametrize("way", ["loop", "plain", "__call__"])
 @pytest.mark.parametrize("size, lengths", [(8, ()), (13, (2,)), (24, (4, 7))])
 def test_suspicious_orders(size: int, lengths: tuple[int, ...], way: str) -> None:
-    """Each way counts the orders whose statistic is at least a bound, until all tests have more than they may."""
+    """Each way counts the orders whose statistic is at least that of the history, until all tests have more than they
+    may."""
     random = np.random.default_rng(size)
     numbers, orders = random.poisson(1.5, size), random.permuted(np.tile(np.arange(size), (40, 1)), axis=1)
     parts = np.array([np.arange(size) % length for length in lengths], np.int64).reshape(-1, size)
     kinds = [(kind, ()) for kind in ("autocorrelation", "trend", "shift")] + [("season", part) for part in parts]
-    found = [sorted(of_row(kind, numbers[order], part) for order in orders) for kind, part in kinds]
-    bounds = [its[10] - 1e-9 for its in found]
-    expected = [sum(value >= bound for value in its) for its, bound in zip(found, bounds)]
-    far, ranks = centred(numbers.astype(float)), centred(stats.rankdata(numbers))
+    enough = np.array([sum(of_row(kind, numbers[order], part) >= of_row(kind, numbers, part) - 1e-9 for order in orders)
+                       for kind, part in kinds])
+    words = centred(numbers.astype(float)), centred(stats.rankdata(numbers)), orders, parts
     counted = getattr(permutation.suspicious, way)
-    words, enough = (far, ranks, orders, parts, np.array(bounds)), np.array(expected)
-    assert counted(*words, enough).tolist() == expected
-    assert counted(*words, np.append(-1, enough[1:])).tolist()[1:] == expected[1:]
+    assert counted(*words, enough).tolist() == enough.tolist()
+    assert counted(*words, np.append(-1, enough[1:])).tolist()[1:] == enough.tolist()[1:]
     for most in (enough - 1, enough // 2):
         assert (most < counted(*words, most)).all() and (counted(*words, most) <= enough).all()
 

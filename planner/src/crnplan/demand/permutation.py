@@ -162,41 +162,41 @@ class Orders:
         """Returns the p values of all tests that have one of at most a level. A test is left when enough orders are as
         suspicious. A season has the part of each period."""
         kinds, parts = statistics_of(seasons), np.array([*seasons.values()], np.int64).reshape(-1, len(self.codes))
-        least = np.array([kind(self.far[None], self.ranks[None])[0] for kind in kinds.values()]) * (1 - ROUNDING)
         counts, most = np.ones(len(kinds), np.int64), most_of(level, TIMES + 1)
         for orders in self.drawn(AT_ONCE):
-            counts += suspicious(self.far, self.ranks, orders, parts, least, most - counts)
+            counts += suspicious(self.far, self.ranks, orders, parts, most - counts)
             if counts.min() > most:
                 break
         return {name: count / (TIMES + 1) for name, count in zip(kinds, counts.tolist()) if count <= most}
 
 
-def as_suspicious(far: Floats, ranks: Floats, orders: Places, parts: Whole, least: Floats, most: Whole) -> Whole:
-    """Returns how many orders of distances and ranks have a statistic of at least so much, for each test: those of the
-    order of a history, and one for each row of parts. Tests are left, or all of them, that have more than `most`."""
-    rows = far.take(orders), ranks.take(orders)
+def as_suspicious(far: Floats, ranks: Floats, orders: Places, parts: Whole, most: Whole) -> Whole:
+    """Returns for each test, of the order and of each row of parts, how many orders of a history are as suspicious as
+    that itself, of which it takes distances and ranks. Tests are left, or all of them, that have more than `most`."""
+    rows, own = (far.take(orders), ranks.take(orders)), (far[None], ranks[None])
     kinds: list[Statistic] = [ljung_box, trend, shift, *(functools.partial(kruskal, its) for its in parts)]
-    return np.array([np.count_nonzero(kind(*rows) >= bound) if its >= 0 else 0
-                     for kind, bound, its in zip(kinds, least, most)])
+    return np.array([np.count_nonzero(kind(*rows) >= kind(*own) * (1 - ROUNDING)) if its >= 0 else 0
+                     for kind, its in zip(kinds, most)])
 
 
 @compiled(as_suspicious, after=PLAIN_CALLS)
-def suspicious(far: Floats, ranks: Floats, orders: Places, parts: Whole, least: Floats, most: Whole) -> Whole:
+def suspicious(far: Floats, ranks: Floats, orders: Places, parts: Whole, most: Whole) -> Whole:
     """Returns what `as_suspicious` does, order by order, with three lags, until all tests are left."""
     size, seasons, squares, rank_squares, edge = len(far), len(parts), 0.0, 0.0, max(1, math.ceil(EDGE * len(far)))
-    counts, weights, row, ranked = np.zeros(len(least), np.int64), np.zeros(size), np.zeros(size + LAGS), np.zeros(size)
-    most_parts = parts.max() + 1 if seasons else 0
-    sums, sizes, found = np.zeros((seasons, most_parts)), np.zeros((seasons, most_parts)), np.zeros(len(least))
+    counts, weights, row, ranked = np.zeros_like(most), np.zeros(size), np.zeros(size + LAGS), np.zeros(size)
+    found, least, most_parts = np.zeros(len(most)), np.zeros(len(most)), parts.max() + 1 if seasons else 0
+    sums, sizes = np.zeros((seasons, most_parts)), np.zeros((seasons, most_parts))
     for place in range(size):
         squares, rank_squares = squares + far[place]**2, rank_squares + ranks[place]**2
         if edge <= place + 1 <= size - edge:
             weights[place] = size / ((place + 1.0) * (size - place - 1))
         for season in range(seasons):
             sizes[season, parts[season, place]] += 1.0
-    for order in range(len(orders)):
+    for order in range(-1, len(orders)):  # The history itself comes first.
         below = slope = explained = first = second = third = 0.0
         for place in range(size):
-            number, rank = far[orders[order, place]], ranks[orders[order, place]]
+            other = orders[order, place] if order >= 0 else place
+            number, rank = far[other], ranks[other]
             row[place + LAGS], ranked[place] = number, rank
             first += number * row[place + 2]
             second += number * row[place + 1]
@@ -211,11 +211,11 @@ def suspicious(far: Floats, ranks: Floats, orders: Places, parts: Whole, least: 
             sums[season], found[3 + season] = 0.0, 0.0
             for place in range(size):
                 sums[season, parts[season, place]] += ranked[place]
-            for part in range(most_parts):
-                if sizes[season, part] > 0:
-                    found[3 + season] += sums[season, part]**2 / sizes[season, part] / rank_squares * (size - 1)
-        for test in range(len(least)):
-            counts[test] += found[test] >= least[test]
+            for part in np.flatnonzero(sizes[season]):
+                found[3 + season] += sums[season, part]**2 / sizes[season, part] / rank_squares * (size - 1)
+        least = found * (1 - ROUNDING) if order < 0 else least
+        for test in range(len(most)):
+            counts[test] += order >= 0 and found[test] >= least[test]
         if (counts > most).all():
             break
     return counts
