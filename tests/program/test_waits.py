@@ -38,6 +38,8 @@ from tests.stored import on_ring, stored
 HERE = Path(__file__).resolve().parent
 # The scenario of the longest run, the size of the ring on which threads yield, and the sizes on which they sleep.
 TEXT, SMALL, LARGE = stored("bench/largest.toml"), 64, (128, 512, 1024)
+# The microseconds of the shortest sleep.
+LEAST_SLEEP = 8
 # The sleeps of a run may last so many seconds. A host that takes the processors away wakes threads late, so the
 # shortest of some runs counts.
 MOST_ASLEEP, ROUNDS = 4, 3
@@ -123,13 +125,13 @@ def test_pauses_on_small_ring(program: Path, compiled: Compiler) -> None:
     """Threads yield on the small ring, and ask to sleep for the time of this ring, if they sleep."""
     yields, *times = numbers_of(program, on_ring(TEXT, SMALL), compiled(HERE / "pauses.c"))
     assert yields > 0
-    assert set(times) <= {0, 1_000}
+    assert set(times) <= {0, 1_000 * LEAST_SLEEP}
 
 
 @pytest.mark.parametrize("size", LARGE)
 def test_pauses_on_large_ring(program: Path, compiled: Compiler, size: int) -> None:
     """Threads never yield on a large ring, and ask to sleep for the time of its size. By chance none may sleep."""
-    producer, reader = 1_000 * (size // 64), 1_000 * max(size // 8 - 16, 1)
+    producer, reader = (1_000 * max(micros, LEAST_SLEEP) for micros in (size // 64, size // 8 - 16))
     for _ in range(ROUNDS):
         yields, *times = numbers_of(program, on_ring(TEXT, size), compiled(HERE / "pauses.c"))
         if yields or 0 not in times:

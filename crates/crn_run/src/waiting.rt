@@ -29,6 +29,10 @@ const PRODUCER_SLOTS: u64 = 64;
 // By how many microseconds at least a timer is late; the system adds up to 50.
 const LATENESS: u64 = 16;
 
+// The least microseconds of a sleep. A shorter one may be over before its thread has left the processor. Under a real-time
+// policy a thread that never leaves it keeps off the one that it waits for.
+const LEAST_SLEEP: u64 = 8;
+
 /// The waits of one thread for the others of its ring.
 #[derive(Drop)]
 pub(crate) struct Waiting {
@@ -104,7 +108,9 @@ impl Waiting {
         ensures { Waits (spec_of ring.now).size (reader_sleep (spec_of ring.now).size) block self.old self.new result }
     {
         let size = ring.spec().size;
-        let micros = (size / READER_SLOTS).saturating_sub(LATENESS).max(1);
+        let micros = (size / READER_SLOTS)
+            .saturating_sub(LATENESS)
+            .max(LEAST_SLEEP);
         self.next_pause(size, Duration::from_micros(micros), block)
     }
 
@@ -113,7 +119,7 @@ impl Waiting {
         ensures { Waits (spec_of ring.now).size (producer_sleep (spec_of ring.now).size) block self.old self.new result }
     {
         let size = ring.spec().size;
-        let micros = (size / PRODUCER_SLOTS).max(1);
+        let micros = (size / PRODUCER_SLOTS).max(LEAST_SLEEP);
         self.next_pause(size, Duration::from_micros(micros), block)
     }
 

@@ -5,7 +5,7 @@ use Rattle.crn_proto.specs.declared.spec.RingSpec.{RingSpec}
 use Rattle.crn_proto.specs.declared.actor_parts.ProducerPart.{ProducerPart}
 use Rattle.crn_proto.specs.declared.actor_parts.ReaderPart.{ReaderPart}
 use Rattle.crn_ring.specs.Parts.{IsFull, SeesNothing}
-use Rattle.crn_run.specs.declared.waiting.TheConstants.{SPINS, YIELDS, LARGE_RING, READER_SLOTS, PRODUCER_SLOTS, LATENESS}
+use Rattle.crn_run.specs.declared.waiting.TheConstants.{SPINS, YIELDS, LARGE_RING, READER_SLOTS, PRODUCER_SLOTS, LATENESS, LEAST_SLEEP}
 use Rattle.crn_run.specs.declared.pausing.Pause.{Pause}
 use Rattle.crn_run.specs.declared.pausing.Pause.TheVariants.{Spin, Yield, Sleep}
 use Rattle.crn_run.specs.declared.waiting.Waiting.{Waiting}
@@ -22,13 +22,13 @@ pub record HasSeenNoSlot (spec : RingSpec) (p p' : ProducerPart) : Type 0 where
   pub taken : ℕ
   pub full : IsFull spec p p' reader taken
 
--- the nanoseconds for which a reader of a ring of so many slots sleeps: a microsecond for some slots, less a timer's lateness, but at least one
+-- the nanoseconds for which a reader of a ring of so many slots sleeps: a microsecond for some slots, less a timer's lateness, but no less than the least sleep
 abbrev pub reader_sleep : ℕ → ℕ
-reader_sleep size = max (size / READER_SLOTS - LATENESS) 1 * 1_000
+reader_sleep size = max (size / READER_SLOTS - LATENESS) LEAST_SLEEP * 1_000
 
--- and its producer: a microsecond for more slots, but at least one
+-- and its producer: a microsecond for more slots, but no less than that
 abbrev pub producer_sleep : ℕ → ℕ
-producer_sleep size = max (size / PRODUCER_SLOTS) 1 * 1_000
+producer_sleep size = max (size / PRODUCER_SLOTS) LEAST_SLEEP * 1_000
 
 -- A pause after `awake` waits for the same block that did not sleep, on a ring of so many slots: on a large ring it is a sleep
 -- for so many nanoseconds, and on another the first waits spin, then some yield, and all others sleep for that time.
