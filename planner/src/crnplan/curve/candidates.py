@@ -52,10 +52,10 @@ def lower_hull(owner: Whole, cost: Floats, unmet: Floats) -> Whole:
     `owner` has whole numbers from 0 on. Prices rise strictly from each vertex to the next.
     """
     order = np.lexsort((unmet, cost, owner))
-    # Ranks are whole numbers, so that the minimum starts anew with each owner, and nothing is rounded.
-    ranks = np.unique(unmet, return_inverse=True)[1].reshape(-1)[order] - owner[order] * (len(order) + 1)
-    least = np.minimum.accumulate(ranks)
-    meets_more = np.append(True, least[1:] < least[:-1])
+    least, is_first = unmet[order], np.append(True, np.diff(owner[order]) > 0)
+    for its in np.split(least, np.flatnonzero(is_first)[1:]):
+        np.minimum.accumulate(its, out=its)
+    meets_more = is_first | np.append(True, least[1:] < least[:-1])
     return vertices(owner, cost, unmet, order[meets_more])
 
 
