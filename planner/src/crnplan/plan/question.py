@@ -191,8 +191,9 @@ class Terms:
         """Returns the scenario of today's policy, or of none, with a backlog rate, by default that of the rates or else
         1, without which theory finds no best policy. Its key follows from the item's name and the seed."""
         scenario = self._scenario
-        costs = scenario.costs if backlog is None else dataclasses.replace(scenario.costs, backlog=backlog)
-        return dataclasses.replace(scenario, costs=costs, initial=initial)
+        if backlog not in (None, scenario.costs.backlog):
+            scenario = dataclasses.replace(scenario, costs=dataclasses.replace(scenario.costs, backlog=backlog))
+        return dataclasses.replace(scenario, initial=initial) if initial else scenario
 
     def for_theory(self) -> Scenario:
         """Returns the scenario with a backlog rate by which theory has policies that meet a wanted share: with hardly any
