@@ -9,6 +9,7 @@ import contextlib
 import importlib
 import itertools
 import multiprocessing
+import operator
 import os
 import queue
 import shutil
@@ -253,10 +254,6 @@ def run_as_here(function: Callable[..., Any], own: Mapping[str, str], program: s
     return stranger(f"{worker.name} ({worker.address})", own, identity(program)) or function(*words)
 
 
-def itself(word: Any) -> Any:
-    return word
-
-
 class Cluster(Workers):
     """The workers of a Dask scheduler that have the crnplan and the program of this machine. Some may end, and others
     may come."""
@@ -282,7 +279,7 @@ class Cluster(Workers):
     def share(self, words: Sequence[Any]) -> Sequence[Any]:
         """Returns words that go to each worker once. What is scattered is lost with the worker that has it; these are
         results, which the scheduler makes anew."""
-        return [self.client.submit(itself, word, pure=False) for word in words]
+        return [self.client.submit(operator.getitem, [word], 0, pure=False) for word in words]
 
     def submit(self, function: Callable[..., Any], words: Sequence[Any], late: Sequence[Any] = ()) -> Any:
         """Begins to run a function on a worker, not on those where it is late, if there are others."""
