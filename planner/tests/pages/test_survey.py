@@ -15,17 +15,21 @@ from planner.tests.pages.made_catalogue import made_folder
 
 
 def test_what_is_kept(tmp_path: Path, monkeypatch: pytest.MonkeyPatch) -> None:
-    """Of many items those with the greatest saving or loss are kept, and the names with the least digests."""
+    """Of many items those with the greatest saving or loss are kept, without laws, and the names with the least
+    digests."""
     monkeypatch.setattr(survey, "MOST_DRAWN", 5)
     monkeypatch.setattr(survey, "MOST_NAMES", 7)
     with planned_folder(made_folder(tmp_path / "plan", 40)) as folder:
         found, pairs = Survey.of(folder, 4), [*folder.answers()]
-        totals = found.totals
+        totals, backward = found.totals, Survey.of(folder, 4, reversed(pairs))
     compared = [(item, answer) for item, answer in pairs if isinstance(answer, Answer) and answer.verdict in COMPARED]
     names = sorted((item.name for item, _ in compared), key=lambda name: hashlib.sha256(name.encode()).hexdigest())
     assert found.drawn == sorted(names[:5])
     sizes = sorted((abs(answer.saving or 0.0) for _, answer in compared), reverse=True)
-    assert [abs(answer.saving or 0.0) for _, answer in found.greatest if isinstance(answer, Answer)] == sizes[:4]
+    for greatest in (found.greatest, backward.greatest):
+        kept = [answer for _, answer in greatest if isinstance(answer, Answer)]
+        assert [abs(answer.saving or 0.0) for answer in kept] == sizes[:4]
+        assert not any(answer.laws.demand.values for answer in kept)
     assert {name: its.compared for name, its in found.classes.items()} == Counter(
         item.category for item, _ in compared)
     assert totals.compared == len(compared)

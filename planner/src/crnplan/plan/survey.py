@@ -4,13 +4,15 @@ from __future__ import annotations
 import heapq
 from collections import defaultdict
 from collections.abc import Iterable, Iterator
+from dataclasses import replace
 from functools import cached_property
 
+from ..law import Law
 from ..records.columns import periods_a_year
 from ..records.item import NO_DEMAND, Item
 from ..records.items import Reject
 from ..remarks import Remark
-from .answer import COMPARED, Answer
+from .answer import COMPARED, Answer, Laws
 from .catalogue import PlannedFolder
 from .learned import drawn_from
 from .totals import Totals
@@ -18,16 +20,12 @@ from .totals import Totals
 MOST_DRAWN = 100  # items from which all follow
 MOST_NAMES = 10_000  # from which these are drawn at a time
 Decided = tuple[Item, Answer | Remark]
+NO_LAWS = Laws(1, Law((), ()), Law((), ()), None)
 
 
 def saving_of(answer: Answer | Remark) -> float | None:
     """Returns what an item saves that is compared with a policy of today; None for others."""
     return answer.saving if isinstance(answer, Answer) and answer.verdict in COMPARED else None
-
-
-def greatest(pairs: list[Decided], most: int) -> list[Decided]:
-    """Returns so many items with the greatest saving or loss, the first of equal ones."""
-    return heapq.nlargest(most, pairs, key=lambda pair: abs(saving_of(pair[1]) or 0.0))
 
 
 class Survey:
@@ -39,7 +37,8 @@ class Survey:
         """Prepares to look at the items of a folder, of which the greatest ones are kept, at most so many."""
         self._folder, self.classes = folder, defaultdict[str, Totals](Totals)
         self.faults, self.asked = list[Reject](), list[float]()
-        self._most, self._pairs, self._names = most, list[Decided](), list[str]()
+        # The greatest decisions so far, the least of them first, by their size and their place from the end.
+        self._most, self._kept, self._names = most, list[tuple[float, int, Decided]](), list[str]()
         self._masters, self._periods = folder.counts["files"]["items"]["name"], float(periods_a_year(folder.every))
 
     @classmethod
@@ -57,8 +56,9 @@ class Survey:
 
     @property
     def greatest(self) -> list[Decided]:
-        """Returns the decisions with the greatest saving or loss: items that are planned or have no demand."""
-        return greatest(self._pairs, self._most)
+        """Returns the decisions with the greatest saving or loss, the first of equal ones: items that are planned or have
+        no demand."""
+        return [decided for *_, decided in sorted(self._kept, reverse=True)]
 
     @property
     def drawn(self) -> list[str]:
@@ -67,11 +67,12 @@ class Survey:
 
     def seen(self, answers: Iterable[Decided]) -> Iterator[Decided]:
         """Yields all items with their answers, and notes each."""
-        for item, answer in answers:
+        for place, (item, answer) in enumerate(answers):
             if isinstance(answer, Remark) and item.past != NO_DEMAND:
                 self._note_fault(item, answer)
             else:
                 self._note(item, answer)
+                self._keep(place, item, answer)
             yield item, answer
 
     def _note_fault(self, item: Item, fault: Remark) -> None:
@@ -83,10 +84,14 @@ class Survey:
         if isinstance(answer, Answer) and answer.verdict in COMPARED:
             self.classes[item.category].add(item, answer)
             self._names.append(item.name)
-        if self._most:
-            self._pairs.append((item, answer))
-        # What is kept does not grow with the catalogue.
-        if len(self._pairs) > 2 * self._most:
-            self._pairs = greatest(self._pairs, self._most)
-        if len(self._names) > MOST_NAMES:
+        if len(self._names) > MOST_NAMES:  # What is kept does not grow with the catalogue.
             self._names = [*drawn_from(self._names, MOST_DRAWN)]
+
+    def _keep(self, place: int, item: Item, answer: Answer | Remark) -> None:
+        """Keeps a decision that is one of the greatest so far, but not its laws, which take most of the memory."""
+        size, is_full = abs(saving_of(answer) or 0.0), len(self._kept) == self._most
+        if is_full and (not self._most or size <= self._kept[0][0]):
+            return
+        if isinstance(answer, Answer):
+            answer = replace(answer, laws=NO_LAWS)
+        (heapq.heapreplace if is_full else heapq.heappush)(self._kept, (size, -place, (item, answer)))
