@@ -190,8 +190,7 @@ WORDS: dict[str, tuple[Say, Say]] = {
     # Of what a catalogue has learned (plan/catalogue.py).
     "own laws": (lambda it: "each item has the law of its own history" + f" ({it['reason']})" * bool(it["reason"]), ""),
     "learned": (lambda it: f"laws of demand were learned from {counted(it['items'], 'item')}"
-                + f" and {it['classes']:,} classes" * bool(it["classes"])
-                + " in an earlier run" * bool(it["earlier"]), ""),
+                + f" and {it['classes']:,} classes" * bool(it["classes"]), ""),
     # Of what may have moved the policy of an item since an earlier plan (plan/changes.py, plan/after.py).
     "new rows": (lambda it: f"{counted(it['periods'], 'new period')} with {counted(it['items'], 'item')}"
                  + (f" in {counted(it['rows'], 'row')}" if it["rows"] is not None else ""), ""),

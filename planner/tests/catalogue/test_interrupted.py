@@ -2,16 +2,19 @@
 from __future__ import annotations
 
 import contextlib
+import itertools
 import os
 import random
 import resource
 import shutil
 import signal
+import sqlite3
 import subprocess
 import sys
 import time
 from collections.abc import Callable, Iterator, Sequence
 from pathlib import Path
+from typing import Any
 
 import pytest
 
@@ -19,9 +22,10 @@ from crnplan.curve import gathered
 from crnplan.curve.exchange_curve import CURVE, LEFT_OUT, POLICIES, exchange_curve
 from crnplan.files import MARKER
 from crnplan.jobs import BATCH
+from crnplan.plan import catalogue
 from crnplan.plan.catalogue import IN_CHUNKS
 from planner.tests.catalogue.conftest import FAST, FILES, TABLES, WORDS, leave_few
-from planner.tests.catalogue.made import Made
+from planner.tests.catalogue.made import Made, name_of, teaching
 from planner.tests.conftest import Command, heed_interrupts, script, shared
 from planner.tests.jobs.clusters import SECONDS, Cluster
 
@@ -207,6 +211,39 @@ def test_killed_after_an_earlier_plan(folder: Path, crnplan: Command, start: Sta
     names = *TABLES, "changes.csv", "report.html"
     assert 0 < there < FEW and tables(folder / "plan", names) == tables(folder / "at_once", names)
     assert {it: (it.read_bytes(), it.stat().st_mtime_ns) for it in earlier.rglob("*") if it.is_file()} == before
+
+
+def all_files(folder: Path) -> dict[str, object]:
+    """Returns the bytes of each file in a folder, and of a file of SQLite what it has."""
+    found: dict[str, object] = {}
+    for path in (it for it in folder.rglob("*") if it.is_file()):
+        found[str(path.relative_to(folder))] = path.read_bytes()
+        if path.suffix == ".sqlite":
+            with contextlib.closing(sqlite3.connect(path)) as base:
+                found[path.name] = [*base.iterdump()]
+    return found
+
+
+def test_interrupted_once_items_have_learned(folder: Path, planted: Made, crnplan: Command, program: Path,
+                                             monkeypatch: pytest.MonkeyPatch) -> None:
+    """A plan whose items learn from one another has the same bytes in all files if it was interrupted after that, and
+    the terminal alone says what was kept."""
+    teaching(planted, [name_of(number) for number in range(34, 34 + FEW)]).write(folder)
+    words = "catalogue", *WORDS, "--fit", "auto", "--borrow", "all", "--jobs", 1, "--program", program, "--out"
+    assert crnplan(*words, "whole").status == 0
+    calls, plan_batch = itertools.count(), catalogue.plan_batch
+
+    def plan_some(*asked: Any) -> object:
+        if next(calls) > 1:
+            raise KeyboardInterrupt
+        return plan_batch(*asked)
+    with monkeypatch.context() as cut:
+        cut.setattr(catalogue, "plan_batch", plan_some)
+        assert crnplan(*words, "plan").status == 130
+    assert 0 < kept(folder) < FEW
+    told = crnplan(*words, "plan")
+    assert told.status == 0 and "learned in an earlier run" in told.errors
+    assert all_files(folder / "plan") == all_files(folder / "whole")
 
 
 def interrupt(process: "subprocess.Popen[bytes]") -> None:

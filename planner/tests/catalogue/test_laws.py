@@ -137,9 +137,9 @@ def test_what_was_learned_is_kept(read: Catalogued, answers: Store[Answer]) -> N
     """Takes what was learned before, unless it is to be learned again or too few items were within the grid."""
     for again, earlier in ((False, False), (False, True), (True, False)):
         found = learned_of(answers, read, Settings(), again)
-        assert [it.facts for it in found.remarks] == [{"items": ITEMS, "classes": 0, "earlier": earlier}]
+        assert [it.facts for it in found.remarks] == [{"items": ITEMS, "classes": 0}] and found.is_kept == earlier
     answers.keep_facts({PRIOR: replace(found.prior, outside=ITEMS - 99).text})
-    assert [it.facts["earlier"] for it in learned_of(answers, read, Settings(), False).remarks] == [False]
+    assert not learned_of(answers, read, Settings(), False).is_kept
 
 
 @pytest.mark.parametrize("most", [1, 3, 200])
@@ -173,8 +173,8 @@ def test_an_earlier_plan_has_taught(read: Catalogued, answers: Store[Answer], pr
     with contextlib.closing(Store(tmp_path / "earlier", Answer)) as earlier:
         earlier.keep_facts({PRIOR: prior.text, PRIOR_WINDOW: str(read.window)})
         take_prior(answers, Mock(store=earlier), again)
-    remark, = learned_of(answers, read, Settings(borrow=CLASS), again).remarks
-    assert (remark.facts["items"], remark.facts["earlier"]) == ((40, False) if again else (ITEMS, True))
+    found = learned_of(answers, read, Settings(borrow=CLASS), again)
+    assert (found.remarks[0].facts["items"], found.is_kept) == ((40, False) if again else (ITEMS, True))
 
 
 @pytest.mark.parametrize("read", [(20, {"I-001": "all"})], indirect=True)

@@ -47,15 +47,17 @@ def test_as_if_no_earlier_row_were_there(tables: Sequence[Path], few: Sequence[P
     assert (windowed.decisions[["s_chosen", "S_chosen"]] != whole[["s_chosen", "S_chosen"]]).any(axis=1).mean() >= 0.5
 
 
-def test_another_window_learns_anew(tables: Sequence[Path], tmp_path: Path, program: Path) -> None:
+def test_another_window_learns_anew(tables: Sequence[Path], tmp_path: Path, monkeypatch: pytest.MonkeyPatch,
+                                    crnplan: Command, program: Path) -> None:
     """What was learned from all periods is not used by a plan with a window, and what that learned is used again."""
-    words = {**SHORT, "borrow": "all", "jobs": 1, "program": program, "out": tmp_path / "plan"}
-    crn.plan(*tables, **words)
-    other = crn.plan(*tables, window=WINDOW, **words)
-    assert "in an earlier run" not in other.text and f"the last {WINDOW} periods" in other.text
-    words["out"] = tmp_path / "new"
-    pd.testing.assert_frame_equal(other.decisions, crn.plan(*tables, window=WINDOW, **words).decisions)
-    assert "in an earlier run" in crn.plan(*tables, window=WINDOW, **words).text
+    monkeypatch.chdir(tmp_path)
+    Path("crnplan.toml").write_text("[catalogue]\nperiods = 64\nreplications = 4\n", "utf-8")
+    words = "catalogue", *tables, "--borrow", "all", "--jobs", 1, "--program", program
+    assert crnplan(*words, "--out", "plan").status == 0
+    told = [crnplan(*words, "--window", WINDOW, "--out", name) for name in ("plan", "new", "plan")]
+    assert ["learned in an earlier run" in its.errors for its in told] == [False, False, True]
+    assert all(its.status == 0 and f"the last {WINDOW} periods" in its.output for its in told)
+    assert Path("plan/decisions.csv").read_bytes() == Path("new/decisions.csv").read_bytes()
 
 
 def test_no_demand_in_the_window(few: Sequence[Path], tmp_path: Path, program: Path) -> None:

@@ -154,7 +154,8 @@ def planned(folder: Folder, settings: Settings, asked: Mapping[str, Any]) -> lis
     """Plans a catalogue that was read into a folder, and says what comes of it. Returns what is lost or broken."""
     done = plan_into(folder, settings, after=asked["after"], jobs=asked["jobs"], address=asked["cluster"],
                      program=asked["program"], again=asked["again"], shown=True)
-    click.echo(f"{folder.path}: {done.planned:,} items planned, {done.kept:,} kept from before", err=True)
+    click.echo(f"{folder.path}: {done.planned:,} items planned, {done.kept:,} kept from before"
+               + "; laws of demand were learned in an earlier run" * done.has_learned, err=True)
     click.echo(done.summary, nl=False)
     return [*done.missing, *[f"{done.totals.broken:,} items are not planned by a fault of crnplan: please report them "
                              "with their rows"] * (done.totals.broken > 0)]

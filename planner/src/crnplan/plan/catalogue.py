@@ -263,11 +263,12 @@ class Lost(Failed):
 
 @dataclass(frozen=True)
 class Done:
-    """What a run has done: how many items were planned now, and kept from before, the totals, remarks on what was
-    learned, what is lost, and the summary."""
+    """What a run has done: how many items were planned now, and kept from before, whether laws were learned before, the
+    totals, remarks on what was learned, what is lost, and the summary."""
 
     planned: int
     kept: int
+    has_learned: bool
     totals: Totals
     learned: tuple[Remark, ...]
     missing: Sequence[str]
@@ -286,7 +287,7 @@ def plan_into(folder: Folder, settings: Settings, *, after: Path | None = None, 
         if earlier:
             check_records(earlier, read)
             take_prior(answers, earlier, again)
-        prior, usual, remarks = learned_of(answers, read, settings, again)
+        prior, usual, remarks, has_learned = learned_of(answers, read, settings, again)
         if settings.window is not None:
             remarks += (Remark("window", {"periods": settings.window}),)
         settings = dataclasses.replace(settings, borrow=usual, every=read.fact("every"))
@@ -309,4 +310,4 @@ def plan_into(folder: Folder, settings: Settings, *, after: Path | None = None, 
         totals, kept = survey.totals, sum(one.kept for one in answers.made)
         missing = missing_of(catalogue.counts, totals.answered)
         summary = write_catalogue(folder, catalogue, survey, remarks, missing)
-        return Done(sum(one.items for one in answers.made) - kept, kept, totals, remarks, missing, summary)
+        return Done(sum(one.items for one in answers.made) - kept, kept, has_learned, totals, remarks, missing, summary)

@@ -24,11 +24,13 @@ MOST_READ, MOST_OF_CLASSES = 10_000, 30_000
 
 
 class Learned(NamedTuple):
-    """What items learn from one another, from whom an item learns if its master does not say that, and remarks."""
+    """What items learn from one another, from whom an item learns if its master does not say that, remarks, and whether
+    it was learned in an earlier run."""
 
     prior: Prior
     usual: str
     remarks: tuple[Remark, ...]
+    is_kept: bool = False
 
 
 def own_laws(reason: str) -> Learned:
@@ -94,8 +96,8 @@ def learned_of(answers: Facts, read: Catalogued, settings: Settings, again: bool
     others = sum(count for word, count in said.items() if word not in ("", usual))
     own = [Remark("own laws", {"reason": ""})] if usual == NONE else []
     otherwise = [Remark("masters say otherwise", {"items": others})] if others else []
-    remark = Remark("learned", {"items": items, "classes": len(prior.classes), "earlier": prior is earlier})
-    return Learned(prior, usual, (*own, remark, *otherwise))
+    remark = Remark("learned", {"items": items, "classes": len(prior.classes)})
+    return Learned(prior, usual, (*own, remark, *otherwise), prior is earlier)
 
 
 def kept_prior(answers: Facts, window: int | None, way: str, least: int) -> Prior | None:

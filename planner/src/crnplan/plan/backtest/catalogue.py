@@ -128,7 +128,7 @@ def backtest_into(folder: Folder, settings: Settings, walk: Walk, *, jobs: int |
     with (faults_of(folder.path),
           contextlib.closing(Records(folder.path / READ, walk.record, settings.window)) as read,
           contextlib.closing(Chunked(folder.store(TESTS), Backtest, folder.inner(IN_CHUNKS))) as tests):
-        prior, usual, learned = learned_of(tests, read, settings, again=True)
+        prior, usual, learned, _ = learned_of(tests, read, settings, again=True)
         settings = dataclasses.replace(uncorrected(settings), borrow=usual, every=read.fact("every"))
         common = settings.common(repr(walk), prior)
         making = Answering(tests.folder.resolve(), folder.room().resolve(), Backtest,
