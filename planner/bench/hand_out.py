@@ -20,7 +20,7 @@ from typing import Any
 
 import click
 
-from crnplan.chunks import Answering, Chunk, Chunked, finish
+from crnplan.chunks import Answering, Chunk, Chunked, finishing
 from crnplan.jobs import Workers, cluster, processes
 from crnplan.plan.answer import LawFacts
 from planner.bench.page import handed_table
@@ -76,7 +76,7 @@ def measure(folder: Path, items: int, given: contextlib.AbstractContextManager[A
     with contextlib.closing(Chunked(folder / "answers.sqlite", LawFacts, folder / "answers")) as answers, given as its:
         making = Answering(folder / "answers", room, LawFacts, asking, instant, (40_000 * "p",))
         start, used = time.perf_counter(), time.process_time()
-        finish(answers, making, asking.names, contextlib.nullcontext(its), {}, shown=False)
+        [*finishing(answers, making, asking.names, contextlib.nullcontext(its), {}, shown=False)]
         return items / (time.process_time() - used), items / (time.perf_counter() - start)
 
 

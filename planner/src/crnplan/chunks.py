@@ -434,8 +434,3 @@ def finishing(answers: Chunked[Row], making: Answering[Row], names: Callable[[],
                 yield found[chunks[place]]
                 place += 1
     answers.commit([found[chunk] for chunk in chunks], facts)
-
-
-def finish(*words: Any, **named: Any) -> list[Made]:
-    """Does what `finishing` does, and returns the files."""
-    return [*finishing(*words, **named)]

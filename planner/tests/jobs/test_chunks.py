@@ -16,7 +16,7 @@ from unittest.mock import Mock
 import pytest
 
 from crnplan import chunks, jobs
-from crnplan.chunks import ENDING, PART, Answering, Chunk, Chunked, chunks_of, finish, finishing, sum_of_digests
+from crnplan.chunks import ENDING, PART, Answering, Chunk, Chunked, chunks_of, finishing, sum_of_digests
 from crnplan.errors import Failed
 from crnplan.plan.answer import Correction
 from crnplan.remarks import Remark
@@ -114,7 +114,7 @@ def done(store: Chunked[Correction], function: Callable[..., Any] = squares, cou
     """Answers all, and returns how many were kept from before. The answers are those that they should be."""
     folder = store.path.parent
     making = Answering(store.folder, folder / room, Correction, squares_of, function, (folder, squares_of.added), total)
-    made = finish(store, making, lambda: squares_of.names, jobs.processes(count), {"a": "fact"}, shown=False)
+    made = [*finishing(store, making, lambda: squares_of.names, jobs.processes(count), {"a": "fact"}, shown=False)]
     wanted: Answers = {name: Correction(-1.0, squares_of.added) if name.startswith("07") else
                        square(int(name[:2]), squares_of.added) for name in squares_of.names}
     assert {name: answer for name, _, answer in store.answers()} == wanted
@@ -233,7 +233,7 @@ def test_files_that_are_not_ours(store: Chunked[Correction]) -> None:
     for name in (*ours, *others):
         (store.folder / name).write_text("text")
     making = Answering(store.folder, store.path.parent, Correction, Squares(), squares, (store.path.parent, 0))
-    made = finish(store, making, lambda: NAMES, jobs.processes(1), {}, shown=False)
+    made = [*finishing(store, making, lambda: NAMES, jobs.processes(1), {}, shown=False)]
     assert {path.name for path in store.folder.iterdir()} == {it.file for it in made} | {MINE, *others}
 
 

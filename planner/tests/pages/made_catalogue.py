@@ -10,7 +10,7 @@ from fractions import Fraction
 from pathlib import Path
 from typing import Any
 
-from crnplan.chunks import Answering, Chunked, finish
+from crnplan.chunks import Answering, Chunked, finishing
 from crnplan.curve.parts import Point
 from crnplan.curve.exchange_curve import keep_curve
 from crnplan.demand.learning import Prior
@@ -65,7 +65,7 @@ def made_folder(path: Path, items: int, names: Sequence[str] = (), has_curve: bo
               contextlib.closing(Chunked(folder.store(ANSWERS), Answer, folder.inner(IN_CHUNKS))) as answers):
             making = Answering(answers.folder, folder.room(), Answer, PlanAsking(read.path, planned), made_answers,
                                ({item.name: answer for item, answer in pairs},), sums_of)
-            finish(answers, making, read.names, contextlib.nullcontext(Workers()), planned.facts, shown=False)
+            [*finishing(answers, making, read.names, contextlib.nullcontext(Workers()), planned.facts, shown=False)]
             if has_curve:
                 keep_curve(answers, made_curve((item, answer) for item, answer in pairs if isinstance(answer, Answer)))
             its = PlannedFolder(path, read, answers, planned)

@@ -18,7 +18,7 @@ from typing import Any, NamedTuple, cast
 
 import numpy as np
 
-from ..chunks import HEX, LEFT, Answering, Chunk, Chunked, Lines, finish
+from ..chunks import HEX, LEFT, Answering, Chunk, Chunked, Lines, finishing
 from ..errors import Refused
 from ..files import Folder, new_bytes
 from ..jobs import Workers, workers_of
@@ -241,7 +241,7 @@ def gather(own: Folder, folder: PlannedFolder, jobs: int | None, address: str | 
     with contextlib.closing(Chunked(own.store(CANDIDATES), OnCurve, own.inner(IN_CHUNKS))) as kept:
         making = Answering(kept.folder.resolve(), own.room().resolve(), OnCurve, CurveAsking(folder.path.resolve()),
                            on_curve_batch, (folder.settings,), counts_of)
-        made = finish(kept, making, folder.read.names, workers_of(jobs, address), {}, shown=shown)
+        made = [*finishing(kept, making, folder.read.names, workers_of(jobs, address), {}, shown=shown)]
         parts = Parts(kept)
     if not parts.parts:
         raise no_item(folder, parts)

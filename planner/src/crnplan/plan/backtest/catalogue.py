@@ -9,7 +9,7 @@ from collections.abc import Container, Iterable, Sequence
 from dataclasses import dataclass
 from pathlib import Path
 
-from ...chunks import Answering, Chunk, Chunked, finish
+from ...chunks import Answering, Chunk, Chunked, finishing
 from ...demand.learning import Prior
 from ...files import Folder, faults_of
 from ...jobs import workers_of
@@ -133,8 +133,8 @@ def backtest_into(folder: Folder, settings: Settings, walk: Walk, *, jobs: int |
         common = settings.common(repr(walk), prior)
         making = Answering(tests.folder.resolve(), folder.room().resolve(), Backtest,
                            TestAsking(read.path.resolve(), common), backtest_batch, (settings, prior, walk))
-        made = finish(tests, making, read.names, workers_of(jobs, address),
-                      {TESTED: json.dumps([common, dataclasses.asdict(settings)])}, shown=shown)
+        made = [*finishing(tests, making, read.names, workers_of(jobs, address),
+                           {TESTED: json.dumps([common, dataclasses.asdict(settings)])}, shown=shown)]
         answers = (test for _, _, test in tests.answers())
         items = [*zip(read.whole_items(), answers, strict=True)]
         kept = sum(one.kept for one in made)
