@@ -57,9 +57,6 @@ class Chunk(NamedTuple):
     stop: str | None = None
 
 
-EVERYTHING = Chunk()
-
-
 def chunks_of(names: Iterable[str], count: int) -> list[Chunk]:
     """Returns the chunks of so many names, which are given in order."""
     size = min(max(-(-count // MANY_CHUNKS), LEAST_ITEMS), MOST_ITEMS)
@@ -403,11 +400,10 @@ class Chunked(Facts, Generic[Row]):
         value = self._opened(name)
         return None if value is None or digest not in (None, value[1]) else self.lines.columns.answer(value[2:])
 
-    def answers(self, chunk: Chunk = EVERYTHING) -> Iterator[tuple[str, str, Row | Remark]]:
-        """Yields each name in order with the digest and the answer, of all chunks or of one. Raises Damaged."""
+    def answers(self) -> Iterator[tuple[str, str, Row | Remark]]:
+        """Yields each name in order with the digest and the answer. Raises Damaged."""
         for made in self.made:
-            if chunk in (EVERYTHING, made.chunk):
-                yield from self.lines.answers(self.folder / made.file)
+            yield from self.lines.answers(self.folder / made.file)
 
 
 def finishing(answers: Chunked[Row], making: Answering[Row], names: Callable[[], Iterable[str]],

@@ -115,18 +115,15 @@ class PlannedFolder:
                 raise Refused(f"{self.path}: what has changed since the earlier plan is not known", AGAIN)
             yield from (change for _, _, change in store.answers() if isinstance(change, Change))
 
-    def answers(self, is_whole: bool = False, chunk: Chunk = Chunk()) -> Iterator[tuple[Item, Answer | Remark]]:
+    def answers(self, is_whole: bool = False,
+                files: Iterable[Made] | None = None) -> Iterator[tuple[Item, Answer | Remark]]:
         """Yields the items in order of their names, each with its answer, or with the fault for which it has none; with
-        the periods by which they were planned, or with all of the record. A `chunk` is one of those of the store."""
-        kept = self.store.answers(chunk)
-        for item in (self.read.whole_items if is_whole else self.read.items)(*chunk):
-            yield item, next(answer for name, _, answer in kept if name == item.name)
-
-    def answers_in(self, files: Iterable[Made]) -> Iterator[tuple[Item, Answer | Remark]]:
-        """Yields what `answers` does, of some files, which perhaps are not yet those of the store."""
-        for made in files:
+        the periods by which they were planned, or with all of the record. `files` are perhaps not yet those of the
+        store."""
+        items = self.read.whole_items if is_whole else self.read.items
+        for made in self.store.made if files is None else files:
             kept = self.store.lines.answers(self.store.folder / made.file)
-            for item in self.read.items(*made.chunk):
+            for item in items(*made.chunk):
                 yield item, next(answer for name, _, answer in kept if name == item.name)
 
     def item(self, name: str) -> tuple[Item, Answer]:
@@ -304,7 +301,7 @@ def plan_into(folder: Folder, settings: Settings, *, after: Path | None = None, 
         catalogue = PlannedFolder(folder.path, read, answers, planned)
         with contextlib.closing(finishing(answers, making, read.names, workers_of(jobs, address, path), planned.facts,
                                           shown=shown)) as files:
-            survey = write_tables(folder, catalogue, catalogue.answers_in(files))
+            survey = write_tables(folder, catalogue, catalogue.answers(files=files))
         if earlier:
             keep_changes(folder, catalogue.digest, changes_since(earlier, catalogue))
         totals, kept = survey.totals, sum(one.kept for one in answers.made)
