@@ -47,7 +47,6 @@ SOON = 1  # seconds by which the clock of a disk may be late
 AHEAD = 2  # chunks that are sent to a worker at a time
 COLUMNS = "columns"  # a fact: the columns of the answers in an index
 Row = TypeVar("Row")
-Begun = TypeVar("Begun")
 
 
 class Chunk(NamedTuple):
@@ -81,28 +80,7 @@ class Made(NamedTuple):
     sums: Json = None
 
 
-class Making(Protocol[Begun]):
-    """How the files of chunks are made: what workers are sent, with pickle.
-
-    `folder` is that of the files. `room` is a folder that is there only as long as the run, by which a worker knows
-    that it sees the disk of the main process.
-    """
-
-    @property
-    def folder(self) -> Path: ...
-
-    @property
-    def room(self) -> Path: ...
-
-    def begin(self, chunk: Chunk, others: Sequence[str]) -> Made | Begun:
-        """Returns a file that is there, or what is to be known to make it, also from others: this is read from the main
-        process's disk."""
-
-    def write(self, begun: Begun, folder: Path) -> Made:
-        """Makes the file in a folder: whole, or not at all."""
-
-
-def make_here(making: Making[Any], *task: Any) -> Made | None:
+def make_here(making: Answering[Any], *task: Any) -> Made | None:
     """Makes the file of a chunk; returns None if this worker does not see the folder of the main process."""
     if not making.room.is_dir():
         return None
@@ -110,14 +88,14 @@ def make_here(making: Making[Any], *task: Any) -> Made | None:
     return begun if isinstance(begun, Made) else making.write(begun, making.folder)
 
 
-def make_away(making: Making[Any], begun: Any) -> tuple[Made, bytes]:
+def make_away(making: Answering[Any], begun: Asked) -> tuple[Made, bytes]:
     """Makes the file of a chunk in a folder of its own, and returns its bytes."""
     with tempfile.TemporaryDirectory(prefix="crnplan-") as room:
         made = making.write(begun, Path(room))
         return made, (Path(room) / made.file).read_bytes()
 
 
-def made_by(workers: Workers, making: Making[Any], tasks: Iterable[Sequence[Any]]) -> Iterator[Made]:
+def made_by(workers: Workers, making: Answering[Any], tasks: Iterable[Sequence[Any]]) -> Iterator[Made]:
     """Yields the files of chunks as they come. A task is a chunk with the further words of `begin`."""
     blind, shared = list[Sequence[Any]](), workers.share([making])
     for task, made in workers.answers(make_here, ((task, [*shared, *task]) for task in tasks), None):
@@ -235,8 +213,13 @@ class Asked:
 
 @dataclass(frozen=True)
 class Answering(Generic[Row]):
-    """How the files with the answers to chunks are made: a function is called with what is asked of a batch of items,
-    and with further words. `sums` returns what a chunk adds up to, from what is asked of each item and its answer."""
+    """How the files with the answers to chunks are made, which workers are sent with pickle: a function is called with
+    what is asked of a batch of items, and with further words. `sums` returns what a chunk adds up to, from what is
+    asked of each item and its answer.
+
+    `folder` is that of the files. `room` is a folder that is there only as long as the run, by which a worker knows
+    that it sees the disk of the main process.
+    """
 
     folder: Path
     room: Path
@@ -252,7 +235,8 @@ class Answering(Generic[Row]):
         return (self.folder / made.file).exists() and made.digest == sum_of_digests(digest_of(*it) for it in digests)
 
     def begin(self, chunk: Chunk, others: Sequence[str]) -> Made | Asked:
-        """Returns the file if it is there, else what is asked, with what other files and parts know of it."""
+        """Returns the file if it is there, else what is asked, with what other files and parts know of it. It reads the
+        main process's disk."""
         lines, digests = Lines(self.kind), dict(self.asking.digests(chunk))
         digest = sum_of_digests(digest_of(*pair) for pair in digests.items())
         file = f"{digest_of(lines.version, *chunk)}-{digest}{ENDING}"
@@ -268,6 +252,7 @@ class Answering(Generic[Row]):
         return Asked(chunk, file, digest, [(*pair, words) for pair, words in rows], known)
 
     def write(self, begun: Asked, folder: Path) -> Made:
+        """Makes the file in a folder: whole, or not at all."""
         lines = Lines(self.kind)
         with self._part(begun, lines, folder) as part:
             return self._write(begun, lines, part, folder / begun.file)
