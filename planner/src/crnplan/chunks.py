@@ -32,7 +32,7 @@ from pathlib import Path
 from typing import Any, BinaryIO, Generic, NamedTuple, Protocol, TypeVar
 
 from .files import new_bytes
-from .jobs import BATCH, Workers, progress
+from .jobs import BATCH, Workers, batched, progress
 from .remarks import Remark
 from .stored import DIGITS, Columns, Damaged, Facts, columns_of, digest_of
 from .table import Json
@@ -287,13 +287,6 @@ class Answering(Generic[Row]):
         os.fsync(file.fileno())
         os.replace(file.name, path)
         return made
-
-
-def batched(values: Iterable[Row], most: int) -> Iterator[list[Row]]:
-    """Yields values in lists of at most so many."""
-    rest = iter(values)
-    while some := [*itertools.islice(rest, most)]:
-        yield some
 
 
 class Chunked(Facts, Generic[Row]):

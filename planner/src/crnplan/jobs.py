@@ -40,6 +40,14 @@ CONNECT_SECONDS, WORKER_SECONDS = 10, 30
 MOST_LINES = 10
 Answer = TypeVar("Answer")
 Key = TypeVar("Key")
+Value = TypeVar("Value")
+
+
+def batched(values: Iterable[Value], most: int) -> Iterator[list[Value]]:
+    """Yields values in lists of at most so many."""
+    rest = iter(values)
+    while some := [*itertools.islice(rest, most)]:
+        yield some
 
 
 class Workers:
@@ -361,12 +369,10 @@ class Work(Generic[Answer]):
         batch, and with further words."""
         if not self.left:
             return
-        names = iter(self.left)
-        batches = iter(lambda: [*itertools.islice(names, batch)], [])
         with progress(len(self.digests), shown, unit, self.kept) as done, workers as running:
             done.add(0)
             shared = running.share(words)
-            asked_of = ((some, [[*map(asked, some)], *shared]) for some in batches)
+            asked_of = ((some, [[*map(asked, some)], *shared]) for some in batched(self.left, batch))
             for some, answers in running.answers(function, asked_of):
                 rows = zip(some, answers, strict=True)
                 self.answers.keep([(name, self.digests[name], answer) for name, answer in rows])

@@ -11,11 +11,11 @@ from pathlib import Path
 from typing import NamedTuple
 from urllib.parse import quote
 
-from ..chunks import batched
 from ..crnsim.program import find_program
 from ..curve.parts import Point
 from ..curve.exchange_curve import kept_curve
 from ..files import Folder, own_folder
+from ..jobs import batched
 from ..plan.answer import BOUNDED, CHEAPER, COMPARED, DEARER, SAME, SERVICE, UNCOMPARED, UNDECIDED, Answer
 from ..plan.backtest.catalogue import past_of
 from ..plan.catalogue import PlannedFolder, planned_folder

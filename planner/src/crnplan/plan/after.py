@@ -12,6 +12,7 @@ from typing import TYPE_CHECKING
 from ..chunks import Chunk
 from ..errors import Refused
 from ..files import Folder
+from ..jobs import batched
 from ..records.catalogue_reading import Catalogued
 from ..remarks import Remark, Value
 from ..stored import Store
@@ -101,6 +102,6 @@ def keep_changes(folder: Folder, plan: str, changes: Iterable[Change]) -> None:
     """Keeps the changes of a plan in its folder, in place of others."""
     folder.remove(CHANGES)
     with contextlib.closing(Store(folder.store(CHANGES), Change)) as store:
-        while some := [*itertools.islice(changes, AT_ONCE)]:
+        for some in batched(changes, AT_ONCE):
             store.keep((change.name, "", change) for change in some)
         store.keep_facts({PLAN: plan})
