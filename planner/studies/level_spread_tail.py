@@ -38,7 +38,7 @@ from crnplan.demand.learning import Prior
 from crnplan.errors import Refused
 from crnplan.law import Law
 from crnplan.plan.backtest.one import Walk, Walked, chosen
-from crnplan.plan.backtest.smoothing import Lead, smoothed, smoothed_levels
+from crnplan.plan.backtest.smoothing import smoothed, smoothed_levels
 from crnplan.plan.backtest.sums import BLOCK, Ratio
 from crnplan.plan.question import NONE, Levels, Question, Settings, question_of
 from crnplan.records.item import Item
@@ -133,7 +133,7 @@ def levels_of(walked: Walked) -> dict[str, list[Levels]]:
     """Returns s and S of each period by the law or the rule; in the record those of the first plan. Raises Refused if
     there is no first plan by some law."""
     counts, question = walked.item.counts, walked.question
-    forecasts, rule = [*smoothed(counts)], [*smoothed_levels(walked.item, counts, Lead(LEAD, 0.0))]
+    forecasts, rule = [*smoothed(counts)], [*smoothed_levels(walked.item, counts, LEAD, 0.0)]
     levels: dict[str, list[Levels]] = {name: [] for name in (*LAWS, RULES[0])}
     for start, origin, end in walked.walk.stretches(len(counts)):
         with contextlib.suppress(Refused):

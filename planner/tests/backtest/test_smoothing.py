@@ -6,7 +6,7 @@ from fractions import Fraction
 
 import pytest
 
-from crnplan.plan.backtest.smoothing import (FIRST, MOST_FACTOR, Lead, loss, safety_factor, smoothed, smoothed_levels,
+from crnplan.plan.backtest.smoothing import (FIRST, MOST_FACTOR, loss, safety_factor, smoothed, smoothed_levels,
                                              wanted_share)
 from planner.tests.plan.items import item_of
 
@@ -42,7 +42,7 @@ def test_smoothing_by_hand() -> None:
 def test_level_without_spread() -> None:
     """A steady demand of 9 with a lead time of 2 needs 27, and orders of sqrt(2 * 50 * 9 / 0.25) = 60 items."""
     item = item_of(setup=Fraction(50), holding=Fraction(1, 4))
-    assert {*smoothed_levels(item, [9] * 30, Lead(2.0, 0.0))} == {(27, 87)}
+    assert {*smoothed_levels(item, [9] * 30, 2.0, 0.0)} == {(27, 87)}
 
 
 def test_wanted_share() -> None:

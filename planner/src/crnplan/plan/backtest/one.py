@@ -22,7 +22,7 @@ from ..answer import Figures
 from ..one import choice_of, figures_of, or_fault
 from ..question import Levels, Question, Settings, question_of
 from .outcomes import Happened, Outcome
-from .smoothing import Lead, smoothed_levels
+from .smoothing import smoothed_levels
 
 SHORT_RECORD = "short record"  # periods, needed
 
@@ -131,9 +131,9 @@ class Walked:
 
     def smoothed(self) -> Outcome:
         """Returns what the rule of thumb comes to."""
-        past, law = self.happened.past, self.question.lead
+        past, lead = self.happened.past, self.question.lead.figures
         net = [asked - back for asked, back in zip(past.demands, past.returns)]
-        return self.happened.outcome(smoothed_levels(self.item, net, Lead(law.figures.mean, law.figures.variance or 0)))
+        return self.happened.outcome(smoothed_levels(self.item, net, lead.mean, lead.variance or 0))
 
 
 def shuffled(item: Item, seed: int) -> Item:

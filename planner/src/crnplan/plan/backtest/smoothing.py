@@ -9,7 +9,6 @@ from __future__ import annotations
 
 import math
 from collections.abc import Iterator, Sequence
-from typing import NamedTuple
 
 from scipy.special import ndtr
 
@@ -19,13 +18,6 @@ from ..question import Levels
 SMOOTHING = 0.1  # the weight of the last period, for both
 FIRST = 13  # periods from which both begin
 MOST_FACTOR = 8.0  # the largest safety factor, on either side
-
-
-class Lead(NamedTuple):
-    """Mean and variance of lead times, in periods."""
-
-    mean: float
-    variance: float
 
 
 def smoothed(demands: Sequence[int]) -> Iterator[tuple[float, float]]:
@@ -69,13 +61,14 @@ def wanted_share(item: Item) -> float:
     return float(item.backlog / (item.backlog + item.holding))
 
 
-def smoothed_levels(item: Item, demands: Sequence[int], lead: Lead) -> Iterator[Levels]:
-    """Yields s and S of each period by the demand before it. An order must last for its lead time and a period."""
+def smoothed_levels(item: Item, demands: Sequence[int], lead: float, variance: float) -> Iterator[Levels]:
+    """Yields s and S of each period by the demand before it. An order must last for its lead time, in periods of this
+    mean and variance, and a period."""
     share, setup, holding = wanted_share(item), float(item.setup), float(item.holding)
     for mean, square in smoothed(demands):
         mean = max(mean, 0.0)
-        periods = lead.mean + 1
-        deviation = math.sqrt(periods * square + mean**2 * lead.variance)
+        periods = lead + 1
+        deviation = math.sqrt(periods * square + mean**2 * variance)
         quantity = max(math.sqrt(2 * setup * mean / holding), mean, 1.0)
         safety = deviation * safety_factor(share, quantity / deviation) if deviation else 0.0
         s = max(0, math.ceil(periods * mean + safety))
