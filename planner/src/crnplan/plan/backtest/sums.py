@@ -14,7 +14,7 @@ import math
 from collections import defaultdict
 from collections.abc import Iterable, Mapping, Sequence
 from dataclasses import dataclass
-from typing import Protocol
+from typing import TYPE_CHECKING
 
 import numpy as np
 
@@ -23,6 +23,9 @@ from ...decide.verdicts import t_quantile
 from ..answer import TODAY
 from .one import Backtest
 from .outcomes import Outcome
+
+if TYPE_CHECKING:
+    from ..changes import Since
 
 BLOCK = 4  # periods
 NO_BLOCK = -1
@@ -110,24 +113,11 @@ def error_of(influence: Floats, items: Whole, blocks: Whole) -> tuple[float, flo
     return math.sqrt(squares(influence, items) + max(0.0, common)), quantile
 
 
-class Counted(Protocol):
-    """What policies come to in the periods of an item: the number of the first one, the mean demand by which all of the
-    item is measured, and the demand of each."""
-
-    @property
-    def first(self) -> int: ...
-
-    @property
-    def mean(self) -> float: ...
-
-    @property
-    def demands(self) -> tuple[int, ...]: ...
-
-
 class Group:
-    """The tests of items of a class, or of all, as ratios of sums over items and periods."""
+    """The tests of items of a class, or of all, as ratios of sums over items and periods; or what came of an earlier
+    plan in the periods since."""
 
-    def __init__(self, tests: Sequence[Counted]) -> None:
+    def __init__(self, tests: Sequence[Backtest | Since]) -> None:
         self.tests, first = tests, min(test.first for test in tests)
         lengths = [len(test.demands) for test in tests]
         self.items = np.repeat(np.arange(len(tests)), lengths)
