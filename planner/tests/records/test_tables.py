@@ -194,7 +194,7 @@ def test_a_file_that_changes_is_refused(tmp_path: Path) -> None:
     path = tmp_path / "demand.csv"
     path.write_text("item,date,quantity\n" + weekly([2] * WEEKS), "utf-8")
     with opened(path, "demand", Words()) as sheet:
-        rows = find_columns("demand", sheet, Words()).data()
+        rows = find_columns("demand", sheet, Words()).rows()
         next(rows)
         path.write_text("item,date,quantity\n" + weekly([3] * (WEEKS - 1)), "utf-8")
         with pytest.raises(Refused, match="demand.csv: the file was changed while it was read; run again"):
@@ -203,7 +203,7 @@ def test_a_file_that_changes_is_refused(tmp_path: Path) -> None:
             sheet.texts({3})
         path.unlink()
         with pytest.raises(Refused, match="demand.csv: No such file"):
-            list(find_columns("demand", sheet, Words()).data())
+            list(find_columns("demand", sheet, Words()).rows())
 
 
 def test_half_a_letter_of_utf_16_far_down(tmp_path: Path) -> None:

@@ -275,10 +275,6 @@ class Sheet:
         self.line, self.heading = rows[place] if rows else (1, [])
         self.titles, self.first_rows = rows[:place], rows[place + 1:place + 1 + SHOWN_ROWS]
 
-    def data(self) -> Iterator[Row]:
-        """Yields the line in which each row below the heading begins, and its cells."""
-        yield from itertools.dropwhile(lambda row: row[0] <= self.line, self.rows())
-
     def head(self, wanted: Set[str], role_of: RoleOf) -> list[TextRow]:
         """Returns the first rows as texts, with the lines in which they begin."""
         return [(line, [*map(text_of, cells)]) for line, cells in itertools.islice(self.rows(), SAMPLE_ROWS)]
