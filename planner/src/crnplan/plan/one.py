@@ -291,12 +291,6 @@ def law_facts(law: FittedLaw, box: int) -> LawFacts:
                     math.sqrt(law.figures.variance or 0) * box)
 
 
-def laws_of(question: Question) -> Laws:
-    """Returns the laws of a question."""
-    returns = question.returns and question.returns.table
-    return Laws(question.item.box, question.demand.table, question.lead.table, returns)
-
-
 def allowed_of(question: Question, levels: Levels) -> Allowed | None:
     """Returns what the chosen policy of a new item comes to under the laws that what it has learned allows. None for
     other items, and if no such law has a long run."""
@@ -421,9 +415,10 @@ def plan_one(question: Question, program: str) -> Answer:
         confidence_cost = best.cost - plain.cost
     allowed = allowed_of(question, choice.levels)
     source, cost = (THEORY, chosen.cost) if theory.exact else (RUN, run.cost_chosen)
+    laws = Laws(item.box, question.demand.table, question.lead.table, question.returns and question.returns.table)
     return Answer(verdict, source, cost_today, cost, saving, figures.get(TODAY), chosen, figures.get(ALONE),
                   figures.get(BEFORE), figures.get(UNDAMPED), theory.step, confidence_cost, coverage,
-                  correction_of(question, theory), law_facts(question.demand, item.box), laws_of(question), run,
+                  correction_of(question, theory), law_facts(question.demand, item.box), laws, run,
                   (*remarks_of_past(question, allowed), *remarks_of(question, theory, sample, choice), *bounds,
                    *damping_of(figures)), allowed)
 
