@@ -349,8 +349,9 @@ class Chunked(Facts, Generic[Row]):
             if OURS.fullmatch(path.name) and path.name not in names:
                 path.unlink(missing_ok=True)
 
-    def _line(self, name: str) -> bytes | None:
-        """Returns the line with the answer to an item; None if there is none. The last file that was read is known."""
+    def _opened(self, name: str) -> Any:
+        """Returns the value of the line with the answer to an item; None if there is none. The last file that was read
+        is known. Raises Damaged."""
         place = bisect.bisect_right(self.made, name, key=lambda made: made.chunk.start) - 1
         if place < 0:
             return None
@@ -358,10 +359,7 @@ class Chunked(Facts, Generic[Row]):
             file = self.made[place].file
             self._last = file, (self.folder / file).read_bytes().splitlines(keepends=True)
         begins = b"[%s," % json.dumps(name).encode()
-        return next((line for line in self._last[1] if line.startswith(begins, DIGITS + 1)), None)
-
-    def _opened(self, name: str) -> Any:
-        line = self._line(name)
+        line = next((line for line in self._last[1] if line.startswith(begins, DIGITS + 1)), None)
         try:
             return None if line is None else opened(line)
         except ValueError as fault:

@@ -165,7 +165,7 @@ def test_bytes_and_what_is_kept(plan: Path, twenty: Path) -> None:
         base.execute("UPDATE items SET price = '77/2' WHERE name = 'A-050'")
         base.execute("UPDATE items SET setup = '99' WHERE name = 'A-051'")
     its = drawn(plan).gathered
-    remark = dict(its.left_out())["A-051"]
+    remark = dict(its.parts.left_out())["A-051"]
     assert its.new == 1 and (sentence(remark), advice(remark)) == (
         "it is not planned as its rows are now", "run crnplan catalogue again")
 
@@ -198,7 +198,8 @@ def test_items_that_are_left_out(twenty: Path, planned: Path, tmp_path: Path) ->
     plan = Path(shutil.copytree(planned, tmp_path / "plan"))
     with sqlite3.connect(plan / READ) as base:
         base.execute("UPDATE items SET price = NULL WHERE name <> 'A-050'")
-    assert [name for name, remark in drawn(plan).gathered.left_out() if "too far apart" in sentence(remark)] == [NO_PLAN]
+    left = drawn(plan).gathered.parts.left_out()
+    assert [name for name, remark in left if "too far apart" in sentence(remark)] == [NO_PLAN]
     with sqlite3.connect(plan / READ) as base:
         base.execute("UPDATE items SET price = NULL")
     with pytest.raises(crn.Refused, match="no item can be on the curve: .* items are left out; the first, A-"):
@@ -218,7 +219,7 @@ def test_an_item_without_candidates(plan: Path, monkeypatch: pytest.MonkeyPatch)
     remove_candidates(plan)
     its = drawn(plan).gathered
     assert its.items.count == ITEMS - len(NO_PRICE) - 1
-    assert "no room for a table" in sentence(dict(its.left_out())["A-050"])
+    assert "no room for a table" in sentence(dict(its.parts.left_out())["A-050"])
 
 
 def test_command(plan: Path, crnplan: Command, program: Path) -> None:

@@ -176,7 +176,7 @@ class Drawn(Result):
     @property
     def left_out(self) -> DataTable:
         """Returns the items that are not on the curve, with the reason and what to do."""
-        rows = ([name, sentence(remark), advice(remark)] for name, remark in self.gathered.left_out())
+        rows = ([name, sentence(remark), advice(remark)] for name, remark in self.gathered.parts.left_out())
         return DataTable(LEFT_OUT_COLUMNS, rows, missing="")
 
 

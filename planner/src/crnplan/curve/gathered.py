@@ -205,14 +205,12 @@ class Parts:
         return itertools.chain.from_iterable(self._in_order(out_of, words))
 
     def _in_order(self, function: Callable[..., Any], words: Iterable[Sequence[Any]]) -> Iterator[Any]:
-        come = dict[int, Any]()
-        due = itertools.count()
-        place = next(due)
+        come, place = dict[int, Any](), 0
         for at, result in self.workers.answers(function, enumerate(words), AHEAD):
             come[at] = result
             while place in come:
                 yield come.pop(place)
-                place = next(due)
+                place += 1
 
 
 @dataclass
@@ -228,10 +226,6 @@ class Gathered:
     items: Items
     points: dict[str, Point]
     new: int
-
-    def left_out(self) -> Iterator[tuple[str, Remark]]:
-        """Yields the items that are left out, each with a remark."""
-        return self.parts.left_out()
 
 
 @contextlib.contextmanager

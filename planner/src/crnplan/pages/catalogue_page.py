@@ -22,7 +22,7 @@ from ..plan.catalogue import PlannedFolder, planned_folder
 from ..plan.item import Depth
 from ..plan.survey import Decided, Survey, saving_of
 from ..plan.swings import keep_swings
-from ..records.catalogue_reading import CATALOGUE, Catalogued, missing_of
+from ..records.catalogue_reading import CATALOGUE, missing_of
 from ..records.item import NEW, NO_DEMAND, Item
 from ..remarks import Remark
 from ..table import DataTable
@@ -193,11 +193,6 @@ def file_name(name: str) -> str:
 def file_of(folder: Path, name: str) -> Path:
     """Returns the path of an item's page in a planned folder."""
     return folder / ITEMS / file_name(name)
-
-
-def write_rejects(folder: Folder, read: Catalogued) -> None:
-    """Writes what was left out as the files were read."""
-    folder.write(REJECTS, rejects_of(read.rejects()).lines)
 
 
 def tabled(folder: Folder, planned: PlannedFolder, answers: Iterable[Decided]) -> Iterator[Decided]:

@@ -131,18 +131,14 @@ class Book:
             sheet.set_column(place, place, width)
         sheet.freeze_panes(1, 1)
         sheet.autofilter(0, 0, count, len(columns) - 1)
-        self._set_page(sheet, len(columns))
-        self.meanings += ([name, column.name, column.unit_in(table.currency, table.every), column.meaning]
-                          for column in table.columns)
-        return sheet, count
-
-    def _set_page(self, sheet: Worksheet, columns: int) -> None:
-        """Says how a sheet is printed."""
         sheet.set_landscape()
         sheet.set_paper(A4)
         sheet.repeat_rows(0)
-        if columns <= MOST_ON_PAGE:
+        if len(columns) <= MOST_ON_PAGE:
             sheet.fit_to_pages(1, 0)
+        self.meanings += ([name, column.name, column.unit_in(table.currency, table.every), column.meaning]
+                          for column in table.columns)
+        return sheet, count
 
     def format(self, style: str) -> Format:
         return self.book.add_format({"num_format": style, "indent": int(style == TEXT)})

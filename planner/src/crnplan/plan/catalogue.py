@@ -276,7 +276,8 @@ def plan_into(folder: Folder, settings: Settings, *, after: Path | None = None, 
               address: str | None = None, program: str | Path | None = None, again: bool = False,
               shown: bool = False) -> Done:
     """Plans the catalogue that was read into a folder, and writes its tables and pages: see `plan`."""
-    from ..pages.catalogue_page import write_catalogue, write_rejects, write_tables
+    from ..pages.catalogue_page import write_catalogue, write_tables
+    from ..pages.catalogue_tables import REJECTS, rejects_of
     path = program_for(program, address)
     with (faults_of(folder.path), earlier_folder(after, folder) as earlier,
           contextlib.closing(Catalogued(folder.path / READ, settings.window)) as read,
@@ -293,7 +294,7 @@ def plan_into(folder: Folder, settings: Settings, *, after: Path | None = None, 
                 folder, answers, read, settings, prior, again=again, workers=workers_of(jobs, address), shown=shown))
         planned = Planned(settings, prior, settings.common(program_digest(path, address), prior),
                           earlier.digest if earlier else "")
-        write_rejects(folder, read)
+        folder.write(REJECTS, rejects_of(read.rejects()).lines)
         asking = PlanAsking(read.path.resolve(), planned,
                             (earlier.path.resolve(), earlier.store.path.resolve()) if earlier else None)
         making = Answering(answers.folder.resolve(), folder.room().resolve(), Answer, asking, plan_batch,

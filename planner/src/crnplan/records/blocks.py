@@ -99,7 +99,8 @@ class Block:
         wide = {int(places[row]): its for row, its in cells.wide.items()}
         good: Flags = np.ones(int(kept.sum()), bool)
         if "item" in codes:
-            good = np.array([is_name(str(name)) for name in distinct["item"]], bool)[codes["item"]]
+            named = [name != "" and not UNPRINTABLE.search(str(name)) for name in distinct["item"]]
+            good = np.array(named, bool)[codes["item"]]
         good[[*wide]] = False
         return cls(cells.lines[kept], codes, distinct, hashes[kept], wide, good, cells.lines[~kept].tolist())
 
@@ -120,11 +121,6 @@ class Block:
         wide = {place: self.wide[row] for place, row in enumerate(rows.tolist()) if row in self.wide} if (
             self.wide) else {}
         return Block(self.lines[rows], codes, distinct, self.hashes[rows], wide, self.good[rows])
-
-
-def is_name(text: str) -> bool:
-    """Returns whether a text may be the name of an item."""
-    return bool(text) and not UNPRINTABLE.search(text)
 
 
 def blank_rows(cells: Cells, place: int) -> Flags:
