@@ -12,6 +12,8 @@ from typing import TYPE_CHECKING
 from .formats import MOST_DEMAND, MOST_WEIGHT
 
 if TYPE_CHECKING:
+    import numpy as np
+
     from .chances import Floats
 
 
@@ -76,6 +78,12 @@ class Law:
     def mean(self) -> Fraction:
         """Returns the exact mean."""
         return Fraction(sum(map(mul, self.values, self.weights)), self.size)
+
+    def draws(self, random: np.random.Generator, count: int) -> list[int]:
+        """Returns so many random values."""
+        import numpy as np
+        numbers: list[int] = random.choice(self.values, count, p=np.array(self.weights) / self.size).tolist()
+        return numbers
 
     @property
     def chances(self) -> dict[int, float]:

@@ -76,9 +76,8 @@ def trial_of(item: Item, settings: Settings, prior: Prior) -> Trial:
         raise Refused("it has no demand")
     for first, end in blocks_of(periods):
         question = question_of(item.without(range(first, end)), settings, prior)
-        box, lead, random = question.item.box, question.lead, np.random.default_rng(question.seed("trial"))
-        leads = random.choice(lead.values, 2 * periods, p=np.array(lead.weights) / lead.size).tolist()
-        past = Past(2 * item.counts, 2 * (item.returns or (0,) * periods), leads)
+        box, random = question.item.box, np.random.default_rng(question.seed("trial"))
+        past = Past(2 * item.counts, 2 * (item.returns or (0,) * periods), question.lead.draws(random, 2 * periods))
         policies = [(s * box, S * box) for s, S in levels_of(question.theory().free)]
         unmet += unmet_by(policies, past, float(random.random()))[periods + first:periods + end].sum(axis=0)
     return Trial(mean, periods, tuple((unmet / mean).tolist()))

@@ -2,7 +2,7 @@
 from __future__ import annotations
 
 import statistics
-from collections.abc import Iterator, Sequence
+from collections.abc import Iterator
 
 import numpy as np
 
@@ -15,12 +15,6 @@ from .question import Levels, Question
 PERIODS = 20_000  # of the runs
 
 
-def drawn(random: np.random.Generator, law: Law) -> Sequence[int]:
-    """Returns draws from a law, one for each period."""
-    numbers: list[int] = random.choice(law.values, PERIODS, p=np.array(law.weights) / law.size).tolist()
-    return numbers
-
-
 def remarks_of_packs(question: Question, theory: LongRun, levels: Levels) -> Iterator[Remark]:
     """Yields what it adds a period, in money, that orders are rounded up to packs: by a run of a policy beside one
     without, on the same draws. Says nothing if all orders come in whole packs by themselves."""
@@ -28,7 +22,7 @@ def remarks_of_packs(question: Question, theory: LongRun, levels: Levels) -> Ite
     if all(value % pack == 0 for value in (*question.demand.values, *returns.values)):
         return
     random = np.random.default_rng(question.seed("packs"))
-    past = Past(*(drawn(random, law.table) for law in (question.demand, returns, question.lead)))
+    past = Past(*(law.draws(random, PERIODS) for law in (question.demand, returns, question.lead)))
     rates = Rates(question.rates["setup"], 0, question.rates["holding"], question.rates.get("backlog", 0))
     start = max(0, round(theory.mean_position(*levels)))
     costs = [statistics.fmean(period.cost(rates) for period in periods_of(past, [levels] * PERIODS, start, size))

@@ -48,9 +48,8 @@ class Happened:
         """Draws the lead times of orders from their law."""
         periods, self.record = len(item.counts), record
         random = np.random.default_rng(seed)
-        leads = random.choice(lead.values, periods, p=np.array(lead.weights) / lead.size).tolist()
+        self.past = Past(item.counts, item.returns or (0,) * periods, lead.draws(random, periods))
         self.start = float(random.random())
-        self.past = Past(item.counts, item.returns or (0,) * periods, leads)
         self.rates = Rates(item.setup, 0, item.holding, item.backlog or Fraction(0))
 
     @property
