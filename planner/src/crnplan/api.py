@@ -30,7 +30,7 @@ from .records.defaults import KEEP, LEAVE_OUT, Defaults
 from .records.items import Words
 from .records.sources import Table
 from .remarks import Remark
-from .table import DataTable, Result
+from .table import DataTable, Result, TextResult
 
 if TYPE_CHECKING:
     import pandas as pd
@@ -110,7 +110,7 @@ class PlannedItem(Result):
 
 
 @dataclass(frozen=True)
-class Plan(Result):
+class Plan(TextResult):
     """The plan of a catalogue. `frame` and `decisions` have a row for each item, unrounded; `text` says what it comes
     to. What was planned is in a folder that goes with the plan, or stays where `out` said."""
 
@@ -157,11 +157,6 @@ class Plan(Result):
         """Returns what became of all rows and items, and the totals."""
         with planned_folder(self.path) as folder:
             return catalogue_summary(folder, self.totals, self.learned, change_lines(folder))
-
-    @property
-    def notes(self) -> str:
-        """Returns the same below a table."""
-        return self.text
 
     def item(self, name: str) -> PlannedItem:
         """Returns the plan of an item, with what else can be asked of it. Raises Refused if it is not there, or left

@@ -18,14 +18,14 @@ from .plan.backtest.one import Walk
 from .plan.question import Settings
 from .records.catalogue_reading import CATALOGUE, Catalogue
 from .records.items import Words
-from .table import DataTable, Result
+from .table import DataTable, TextResult
 
 if TYPE_CHECKING:
     import pandas as pd
 
 
 @dataclass(frozen=True)
-class Backtests(Result):
+class Backtests(TextResult):
     """What the plans of a catalogue promised on its own past, and what came. `frame` has a row for each item, `sums`
     one for all items and for each class; `text` says what it comes to."""
 
@@ -51,11 +51,6 @@ class Backtests(Result):
     def text(self) -> str:
         """Returns what was promised, what came, and the verdicts."""
         return f"{first_line(self.tested.whole)}\n{backtest_summary(self.tested)}"
-
-    @property
-    def notes(self) -> str:
-        """Returns the same below a table."""
-        return self.text
 
     @property
     def page(self) -> str:

@@ -248,6 +248,14 @@ class Result(ABC):
         return self.table.html + "".join(f"<p>{html.escape(line)}</p>\n" for line in self.notes.splitlines() if line)
 
 
+class TextResult(Result):
+    """A result whose text says all, which so stands below its table too."""
+
+    @property
+    def notes(self) -> str:
+        return self.text
+
+
 def aligned(rows: Sequence[Sequence[str]], left: Collection[int] = (0,)) -> str:
     """Returns the rows as lines. Columns in `left`, counted from 0, are set to the left, all others to the right."""
     widths = [max(map(len, column)) for column in zip(*rows)]

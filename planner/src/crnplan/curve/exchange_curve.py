@@ -8,7 +8,7 @@ import contextlib
 import itertools
 import json
 import math
-from collections.abc import Iterable, Iterator, Mapping, Sequence
+from collections.abc import Iterable, Iterator, Mapping
 from dataclasses import dataclass, replace
 from pathlib import Path
 from typing import TYPE_CHECKING
@@ -26,7 +26,7 @@ from ..plan.catalogue import planned_folder
 from ..plan.question import Levels, Question
 from ..records.catalogue_reading import CATALOGUE, Catalogued
 from ..scenario import Policy
-from ..table import Cell, Column, DataTable, MONEY, Result, aligned, number, text, whole
+from ..table import Cell, DataTable, MONEY, Result, aligned, number, text, whole
 from ..theory.least import NEAR
 from ..words import PREMISE, advice, sentence
 from .exchange import Budget, Items, OffCurve, chosen_by, gap_of, with_more_orders
@@ -133,7 +133,7 @@ class Drawn(Result):
         """Returns the points: named ones first, then the curve by rising price."""
         rows: list[list[Cell]] = [[name, None, *point, gap] for name, (point, gap) in self.points.items()]
         rows += [[ON_CURVE, price, *point, 0.0] for price, point in self.curve]
-        return self._table(COLUMNS, rows)
+        return self.gathered.folder.table(COLUMNS, rows)
 
     @property
     def text(self) -> str:
@@ -167,11 +167,7 @@ class Drawn(Result):
 
     @property
     def policy_table(self) -> DataTable:
-        return self._table(POLICY_COLUMNS, policy_rows(self.gathered, self.choice))
-
-    def _table(self, columns: Sequence[Column], rows: Iterable[Sequence[Cell]]) -> DataTable:
-        folder = self.gathered.folder
-        return DataTable(columns, rows, folder.decimals, "", currency=folder.currency.code, every=folder.every)
+        return self.gathered.folder.table(POLICY_COLUMNS, policy_rows(self.gathered, self.choice))
 
     @property
     def left_out(self) -> DataTable:

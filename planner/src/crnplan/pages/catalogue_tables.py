@@ -161,7 +161,7 @@ def decisions_of(folder: PlannedFolder, answers: Iterable[Decided]) -> DataTable
     demand."""
     rows = (decision_row(item, answer) for item, answer in answers
             if isinstance(answer, Answer) or item.past == NO_DEMAND)
-    return DataTable(DECISION_COLUMNS, rows, folder.decimals, "", currency=folder.currency.code, every=folder.every)
+    return folder.table(DECISION_COLUMNS, rows)
 
 
 def exact_of(answers: Iterable[Decided]) -> DataTable:

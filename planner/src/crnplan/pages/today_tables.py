@@ -21,7 +21,7 @@ from ..records.items import Words
 from ..records.observed import Day, stated_day
 from ..records.sources import Table
 from ..records.stock import NONE
-from ..table import MONEY, Cell, Column, DataTable, Result, names_of, number, text, whole
+from ..table import MONEY, Cell, Column, DataTable, TextResult, names_of, number, text, whole
 from ..words import counted, sentence
 from .catalogue_tables import REJECT_COLUMNS, counted_rows, reasons_of, rejects_of
 from .page import rendered
@@ -156,7 +156,7 @@ def short_of(group: Group) -> tuple[Group, str, Fraction]:
 
 
 @dataclass(frozen=True)
-class OrdersToday(Result):
+class OrdersToday(TextResult):
     """What a plan says on a day. `frame` has a row for each order, the most urgent first, and then for each item of
     which nothing is known; `text` says what it comes to. docs/TABLES.md has all columns."""
 
@@ -241,11 +241,6 @@ class OrdersToday(Result):
             "unpriced": sum(it.item.price is None for it in whole.due),
             "owed": sum_of_money(it.worth(it.hand.owed) for it in today.owed),
             "money": lambda amount: self.currency.named(f"{float(amount):,.{self.currency.digits}f}")})
-
-    @property
-    def notes(self) -> str:
-        """Returns the same below a table."""
-        return self.text
 
 
 def orders_today(path: Path, tables: Mapping[str, Table | None], words: Words, day: Day | str | None,

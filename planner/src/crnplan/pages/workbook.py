@@ -191,13 +191,10 @@ def orders_of(folder: PlannedFolder, answers: Iterable[Decided]) -> OrdersToday:
 
 def fill_book(book: Book, folder: PlannedFolder) -> None:
     """Writes all sheets of a planned folder, whose items are read once. Raises Refused if one has too many rows."""
-    survey, currency, curve = Survey(folder), folder.currency, kept_curve(folder.store)
-
-    def table_of(columns: Sequence[Column], rows: Sequence[list[Cell]]) -> DataTable:
-        return DataTable(columns, rows, folder.decimals, "", currency=currency.code, every=folder.every)
+    survey, curve = Survey(folder), kept_curve(folder.store)
     sums = [*sums_of(folder, survey.totals)]
     lines = catalogue_summary(folder, survey.totals, (), change_lines(folder)).splitlines()
-    summary = table_of(SUM_COLUMNS, [row for row, _ in sums] + [[line, None, None] for line in ["", *lines]])
+    summary = folder.table(SUM_COLUMNS, [row for row, _ in sums] + [[line, None, None] for line in ["", *lines]])
     styles = [[TEXT, *[number_format(column, summary)] * 2] for _, column in sums] + [[TEXT] * 3] * (len(lines) + 1)
     book.add(SUMMARY, summary, styles)
     answers: Iterable[Decided] = folder.answers(is_whole=True)
@@ -210,9 +207,10 @@ def fill_book(book: Book, folder: PlannedFolder) -> None:
         book.add("Today", orders_of(folder, answers).table)
     book.add("Left out", rejects_of(folder.read.rejects(survey.faults)))
     if curve:
-        book.add_curve(curve, table_of(CURVE_COLUMNS, [[name, *point] for name, point in curve]), currency.code)
-    book.add("Classes", table_of(CLASS_COLUMNS, [*class_rows(survey)]))
-    book.add("Read me", table_of(READ_ME_COLUMNS, book.meanings[:]), widest=MEANING_WIDTH)
+        book.add_curve(curve, folder.table(CURVE_COLUMNS, [[name, *point] for name, point in curve]),
+                       folder.currency.code)
+    book.add("Classes", folder.table(CLASS_COLUMNS, [*class_rows(survey)]))
+    book.add("Read me", folder.table(READ_ME_COLUMNS, book.meanings[:]), widest=MEANING_WIDTH)
 
 
 def write_workbook(folder: Path, path: Path) -> None:

@@ -21,7 +21,7 @@ from ..records.catalogue_reading import CATALOGUE, READ, Catalogued, missing_of
 from ..records.item import Item
 from ..remarks import Remark
 from ..stored import Damaged, Facts, Store, digest_of
-from ..table import Json
+from ..table import Cell, Column, DataTable, Json
 from ..words import advice, sentence
 from .after import CHANGES, PLAN, check_records, changes_since, keep_changes, policy_before, taken_over
 from .aims import Aims
@@ -101,6 +101,10 @@ class PlannedFolder:
     def totals(self) -> Totals:
         """Returns what the answers add up to."""
         return Totals.together(self.store.sums())
+
+    def table(self, columns: Sequence[Column], rows: Iterable[Sequence[Cell]]) -> DataTable:
+        """Returns rows as a table with the money and the periods of the plan."""
+        return DataTable(columns, rows, self.decimals, "", currency=self.currency.code, every=self.every)
 
     def answer(self, name: str) -> Answer | Remark | None:
         """Returns the answer to an item of the catalogue; None if there is none."""
