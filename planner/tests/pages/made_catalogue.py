@@ -85,7 +85,7 @@ def keep_made(folder: Folder, planned: PlannedFolder) -> None:
     than planned."""
     with contextlib.closing(Store(folder.store(SWINGS), Swing)) as kept:
         for name, digest in drawn_items(planned, Survey.of(planned)).items():
-            answer = planned.answer(name)
+            answer = planned.store.answer(name)
             assert isinstance(answer, Answer)
             today, cost, fill = answer.cost_today, 1.1 * answer.cost_chosen, answer.chosen.fill - 0.01
             kept.keep([(name, digest, Swing(((today, cost, answer.cost_chosen, fill, fill + 0.02),) * len(CASES)))])

@@ -96,8 +96,7 @@ class Shown(NamedTuple):
 def catalogue_page(folder: PlannedFolder, survey: Survey) -> str:
     """Returns the page of a planned catalogue, with a link to the page of each item that has one."""
     totals, settings, currency, curve = survey.totals, folder.settings, folder.currency, kept_curve(folder.store)
-    rows, half = shown_items(survey.greatest, currency.digits), totals.half_width(settings.level)
-    ends = totals["run_saving"] - half, totals["run_saving"] + half
+    rows = shown_items(survey.greatest, currency.digits)
     there = {path.name for path in (folder.path / ITEMS).glob("*.html")}
     files = {row.item.name: file_name(row.item.name) for row in rows} if there else {}
     columns = [name for name in COLUMNS if name not in OPTIONAL or any(row.cells[name] for row in rows)]
@@ -107,8 +106,8 @@ def catalogue_page(folder: PlannedFolder, survey: Survey) -> str:
     codes = Counter(code for row in rows for code in {remark.code for remark in row.remarks})
     return rendered("catalogue.html", {
         "every": folder.every, "money": money.exact, "currency": currency, "settings": settings,
-        "totals": totals, "sources": folder.counts["files"], "named": folder.counts["items"]["named"], "ends": ends,
-        "aims": aims_of(folder, totals),
+        "totals": totals, "sources": folder.counts["files"], "named": folder.counts["items"]["named"],
+        "ends": totals.run_ends(settings.level), "aims": aims_of(folder, totals),
         "pages": {name: quote(f"{ITEMS}/{file}") for name, file in files.items() if file in there},
         "rows": rows, "lost": missing_of(folder.counts, totals.answered), "meanings": MEANING,
         "compared": COMPARED,

@@ -245,10 +245,9 @@ def catalogue_summary(folder: PlannedFolder, totals: Totals, learned: Sequence[R
     """Returns as a text what became of all rows and items, what was learned, the totals, lines on what has changed
     since an earlier plan, and what is lost."""
     from ..records.catalogue_reading import defaulted
-    half, saving = totals.half_width(folder.settings.level), totals["run_saving"]
     return rendered("summary.txt", {
         "settings": folder.settings, "every": folder.every, "items": folder.counts["items"], "totals": totals,
-        "files": counted_rows(folder.counts["files"]), "rejects": REJECTS, "ends": (saving - half, saving + half),
-        "learned": learned, "changes": changes, "missing": missing, "aims": aims_of(folder, totals),
+        "files": counted_rows(folder.counts["files"]), "rejects": REJECTS, "learned": learned, "changes": changes,
+        "ends": totals.run_ends(folder.settings.level), "missing": missing, "aims": aims_of(folder, totals),
         "money": folder.currency.text, "sources": defaulted(folder.read.fact("sources")),
         "cuts": folder.read.fact("abc")})

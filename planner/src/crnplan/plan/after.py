@@ -42,7 +42,7 @@ def check_records(earlier: PlannedFolder, read: Catalogued) -> None:
 
 def policy_before(earlier: PlannedFolder | None, name: str) -> Levels | None:
     """Returns s and S of an item in an earlier plan; None if it has none there."""
-    answer = earlier.answer(name) if earlier else None
+    answer = earlier.store.answer(name) if earlier else None
     return answer.chosen.levels if isinstance(answer, Answer) else None
 
 
@@ -83,7 +83,7 @@ def pairs_of(earlier: PlannedFolder, now: PlannedFolder) -> Iterator[Pair]:
     left = {reject.item: reject.remark for reject in now.read.rejects() if reject.kind == "item"}
     with contextlib.closing(Catalogued(now.read.path)) as new, contextlib.closing(Catalogued(earlier.read.path)) as old:
         for name, _ in itertools.groupby(heapq.merge(old.names(), new.names())):
-            before, after = earlier.answer(name), now.answer(name)
+            before, after = earlier.store.answer(name), now.store.answer(name)
             items = old.item(name), new.item(name)
             fault = after if isinstance(after, Remark) else left.get(name)
             yield Pair((items[0], before) if items[0] and isinstance(before, Answer) else None,

@@ -106,10 +106,6 @@ class PlannedFolder:
         """Returns rows as a table with the money and the periods of the plan."""
         return DataTable(columns, rows, self.decimals, "", currency=self.currency.code, every=self.every)
 
-    def answer(self, name: str) -> Answer | Remark | None:
-        """Returns the answer to an item of the catalogue; None if there is none."""
-        return self.store.answer(name)
-
     def changes(self) -> Iterator[Change]:
         """Yields what has changed since the earlier plan, by item. Raises Refused if that is not known."""
         if not self.planned.earlier:

@@ -160,6 +160,7 @@ class Totals:
         """Returns the share of demand met at once: by value, or the mean over items if none has a price."""
         return self.fill(policy) if self["demand"] or not self.compared else self[f"fill_{policy}"] / self.compared
 
-    def half_width(self, level: float) -> float:
-        """Returns half the width of the interval of all savings by runs. Those of different items are independent."""
-        return NormalDist().inv_cdf((1 + level) / 2) * math.sqrt(self["run_variance"])
+    def run_ends(self, level: float) -> tuple[float, float]:
+        """Returns the interval of all savings by runs. Those of different items are independent."""
+        half, saving = NormalDist().inv_cdf((1 + level) / 2) * math.sqrt(self["run_variance"]), self["run_saving"]
+        return saving - half, saving + half
