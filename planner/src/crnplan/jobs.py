@@ -99,6 +99,16 @@ class Workers:
                 yield batch.key, batch.result
                 del batch
 
+    def in_order(self, function: Callable[..., Any], many: Iterable[Sequence[Any]],
+                 ahead: int | None = 1) -> Iterator[Any]:
+        """Yields what a function returns for each of many words, in their order, as `answers` does."""
+        come, place = dict[int, Any](), 0
+        for at, result in self.answers(function, enumerate(many), ahead):
+            come[at] = result
+            while place in come:
+                yield come.pop(place)
+                place += 1
+
 
 @dataclass(eq=False)
 class _Batch(Generic[Key]):

@@ -196,21 +196,13 @@ class Parts:
 
     def __call__(self, function: Callable[..., Any], *columns: Iterable[Any]) -> Iterator[Any]:
         """Yields what a function returns for each part, with words from further columns, in order."""
-        return self._in_order(ask_part, zip(itertools.repeat(self.folder), self.parts, itertools.repeat(function),
-                                            *columns))
+        words = zip(itertools.repeat(self.folder), self.parts, itertools.repeat(function), *columns)
+        return self.workers.in_order(ask_part, words, AHEAD)
 
     def left_out(self) -> Iterator[tuple[str, Remark]]:
         """Yields the items that are left out, and why, in order."""
         words = ((self.folder, file.name) for file in self.files if file.out)
-        return itertools.chain.from_iterable(self._in_order(out_of, words))
-
-    def _in_order(self, function: Callable[..., Any], words: Iterable[Sequence[Any]]) -> Iterator[Any]:
-        come, place = dict[int, Any](), 0
-        for at, result in self.workers.answers(function, enumerate(words), AHEAD):
-            come[at] = result
-            while place in come:
-                yield come.pop(place)
-                place += 1
+        return itertools.chain.from_iterable(self.workers.in_order(out_of, words, AHEAD))
 
 
 @dataclass

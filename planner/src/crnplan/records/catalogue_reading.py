@@ -21,7 +21,7 @@ from ..files import Folder, faults_of, own_folder
 from ..jobs import workers_of
 from ..money import Amount, Currency, Number
 from ..remarks import Remark
-from ..stored import Cell, Columns, check_whole, digest_of, quoted
+from ..stored import Cell, check_whole, digest_of, quoted
 from ..table import Json
 from ..words import message, sentence
 from .blocks import DATES, Sizes
@@ -114,7 +114,7 @@ class Catalogued:
 
     def item(self, name: str) -> Item | None:
         """Returns the item of a name; None if there is none."""
-        return next((ITEM.value(row).last(self.window) for row in self._rows("*", name)), None)
+        return next(self.some_items([name]), None)
 
     def close(self) -> None:
         self.base.close()

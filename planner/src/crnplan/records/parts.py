@@ -58,12 +58,11 @@ def read_parts(tables: Mapping[str, FiledTable], whole: Whole, words: Words, wor
     """Returns what was read of each of so many parts. The classes of items by value depend on all of them. Raises
     Refused for stated classes that there are not."""
     parts = [Part({kind: (its.sheet, its.pieces(part)) for kind, its in tables.items()}) for part in range(count)]
-    found = dict(workers.answers(values_of_part, ((place, (part, words, whole)) for place, part in enumerate(parts))))
-    values = {(part, place): value for part, its in sorted(found.items()) for place, value in enumerate(its)
+    found = [*workers.in_order(values_of_part, ((part, words, whole) for part in parts))]
+    values = {(part, place): value for part, its in enumerate(found) for place, value in enumerate(its)
               if value is not None}
     by_value = abc_of(values, words.defaults.abc)
     words.defaults.check_classes(whole.groups if any(whole.groups) else {*by_value.values()})
-    letters = [[by_value.get((part, place), "") for place in range(len(found[part]))] for part in range(count)]
-    read = dict(workers.answers(items_of_part, ((place, (part, words, whole, letters[place], room, place))
-                                                for place, part in enumerate(parts))))
-    return [read[part] for part in range(count)]
+    letters = [[by_value.get((part, place), "") for place in range(len(its))] for part, its in enumerate(found)]
+    return [*workers.in_order(items_of_part, ((part, words, whole, letters[place], room, place)
+                                              for place, part in enumerate(parts)))]

@@ -27,8 +27,8 @@ TESTED = "tested"  # a fact of the store: the text that all digests have, and th
 
 
 class Records(Catalogued):
-    """A catalogue as it was at the end of the record of each item, by the last periods of that which count for a plan,
-    but for `item`, which has all periods."""
+    """A catalogue as it was at the end of the record of each item, by the last periods of that which count for a
+    plan."""
 
     def __init__(self, path: Path, record: int, periods: int | None) -> None:
         super().__init__(path)
