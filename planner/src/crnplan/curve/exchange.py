@@ -23,7 +23,7 @@ from ..chances import Floats, Whole
 from ..errors import Refused, argument
 from ..theory.least import NEAR
 from .candidates import PRICES
-from .parts import (AS_IS, COST, FIGURES, ORDERS, UNMET, VALUE, Choice, Dearer, Point, Steps, Chosen, bounds_of,
+from .parts import (AS_IS, COST, FIGURES, UNMET, VALUE, Choice, Dearer, Point, Steps, Chosen, bounds_of,
                     drawn_of, fitting, measured, policies_of, steps_of, stretches_of, summed, units_of)
 
 # A budget that is not used up is filled with steps whose price is at most so many times that of the step too many.

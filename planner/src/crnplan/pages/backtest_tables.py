@@ -1,7 +1,7 @@
 """The tables of a catalogue's test on its past: a row for each item, and the sums of all items and of each class."""
 from __future__ import annotations
 
-from collections.abc import Iterator, Mapping, Sequence
+from collections.abc import Iterator, Mapping
 from dataclasses import replace
 
 from ..plan.backtest.catalogue import Past, Tested

@@ -2,11 +2,10 @@
 from __future__ import annotations
 
 import heapq
-from collections.abc import Iterator
 
 from ..plan.catalogue import PlannedFolder
 from ..plan.changes import DAMPED, KINDS, MOVED, Change, ChangeSums, Since, SinceSums
-from ..table import MONEY, Cell, Column, DataTable, number, text, whole
+from ..table import Cell, Column, DataTable, number, text, whole
 from ..words import counted, sentence
 from .catalogue_tables import level_cells, money
 
