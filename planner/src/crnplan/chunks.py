@@ -383,8 +383,8 @@ class Chunked(Facts, Generic[Row]):
 
 
 def finishing(answers: Chunked[Row], making: Answering[Row], names: Callable[[], Iterable[str]],
-              workers: contextlib.AbstractContextManager[Workers], facts: Mapping[str, str], *, shown: bool,
-              unit: str = "items") -> Generator[Made, None, None]:
+              workers: contextlib.AbstractContextManager[Workers], facts: Mapping[str, str], *,
+              shown: bool) -> Generator[Made, None, None]:
     """Answers all names, which are given in order, each time anew. Yields the files in this order, each as soon as all
     before it are done, and commits the answers with facts after the last one. If they are all there, no worker is
     asked. If it is not run to its end, it has to be closed, so that the workers end."""
@@ -396,7 +396,7 @@ def finishing(answers: Chunked[Row], making: Answering[Row], names: Callable[[],
         yield from answers.made
         return
     tasks, start = answers.tasks(chunks), time.time() - SOON
-    with (progress(count, shown, unit, kept_now=lambda its: answers.kept_now(found.values(), start)) as done,
+    with (progress(count, shown, "items", kept_now=lambda its: answers.kept_now(found.values(), start)) as done,
           workers as running):
         done.add(0)
         for one in made_by(running, making, tasks):
