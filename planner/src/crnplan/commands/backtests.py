@@ -12,7 +12,6 @@ from ..errors import Refused
 from ..files import own_folder
 from ..plan.backtest.one import Walk
 from ..plan.catalogue import planned_folder
-from ..plan.question import Settings
 from ..plan.settings import read_config
 from ..records.catalogue_reading import CATALOGUE, read_into
 from .catalogues import words_of
@@ -38,23 +37,21 @@ from .words import command, csv_style_option, share_of, worker_options
 @worker_options
 def backtest(tables: Sequence[Path], orders: str | None, out: Path | None, record: int, every: int, window: int | None,
              least_gain: float | None, config: str | None, jobs: int | None, cluster: str | None,
-             program: str | None) -> int:
-    def walk_of(settings: Settings) -> Walk:
-        return Walk(record, every, window or settings.window or Walk.window, least_gain or settings.least_gain)
+             program: str | None) -> None:
+    words = None
     if len(tables) == 1:
         if out or orders or config:
             raise Refused("a planned folder has its own --out, --orders and --config: leave them out")
         with planned_folder(tables[0]) as planned:
             settings = planned.settings
-        with own_folder(tables[0], CATALOGUE) as folder:
-            tests = write_backtest(folder, settings, walk_of(settings), jobs=jobs, address=cluster, shown=True)
     elif len(tables) == 2 and out:
         stated: dict[str, Any] = {"columns": {}, "units": {}, "factors": {}, "date_formats": ()}
         words, settings = words_of(stated, read_config(config))
-        with own_folder(out, CATALOGUE) as folder:
-            read_into(folder, {"demand": tables[0], "items": tables[1], "orders": orders}, words, jobs)
-            tests = write_backtest(folder, settings, walk_of(settings), jobs=jobs, address=cluster, shown=True)
     else:
         raise Refused("name a folder of crnplan catalogue, or two tables and --out")
+    walk = Walk(record, every, window or settings.window or Walk.window, least_gain or settings.least_gain)
+    with own_folder(out or tables[0], CATALOGUE) as folder:
+        if words:
+            read_into(folder, {"demand": tables[0], "items": tables[1], "orders": orders}, words, jobs)
+        tests = write_backtest(folder, settings, walk, jobs=jobs, address=cluster, shown=True)
     click.echo(tests.text, nl=False)
-    return 0
