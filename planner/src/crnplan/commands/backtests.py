@@ -36,8 +36,7 @@ from .words import command, csv_style_option, share_of, worker_options
 @csv_style_option
 @worker_options
 def backtest(tables: Sequence[Path], orders: str | None, out: Path | None, record: int, every: int, window: int | None,
-             least_gain: float | None, config: str | None, jobs: int | None, cluster: str | None,
-             program: str | None) -> None:
+             least_gain: float | None, config: str | None, jobs: int | None, cluster: str | None) -> None:
     words = None
     if len(tables) == 1:
         if out or orders or config:

@@ -25,7 +25,7 @@ from ..records.item import BORROW
 from ..records.items import Words
 from . import note
 from .histories import writing_options
-from .words import command, csv_style_option, pairs_of, share_of, together, worker_options
+from .words import command, csv_style_option, pairs_of, program_option, share_of, together, worker_options
 
 # So many reasons are named on the terminal.
 MOST_REASONS = 10
@@ -110,6 +110,7 @@ decimal_option = click.option("--decimal", type=click.Choice(DECIMALS),
 @click.option("--config", metavar="FILE.toml", help="Settings; by default crnplan.toml, if it is here.")
 @csv_style_option
 @worker_options
+@program_option
 def catalogue(**asked: Any) -> int:
     config, path = read_config(asked["config"]), Path(asked["config"] or CONFIG)
     if path.is_file():

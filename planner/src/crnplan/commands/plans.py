@@ -41,6 +41,7 @@ def item(history: str, settings: str, out: str, program: str | None) -> None:
 @click.option("--csv", "is_csv", is_flag=True, help="Print curve.csv in place of the text.")
 @csv_style_option
 @worker_options
+@program_option
 def curve(folder: Path, plot: Path | None, is_csv: bool, **options: Any) -> None:
     drawn = crn.exchange_curve(folder, progress=True, **options)
     if plot:
@@ -58,6 +59,7 @@ def curve(folder: Path, plot: Path | None, is_csv: bool, **options: Any) -> None
 @click.option("--xlsx", metavar="FILE", type=click.Path(dir_okay=False, path_type=Path),
               help="Write the plan as a workbook for spreadsheets too.")
 @worker_options
+@program_option
 def report(folder: Path, items: tuple[str, ...], xlsx: Path | None, **options: Any) -> None:
     from ..pages.catalogue_page import file_of
     if xlsx:

@@ -173,6 +173,7 @@ def trajectory(scenario: str, names: tuple[str, ...], periods: int | None, progr
 @click.option("--S", "levels", nargs=3, type=int, metavar="FROM TO STEP", required=True, help="Order-up-to levels.")
 @click.option("--out", metavar="FOLDER", help="Keep each report here, and go on with what is here.")
 @worker_options
+@program_option
 @form_options
 def sweep(base: str, points: tuple[int, int, int], levels: tuple[int, int, int], form: str | None,
           **options: Any) -> None:

@@ -73,8 +73,7 @@ worker_options = together(
     click.option("--jobs", type=click.IntRange(min=1), metavar="N",
                  help="Processes at a time; by default one for each processor."),
     click.option("--cluster", metavar="ADDRESS",
-                 help="A Dask scheduler, as tcp://host:8786. Its workers need crnplan."),
-    program_option)
+                 help="A Dask scheduler, as tcp://host:8786. Its workers need crnplan."))
 csv_style_option = click.option(
     "--csv-style", type=click.Choice([*STYLES]), default="en", callback=in_style, expose_value=False,
     help="Write tables for spreadsheets in German or French: with ;, a decimal comma and a byte order mark.")
