@@ -132,14 +132,20 @@ class Scenario:
         """
         costs, scale = scaled_costs({"setup": setup, "unit": unit, "holding": holding, "backlog": backlog})
         low, high = _levels(today, "today")
-        laws = {"demand": demand, "lead": lead} | ({} if returns is None else {"returns": returns})
-        tree = {"version": formats.version_with(laws), "key": key_words(key), "periods": whole(periods, "periods"),
-                "replications": whole(replications, "replications"),
-                "initial": (low + high) // 2 if initial is None else whole(initial, "initial"),
-                "ring": formats.RING_SIZES[-1], "costs": costs,
-                **{name: _table(law, name).tree for name, law in laws.items()},
-                "policy": [{"name": "today", "s": low, "S": high}]}
-        return dataclasses.replace(cls.of_tree(checked_tree(tree)), scale=scale)
+        made = cls.of_laws(
+            _table(demand, "demand"), _table(lead, "lead"), None if returns is None else _table(returns, "returns"),
+            Costs(**costs), (low, high), (low + high) // 2 if initial is None else whole(initial, "initial"),
+            whole(periods, "periods"), whole(replications, "replications"), key)
+        checked_tree(made.tree)
+        return dataclasses.replace(made, scale=scale)
+
+    @classmethod
+    def of_laws(cls, demand: Law, lead: Law, returns: Law | None, costs: Costs, today: tuple[int, int] | None,
+                initial: int, periods: int, replications: int, key: str | Sequence[str]) -> Scenario:
+        """Makes a scenario that is known to have no fault. Without levels of today it has no policy."""
+        version = formats.version_with(["returns"] if returns else [])
+        return cls(version, tuple(key_words(key)), periods, replications, initial, formats.RING_SIZES[-1], costs,
+                   demand.table, lead.table, (Policy("today", *today),) if today else (), returns and returns.table)
 
     def changed(self, **changes: object) -> Scenario:
         """Returns the scenario with changed fields, checked. Raises Refused, and ScenarioError with all faults.
@@ -224,7 +230,7 @@ def key_words(key: str | Sequence[str]) -> list[str]:
 def _table(law: Any, name: str) -> Law:
     """Returns the table of a law, of a mapping of values to weights, or of observed whole numbers."""
     if isinstance(law, Law):
-        return law.table
+        return Law.of_tree(law.tree)
     if not isinstance(law, Mapping):
         # An array or a Series, as Python's numbers; or any iterable.
         numbers = law.tolist() if hasattr(law, "tolist") else law

@@ -6,6 +6,7 @@ import datetime
 import math
 from collections import Counter
 from collections.abc import Mapping
+from dataclasses import replace
 from fractions import Fraction
 from pathlib import Path
 from typing import Any
@@ -16,6 +17,7 @@ import pytest
 
 import crnplan as crn
 from crnplan.demand.learning import Prior
+from crnplan.law import Law
 from crnplan.plan import one, question as questions
 from crnplan.money import Currency
 from crnplan.pages.item_page import ItemWords, item_summary
@@ -72,6 +74,21 @@ def test_costs_are_those_of_the_run_where_theory_is_rounded(program: Path, monke
         estimate.cost_today, estimate.cost_chosen, estimate.saving) != (
         answer.today.cost, answer.chosen.cost, answer.today.cost - answer.chosen.cost)
     assert (answer.verdict == UNDECIDED) == (estimate.low is None or estimate.low <= 0 <= (estimate.high or 0))
+
+
+@pytest.mark.parametrize("changed, text", [
+    ({"demand": Law((1, 10_001), (1, 1))}, "demand, key values, entry 2: 10001 is not from 0 to 10,000"),
+    ({"lead": Law((2, 33), (1, 1))}, "lead, key values, entry 2: 33 is not from 1 to 32"),
+    ({"item": item_of(levels=(4, 1_000_001))}, "key S: 1000001 is not from 0 to 1,000,000"),
+    ({"rates": {"setup": 1, "holding": 3, "backlog": 10_001}}, "key backlog: 10001 is not from 0 to 10,000"),
+], ids=["demand", "lead", "levels", "rates"])
+def test_numbers_above_those_of_a_scenario(changed: dict[str, Any], text: str) -> None:
+    """What is read and fitted makes the scenario that is made with all checks. A case with more of it has none."""
+    asked = question_of(item_of(), alone())
+    scenario = asked.scenario()
+    assert scenario == scenario.changed(initial=scenario.initial)
+    with pytest.raises(crn.ScenarioError, match=text):
+        replace(asked, **changed).theory()
 
 
 def test_the_run_is_that_of_the_key_of_the_name(program: Path) -> None:

@@ -16,13 +16,13 @@ from ..demand.borrowing import law_of
 from ..demand.learning import Prior
 from ..demand import LEAD_METHODS, METHODS
 from ..errors import CrnplanError, Refused, argument
-from ..formats import MOST_ITEMS, MOST_PERIODS, MOST_REPLICATIONS, MOST_WEIGHT, limits
+from ..formats import MOST_DEMAND, MOST_ITEMS, MOST_LEAD, MOST_PERIODS, MOST_REPLICATIONS, MOST_WEIGHT, limits
 from ..law import Law
 from ..money import rounded_costs
 from ..records.bounds import Bounds
 from ..records.item import BORROW, NEW, Item
 from ..remarks import Remark
-from ..scenario import Scenario
+from ..scenario import Costs, Scenario
 from ..theory.lattice import lattice_of, shape_of, theory_on
 from ..theory.long_run import LongRun
 from ..words import advice, sentence
@@ -179,13 +179,18 @@ class Terms:
 
     @cached_property
     def _scenario(self) -> Scenario:
-        """Returns the scenario of today's policy, or of none, with the rates. Raises Refused, and ScenarioError."""
-        settings, rates = self.settings, {name: self.rates[name] for name in ("setup", "holding")}
-        scenario = Scenario.of(
-            self.demand, self.lead, **rates, backlog=self.rates.get("backlog", 1), returns=self.returns,
-            today=self.levels or (0, 0), initial=0, periods=settings.periods, replications=settings.replications,
-            key=f"{settings.seed}\n{self.item.name}")
-        return scenario if self.levels else scenario.with_policies(())
+        """Returns the scenario of today's policy, or of none, with the rates. What was read or fitted is within the
+        program's ranges, but cases and smaller boxes may have larger numbers: raises Refused, and ScenarioError."""
+        settings, key, today = self.settings, f"{self.settings.seed}\n{self.item.name}", self.levels
+        rates = {name: self.rates.get(name, 1) for name in ("setup", "holding", "backlog")}
+        if (self.demand.values[-1] <= MOST_DEMAND and self.lead.values[-1] <= MOST_LEAD
+                and (today is None or today[1] <= MOST_ITEMS)
+                and all(rate <= limits("costs", name)[1] for name, rate in rates.items())):
+            return Scenario.of_laws(self.demand, self.lead, self.returns, Costs(unit=0, **rates), today, 0,
+                                    settings.periods, settings.replications, key)
+        made = Scenario.of(self.demand, self.lead, **rates, returns=self.returns, today=today or (0, 0), initial=0,
+                           periods=settings.periods, replications=settings.replications, key=key)
+        return made if today else made.with_policies(())
 
     def scenario(self, backlog: int | None = None, initial: int = 0) -> Scenario:
         """Returns the scenario of today's policy, or of none, with a backlog rate, by default that of the rates or else
@@ -248,10 +253,7 @@ class Question(Terms):
 
     def alone(self) -> Question:
         """Returns the question of an item that learns its law from no other."""
-        demand = fit_demand(self.item.counts, box=self.item.box)
-        single = dataclasses.replace(self, borrow=NONE, demand=demand)
-        vars(single)["_scenario"] = dataclasses.replace(self._scenario, demand=demand.table)  # Laws that are fitted fit.
-        return single
+        return dataclasses.replace(self, borrow=NONE, demand=fit_demand(self.item.counts, box=self.item.box))
 
 
 def finest(rates: Mapping[str, int], scale: Fraction) -> tuple[dict[str, int], Fraction]:
