@@ -214,7 +214,7 @@ class Terms:
         """
         scenario, (point, level) = self.scenario(), self.levels or (0, 0)
         feasible = feasible_of(self.bounds, self.item.box, self.demand.mean)
-        shape = dataclasses.replace(shape_of(self.for_theory()), least_gap=feasible.gap(1) - 1)
+        shape = shape_of(self.for_theory(), feasible.gap(1) - 1)
         return theory_on(scenario, shape, *lattice_of(scenario, shape, level - point, MOST_GAPS), feasible,
                          known)
 

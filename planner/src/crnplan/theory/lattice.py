@@ -91,7 +91,7 @@ class Shape:
         return self.has_room(step) and gap <= most_gaps and self.level / step <= MOST_CELLS
 
 
-def shape_of(scenario: Scenario) -> Shape:
+def shape_of(scenario: Scenario, least_gap: int = 0) -> Shape:
     """Returns the shape of a scenario. Raises NoTheory if it has no best policy."""
     costs, tables = scenario.costs, net_tables(scenario)
     for name, cost in (("holding", costs.holding), ("backlog", costs.backlog)):
@@ -99,7 +99,7 @@ def shape_of(scenario: Scenario) -> Shape:
             raise NoTheory(f"the cost {name} is 0, so there is no best policy: stock, or being short, costs nothing; "
                            "give it a cost above 0", "costs", name)
     laws = [chances_in(table) for table in tables]
-    demand, back = (float(chances @ values) for values, chances in laws)
+    demand, back = (*(float(chances @ values) for values, chances in laws), 0.0)[:2]
     mean, squares = demand - back, float(sum(chances @ values**2 for values, chances in laws))
     variance = squares - demand**2 - back**2
     if mean <= 1e-9 * demand:
@@ -108,15 +108,14 @@ def shape_of(scenario: Scenario) -> Shape:
                        "no item is ever asked for; give a demand above 0 a weight", "demand")
     rate = 2 * costs.setup * (costs.holding + costs.backlog) / (costs.holding * costs.backlog)
     order = math.sqrt(rate * mean) + (rate * variance)**(1 / 3)
-    values, (leads, _), height = np.concatenate([values for values, _ in laws]), chances_in(scenario.lead), 0.0
-    high = int(values.max())
+    base, high = math.gcd(*(int(np.gcd.reduce(its)) for its, _ in laws)), max(int(its[-1]) for its, _ in laws)
+    leads, height = [*scenario.lead.chances], 0.0
     if back:  # Returns may lift the stock so far above S: beyond, the chance is below any rounding.
         step = max(1, high // CELLS_OF_SHAPE)
         net = sum_of(LatticeLaw.of(tables[0], step), LatticeLaw.of(tables[1], step).reflected)
         height = 0.0 if net.low >= 0 else step * DIGITS / decay_of(net)
-    rise = max(0, max(tables[1].values) - min(tables[0].values))
-    return Shape(int(np.gcd.reduce(values)), mean, math.sqrt(variance), high, int(leads[-1]), len(leads), order, height,
-                 rise)
+    rise = max([0, *(max(its.values) - min(tables[0].values) for its in tables[1:])])
+    return Shape(base, mean, math.sqrt(variance), high, leads[-1], len(leads), order, height, rise, least_gap)
 
 
 def finest(base: int, largest: float, excess: Callable[[int], float],

@@ -51,7 +51,7 @@ class Depths:
 
     def __init__(self, scenario: Scenario) -> None:
         """Takes the net demands that occur."""
-        nets = {demand - back for demand, back in itertools.product(*(it.chances for it in net_tables(scenario)))}
+        nets = {demand - sum(back) for demand, *back in itertools.product(*(it.chances for it in net_tables(scenario)))}
         self.divisor = math.gcd(*nets)
         self.falls = sorted(net for net in nets if net > 0)
         self.rises = min(nets) < 0

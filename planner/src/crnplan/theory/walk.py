@@ -32,7 +32,7 @@ LOOK_EVERY = 64
 @lru_cache(maxsize=16)
 def chances_in(table: Law) -> tuple[Whole, Floats]:
     """Returns the values of a table that have a chance, and their chances."""
-    values, weights = np.array(table.values), np.array(table.weights, float)
+    values, weights = np.fromiter(table.values, int), np.fromiter(table.weights, float)
     if 0 in table.weights:
         values, weights = values[weights > 0], weights[weights > 0]
     return values, weights / table.size
@@ -136,7 +136,7 @@ class LatticeLaw:
         """Returns the chance of the cells above one."""
         return float(self.chances[max(cell + 1 - self.low, 0):].sum())
 
-    @property
+    @cached_property
     def reflected(self) -> LatticeLaw:
         """Returns the law of the number with the other sign."""
         return LatticeLaw(-self.high, self.chances[::-1].copy())
@@ -166,7 +166,7 @@ def sum_of(left: LatticeLaw, right: LatticeLaw) -> LatticeLaw:
     """Returns the law of the sum of two independent numbers."""
     for law, other in ((left, right), (right, left)):
         if len(other.chances) == 1:
-            return LatticeLaw(left.low + right.low, law.chances)
+            return LatticeLaw(left.low + right.low, law.chances) if other.low else law
     return LatticeLaw.scaled(left.low + right.low, convolved(left.chances, right.chances))
 
 
@@ -234,9 +234,9 @@ def figures_at(levels: Whole, step: int, low: int, below: Floats, taken: Floats,
     return figures
 
 
-def net_tables(scenario: Scenario) -> tuple[Law, Law]:
-    """Returns the tables of demand and returns."""
-    return scenario.demand, scenario.returns or Law((0,), (1,))
+def net_tables(scenario: Scenario) -> list[Law]:
+    """Returns the table of demand, and that of returns if there are some."""
+    return [table for table in (scenario.demand, scenario.returns) if table]
 
 
 def decay_of(net: LatticeLaw) -> float:
@@ -263,11 +263,9 @@ def factors_of(net: LatticeLaw) -> tuple[Floats, Floats]:
     the net demand. The logarithm of that is split on a circle within which it has no zero.
     """
     if net.low >= 0:
-        stay = net.chances[0] if net.low == 0 else 0.0
-        falls = np.zeros(net.high + 1)
-        falls[net.low:] = net.chances / (1 - stay)
-        falls[0] = 0.0
-        return np.array([1 / (1 - stay)]), falls
+        falls = net.between(0, net.high)
+        stay, falls[0] = float(falls[0]), 0.0
+        return np.array([1 / (1 - stay)]), falls / (1 - stay)
     decay = decay_of(net)
     tilt = min(decay / 2, 10 / net.high)
     room = 1 << math.ceil(math.log2(max(2 * DIGITS / tilt, 2 * DIGITS / (decay - tilt), 4 * len(net.chances))))
@@ -312,10 +310,10 @@ class Walk:
         self.demand = LatticeLaw.of(scenario.demand, step)
         self.back = LatticeLaw.of(scenario.returns, step) if scenario.returns else NOTHING
         self.net = sum_of(self.demand, self.back.reflected)
-        self.visits, self.falls = factors_of(self.net)
-        self.span = float(self.visits.sum())
-        self.lows: Floats = np.ones(1)
-        self.above_low = LatticeLaw.scaled(0, self.visits).reflected
+        visits, self.falls = factors_of(self.net)
+        self.span = float(visits.sum())
+        self.lows: Floats = NOTHING.chances
+        self.above_low = LatticeLaw.scaled(0, visits).reflected if self.net.low < 0 else NOTHING
 
     @property
     def deviation(self) -> float:
