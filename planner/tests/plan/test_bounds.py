@@ -12,6 +12,7 @@ import numpy as np
 import pytest
 
 from crnplan.curve.candidates import PRICES, candidates_of
+from crnplan.law import Law
 from crnplan.plan.aims import FILLS, Aims, Tried
 from crnplan.plan.answer import BOUNDED, Answer
 from crnplan.plan.bounds import feasible_of
@@ -71,7 +72,7 @@ def figures_of(question: Question, levels: tuple[int, int]) -> tuple[float, floa
     (Bounds(5, 7, 6, Fraction(1)), 1, Feasible(6, 6, 20, 5)),
 ], ids=str)
 def test_feasible_policies(bounds: Bounds, box: int, feasible: Feasible) -> None:
-    assert feasible_of(bounds, box, Fraction(5, 2)) == feasible
+    assert feasible_of(bounds, box, Law((2, 3), (1, 1))) == feasible
 
 
 @pytest.mark.parametrize("every, coverage", [("day", 728), ("week", 104), ("month", 24), (None, None)])

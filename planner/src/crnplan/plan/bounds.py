@@ -8,6 +8,7 @@ from fractions import Fraction
 from typing import Any
 
 from ..formats import MOST_ITEMS
+from ..law import Law
 from ..records.bounds import Bounds
 from ..theory.feasible import ALL, Feasible
 from ..theory.long_run import Candidate, LongRun
@@ -20,8 +21,8 @@ LEFT_OUT: dict[str, Fraction | int | None] = {
     COVERAGE: None, "shelf_life": None, "order_min": None, "s_min": None, "pack": 1}
 
 
-def feasible_of(bounds: Bounds, box: int, mean: Fraction) -> Feasible:
-    """Returns the policies within bounds, in boxes of so many items. `mean` is the mean demand of a period in boxes.
+def feasible_of(bounds: Bounds, box: int, demand: Law) -> Feasible:
+    """Returns the policies within bounds, in boxes of so many items, as the demand of a period is.
 
     S is never held below what the least s and the smallest order need.
     """
@@ -30,21 +31,21 @@ def feasible_of(bounds: Bounds, box: int, mean: Fraction) -> Feasible:
     spans = [span for span in (bounds.coverage, bounds.shelf_life) if span is not None]
     if not spans:
         return feasible
-    most = max(math.floor(min(spans) * mean), feasible.least + feasible.gap(0))
+    most = max(math.floor(min(spans) * demand.mean), feasible.least + feasible.gap(0))
     return replace(feasible, most_level=min(most, MOST_ITEMS))
 
 
-def binding(theory: LongRun, bounds: Bounds, box: int, mean: Fraction, share: float,
+def binding(theory: LongRun, bounds: Bounds, box: int, demand: Law, share: float,
             names: Iterable[str] = LEFT_OUT) -> Iterator[tuple[str, Candidate]]:
     """Yields those of some bounds that the best policy with a share of demand met at once would leave if it could, each
     by its name with the best policy without it. Nothing binds if the best of all policies is feasible. S that a bound
     lets cover more may do so without it too: else a policy without that bound could be dearer."""
     if theory.has(theory.free.best(share)):
         return
-    most = feasible_of(bounds, box, mean).most_level
+    most = feasible_of(bounds, box, demand).most_level
     for name in names:
         others: dict[str, Any] = {name: LEFT_OUT[name]}
-        feasible = feasible_of(replace(bounds, **others), box, mean)
+        feasible = feasible_of(replace(bounds, **others), box, demand)
         feasible = replace(feasible, most_level=max(most, feasible.most_level))
         if feasible == theory.feasible:  # as for a bound that is not stated
             continue

@@ -343,7 +343,7 @@ def remarks_of_bounds(question: Question, theory: LongRun, choice: Choice) -> It
         return
     is_usual = question.item.bounds.s_min is None and question.settings.s_min is None
     named = [name for name in LEFT_OUT if not (is_usual and name == "s_min")]
-    for name, best in binding(theory, question.bounds, box, question.demand.mean, share, named):
+    for name, best in binding(theory, question.bounds, box, question.demand, share, named):
         yield Remark(f"bound of {name}", {**in_items(best[1:]), "cost": cost(choice.plain) - cost(best[1:]),
                                           "bound": float(getattr(question.bounds, name))})
     if choice.plain[0] == 0:

@@ -213,7 +213,7 @@ class Terms:
         rate.
         """
         scenario, (point, level) = self.scenario(), self.levels or (0, 0)
-        feasible = feasible_of(self.bounds, self.item.box, self.demand.mean)
+        feasible = feasible_of(self.bounds, self.item.box, self.demand)
         shape = shape_of(self.for_theory(), feasible.gap(1) - 1)
         return theory_on(scenario, shape, *lattice_of(scenario, shape, level - point, MOST_GAPS), feasible,
                          known)
