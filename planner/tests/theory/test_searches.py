@@ -168,7 +168,7 @@ def test_each_gap_beside_all_its_levels(step: int, even: int, share: float) -> N
         expected.append((levels[place], cycle / lows[:gap + 1].sum() + costs[place]))
     added = [np.convolve(lows[:even] - lows[-1], row)[:len(row)] for row in table[:3]]
     words = (gaps, leasts, lows, table, np.concatenate([added, np.cumsum(table[:3], axis=1)]), even, step, step * last,
-             cycle, np.zeros(2), allowed, theory.ratio, math.inf)
+             cycle, 0.0, 0.0, allowed, theory.ratio, math.inf)
     rows = gaps_walked.loop(*words)
     for gap, level, cost in rows.tolist():
         assert (level, pytest.approx(cost, rel=1e-12)) == expected[int(gap) - 8]

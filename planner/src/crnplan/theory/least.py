@@ -142,8 +142,9 @@ def spare_at(table: Floats, turned: Floats, evened: Floats, even: int, gap: int,
 
 @composed(after=PLAIN_CALLS)
 def gaps_walked(gaps: Whole, leasts: Whole, lows: Floats, table: Floats, evened: Floats, even: int, step: int, top: int,
-                setup: float, line: Floats, allowed: float, ratio: float, known: float) -> Floats:
-    """Returns rows with the gaps that are looked at, the best level of each, in items, and what both cost.
+                setup: float, base: float, rise: float, allowed: float, ratio: float, known: float) -> Floats:
+    """Returns rows with the gaps that are looked at, the best level of each, in items, and what both cost: the best one
+    first, of costs that are equal but for rounding that of the least gap.
 
     `gaps` rise, and `leasts` has the least feasible level of each, in items; the greatest is the `top`. `lows` has the
     chances of the lows up to the widest gap. `table` has, for levels of lows from -2 cells on, the stock costs, the
@@ -153,14 +154,14 @@ def gaps_walked(gaps: Whole, leasts: Whole, lows: Floats, table: Floats, evened:
 
     A level is enough if the mean unmet demand is at most `allowed`, and the mean chance of no backlog at least `ratio`.
     The least one does not fall from one gap to the next. Gaps are left out that cost more than `known`, or than one
-    before: see the module. `setup` is that of a cycle. All else costs at least `line[0]`, and `line[1]` more by cell.
+    before: see the module. `setup` is that of a cycle. All else costs at least `base`, and `rise` more by cell.
     """
     turned, last, least_cost, rows = lows[::-1].copy(), table.shape[1] - 1, table[0].min(), np.empty((len(gaps), 3))
-    count, added, place, total, due = 0, 0, 0, 0.0, 0.0
+    count, added, place, best, total, due, least = 0, 0, 0, 0, 0.0, 0.0, np.inf
     for each, gap in enumerate(gaps):
         while added <= gap:
             total, added = total + lows[added], added + 1
-        floor = least_cost if each == 0 else max(least_cost, line[0] + line[1] * gap)
+        floor = least_cost if each == 0 else max(least_cost, base + rise * gap)
         first = max(place, 2 - (-leasts[each] // step))
         if total < due or first > last or setup / total + floor > CLOSE * known:
             continue
@@ -175,7 +176,12 @@ def gaps_walked(gaps: Whole, leasts: Whole, lows: Floats, table: Floats, evened:
             level -= spare
         if level <= top:
             rows[count, 0], rows[count, 1], rows[count, 2] = gap, level, (setup + cost) / total
-            known, count = min(known, rows[count, 2] * (1 + NEAR)), count + 1
+            least, count = min(least, rows[count, 2] * (1 + NEAR)), count + 1
+            known = min(known, least)
             if known > least_cost:
                 due = total + max(0.0, setup + cost - total * known) / (known - least_cost)
+    while best < count and rows[best, 2] > least:
+        best += 1
+    for column in range(3 * (best > 0)):
+        rows[0, column], rows[best, column] = rows[best, column], rows[0, column]
     return rows[:count]

@@ -98,7 +98,7 @@ LevelsOf = Callable[[Means], Levels]
 
 def place_of_least(costs: Floats) -> int:
     """Returns the place of the least cost, the first one if others are equal but for rounding."""
-    return int(np.argmax(costs <= costs.min() * (1 + NEAR)))
+    return int((costs <= costs.min() * (1 + NEAR)).argmax())
 
 
 class LongRun(Walk):
@@ -259,7 +259,7 @@ class LongRun(Walk):
         if not (new := sorted(asked - self.figured.keys())):
             return
         for (gap, level), row in zip(new, self.lows_below([gap for gap, _ in new])):
-            levels = level - self.step * (np.arange(len(row)) - self.above)
+            levels = level - self.step * np.arange(-self.above, len(row) - self.above)
             table, orders = self.figures_from(levels), 1 / self.periods(gap)
             stock_cost, unmet, held, stock = (table @ row).tolist()
             cost = self.setup * orders + stock_cost

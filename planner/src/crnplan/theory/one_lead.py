@@ -48,7 +48,7 @@ class OneLead(LongRun):
 
     def table_to(self, top: float) -> Floats:
         """Returns the table of `gaps_walked` with the levels up to one, in cells."""
-        return self.figures_from(self.step * np.arange(-2, int(top) + 1))
+        return self.figures_from(np.arange(-2 * self.step, (int(top) + 1) * self.step, self.step))
 
     def evened(self, lows: Floats, table: Floats) -> tuple[Floats, int]:
         """Returns from where on lows have the same chance, with the sums from there on: see `gaps_walked`."""
@@ -66,13 +66,12 @@ class OneLead(LongRun):
         if not len(gaps):
             return NO_POLICY
         lows = self.lows_of(int(gaps[-1]))
-        line = np.array([self.holding * (lowest - self.offset), self.holding * self.step / 2])
         rows = gaps_walked(gaps, self.items(gaps) + self.feasible.least, lows, table, *self.evened(lows, table), self.step,
-                           self.feasible.top, self.setup / self.span, line,
-                           self.allowed(share) if share else math.inf, self.ratio, known)
+                           self.feasible.top, self.setup / self.span, self.holding * (lowest - self.offset),
+                           self.holding * self.step / 2, self.allowed(share) if share else math.inf, self.ratio, known)
         if not len(rows):
             return NO_POLICY
-        gap, level, cost = rows[place_of_least(rows[:, 2])].tolist()
+        gap, level, cost = rows[0].tolist()
         return Candidate(cost, int(level) - self.items(int(gap)), int(level))
 
     def first_of_gaps(self, share: float) -> Candidate:
@@ -98,7 +97,7 @@ class OneLead(LongRun):
             return NO_POLICY
         widest, most = self.widest(known.cost, self.feasible.least), -(-highest // self.step)
         table = self.table_to(min(most, self.reach(known.cost) // self.step + widest // 2 + 1))
-        cheap = int(np.argmax(table[0, 2:] <= CLOSE * known.cost))
+        cheap = int((table[0, 2:] <= CLOSE * known.cost).argmax())
         lowest = max(self.feasible.least, self.step * (cheap - 1) + 1)
         gaps = self.every_gap(least, self.widest(known.cost, lowest))
         found = self.cheapest_walked(gaps, table, share, known.cost, lowest)
