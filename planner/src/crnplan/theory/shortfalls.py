@@ -126,40 +126,90 @@ def last_by_transforms(cycles: Transforms, waits: Transforms, is_far: Truths, fr
     return lasting(kept.swapaxes(0, 1), move, late)
 
 
+def grow(kept: Floats, free: Floats, roots: Transforms, cells: Sequence[int]) -> bool:
+    """Adds to `kept` what `free` has in some cells, and returns whether that is more than a part of C."""
+    root, width, is_more = np.empty_like(kept[0]), kept.shape[2], False
+    for cell in cells:
+        turn, k = 0, 0
+        while k < width:
+            root[0, k], root[1, k] = roots[turn].real, roots[turn].imag
+            turn, k = turn + cell, k + 1
+            if turn >= len(roots):
+                turn -= len(roots)
+        for row in np.flatnonzero(free[:, cell]):
+            its, share, k = kept[row], free[row, cell], 0
+            while k < width:
+                its[0, k] += share * root[0, k]
+                its[1, k] += share * root[1, k]
+                k += 1
+            is_more = is_more or row > 0
+    return is_more
+
+
+def solved_for(kept: Floats, moves: Floats, late: Floats) -> Floats:
+    """Returns R(1), R(2), .. of a gap, from row 1 on: numbers as rows with their real and imaginary parts. `kept` has
+    rows with C, K(1), K(2), .., and `moves` is z. Numba makes fast code of `while` and of few arrays in a loop."""
+    placed, solved, start, width = np.empty_like(kept), np.empty_like(kept), np.zeros_like(moves), moves.shape[1]
+    start[0] = 1.0
+    for time in range(1, len(late)):
+        before, here, orders, law, k = kept[time - 1] if time > 1 else start, kept[time], placed[time], solved[time], 0
+        while k < width:
+            orders[0, k] = before[0, k] * moves[0, k] - before[1, k] * moves[1, k] - here[0, k]
+            k += 1
+        k = 0
+        while k < width:
+            orders[1, k] = before[0, k] * moves[1, k] + before[1, k] * moves[0, k] - here[1, k]
+            k += 1
+        k, sure = 0, (1 - late[0]) * orders[0, 0]
+        while k < width:
+            law[0, k] = here[0, k] + late[0] * orders[0, k] + sure
+            law[1, k] = here[1, k] + late[0] * orders[1, k]
+            k += 1
+        for ago in range(1, time):
+            first, rest, share, k = placed[ago], solved[time - ago], late[time - ago], 0
+            if first[0, 0] <= LEAST_CHANCE:
+                continue
+            sure = (1 - share) * first[0, 0]
+            while k < width:
+                law[0, k] += (share * first[0, k] + sure) * rest[0, k] - share * first[1, k] * rest[1, k]
+                k += 1
+            k = 0
+            while k < width:
+                law[1, k] += (share * first[0, k] + sure) * rest[1, k] + share * first[1, k] * rest[0, k]
+                k += 1
+    return solved
+
+
+def left_by(solved: Floats, moves: Floats, late: Floats) -> Floats:
+    """Returns by what C is multiplied in the module's last equation, from what `solved_for` returns."""
+    under_way, left, width = np.zeros_like(moves), np.empty_like(moves), moves.shape[1]
+    under_way[0] = late[0]
+    for time in range(1, len(late)):
+        law, k = solved[time], 0
+        while k < width:
+            under_way[0, k] += late[time] * law[0, k]
+            under_way[1, k] += late[time] * law[1, k]
+            k += 1
+    k = 0
+    while k < width:
+        left[0, k] = 1.0 - under_way[0, k] + (moves[0, k] * under_way[0, k] - moves[1, k] * under_way[1, k])
+        left[1, k] = 0.0 - under_way[1, k] + (moves[0, k] * under_way[1, k] + moves[1, k] * under_way[0, k])
+        k += 1
+    return left
+
+
 @compiled(last_by_transforms)
 def last_shortfalls(cycles: Transforms, waits: Transforms, is_far: Truths, free: Floats, gaps: Whole,
                     roots: Transforms, move: Transforms, late: Floats) -> Transforms:
     reviews, width, far, last = len(late), len(move), 0, 0
     kept, moves = np.empty((reviews, 2, width)), np.stack((move.real, move.imag))
-    placed, solved, root, start = np.empty_like(kept), np.empty_like(kept), np.empty((2, width)), np.zeros((2, width))
-    under_way, left, total = np.empty_like(root), np.empty_like(root), np.empty_like(root)
-    found = np.empty((len(gaps), width), np.complex128)
-    start[0] = 1.0
+    found, left = np.empty((len(gaps), width), np.complex128), moves
 
     def split(row: Floats, numbers: Transforms) -> None:
-        """Sets the real and the imaginary parts. Numba makes fast code of `while` and of few arrays in a loop."""
+        """Sets the real and the imaginary parts."""
         k = 0
         while k < width:
             row[0, k], row[1, k] = numbers[k].real, numbers[k].imag
-            k += 1
-
-    def add(total: Floats, share: float, sure: float, left: Floats, right: Floats) -> None:
-        """Adds a product."""
-        k = 0
-        while k < width:
-            total[0, k] += (share * left[0, k] + sure) * right[0, k] - share * left[1, k] * right[1, k]
-            k += 1
-        k = 0
-        while k < width:
-            total[1, k] += (share * left[0, k] + sure) * right[1, k] + share * left[1, k] * right[0, k]
-            k += 1
-
-    def add_share(total: Floats, share: float, right: Floats) -> None:
-        """Adds a share."""
-        k = 0
-        while k < width:
-            total[0, k] += share * right[0, k]
-            total[1, k] += share * right[1, k]
             k += 1
     for place, gap in enumerate(gaps):
         is_same = place > 0 and (not is_far[place] or far >= len(waits))
@@ -168,46 +218,13 @@ def last_shortfalls(cycles: Transforms, waits: Transforms, is_far: Truths, free:
             for row in range(1, 1 if is_same else reviews):
                 split(kept[row], waits[far, row - 1])
             far, last = far + 1, gap
-        for cell in range(last + 1, gap + 1):
-            turn, k = 0, 0
-            while k < width:
-                root[0, k], root[1, k] = roots[turn].real, roots[turn].imag
-                turn, k = turn + cell, k + 1
-                if turn >= len(roots):
-                    turn -= len(roots)
-            for row in np.flatnonzero(free[:, cell]):
-                add_share(kept[row], free[row, cell], root)
-                is_same = is_same and row == 0
-        last = gap
-        for time in range(1, 1 if is_same else reviews):
-            before, here = kept[time - 1] if time > 1 else start, kept[time]
-            orders, law, k = placed[time], solved[time], 0
-            while k < width:
-                orders[0, k] = before[0, k] * moves[0, k] - before[1, k] * moves[1, k] - here[0, k]
-                k += 1
-            k = 0
-            while k < width:
-                orders[1, k] = before[0, k] * moves[1, k] + before[1, k] * moves[0, k] - here[1, k]
-                k += 1
-            k, sure = 0, (1 - late[0]) * orders[0, 0]
-            while k < width:
-                law[0, k] = here[0, k] + late[0] * orders[0, k] + sure
-                law[1, k] = here[1, k] + late[0] * orders[1, k]
-                k += 1
-            for ago in range(1, time):
-                if placed[ago, 0, 0] > LEAST_CHANCE:
-                    add(law, late[time - ago], (1 - late[time - ago]) * placed[ago, 0, 0], placed[ago],
-                        solved[time - ago])
-        if not is_same:
-            under_way[0], under_way[1], left[0], left[1] = late[0], 0.0, 1.0, 0.0
-            for time in range(1, reviews):
-                add_share(under_way, late[time], solved[time])
-            add_share(left, -1.0, under_way)
-            add(left, 1.0, 0.0, moves, under_way)
-        total[:], k = 0.0, 0
-        add(total, 1.0, 0.0, kept[0], left)
+        is_same = not grow(kept, free, roots, range(last + 1, gap + 1)) and is_same
+        last, whole, k = gap, kept[0], 0
+        left = left if is_same else left_by(solved_for(kept, moves, late), moves, late)
         while k < width:
-            found[place, k], k = complex(total[0, k], total[1, k]), k + 1
+            found[place, k] = complex(whole[0, k] * left[0, k] - whole[1, k] * left[1, k],
+                                      whole[0, k] * left[1, k] + whole[1, k] * left[0, k])
+            k += 1
     return found
 
 
