@@ -16,6 +16,7 @@ import pandas as pd
 import pytest
 
 import crnplan as crn
+from crnplan.decide.sensitivity import Moves
 from crnplan.demand.learning import Prior
 from crnplan.law import Law
 from crnplan.plan import one, question as questions
@@ -80,8 +81,7 @@ def test_costs_are_those_of_the_run_where_theory_is_rounded(program: Path, monke
     ({"demand": Law((1, 10_001), (1, 1))}, "demand, key values, entry 2: 10001 is not from 0 to 10,000"),
     ({"lead": Law((2, 33), (1, 1))}, "lead, key values, entry 2: 33 is not from 1 to 32"),
     ({"item": item_of(levels=(4, 1_000_001))}, "key S: 1000001 is not from 0 to 1,000,000"),
-    ({"rates": {"setup": 1, "holding": 3, "backlog": 10_001}}, "key backlog: 10001 is not from 0 to 10,000"),
-], ids=["demand", "lead", "levels", "rates"])
+], ids=["demand", "lead", "levels"])
 def test_numbers_above_those_of_a_scenario(changed: dict[str, Any], text: str) -> None:
     """What is read and fitted makes the scenario that is made with all checks. A case with more of it has none."""
     asked = question_of(item_of(), alone())
@@ -89,6 +89,20 @@ def test_numbers_above_those_of_a_scenario(changed: dict[str, Any], text: str) -
     assert scenario == scenario.changed(initial=scenario.initial)
     with pytest.raises(crn.ScenarioError, match=text):
         replace(asked, **changed).theory()
+
+
+def test_costs_of_cases_above_those_of_the_program(program: Path) -> None:
+    """What cases cost follows the unit of money: of costs in dimes some leave the program's range, of dollars none."""
+    found = list[Moves]()
+    for times in (1, 10):
+        costs = {name: Fraction(times * cost) for name, cost in (("setup", 450), ("holding", 60), ("backlog", 900))}
+        question = question_of(item_of(**costs), alone())
+        found.append(Depth(question, plan_one(question, str(program)), str(program)).moves)
+    dollars, in_dimes = found
+    assert dollars.remarks == in_dimes.remarks and len(dollars.moves) > 8
+    for one, other in zip(dollars.moves, in_dimes.moves, strict=True):
+        assert (one.words, one.s, one.S) == (other.words, other.s, other.S)
+        assert (10 * one.cost, 10 * one.kept_cost) == pytest.approx((other.cost, other.kept_cost), rel=1e-9)
 
 
 def test_the_run_is_that_of_the_key_of_the_name(program: Path) -> None:

@@ -180,17 +180,14 @@ class Terms:
     @cached_property
     def _scenario(self) -> Scenario:
         """Returns the scenario of today's policy, or of none, with the rates. What was read or fitted is within the
-        program's ranges, but cases and smaller boxes may have larger numbers: raises Refused, and ScenarioError."""
-        settings, key, today = self.settings, f"{self.settings.seed}\n{self.item.name}", self.levels
-        rates = {name: self.rates.get(name, 1) for name in ("setup", "holding", "backlog")}
-        if (self.demand.values[-1] <= MOST_DEMAND and self.lead.values[-1] <= MOST_LEAD
-                and (today is None or today[1] <= MOST_ITEMS)
-                and all(rate <= limits("costs", name)[1] for name, rate in rates.items())):
-            return Scenario.of_laws(self.demand, self.lead, self.returns, Costs(unit=0, **rates), today, 0,
-                                    settings.periods, settings.replications, key)
-        made = Scenario.of(self.demand, self.lead, **rates, returns=self.returns, today=today or (0, 0), initial=0,
-                           periods=settings.periods, replications=settings.replications, key=key)
-        return made if today else made.with_policies(())
+        program's ranges, but cases and smaller boxes may have larger demands and levels: raises ScenarioError. Costs of
+        cases may be larger too, as theory has no range for them."""
+        settings, today, rates = self.settings, self.levels, {"backlog": 1, **self.rates, "unit": 0}
+        made = Scenario.of_laws(self.demand, self.lead, self.returns, Costs(**rates), today, 0, settings.periods,
+                                settings.replications, f"{settings.seed}\n{self.item.name}")
+        fits = (self.demand.values[-1] <= MOST_DEMAND and self.lead.values[-1] <= MOST_LEAD
+                and (today is None or today[1] <= MOST_ITEMS))
+        return made if fits else made.changed()
 
     def scenario(self, backlog: int | None = None, initial: int = 0) -> Scenario:
         """Returns the scenario of today's policy, or of none, with a backlog rate, by default that of the rates or else
