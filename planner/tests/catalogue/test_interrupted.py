@@ -96,8 +96,12 @@ def start(folder: Path, holding: Path) -> Iterator[Start]:
 
 
 def answers(folder: Path, name: str = IN_CHUNKS) -> set[bytes]:
-    """Returns the answers that are kept, by a look from outside: the lines of files and parts."""
-    lines = (line for path in (folder / "plan" / name).glob("*") for line in path.read_bytes().splitlines(True)[1:])
+    """Returns the answers that are kept, by a look from outside: the lines of files and parts. What a run renames or
+    removes meanwhile is left out."""
+    lines = list[bytes]()
+    for path in (folder / "plan" / name).glob("*"):
+        with contextlib.suppress(FileNotFoundError):
+            lines += path.read_bytes().splitlines(True)[1:]
     return {line for line in lines if line[32:34] == b" [" and line.endswith(b"]\n")}
 
 
