@@ -99,7 +99,8 @@ def shape_of(scenario: Scenario, least_gap: int = 0) -> Shape:
             raise NoTheory(f"the cost {name} is 0, so there is no best policy: stock, or being short, costs nothing; "
                            "give it a cost above 0", "costs", name)
     laws = [chances_in(table) for table in tables]
-    demand, back = (*(float(chances @ values) for values, chances in laws), 0.0)[:2]
+    demand, *others = (float(chances @ values) for values, chances in laws)
+    back = sum(others)
     mean, squares = demand - back, float(sum(chances @ values**2 for values, chances in laws))
     variance = squares - demand**2 - back**2
     if mean <= 1e-9 * demand:
