@@ -171,6 +171,15 @@ def test_all_cases_are_there(moves: Moves) -> None:
         "lead time plus 1 is left out: a lead time would be 33, which is over 32"]
 
 
+def test_a_case_without_a_best_policy_is_left_out() -> None:
+    """If a tenth less than 10 items is asked for, and 9.5 come back, nothing is ordered in the long run."""
+    found = moves_of(crn.Scenario.of({10: 1}, {1: 1}, returns={9: 1, 10: 1}, setup=9, holding=1, backlog=9, today=(3, 9)),
+                     "mine", KEPT)
+    assert [it.facts["case"] for it in found.remarks] == ["demand 10% down"]
+    assert not any(it.words == "demand 10% down" for it in found.moves) and len(found.moves) == 9
+    assert "demand 10% down" in found.text.splitlines()[-1] and "9.5 items come back and 9 are asked for" in found.text
+
+
 @pytest.mark.parametrize("fill, wanted", [(0.95, {"97.5%", "90%"}), (0.4, {"70%"}), (None, set())])
 def test_a_wanted_fill_rate_has_cases(fill: float | None, wanted: set[str]) -> None:
     """Half and twice as much demand that is not met at once are cases too, if some is still met."""
