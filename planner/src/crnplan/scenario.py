@@ -142,7 +142,7 @@ class Scenario:
     @classmethod
     def of_laws(cls, demand: Law, lead: Law, returns: Law | None, costs: Costs, today: tuple[int, int] | None,
                 initial: int, periods: int, replications: int, key: str | Sequence[str]) -> Scenario:
-        """Makes a scenario that is known to have no fault. Without levels of today it has no policy."""
+        """Makes a scenario without a check. Without levels of today it has no policy."""
         version = formats.version_with(["returns"] if returns else [])
         return cls(version, tuple(key_words(key)), periods, replications, initial, formats.RING_SIZES[-1], costs,
                    demand.table, lead.table, (Policy("today", *today),) if today else (), returns and returns.table)

@@ -50,7 +50,7 @@ def backtest(tables: Sequence[Path], orders: str | None, out: Path | None, recor
         raise Refused("name a folder of crnplan catalogue, or two tables and --out")
     walk = Walk(record, every, window or settings.window or Walk.window, least_gain or settings.least_gain)
     with own_folder(out or tables[0], CATALOGUE) as folder:
-        if words:
+        if words is not None:
             read_into(folder, {"demand": tables[0], "items": tables[1], "orders": orders}, words, jobs)
         tests = write_backtest(folder, settings, walk, jobs=jobs, address=cluster, shown=True)
     click.echo(tests.text, nl=False)

@@ -187,7 +187,7 @@ class Terms:
                                 settings.replications, f"{settings.seed}\n{self.item.name}")
         fits = (self.demand.values[-1] <= MOST_DEMAND and self.lead.values[-1] <= MOST_LEAD
                 and (today is None or today[1] <= MOST_ITEMS))
-        return made if fits else made.changed()
+        return made if fits else made.changed()  # which checks it, and names all faults
 
     def scenario(self, backlog: int | None = None, initial: int = 0) -> Scenario:
         """Returns the scenario of today's policy, or of none, with a backlog rate, by default that of the rates or else

@@ -182,6 +182,6 @@ def gaps_walked(gaps: Whole, leasts: Whole, lows: Floats, table: Floats, evened:
                 due = total + max(0.0, setup + cost - total * known) / (known - least_cost)
     while best < count and rows[best, 2] > least:
         best += 1
-    for column in range(3 * (best > 0)):
+    for column in range(3):
         rows[0, column], rows[best, column] = rows[best, column], rows[0, column]
     return rows[:count]
