@@ -7,7 +7,8 @@ from pathlib import Path
 from crnplan.crnsim import long_run as exact_long_run, report, trajectory
 from crnplan.curve import exchange_curve
 from crnplan.decide import doubt, sensitivity, verdicts
-from crnplan.pages import backtest_tables, catalogue_tables, change_tables, item_page, today_tables
+from crnplan.pages import (backtest_tables, catalogue_tables, change_tables, control_tables, item_page, lateness,
+                           today_tables)
 from crnplan.table import Column
 from crnplan.theory import suggestions
 
@@ -30,9 +31,12 @@ def more(columns: Sequence[Column]) -> list[Column]:
 TABLES: Mapping[str, tuple[str, Sequence[Column]]] = {
     "decisions.csv": ("A planned catalogue: a row for each item, by name.", catalogue_tables.DECISION_COLUMNS),
     "exact.csv": ("The run of each item, exactly: fractions stand as `3/4`.", catalogue_tables.EXACT_COLUMNS),
+    "controls, summary.txt": ("Control totals: what the files come to, by what became of their rows.",
+                              control_tables.CONTROL_COLUMNS),
     "rejects.csv, today_left_out.csv": ("What was left out of tables, or only named.", catalogue_tables.REJECT_COLUMNS),
     "changes.csv": ("What has changed since an earlier plan: a row for each item of either plan.",
                     change_tables.CHANGE_COLUMNS),
+    "lateness.csv": ("How late suppliers are: a row for each with receipts, the latest first.", lateness.COLUMNS),
     "backtest.csv": ("The test of a catalogue on its own past: a row for each item.",
                      backtest_tables.BACKTEST_COLUMNS),
     "backtest_sums.csv": ("What these add up to: all items, and each class.", backtest_tables.SUM_COLUMNS),
@@ -47,6 +51,11 @@ TABLES: Mapping[str, tuple[str, Sequence[Column]]] = {
     "today_classes.csv, today_suppliers.csv": ("What these come to by class, and by supplier.",
                                                today_tables.SUPPLIER_COLUMNS),
     "today_added.csv": (f"What fills up orders of suppliers. {AS_ORDERS}", more(today_tables.ADDED_COLUMNS)),
+    "today_lines.csv, today_supplier_001.csv": (
+        "The orders of all suppliers line by line, and of each supplier alone; `today_suppliers.csv` says whose file is "
+        "which.", today_tables.LINE_COLUMNS),
+    "today_at_risk.csv": (f"Items with overdue orders, or with less stock than mean demand up to the next receipt. "
+                          f"{AS_ORDERS}", more(today_tables.RISK_COLUMNS)),
     "policies.csv": ("The policies of an item that is planned alone, the cheapest first.", item_page.POLICY_COLUMNS),
     "coming.csv": ("The same over the coming periods, with `[run] horizon`.", item_page.COMING_COLUMNS),
     "doubt.csv, crnplan doubt": ("Policies under the laws that a history allows. A column stands if there is a figure.",

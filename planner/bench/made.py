@@ -32,7 +32,7 @@ BAD_ROWS = [("quantity", "n/a"), ("quantity", ""), ("quantity", "-2"), ("quantit
             ("date", "2025-02-30"), ("date", "2062-03-04"), ("date", "soon")]
 ROWS_A_FAULT, ROWS_A_TWIN = 2_000, 1_500
 # Changes of a master for which its item is left out. One item of so many has one.
-BAD_MASTERS = [{"setup": ""}, {"holding": "0"}, {"lead": "n/a"}, {"backlog": "", "fill": ""}, {"fill": "120%"}]
+BAD_MASTERS = [{"setup": ""}, {"holding": "0"}, {"lead (weeks)": "n/a"}, {"backlog": "", "fill": ""}, {"fill": "120%"}]
 ITEMS_A_FAULT = 60
 
 
@@ -109,7 +109,7 @@ def master_of(random: Random, name: str, kind: str, weeks: Whole) -> tuple[dict[
         placed = START + datetime.timedelta(int(random.integers(0, 7 * (WEEKS - its - 2))))
         orders.append((name, str(placed), str(placed + datetime.timedelta(7 * its))))
     row = {"item": name, "description": f"{kind} part", "class": kind, "setup": str(setup), "holding": str(holding),
-           "backlog": backlog, "fill": wanted, "lead": "" if by_orders else " ".join(map(str, sorted(leads))),
+           "backlog": backlog, "fill": wanted, "lead (weeks)": "" if by_orders else " ".join(map(str, sorted(leads))),
            "s": str(point), "S": str(point + gap), "stock": str(point + gap // 2), "price": str(price)}
     return row, orders
 

@@ -60,7 +60,7 @@ def page(folder: Path, jobs: int) -> None:
 def today(folder: Path, jobs: int) -> None:
     """Says what to order, by the stock of the masters."""
     from crnplan.pages.today_tables import orders_today
-    click.echo(orders_today(folder / PLAN, {}, Words(), None, {}).text)
+    click.echo(orders_today(folder / PLAN, {}, Words(), None).text)
 
 
 def workbook(folder: Path, jobs: int) -> None:

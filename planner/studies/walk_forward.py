@@ -62,7 +62,7 @@ def tables_of(series: Sequence[Series], goal: dict[str, float], record: int) -> 
     means = [max(sum(it.counts[:record]) / record, 0.01) for it in series]
     masters = pd.DataFrame({
         "item": [it.name for it in series], "setup": [round(HOLDING * mean * COVER**2 / 2, 2) for mean in means],
-        "holding": HOLDING, "lead": LEAD, "s": [round((LEAD + 1) * mean) for mean in means],
+        "holding": HOLDING, "lead (weeks)": LEAD, "s": [round((LEAD + 1) * mean) for mean in means],
         "S": [round((LEAD + 1 + COVER) * mean) + 1 for mean in means], **goal})
     return pd.DataFrame(rows, columns=["item", "date", "quantity"]), masters
 

@@ -8,6 +8,7 @@ import os
 import shutil
 import signal
 import sys
+import tempfile
 from collections.abc import Callable, Iterator
 from pathlib import Path
 from typing import NamedTuple
@@ -27,6 +28,8 @@ class Answer(NamedTuple):
 
 
 Command = Callable[..., Answer]
+# A user of whom the machine knows nothing, without a name and a home.
+NOBODY = "54321"
 
 
 def heed_interrupts() -> None:
@@ -41,6 +44,19 @@ def script(path: Path, lines: str) -> Path:
     path.write_text(f"#!/bin/sh\n{lines}\n", "utf-8")
     path.chmod(0o755)
     return path
+
+
+def as_nobody() -> list[str]:
+    """Returns the words before a command that run it without the rights of root."""
+    return ["setpriv", "--reuid", NOBODY, "--regid", NOBODY, "--clear-groups"] if os.geteuid() == 0 else []
+
+
+@pytest.fixture
+def open_room() -> Iterator[Path]:
+    """Returns a folder that each user can reach and write; those of pytest are this user's alone."""
+    with tempfile.TemporaryDirectory(prefix="crnplan-test-") as folder:
+        Path(folder).chmod(0o777)
+        yield Path(folder)
 
 
 def shared(factory: pytest.TempPathFactory, name: str, make: Callable[[Path], object]) -> Path:

@@ -150,7 +150,7 @@ def plan(paths: list[Path], program: Path) -> crn.Plan:
 @pytest.fixture
 def few() -> list[pd.DataFrame]:
     days = pd.date_range("2026-01-05", periods=20, freq="7D")
-    masters = pd.DataFrame([{"item": "A", "setup": 20, "holding": 1, "backlog": 9, "lead": 1, "s": 5, "S": 20}])
+    masters = pd.DataFrame([{"item": "A", "setup": 20, "holding": 1, "backlog": 9, "lead (weeks)": 1, "s": 5, "S": 20}])
     return [pd.DataFrame({"item": "A", "date": days, "quantity": 3}), masters]
 
 

@@ -13,7 +13,7 @@ import pytest
 import crnplan as crn
 from planner.tests.conftest import Answer, Command
 
-MASTERS = "item,setup,holding,backlog,lead,s,S,price,class\n"
+MASTERS = "item,setup,holding,backlog,lead (weeks),s,S,price,class\n"
 MASTER = "{},12,0.06,0.9,2,6,20,5,{}\n"
 TEACHER = "{},12,0.0001,500,2,6,20,5,{}\n"  # with costs too far apart for a plan
 SMALL = "[catalogue]\nperiods = 8\nreplications = 2\nleast = 1\n"

@@ -5,6 +5,7 @@ import importlib.util
 import multiprocessing
 import os
 import sys
+import tempfile
 from collections.abc import Callable, Iterator
 from pathlib import Path
 from types import ModuleType
@@ -155,16 +156,82 @@ def test_one_process_compiles(installed: Callable[..., ModuleType]) -> None:
     assert sorted(found.get() for _ in processes) == [(3.0, 0), (3.0, 0), (3.0, 2)]
 
 
-def test_a_folder_that_cannot_be_written(installed: Callable[..., ModuleType], tmp_path: Path) -> None:
-    """Numba keeps loops elsewhere, or not at all."""
+def test_a_folder_that_cannot_be_written(installed: Callable[..., ModuleType], tmp_path: Path,
+                                         monkeypatch: pytest.MonkeyPatch) -> None:
+    """Loops are compiled, and not kept."""
     (tmp_path / "caches").touch()
+    monkeypatch.setattr(tempfile, "tempdir", str(tmp_path / "caches"))
     assert sum_and_compiled(installed("one")) == (3.0, 2)
     with module.kept(installed("one").half) as path:
         assert path == str(tmp_path / "one/loops.py")
 
 
-def test_folder_of_loops(monkeypatch: pytest.MonkeyPatch, tmp_path: Path) -> None:
+@pytest.fixture
+def home(tmp_path: Path, monkeypatch: pytest.MonkeyPatch) -> Path:
+    """Returns the home of a user who has kept nothing yet, and has a folder for temporary files too."""
+    for name in ("home", "temporary"):
+        (tmp_path / name).mkdir()
+    monkeypatch.setenv("HOME", str(tmp_path / "home"))
+    monkeypatch.delenv("XDG_CACHE_HOME", raising=False)
+    monkeypatch.setattr(tempfile, "tempdir", str(tmp_path / "temporary"))
+    return tmp_path / "home"
+
+
+def test_folder_of_loops(monkeypatch: pytest.MonkeyPatch, home: Path, tmp_path: Path) -> None:
+    """It is the user's own, also below a folder that all may write; a relative name counts for nothing."""
+    assert cache_folder() == home / ".cache/crnplan"
+    assert (home / ".cache/crnplan").stat().st_mode & 0o777 == 0o700
+    monkeypatch.setenv("XDG_CACHE_HOME", "caches")
+    assert cache_folder() == home / ".cache/crnplan"
+    tmp_path.chmod(0o1777)
     monkeypatch.setenv("XDG_CACHE_HOME", str(tmp_path))
     assert cache_folder() == tmp_path / "crnplan"
-    monkeypatch.delenv("XDG_CACHE_HOME")
-    assert cache_folder() == Path(os.environ["HOME"]) / ".cache/crnplan"
+
+
+def spoil(folder: Path, way: str) -> None:
+    """Makes a folder that is not this user's alone."""
+    folder.parent.mkdir(exist_ok=True)
+    if way == "symlink":
+        folder.symlink_to(folder.parent)
+    elif way == "file":
+        folder.touch()
+    else:
+        folder.mkdir()
+        folder.chmod({"group": 0o770, "all": 0o777, "owner": 0o700}[way])
+    if way == "owner" and os.geteuid() == 0:
+        os.chown(folder, 1234, 1234)
+
+
+@pytest.mark.parametrize("way", ["owner", "group", "all", "symlink", "file"])
+def test_folders_of_others(monkeypatch: pytest.MonkeyPatch, home: Path, tmp_path: Path, way: str) -> None:
+    """A folder that others own or can write is left alone: code that they put there would be run."""
+    if way == "owner" and os.geteuid():
+        monkeypatch.setattr(os, "geteuid", lambda: 4321)
+    own, other = home / ".cache/crnplan", tmp_path / f"temporary/crnplan-{os.geteuid()}"
+    spoil(own, way)
+    if way == "owner" and os.getuid():
+        assert cache_folder() is None
+        return
+    assert cache_folder() == other and other.stat().st_mode & 0o777 == 0o700
+    other.rmdir()
+    spoil(other, way)
+    assert cache_folder() is None
+    before = sorted(tmp_path.rglob("*"))
+    numba_njit.cache_clear()
+    assert compiled(total_of)(loop)(np.ones(3)) == ("loop", 3.0)
+    assert sorted(tmp_path.rglob("*")) == before
+
+
+def test_numba_of_others(monkeypatch: pytest.MonkeyPatch, home: Path, tmp_path: Path) -> None:
+    """The folder that numba was told to use counts if it is the user's own."""
+    from numba import config
+    told = tmp_path / "told"
+    for way, is_own in (("all", False), ("own", True)):
+        told.mkdir() if is_own else spoil(told, way)
+        monkeypatch.setattr(config, "CACHE_DIR", str(told))
+        numba_njit.cache_clear()
+        assert compiled(total_of)(loop)(np.ones(3)) == ("loop", 3.0)
+        assert (config.CACHE_DIR == str(told)) == is_own == any(told.iterdir())
+        if not is_own:
+            assert config.CACHE_DIR.startswith(str(home / ".cache/crnplan"))
+            told.rmdir()

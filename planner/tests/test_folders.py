@@ -26,7 +26,7 @@ from planner.tests.conftest import Command
 
 DEMAND = "item,date,quantity\n" + "".join(f"A,2026-{month:02}-{day:02},3\n" for month in range(1, 7)
                                           for day in (2, 9, 16, 23))
-MASTERS = "item,setup,holding,backlog,lead,s,S\nA,20,1,9,1,5,20\n"
+MASTERS = "item,setup,holding,backlog,lead (weeks),s,S\nA,20,1,9,1,5,20\n"
 SETTINGS = (Path(__file__).with_name("item") / "settings.toml").read_text("utf-8").replace(
     'demand = "demand"', 'demand = "quantity"\ndate = "date"')
 PLANT = "not of crnplan\n"

@@ -8,7 +8,7 @@ Actors are named as in a schedule: `p`, `e`, `r0`, `l0`.
 from __future__ import annotations
 
 from collections.abc import Iterable, Iterator, Sequence
-from dataclasses import dataclass
+from dataclasses import dataclass, replace
 from typing import NamedTuple
 
 # What a reader's cursor holds once it has left.
@@ -167,6 +167,10 @@ class Protocol:
             return self.finish_turn(state)
         return (self.reader_turn if actor[0] == "r" else self.leave_turn)(state, int(actor[1:]))
 
+    def moves(self, state: State, actor: str) -> Iterator[State]:
+        """Yields each state to which a turn of an actor may lead."""
+        yield self.turn(state, actor)[0]
+
     def after(self, schedule: Iterable[str]) -> State:
         """Returns the state after a schedule."""
         state = self.opened()
@@ -198,13 +202,12 @@ class Protocol:
             if all(counts[it] == turns[it] or state.has_finished(it) for it in places):
                 ends.add(state)
             for number, actor in enumerate(self.actors()):
-                after, _ = self.turn(state, actor)
                 had = counts
                 if number <= self.readers and counts[number] < turns[number]:
                     had = (*counts[:number], counts[number] + 1, *counts[number + 1:])
-                if not after.all_finished() and (after, had) not in seen:
-                    seen.add((after, had))
-                    to_do.append((after, had))
+                new = {(after, had) for after in self.moves(state, actor) if not after.all_finished()} - seen
+                seen |= new
+                to_do += new
         return ends
 
     def rounds_needed(self, turns: Counts | None = None, most: int = 12) -> int | None:
@@ -219,12 +222,17 @@ class Protocol:
 
 @dataclass(frozen=True)
 class Batches(Protocol):
-    """A ring whose actors publish, and take, batches of at most so many blocks, as the program's threads do.
+    """A ring whose actors publish, and take, batches of at most so many blocks.
 
-    The producer remembers the least count that it has loaded. It loads cursors only if that leaves too little room.
+    The producer remembers the least count that it has loaded. It loads cursors only if that leaves too little room. A
+    turn that begins a batch begins the largest one, as the program's threads do; a move may begin a smaller one.
     """
 
     most: int
+
+    def moves(self, state: State, actor: str) -> Iterator[State]:
+        """Yields each state to which a turn of an actor may lead, with a batch of any size that it begins."""
+        yield from {replace(self, most=most).turn(state, actor)[0] for most in range(1, self.most + 1)}
 
     def producer_turn(self, state: State) -> tuple[State, Step]:
         """Returns what a turn `p` leads to."""

@@ -1,7 +1,8 @@
 """When a ring ends, by a search over all schedules, and by the program on the schedules that take longest.
 
-`crn_proto::laws::progress` proves that all actors have finished after so many rounds. The search shows that they may
-need as many, and as many turns a round; so neither number can be lower. Five wrong protocols need more, or never end.
+`crn_proto::laws::progress` proves that all actors have finished after so many rounds. The search shows that block by
+block they may need as many, and as many turns a round, so neither number can be lower. With batches of up to two blocks
+they need a round fewer than is proved, if there is a block. Five wrong protocols need more rounds, or never end.
 """
 from __future__ import annotations
 
@@ -77,12 +78,25 @@ def test_a_turn_fewer(fewer: tuple[int, int]) -> None:
     assert needed is not None and needed > ROUNDS[ring]
 
 
-@pytest.mark.parametrize("ring", [(2, 2, 2, 1), (2, 1, 4, 1), (4, 1, 5, 1), (1, 1, 3, 1)], ids=str)
-def test_batches(ring: tuple[int, int, int, int]) -> None:
-    """With batches of two blocks and remembered counts these rings end in the same rounds."""
+def rounds_proved(size: int, blocks: int) -> int:
+    """Returns the rounds after which all have finished, as is proved, with batches of any size."""
+    return 2 * blocks + 1 if size == 1 and blocks else blocks + 2
+
+
+@pytest.mark.parametrize("ring", ROUNDS, ids=str)
+def test_bound_is_tight(ring: tuple[int, int, int, int]) -> None:
+    """Block by block the proved number of rounds is needed."""
     size, _, blocks, _ = ring
-    needed = Batches(*ring, 2).rounds_needed()
-    assert needed is not None and needed <= blocks + 2 + (blocks - 1 if size == 1 else 0)
+    assert ROUNDS[ring] == rounds_proved(size, blocks)
+
+
+@pytest.mark.parametrize("ring", [(2, 1, 0, 1), (2, 1, 2, 1), (2, 1, 3, 1), (4, 1, 3, 1), (1, 1, 2, 1), (1, 2, 1, 1)],
+                         ids=str)
+def test_batches(ring: tuple[int, int, int, int]) -> None:
+    """With batches of one or two blocks and remembered counts, a ring with blocks needs one round fewer than is
+    proved."""
+    size, _, blocks, _ = ring
+    assert Batches(*ring, 2).rounds_needed() == rounds_proved(size, blocks) - (blocks > 0)
 
 
 @pytest.mark.parametrize("wrong", WRONG, ids=lambda it: it.__name__)

@@ -1,17 +1,20 @@
 """Searches the sources of the program for what no contract can see.
 
 A fault that the system causes carries the value that reported it, or for a thread the evidence of it, and no contract
-can tell a value that was handed on from one that was made up. So nothing makes one, and what an allocation asks
-for is one of the listed lengths, getters, fields and constants. Nothing that was allocated is forgotten. The ring moves
-its words by loads and stores alone, and only the side that feeds it makes blocks. A pause is made where it is told, a
-gate is asked in one place, and a run opens one ring. RULES say what may not stand in the crates.
+can tell a value that was handed on from one that was made up. Nor can one say that a function is called nowhere else.
+So `places.toml` lists each place where the sources name what makes such a value, or does such a thing: by file, impl
+and function. RULES are those lists, and the few rules that a list of places cannot state.
 """
 from __future__ import annotations
 
 import functools
 import re
-from collections.abc import Callable
-from typing import NamedTuple
+import tomllib
+from collections import Counter
+from collections.abc import Callable, Iterator, Sequence
+from fnmatch import fnmatchcase
+from pathlib import Path
+from typing import NamedTuple, Protocol
 
 # A name, a whole string or character, or one sign; what stands in comments and in ghost lines is no code.
 TOKEN = re.compile(
@@ -32,12 +35,64 @@ class Token(NamedTuple):
 Tokens = tuple[Token, ...]
 
 
-class Rule(NamedTuple):
-    """A rule's name, the sources that it is for, and whether it refuses a token, by the tokens and its place."""
+class Rule(Protocol):
+    """A rule for the sources whose names begin as one of its files."""
+
+    @property
+    def name(self) -> str: ...
+
+    @property
+    def files(self) -> Sequence[str]: ...
+
+    def refused_in(self, name: str, text: str) -> list[str]:
+        """Returns what the rule refuses in a source."""
+        ...
+
+
+class Forbidden(NamedTuple):
+    """A rule that refuses a token by the source's name, its tokens and its place."""
 
     name: str
-    files: tuple[str, ...]
-    refuses: Callable[[Tokens, int], bool]
+    files: Sequence[str]
+    refuses: Callable[[str, Tokens, int], bool]
+
+    def refused_in(self, name: str, text: str) -> list[str]:
+        tokens = tokens_of(text)
+        return [f"line {token.line}: {token.text}" for at, token in enumerate(tokens) if self.refuses(name, tokens, at)]
+
+
+class Places(NamedTuple):
+    """A rule by which words stand in just the listed places of each file. The sentence says what this keeps true."""
+
+    name: str
+    sentence: str
+    files: Sequence[str]
+    words: Sequence[str]
+    places: dict[str, list[str]]
+
+    def found_in(self, text: str) -> Counter[str]:
+        """Returns the places of the words in a source, with how often each is there."""
+        tokens = tokens_of(text)
+        return Counter(place_of(tokens[at], word) for at in range(len(tokens)) for word in self.words_at(tokens, at))
+
+    def words_at(self, tokens: Tokens, at: int) -> Iterator[str]:
+        """Yields the words that begin at a place, as they stand there."""
+        for pattern in self.words:
+            parts = pattern.split()
+            if pattern == ROOM:
+                if room := room_at(tokens, at):
+                    yield room
+            elif parts[1:] == ["{"]:
+                if type_made(tokens, at) == parts[0]:
+                    yield pattern
+            else:
+                words = [token.text for token in tokens[at:at + len(parts)]]
+                if len(words) == len(parts) and all(map(fnmatchcase, words, parts)):
+                    yield " ".join(words)
+
+    def refused_in(self, name: str, text: str) -> list[str]:
+        found, listed = self.found_in(text), listed_places(self.places.get(name, []))
+        return [f"new: {place}" for place in (found - listed)] + [f"gone: {place}" for place in (listed - found)]
 
 
 class Scope:
@@ -110,40 +165,22 @@ def before(tokens: Tokens, at: int, count: int = 1) -> list[str]:
     return [it.text for it in tokens[max(0, at - count):at]]
 
 
-def is_value(tokens: Tokens, at: int) -> bool:
-    """Returns whether a type's name stands as a value: in a body and not in another type, or after an equal sign."""
-    if tokens[at].function is None:
-        return before(tokens, at) == ["="]
-    return next_words(tokens, at, 1) != [">"] and next_words(tokens, at) != ["::", "from"]
+def place_of(token: Token, word: str) -> str:
+    """Returns a word with the impl and the function in which it stands, as places.toml writes it."""
+    inside = "::".join(filter(None, (token.impl, token.function)))
+    return f"{word} in {inside}" if inside else word
 
 
-def makes_want_of_memory(tokens: Tokens, at: int) -> bool:
-    """Finds `AllocError` and `AllocFailed` as values, unless an error of the kit reports one by a flag."""
-    word, function = tokens[at].text, tokens[at].function
-    if word == "AllocFailed":
-        return True
-    is_made = next_words(tokens, at, 1) == ["as"] or function != "refusal_of" and is_value(tokens, at)
-    return word == "AllocError" and is_made
-
-
-def makes_refused_thread(tokens: Tokens, at: int) -> bool:
-    """Finds `SpawnError` as a value, or renamed."""
-    is_made = next_words(tokens, at, 1) == ["as"] or tokens[at].function is not None
-    return tokens[at].text == "SpawnError" and is_made
-
-
-def makes_error_of_system(tokens: Tokens, at: int) -> bool:
-    """Finds an error made by its type's functions, or of a kind that is no pattern."""
-    word, inside = tokens[at].text, tokens[at].function is not None
-    if word in ("last_error", "last_os_error", "const_error", "from_raw_os_error", "out_of_memory"):
-        return True
-    if word in ("Error", "ErrorKind") and next_words(tokens, at, 1) == ["as"]:
-        return True
-    if word == "ErrorKind" and inside:
-        after = next_words(tokens, at, 6)[2:]
-        return after[:1] not in (["=>"], ["|"]) and after != ["(", "_", ")", "=>"]
-    is_used = next_words(tokens, at, 1) == ["::"] or before(tokens, at, 2) == ["fmt", "::"]
-    return word == "Error" and inside and is_used
+def listed_places(lines: Sequence[str]) -> Counter[str]:
+    """Returns the places of a list: `2 Backoff in Pauses::new` is there twice."""
+    places = Counter[str]()
+    for line in lines:
+        count, _, place = line.partition(" ")
+        if count.isdecimal():
+            places[place] += int(count)
+        else:
+            places[line] += 1
+    return places
 
 
 def type_made(tokens: Tokens, at: int) -> str:
@@ -154,13 +191,32 @@ def type_made(tokens: Tokens, at: int) -> str:
     return token.text if token.text != "Self" else (token.impl or "").split()[-1]
 
 
-def makes_fault_of_thread(tokens: Tokens, at: int) -> bool:
-    """Finds a fault of a thread, or the evidence of one, that is made elsewhere than MADE_IN says."""
-    made = type_made(tokens, at)
-    return made in MADE_IN and (tokens[at].impl, tokens[at].function) not in MADE_IN[made]
+def is_value(tokens: Tokens, at: int) -> bool:
+    """Returns whether a type's name stands as a value: in a body and not in another type, or after an equal sign."""
+    if tokens[at].function is None:
+        return before(tokens, at) == ["="]
+    return next_words(tokens, at, 1) != [">"] and next_words(tokens, at) != ["::", "from"]
 
 
-def tells_no_pause(tokens: Tokens, at: int) -> bool:
+def makes_want_of_memory(name: str, tokens: Tokens, at: int) -> bool:
+    """Finds `AllocError` as a value, unless an error of the kit reports one by a flag."""
+    is_converter = tokens[at].function == CONVERTER and name in CONVERTERS
+    return tokens[at].text == "AllocError" and not is_converter and is_value(tokens, at)
+
+
+def makes_error_of_system(name: str, tokens: Tokens, at: int) -> bool:
+    """Finds an error made by its type's functions, or of a kind that is no pattern."""
+    word, inside = tokens[at].text, tokens[at].function is not None
+    if word in ("last_error", "last_os_error", "const_error", "from_raw_os_error", "out_of_memory"):
+        return True
+    if word == "ErrorKind" and inside:
+        after = next_words(tokens, at, 6)[2:]
+        return after[:1] not in (["=>"], ["|"]) and after != ["(", "_", ")", "=>"]
+    is_used = next_words(tokens, at, 1) == ["::"] or before(tokens, at, 2) == ["fmt", "::"]
+    return word == "Error" and inside and is_used
+
+
+def tells_no_pause(name: str, tokens: Tokens, at: int) -> bool:
     """Finds a pause that is told as made, but was not made just before."""
     if type_made(tokens, at) != "Paused":
         return False
@@ -168,76 +224,15 @@ def tells_no_pause(tokens: Tokens, at: int) -> bool:
     return not made or before(tokens, at, len(made)) != made
 
 
-def tells_no_byte(tokens: Tokens, at: int) -> bool:
+def tells_no_byte(name: str, tokens: Tokens, at: int) -> bool:
     """Finds a write that took no byte, unless a write took none."""
     return tokens[at].text == "NoByte" and tokens[at].function is not None \
         and before(tokens, at, 10) != ["Ok", "(", "0", ")", "=>", "return", "Err", "(", "WriteFault", "::"]
 
 
-def makes_block(tokens: Tokens, at: int) -> bool:
-    """Finds a block that is made and not taken from the ring. The room for a batch is made of one constant block."""
-    word, function = tokens[at].text, tokens[at].function
-    if word in ("fill_blocks", "threefry", "unthreefry"):
-        return True
-    if word == "from_words" and function not in ("load_rows", "try_take", "room"):
-        return True
-    return word == "block" and (next_words(tokens, at, 1) == ["("] or before(tokens, at) == ["::"])
-
-
-def names_after(tokens: Tokens, at: int) -> list[str]:
-    """Returns the names that are taken from a crate which stands at a place, with those of a list in braces."""
-    first, *rest = [*next_words(tokens, at, 2), "", ""][:2]
-    if first != "::":
-        return [first]
-    return [" ".join(it) for it in parts_of(tokens, at + 2, ",") if it] if rest == ["{"] else rest
-
-
-def takes_other_name(tokens: Tokens, at: int) -> bool:
-    """Finds a name from which a policy's thread could have a block, since it is not one of TAKEN."""
-    word = tokens[at].text
-    if word == "run_plain":
-        return before(tokens, at) == ["::"] or next_words(tokens, at, 1) == ["("]
-    if word not in TAKEN:
-        return False
-    handed_on = ["run_plain"] if before(tokens, at, 2) == ["pub", "use"] else []
-    return any(it not in [*TAKEN[word], *handed_on] for it in names_after(tokens, at))
-
-
-def adds_to_cipher(tokens: Tokens, at: int) -> bool:
-    """Finds a function that other crates could call, and that is not one of CIPHER."""
-    if tokens[at].text != "fn":
-        return False
-    is_public = before(tokens, at) == ["pub"] or " for " in (tokens[at].impl or "")
-    return is_public and next_words(tokens, at, 1)[0] not in CIPHER
-
-
-def reaches_the_side_that_feeds(tokens: Tokens, at: int) -> bool:
-    """Finds a name of the side that feeds the ring which is not `feed`."""
-    is_use = before(tokens, at) == ["mod"] or next_words(tokens, at, 3) == ["::", "feed", ";"]
-    return tokens[at].text == "feeding" and not is_use
-
-
-def lends_more_than_feed(tokens: Tokens, at: int) -> bool:
-    """Finds what the side that feeds the ring could lend to others: a method, or a second function."""
-    word = tokens[at].text
-    return word in ("impl", "trait") or word == "pub" and next_words(tokens, at) != ["fn", "feed"]
-
-
-def asks_gate(tokens: Tokens, at: int) -> bool:
-    """Finds a gate that is asked elsewhere than before a block is applied."""
-    word, is_declared = tokens[at].text, before(tokens, at) == ["fn"]
-    is_call = next_words(tokens, at, 1) == ["("] and not is_declared
-    if word == "pass":
-        return not is_declared and tokens[at].function != "ask"
-    return word == "ask" and is_call and tokens[at].function != "apply_all"
-
-
-def opens_ring(tokens: Tokens, at: int) -> bool:
-    """Finds a second ring of a run: what opens one is called in one place, once."""
-    word, function = tokens[at].text, tokens[at].function
-    if word not in OPENS or next_words(tokens, at, 1) != ["("] or before(tokens, at) == ["fn"]:
-        return False
-    return function != OPENS[word] or any(it.text == word and it.function == function for it in tokens[:at])
+def renames(name: str, tokens: Tokens, at: int) -> bool:
+    """Finds a second name that `as` gives: what is no number's type stands behind it."""
+    return tokens[at].text == "as" and next_words(tokens, at, 1)[0] not in NUMBERS
 
 
 def closed_at(tokens: Tokens, at: int) -> int:
@@ -264,156 +259,81 @@ def parts_of(tokens: Tokens, at: int, mark: str) -> list[list[str]]:
     return parts
 
 
-def local_value(tokens: Tokens, at: int, name: str) -> list[str]:
-    """Returns the words of the last `let` before a place, in its function, that gives a name its value."""
+def local_value(tokens: Tokens, at: int, name: str) -> str:
+    """Returns the words of the last `let` before a place, in its function, that gives a name its value, or ""."""
     for place in range(at, 0, -1):
         if tokens[place].function != tokens[at].function:
-            return []
-        is_let = before(tokens, place) == ["let"] and next_words(tokens, place, 1) == ["="]
-        if tokens[place].text == name and is_let:
+            return ""
+        if tokens[place].text == name and before(tokens, place) == ["let"]:
             ends = next(end for end in range(place, len(tokens)) if tokens[end].text == ";")
-            return [it.text for it in tokens[place + 2:ends]]
-    return []
+            return " ".join(token.text for token in tokens[place + 1:ends])
+    return ""
 
 
-def is_size(tokens: Tokens, at: int, words: list[str]) -> bool:
-    """Returns whether some words are one of SIZES, or end in one of LENGTHS, one more, or a local name for such.
-
-    A product has one of SIZES in it.
-    """
-    text = " ".join(words)
-    if re.fullmatch(r"[a-z_]+", text):
-        value = local_value(tokens, at, text)
-        return bool(value) and is_size(tokens, at, value)
-    if " * " in text:
-        factors = [it.split() for it in text.split(" * ")]
-        return all(is_size(tokens, at, it) for it in factors) and any(it in words for it in SIZES)
-    if " + " in text:
-        return all(it == "1" or is_size(tokens, at, it.split()) for it in text.split(" + "))
-    atom = text.removesuffix(" as usize").removesuffix(" as u64")
-    path, _, name = atom.rpartition(" . ")
-    return atom in SIZES or name in LENGTHS and re.fullmatch(r"[a-z_]+( \. [a-z_]+( \( \))?)*", path) is not None
-
-
-def asks_for_any_room(tokens: Tokens, at: int) -> bool:
-    """Finds room that is none of the listed sizes, by which a refusal could be brought about."""
-    word, opened = tokens[at].text, at + 1
+def room_at(tokens: Tokens, at: int) -> str:
+    """Returns the call at a place that asks for room, with the size that it asks for and the values of the local names
+    in it, or ""."""
+    word = tokens[at].text
     if tokens[at].function is None:
-        return False
+        return ""
     if word == "vec" and next_words(tokens, at, 1) == ["!"]:
         parts = parts_of(tokens, at + 2, ";")
-        return parts[2:] not in ([], [["1"]]) and not is_size(tokens, at, parts[2])
-    if word not in GROWTH or tokens[opened].text != "(":
-        return False
-    parts = [it for it in parts_of(tokens, opened, ",") if it and it != ["alloc"]]
-    return not parts or not is_size(tokens, at, parts[0])
+        sizes = parts[2:]
+    elif word in GROWTH and next_words(tokens, at, 1) == ["("]:
+        sizes = [part for part in parts_of(tokens, at + 1, ",") if part and part != ["alloc"]]
+    else:
+        return ""
+    size = [part for part in sizes[:1] for part in part]
+    names = dict.fromkeys(name for place, name in enumerate(size) if size[place - 1:place] != ["."])
+    values = [f"where {name} {value}" for name in names if (value := local_value(tokens, at, name))]
+    return " ".join([word, *size, *values])
 
 
-def reads_elsewhere(tokens: Tokens, at: int) -> bool:
-    """Finds a read of an input that is not the only one of its turn."""
-    word, function = tokens[at].text, tokens[at].function
-    if word in READS:
-        return True
-    if word != "read" or before(tokens, at) not in (["."], ["::"]) or next_words(tokens, at, 1) != ["("]:
-        return False
-    return function != "read_some" or any(it.text == "read" and it.function == function for it in tokens[:at])
-
-
-def declares_length(tokens: Tokens, at: int) -> bool:
-    """Finds a getter with the name of a length, which could be any number."""
-    name, *others = [*next_words(tokens, at, 4), ""]
-    is_getter = tokens[at].text == "fn" and others[:3] == ["(", "&", "self"]
-    return is_getter and f"{name} ( )" in LENGTHS and tokens[at].impl != "Model"
-
-
-def keeps_for_ever(tokens: Tokens, at: int) -> bool:
-    """Finds a value that is never dropped."""
-    return tokens[at].text in ("forget", "ManuallyDrop", "leak", "into_raw", "into_raw_parts")
-
-
-def waits_for_ever(tokens: Tokens, at: int) -> bool:
-    """Finds a wait that ends only if another thread ends it, or one that nothing ends early."""
-    return tokens[at].text == "park" or tokens[at].text == "sleep" and before(tokens, at) == ["::"]
-
-
-def loads_and_stores_at_once(tokens: Tokens, at: int) -> bool:
-    """Finds a step that loads and stores at once: `swap`, `exchange`, kinds of `fetch_` and `compare_exchange`."""
-    return tokens[at].text in ("swap", "exchange") or tokens[at].text.startswith(("fetch_", "compare_exchange"))
-
-
-def calls(*names: str) -> Callable[[Tokens, int], bool]:
-    """Returns a rule against calls of these names."""
-    return lambda tokens, at: tokens[at].text in names
-
-
-ALL = ("",)
-# The constants, the getters and the fields that an allocation may be asked for, and the calls that ask for one.
-SIZES = ("BUCKETS", "BLOCK_WORDS")
-LENGTHS = ("len ( )", "replications ( )", "replications", "readers", "size")
+HERE = Path(__file__).resolve().parent
+ALL = ("crn",)
+RUN = ("crn_run/src/",)
+# Stands for each call that asks for room.
+ROOM = "ROOM"
 GROWTH = ("with_capacity", "reserve", "reserve_exact", "try_reserve", "try_reserve_exact", "resize", "repeat")
-# What a policy's thread runs: all of crn_run but the side that feeds the ring, and what it calls there.
-FEEDING = "crn_run/src/feeding.rt"
-POLICY_SIDE = ("crn_run/src/", "crn_ring/src/", "crn_stock/src/", "crn_draw/src/", f"!{FEEDING}")
-# What it takes from the crates that can make blocks: no function. All that crn_cipher has for others.
-TAKEN = {
-    "crn_cipher": ("BLOCK_WORDS", "Block", "STREAM_WORDS", "StreamId"),
-    "crn_proto": ("LEFT", "ProducerPart", "ReaderPart", "RingFault", "RingSpec"),
-    "crn_sequential": ("Checkpoint",),
-}
-CIPHER = ("block", "counter", "distinct", "fill_blocks", "from_words", "name", "threefry", "unthreefry", "word",
-          "words")
-# Where a fault of a thread, and the evidence that none was started, may be made: in which impl and function.
-MADE_IN = {
-    "ThreadFault": [("ThreadFault", "of_end"), ("< F : Drop > From < SpawnError < F > > for ThreadFault", "from")],
-    "Refusal": [("Refusal", "of")],
-}
+NUMBERS = ("u8", "u16", "u32", "u64", "u128", "usize", "i64", "i128", "f64")
+# The function that reads a flag of the kit, which has no value to hand on, and the files that have one.
+CONVERTER = "refusal_of"
+CONVERTERS = ("crn_command_line/src/words.rt", "crn_rows/src/refusal.rt", "crn_scenario/src/read.rt",
+              "crnsim/src/main.rt")
 # What makes a pause, by its name.
 PAUSES = {
     "Spin": "self . spinning . spin ( ) ;",
     "Yield": "self . yielding . snooze ( ) ;",
     "Sleep": "self . sleeper . park_timeout ( rt , time ) ;",
 }
-# What could read an input beside `read`.
-READS = ("read_to_end", "read_to_string", "read_exact", "read_vectored", "read_buf", "BufReader", "by_ref")
-# What opens a ring, and the only function that calls it.
-OPENS = {"open": "open_ring", "open_ring": "prepare", "prepare": "run_all"}
-RUN, RING = ("crn_run/src/",), ("crn_ring/src/",)
-RULES = [
-    Rule("a failed allocation is made up", ALL, makes_want_of_memory),
-    Rule("a refused thread is made up", ALL, makes_refused_thread),
-    Rule("an error of the system is made up", ALL, makes_error_of_system),
-    Rule("a fault of a thread is made up", ALL, makes_fault_of_thread),
-    Rule("a write that took no byte is made up", ALL, tells_no_byte),
-    Rule("a type is renamed or a value made by a macro", ALL, calls("macro_rules")),
-    Rule("a policy's thread makes a block", POLICY_SIDE, makes_block),
-    Rule("a policy's thread takes a name that could make a block", POLICY_SIDE, takes_other_name),
-    Rule("the cipher has a function that is not listed", ("crn_cipher/src/",), adds_to_cipher),
-    Rule("a policy's thread calls the side that feeds the ring", RUN, reaches_the_side_that_feeds),
-    Rule("the side that feeds the ring lends more than feed", (FEEDING,), lends_more_than_feed),
-    Rule("a gate is asked elsewhere", RUN, asks_gate),
-    Rule("a run opens a second ring", RUN, opens_ring),
-    Rule("a pause is told and not made", RUN, tells_no_pause),
-    Rule("a wait has no end of its own", RUN, waits_for_ever),
-    # Words of the ring are loaded and stored through a seat alone.
-    Rule("a word is touched without its seat", RING, calls("peek", "load_new_seat", "swap_new_seat", "join_seat")),
-    # Each word has one writer, so a load and a store are all the steps that the ring needs.
-    Rule("a step of the ring both loads and stores", RING, loads_and_stores_at_once),
-    Rule("room is asked for that is no listed size", ALL, asks_for_any_room),
-    Rule("a getter has the name of a listed size", ALL, declares_length),
-    Rule("an input is read elsewhere, or twice in a turn", ("crn_engines/src/",), reads_elsewhere),
-    Rule("a value is never dropped", ALL, keeps_for_ever),
+RULES: list[Rule] = [
+    *(Places(**rule) for rule in tomllib.loads((HERE / "places.toml").read_text("utf-8"))["rule"]),
+    Forbidden("a failed allocation is made up", ALL, makes_want_of_memory),
+    Forbidden("an error of the system is made up", ALL, makes_error_of_system),
+    Forbidden("a write that took no byte is made up", ALL, tells_no_byte),
+    Forbidden("a pause is told and not made", RUN, tells_no_pause),
+    Forbidden("a name is given a second one", ALL, renames),
 ]
 
 
 def is_for(rule: Rule, name: str) -> bool:
-    """Returns whether a rule is for a source: its name begins as one of its files, and as none with a mark."""
-    left_out = tuple(it[1:] for it in rule.files if it.startswith("!"))
-    return name.startswith(rule.files) and not (left_out and name.startswith(left_out))
+    """Returns whether a rule is for a source."""
+    return name.startswith(tuple(rule.files))
 
 
-def refused_in(rule: Rule, name: str, text: str) -> list[tuple[int, str]]:
-    """Returns each line of a source that a rule refuses, with its word."""
-    if not is_for(rule, name):
-        return []
-    tokens = tokens_of(text)
-    return [(it.line, it.text) for at, it in enumerate(tokens) if rule.refuses(tokens, at)]
+def without_clause(text: str) -> list[str]:
+    """Returns the functions of a source that state nothing of what they return: with no `ensures`, and outside the
+    impls whose `from_gives` says it."""
+    names, is_given, lines = [], False, iter(text.splitlines())
+    for line in lines:
+        if line.startswith("}"):
+            is_given = False
+        is_given |= "ghost from_gives" in line
+        head = re.match(r" *(?:pub(?:\([^)]*\))? )?(?:const |unsafe )*fn (\w+)", line)
+        if head is None:
+            continue
+        while not line.rstrip().endswith(("{", "{}", ";")):
+            line += next(lines)
+        if "ensures" not in line and not is_given:
+            names.append(head[1])
+    return names

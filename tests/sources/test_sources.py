@@ -7,12 +7,9 @@ from typing import Any
 
 import pytest
 
-from tests.sources.rules import RULES, Rule, before, is_for, refused_in, tokens_of
+from tests.sources.rules import CONVERTERS, RULES, Places, Rule, is_for, without_clause
 
 HERE = Path(__file__).resolve().parent
-# The functions that read a flag of the kit: it has no value to hand on.
-CONVERTERS = {"crn_command_line/src/words.rt", "crn_rows/src/refusal.rt", "crn_scenario/src/read.rt",
-              "crnsim/src/main.rt"}
 PLANTS = [pytest.param(group, new, id=f"{group['rule']}: {' '.join(new.split())[:80]}")
           for group in tomllib.loads((HERE / "plants.toml").read_text("utf-8"))["group"] for new in group["new"]]
 
@@ -21,7 +18,7 @@ PLANTS = [pytest.param(group, new, id=f"{group['rule']}: {' '.join(new.split())[
 def texts(top: Path) -> dict[str, str]:
     """Returns the text of each source of the program's crates, by its name."""
     crates = top / "crates"
-    return {str(it.relative_to(crates)): it.read_text("utf-8") for it in sorted(crates.glob("crn*/src/**/*.rt"))}
+    return {str(path.relative_to(crates)): path.read_text("utf-8") for path in sorted(crates.glob("crn*/src/**/*.rt"))}
 
 
 @pytest.mark.parametrize("rule", RULES, ids=lambda rule: rule.name)
@@ -29,24 +26,46 @@ def test_rule(rule: Rule, texts: dict[str, str]) -> None:
     """No source has what a rule refuses, and the rule is for some source."""
     looked = [name for name in texts if is_for(rule, name)]
     assert looked
-    assert [(name, *it) for name in looked for it in refused_in(rule, name, texts[name])] == []
+    assert [(name, what) for name in looked for what in rule.refused_in(name, texts[name])] == []
+
+
+@pytest.mark.parametrize("rule", [rule for rule in RULES if isinstance(rule, Places)], ids=lambda rule: rule.name)
+def test_places_are_sources(rule: Places, texts: dict[str, str]) -> None:
+    """Each file that a rule lists is there, and the rule is for it."""
+    assert [name for name in rule.places if name not in texts or not is_for(rule, name)] == []
 
 
 def test_converters(texts: dict[str, str]) -> None:
-    """There is one function that may make an `AllocError` for each flag of the kit."""
-    tokens = {name: tokens_of(text) for name, text in texts.items()}
-    assert {name for name, its in tokens.items() for at, it in enumerate(its)
-            if it.text == "refusal_of" and before(its, at) == ["fn"]} == CONVERTERS
+    """The files whose function may make an `AllocError` are those that list one."""
+    listed = next(rule for rule in RULES if isinstance(rule, Places) and "fn refusal_of" in rule.words)
+    assert {*listed.places} == {*CONVERTERS}
+
+
+def test_functions_without_clause(texts: dict[str, str]) -> None:
+    """The functions that state nothing of what they return are those that no_clause.toml gives a reason for."""
+    reasons = tomllib.loads((HERE / "no_clause.toml").read_text("utf-8"))
+    silent = {name: sorted(without_clause(text)) for name, text in texts.items() if without_clause(text)}
+    assert silent == {name: sorted(functions) for name, functions in reasons.items()}
+
+
+@pytest.mark.parametrize("line", ["    ensures { result ≡ run_fault_number self.now }", "    ghost from_gives = { λ e f. f ≡ Memory e };"],
+                         ids=["ensures", "from_gives"])
+def test_a_lost_clause(line: str, texts: dict[str, str]) -> None:
+    """A function whose clause is taken away is found."""
+    text = texts["crn_run/src/fault.rt"]
+    assert line.strip() in text
+    assert len(without_clause(text.replace(line.strip(), "", 1))) == len(without_clause(text)) + 1
 
 
 @pytest.mark.parametrize("group, new", PLANTS)
 def test_plant(group: dict[str, Any], new: str, texts: dict[str, str]) -> None:
     """A wrong line has a place in its source, and its rule finds it."""
-    text, rule = texts[group["file"]], next(it for it in RULES if it.name == group["rule"])
+    text = texts[group["file"]]
+    rules = [rule for rule in RULES if rule.name == group["rule"] and is_for(rule, group["file"])]
     assert group["old"] in text
-    assert refused_in(rule, group["file"], text.replace(group["old"], new, 1))
+    assert any(rule.refused_in(group["file"], text.replace(group["old"], new, 1)) for rule in rules)
 
 
 def test_each_rule_has_a_plant() -> None:
     """No rule is without a wrong line that it finds."""
-    assert {it.values[0]["rule"] for it in PLANTS} == {it.name for it in RULES}
+    assert {plant.values[0]["rule"] for plant in PLANTS} == {rule.name for rule in RULES}

@@ -126,7 +126,7 @@ def test_debian_package_depends_on_the_libraries(packed: Machine, top: Path) -> 
     listed = (top / "tools/debian-packages.txt").read_text("utf-8")
     libraries = re.findall("^python3-.*$", listed.split("# crnplan\n")[1].split("#")[0], re.MULTILINE)
     fields = packed.run("dpkg-deb", "-f", made(packed, ".deb")).stdout
-    assert re.findall(r"python3-\w+", fields) == libraries
+    assert re.findall(r"python3-[\w-]+", fields) == libraries
     for line in ("Package: crnsim", f"Version: {VERSION}", "Architecture: amd64", f"Maintainer: {AUTHOR}"):
         assert f"{line}\n" in fields
 

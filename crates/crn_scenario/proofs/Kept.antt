@@ -1,13 +1,13 @@
 -- What a tree without a fault gives: what stands in its tables, values and weights that can be drawn from, and the
 -- conditions of a model.
-use Rattle.std.proofs.Common.{◌≡◌, ℕ, zero, suc, ◌<◌, ◌≤◌, Bool, true, false, not, cond, ◌||◌, ◌==◌, List, [], ◌∷◌, length, slice_index_or, sym, ap, subst, Option, Some, None, refl, arith, lit<, ℤ, pos, negsuc, codes, ◌+◌, map, sum, ◌∙◌, nat_abs, All, nat_le, nat_lt, nat_eq}
+use Rattle.std.proofs.Common.{◌≡◌, ℕ, zero, suc, ◌<◌, ◌≤◌, Bool, true, false, not, cond, ◌||◌, ◌==◌, List, [], ◌∷◌, length, slice_index_or, sym, ap, subst, Option, Some, None, refl, arith, lit<, ℤ, pos, negsuc, codes, ◌+◌, map, sum, ◌∙◌, nat_abs, All, Decides, nat_le, nat_lt, nat_eq}
 use Rattle.std.proofs.lemmas.Bool.{false≢true, and_parts}
-use Rattle.std.proofs.lemmas.Bool.Decides.{nat_tests}
+use Rattle.std.proofs.lemmas.Bool.Decides.{nat_tests, Decides-and}
 use Rattle.std.proofs.lemmas.Int.{ints}
 use Rattle.std.proofs.lemmas.List.{length-map}
 use Rattle.std.proofs.lemmas.List.Elements.{All-cons, All-nil}
 use Rattle.std.proofs.lemmas.List.Sums.{sum_by-cons}
-use Rattle.std.specs.Prelude.{nat_le, option_and_then, int_lt, is_some, ◌≤ℤ◌}
+use Rattle.std.specs.Prelude.{nat_le, option_and_then, int_le, int_lt, is_some, ◌≤ℤ◌}
 use Rattle.std.specs.List.{list_all, list_any}
 use Rattle.toml.specs.Data.{Data, string, integer, float, boolean, datetime, array, table, Items, Members, get_member, as_integer, as_str, as_array, as_table, no_items, item}
 use Rattle.crn_limits.specs.declared.TheConstants.{PERIOD_LIMIT, REPLICATION_LIMIT}
@@ -27,7 +27,14 @@ use Rattle.crn_scenario.specs.Reading.{HasNone, version_of, inner_keep, all_keep
 use Rattle.crn_scenario.specs.Reading as reading
 use Rattle.crn_scenario.specs.Inner.Reading.{AreDraws, MayBeDraws}
 use Rattle.crn_scenario.proofs.Bools.{passed, failed, and_true, neither}
-use Rattle.crn_scenario.proofs.ItemLists.{within}
+
+-- ---- numbers that are not below zero
+
+within : (low high n : ℕ) → Decides (is_within (pos low) (pos high) (Some (pos n))) ((low ≤ n) × (n ≤ high))
+within low high n =
+    Decides-and (int_le (pos low) (pos n)) (int_le (pos n) (pos high))
+    (λ e. grind (arith, ints, nat_tests, e), λ h. grind (arith, ints, nat_tests, h))
+    (λ e. grind (arith, ints, nat_tests, e), λ h. grind (arith, ints, nat_tests, h))
 
 -- ---- a fault that does not hold
 

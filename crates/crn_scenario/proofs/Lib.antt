@@ -4,7 +4,3 @@ pub mod LaterNames
 pub mod ItemFacts
 pub mod Kept
 pub mod Policies
-mod Glyphs
-mod KnownKeys
-mod ItemLists
-mod SoundTrees

@@ -1,5 +1,4 @@
 pub mod Tree
 pub mod Fields
 pub mod Reading
-pub mod Sound
 pub mod Inner

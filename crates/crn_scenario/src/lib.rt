@@ -3,7 +3,6 @@
 
 mod faults;
 mod fields;
-pub mod laws;
 mod read;
 mod scenario;
 mod scenario_fault;

@@ -15,9 +15,10 @@ from .decide.sensitivity import Moves
 from .errors import Refused, argument
 from .files import Folder, own_folder
 from .money import Amount, Number
-from .pages.catalogue_page import CATALOGUE_FILES, report
+from .pages.catalogue_page import CATALOGUE_FILES, report, write_found
 from .pages.catalogue_tables import catalogue_summary, decisions_of, rejects_of
 from .pages.change_tables import change_lines, changes_of
+from .pages.lateness import lateness_of
 from .pages.today_tables import OrdersToday, orders_today
 from .pages.item_page import ItemWords, item_page, item_summary, plan_item as plan_one_item, policies_of
 from .plan.catalogue import Lost, check_earlier, plan_into, planned_folder
@@ -26,9 +27,13 @@ from .plan.item import Depth
 from .plan.question import Settings
 from .plan.survey import Survey
 from .records.catalogue_reading import CATALOGUE, READ, Catalogue, read_into
-from .records.defaults import KEEP, LEAVE_OUT, Defaults
+from .records.choosing import Where, conditions_of
+from .records.defaults import LEAVE_OUT, Defaults
 from .records.items import Words
-from .records.sources import Table
+from .records.leads import RECEIPTS
+from .records.opening import Table
+from .records.overriding import set_overrides
+from .records.status import BY_TEST
 from .remarks import Remark
 from .table import DataTable, Result, TextResult
 
@@ -133,6 +138,11 @@ class Plan(TextResult):
         orders and warnings. docs/TABLES.md has all columns."""
         return self.frame
 
+    @property
+    def controls(self) -> pd.DataFrame:
+        """Returns rows, sums, value and dates of each file and of what is used, to tick off against the source."""
+        return Catalogue(self.path / READ).controls
+
     @cached_property
     def rejects(self) -> pd.DataFrame:
         """Returns what was left out or is suspicious: kind, file, line, item, column, text, reason, advice, rows."""
@@ -145,6 +155,13 @@ class Plan(TextResult):
         how the earlier policy did since. It has no rows without `after`. docs/TABLES.md has all columns."""
         with planned_folder(self.path) as folder:
             return changes_of(folder).frame
+
+    @cached_property
+    def lateness(self) -> pd.DataFrame:
+        """Returns a row for each supplier with receipts, the latest first: the stated lead time, what receipts took in the
+        mean and at the 90% quantile (days), and the share that took longer than stated."""
+        with planned_folder(self.path) as folder:
+            return lateness_of(folder.read).frame
 
     @cached_property
     def totals(self) -> Totals:
@@ -176,8 +193,9 @@ class Plan(TextResult):
 
     def orders_today(self, stock: Table | None = None, on_order: Table | None = None,
                      date: datetime.date | str | None = None, *, columns: Roles | None = None,
-                     units: Roles | None = None, supplier_min: Mapping[str, Amount] | None = None,
-                     delimiter: str | None = None, encoding: str | None = None, decimal: str | None = None,
+                     units: Roles | None = None, where: Where | None = None,
+                     supplier_min: Mapping[str, Amount] | None = None, delimiter: str | None = None,
+                     encoding: str | None = None, decimal: str | None = None,
                      date_formats: Sequence[str] = ()) -> OrdersToday:
         """Returns what to order on a date, by default today, what lies too long, and what is owed. Nothing is planned
         again.
@@ -185,22 +203,25 @@ class Plan(TextResult):
         `stock` has a row for each item, or for each of its places: item, stock, perhaps owed (items), which add up; a
         stock below 0 is owed. Without it that of the masters counts. `on_order` has what is to come: item, quantity,
         perhaps due. `supplier_min` has the least value of an order by supplier, beside those of the masters. Tables are
-        read as by `plan`. Raises Refused for what can't be read or meant, and if the plan is not as the rows that were
+        read as those of the plan were, unless a word says otherwise. Raises Refused for what can't be read or meant, and if the plan is not as the rows that were
         read last.
         """
         words = Words(columns=columns or {}, units=units or {}, delimiter=delimiter, encoding=encoding, decimal=decimal,
-                      date_formats=tuple(date_formats))
-        return orders_today(self.path, {"stock": stock, "on_order": on_order}, words, date, supplier_min or {})
+                      date_formats=tuple(date_formats), where=conditions_of(where),
+                      defaults=Defaults.of(supplier_min=supplier_min))
+        return orders_today(self.path, {"stock": stock, "on_order": on_order}, words, date)
 
-    def to_excel(self, path: str | Path) -> None:
-        """Writes the plan as a workbook: its summary, decisions, orders of today if the masters have stock, what is
-        left out, the curve if it was drawn, classes, and what each column means. Raises Refused."""
+    def to_excel(self, path: str | Path, orders: OrdersToday | None = None) -> None:
+        """Writes the plan as a workbook: its summary, decisions, the `orders` that `orders_today` gave, what is left
+        out, the curve if it was drawn, classes, and what each column means. Without `orders` those of today by the stock
+        of the masters are written, if these have one, as orders without what is on order. Raises Refused."""
         from .pages.workbook import write_workbook
-        write_workbook(self.path, Path(path))
+        write_workbook(self.path, Path(path), orders)
 
-    def report(self, items: Iterable[str] = (), *, jobs: int | None = None, cluster: str | None = None) -> Path:
+    def report(self, items: Iterable[str] = (), *, orders: OrdersToday | None = None, jobs: int | None = None,
+               cluster: str | None = None) -> Path:
         """Writes report.html, and pages of `items`, into the folder of the plan, and returns the path: see `report`."""
-        return report(self.path, items, jobs=jobs, cluster=cluster, program=self.program)
+        return report(self.path, items, orders=orders, jobs=jobs, cluster=cluster, program=self.program)
 
 
 def check_masters(sales: Table | Catalogue, masters: Table | None) -> None:
@@ -217,18 +238,23 @@ def take_tables(folder: Folder, sales: Table | Catalogue, masters: Table | None,
     elif sales.path.resolve() != folder.store(READ).resolve():
         part = folder.room() / READ
         shutil.copyfile(sales.path, part)
-        part.replace(folder.path / READ)
+        folder.take(part, READ)
 
 
 def plan(sales: str | Path | pd.DataFrame | Catalogue, masters: str | Path | pd.DataFrame | None = None,
          orders: str | Path | pd.DataFrame | None = None, *, out: str | Path | None = None, every: str = "week",
-         columns: Roles | None = None, units: Roles | None = None, start: datetime.date | str | None = None,
-         end: datetime.date | str | None = None, today: datetime.date | None = None, net: bool = False,
-         negate: bool = False, twice: str = KEEP, far: str = LEAVE_OUT, least: int = 13,
-         factors: Mapping[str, int] | None = None, delimiter: str | None = None, encoding: str | None = None,
-         decimal: str | None = None, date_formats: Sequence[str] = (), after: str | Path | None = None,
+         columns: Roles | None = None, units: Roles | None = None, where: Where | None = None,
+         start: datetime.date | str | None = None, end: datetime.date | str | None = None,
+         today: datetime.date | None = None, net: bool = False,
+         negate: bool = False, twice: str | None = None, far: str = LEAVE_OUT, least: int = 13,
+         lead_from: str = RECEIPTS, factors: Mapping[str, int] | None = None,
+         statuses: Mapping[str, str] | None = None, stopped: str = BY_TEST,
+         delimiter: str | None = None, encoding: str | None = None,
+         decimal: str | None = None, date_formats: Sequence[str] = (),
+         overrides: Table | None = None, after: str | Path | None = None,
          least_gain: float | None = None,
          setup: Amount | None = None, holding_rate: Amount | None = None, fill: Amount | None = None,
+         lead: str | None = None,
          service: Mapping[str, Amount] | None = None, currency: str | None = None,
          abc: str | Sequence[Number] | None = None, fit: str = "auto", borrow: str | None = None,
          confidence: float | None = None, correct: bool = False, order_min: int | None = None,
@@ -243,10 +269,10 @@ def plan(sales: str | Path | pd.DataFrame | Catalogue, masters: str | Path | pd.
         plan.item("K-119").doubt().frame       # how sure its choice is
 
     **What goes in.** Tables are data frames, CSV files, or sheets of workbooks (FILE.xlsx!SHEET). `sales` has a row for
-    each movement: item, date, quantity, and perhaps returned. `masters` has a row for each item: item, setup (money an
+    each movement (item, date, quantity, and perhaps returned), or for each item, with a column for each period. `masters` has a row for each item: item, setup (money an
     order), holding and backlog (money an item and period) or fill (the wanted share of demand met at once), lead
-    (periods), and perhaps today's s and S (items), description, stock, price, class, borrow, order_min, pack, s_min,
-    coverage and shelf_life. `orders` has dates of orders: item, ordered, received. Or `sales` is a Catalogue that
+    (with its unit, as "lead (days)"), and perhaps today's s and S (items), description, stock, price, class, status, borrow, order_min, pack,
+    s_min, coverage and shelf_life. `orders` has dates of orders: item, ordered, received. Or `sales` is a Catalogue that
     `read_catalogue` has read, and the other tables and words of reading are left out.
 
     **How it is read.** `read_catalogue` says what tables may be, how they are read, and what its words mean: those here
@@ -255,15 +281,21 @@ def plan(sales: str | Path | pd.DataFrame | Catalogue, masters: str | Path | pd.
 
     **What masters need not say.** For items whose rows say none, `setup` is the cost of an order, and a `holding_rate`,
     such as "20%", what holding costs a year as a share of the price. `fill` is the wanted share of demand met at once,
-    and `service` that of a class, as {"A": 0.98}. If no row has a class, it is A, B or C by the value of demand, cut at
+    and `service` that of a class, as {"A": 0.98}. `lead` is the lead time, as "14 days", if receipts don't say it either. If no row has a class, it is A, B or C by the value of demand, cut at
     the shares `abc` in percent, by default (80, 95). `currency` is that of all money, as "EUR", if no row says it.
+
+    **What a planner sets.** `overrides` has a row for each item that is ordered otherwise than planned: item, s and S, or
+    an override "do not order", and a reason. It holds whatever is chosen, also in plans `after` this one until their
+    table says otherwise; a row with nothing ends it. What it costs beside the chosen policy is in `decisions`.
 
     **How it is planned.** `fit` is how laws of demand are fitted (auto, predictive, empirical, or a family). Items
     `borrow` laws from one another (all, class, none; by default all if there are 100). With a `window`, laws are
     fitted, learned and checked on the last so many periods alone. `confidence` keeps a wanted fill rate under this
     share of the laws that a history allows. With `correct`, plans aim at the fill rates whose policies met the
     wanted ones on the past of the catalogue, learned from at least 30 items. `order_min`, `s_min` and
-    `max_coverage` (periods of demand that S covers, by default two years) bound items whose masters state none.
+    `max_coverage` (periods of demand that S covers; without it S less s covers two years) bound items whose masters
+    state none.
+
     Intervals hold at `level`. Each item is run by crnsim under `replications` of `periods` periods, with random
     numbers that follow from the `seed` (a text or a whole number) and its name alone. `jobs` processes work, by
     default one for each processor, or those of a Dask `cluster`; the result is the same. `program` is the path of
@@ -284,9 +316,11 @@ def plan(sales: str | Path | pd.DataFrame | Catalogue, masters: str | Path | pd.
                         s_min=s_min)
     words = Words(every=every, columns=columns or {}, units=units or {}, start=start, end=end,
                   today=today or datetime.date.today(), net=net, negate=negate, twice=twice, far=far, least=least,
-                  factors=factors or {}, delimiter=delimiter, encoding=encoding, decimal=decimal,
-                  date_formats=tuple(date_formats), defaults=Defaults.of(
-                      setup=setup, holding_rate=holding_rate, fill=fill, service=service, currency=currency, abc=abc))
+                  lead_from=lead_from, factors=factors or {}, statuses=statuses or {}, stopped=stopped,
+                  delimiter=delimiter, encoding=encoding, decimal=decimal,
+                  date_formats=tuple(date_formats), where=conditions_of(where), defaults=Defaults.of(
+                      setup=setup, holding_rate=holding_rate, fill=fill, lead=lead, service=service, currency=currency,
+                      abc=abc))
     earlier = None if after is None else Path(after)
     check_masters(sales, masters)
     check_earlier(earlier, None if out is None else Path(out), settings)
@@ -294,6 +328,8 @@ def plan(sales: str | Path | pd.DataFrame | Catalogue, masters: str | Path | pd.
     path = Path(room.name if room else out or "")
     with own_folder(path, CATALOGUE, CATALOGUE_FILES) as folder:
         take_tables(folder, sales, masters, orders, words, jobs)
+        set_overrides(folder, overrides, words, earlier)
+        write_found(folder, Catalogue(folder.path / READ), settings)
         done = plan_into(folder, settings, after=earlier, jobs=jobs, address=cluster, program=program,
                          again=learn_again, shown=progress)
     if done.missing:

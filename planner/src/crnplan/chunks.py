@@ -31,10 +31,10 @@ from dataclasses import dataclass, field
 from pathlib import Path
 from typing import Any, BinaryIO, Generic, NamedTuple, Protocol, TypeVar
 
-from .files import new_bytes
+from .files import new_bytes, put_in_place
 from .jobs import BATCH, Workers, batched, progress
 from .remarks import Remark
-from .stored import DIGITS, Columns, Damaged, Facts, columns_of, digest_of
+from .stored import DIGITS, Columns, Damaged, Facts, columns_of, digest_of, reading
 from .table import Json
 
 # Items of a chunk. Of small catalogues there are fewer, so that there are enough chunks for all workers.
@@ -60,6 +60,12 @@ def chunks_of(names: Iterable[str], count: int) -> list[Chunk]:
     """Returns the chunks of so many names, which are given in order."""
     size = min(max(-(-count // MANY_CHUNKS), LEAST_ITEMS), MOST_ITEMS)
     return [*map(Chunk._make, itertools.pairwise(["", *itertools.islice(names, size, None, size), None]))]
+
+
+def cover_all(chunks: Sequence[Chunk]) -> bool:
+    """Returns whether each name is in one of some chunks, which are given in order."""
+    ends: list[str | None] = ["", *(chunk.stop for chunk in chunks)]
+    return ends == [*(chunk.start for chunk in chunks), None]
 
 
 def sum_of_digests(digests: Iterable[str]) -> str:
@@ -120,12 +126,17 @@ def _seal(text: bytes) -> bytes:
     return hashlib.sha256(text).hexdigest()[:DIGITS].encode()
 
 
-def opened(line: bytes) -> Any:
-    """Returns the value of a sealed line. Raises ValueError if it is cut, or not as it was written."""
+def unsealed(line: bytes) -> bytes:
+    """Returns the text of a sealed line. Raises ValueError if it is cut, or not as it was written."""
     seal, _, text = line.partition(b" ")
     if not text.endswith(b"\n") or _seal(text[:-1]) != seal:
         raise ValueError("a line is not as it was written")
-    return json.loads(text)
+    return text
+
+
+def opened(line: bytes) -> Any:
+    """Returns the value of a sealed line. Raises as `unsealed` does."""
+    return json.loads(unsealed(line))
 
 
 class Lines(Generic[Row]):
@@ -171,6 +182,20 @@ class Lines(Generic[Row]):
             items, digest, sums = opened(last)["end"]
             return Made(chunk, file, items, items, digest, sums)
         return None
+
+    def whole(self, folder: Path, made: Made) -> list[bytes]:
+        """Returns the lines of all answers of a file. Raises Damaged if one is missing, or is not as it was written."""
+        path = folder / made.file
+        if not path.is_file():
+            raise Damaged(path, "it is missing")
+        with reading(path):
+            head, *lines, end = path.read_bytes().splitlines(keepends=True)
+            is_end = opened(end)["end"][:2] == [made.items, made.digest]
+            if head != self.head(made.chunk) or len(lines) != made.items or not is_end:
+                raise Damaged(path, "its answers are not those that were kept")
+            for line in lines:
+                unsealed(line)
+        return lines
 
     def answers(self, path: Path) -> Iterator[tuple[str, str, Row | Remark]]:
         """Yields each name in order with the digest and the answer. Raises Damaged."""
@@ -285,22 +310,28 @@ class Answering(Generic[Row]):
         file.write(lines.end(made))
         file.flush()
         os.fsync(file.fileno())
-        os.replace(file.name, path)
+        put_in_place(Path(file.name), path)
         return made
 
 
 class Chunked(Facts, Generic[Row]):
     """The answers to the items of a catalogue by name: facts, and an index of the files of its chunks, in SQLite."""
 
-    def __init__(self, path: Path, kind: type[Row], folder: Path, is_known: bool = False) -> None:
+    def __init__(self, path: Path, kind: type[Row], folder: Path, is_known: bool = False,
+                 named: Path | None = None) -> None:
         """Opens the index of files in a folder, or makes it. Answers with other columns are of another version, as if
-        there were none. Raises Damaged, but for an index that is known to be whole."""
-        super().__init__(path, is_known)
+        there were none. Raises Damaged, but for an index that is known to be whole. A copy has the name of its original
+        in messages."""
+        super().__init__(path, is_known, named)
         self.folder, self.lines = folder, Lines(kind)
         self.base.execute("CREATE TABLE IF NOT EXISTS chunks (start TEXT PRIMARY KEY, stop, file, items, digest, sums)")
         is_ours = self.fact(COLUMNS) == self.lines.version
-        rows = self.base.execute("SELECT start, stop, file, items, items, digest FROM chunks ORDER BY start")
-        self.made = [Made(Chunk(start, stop), *row) for start, stop, *row in rows] if is_ours else []
+        with reading(self.named):
+            rows = self.base.execute("SELECT start, stop, file, items, items, digest FROM chunks ORDER BY start")
+            self.made = [Made(Chunk(start, stop), *row) for start, stop, *row in rows] if is_ours else []
+            are_ours = all(OURS.fullmatch(made.file) for made in self.made)
+        if self.made and not (are_ours and cover_all([made.chunk for made in self.made])):
+            raise Damaged(self.named, "its chunks are not as they were kept")
         self._last = "", list[bytes]()
 
     @property
@@ -315,7 +346,7 @@ class Chunked(Facts, Generic[Row]):
     def tasks(self, chunks: Sequence[Chunk]) -> list[tuple[Any, ...]]:
         """Returns each of some chunks with the names of all files and parts that may have answers to its items."""
         starts, others = [chunk.start for chunk in chunks], [list[str]() for _ in chunks]
-        for path in sorted(self.folder.iterdir()):
+        for path in sorted(self.own_files()):
             if it := self.lines.chunk(path):
                 first = bisect.bisect_right(starts, it.start) - 1
                 stop = len(chunks) if it.stop is None else bisect.bisect_left(starts, it.stop)
@@ -327,7 +358,7 @@ class Chunked(Facts, Generic[Row]):
         """Returns how many answers are kept in files that are known and in files and parts since a time, as they are
         now: of a file and its parts in that with most."""
         counts = Counter[str]()
-        for path in self.folder.iterdir():
+        for path in self.own_files():
             if path.stat().st_mtime >= start:
                 name = path.name.partition(".")[0]
                 with path.open("rb") as file:
@@ -345,9 +376,13 @@ class Chunked(Facts, Generic[Row]):
             self.base.executemany("INSERT OR REPLACE INTO facts VALUES (?, ?)", [
                 *facts.items(), (COLUMNS, self.lines.version)])
         self.made, names = [*made], {it.file for it in made}
-        for path in self.folder.iterdir():
-            if OURS.fullmatch(path.name) and path.name not in names:
+        for path in self.own_files():
+            if path.name not in names:
                 path.unlink(missing_ok=True)
+
+    def own_files(self) -> list[Path]:
+        """Returns the files in the folder that are named as ours."""
+        return [path for path in self.folder.iterdir() if OURS.fullmatch(path.name) and path.is_file()]
 
     def _opened(self, name: str) -> Any:
         """Returns the value of the line with the answer to an item; None if there is none. The last file that was read
@@ -356,14 +391,10 @@ class Chunked(Facts, Generic[Row]):
         if place < 0:
             return None
         if self._last[0] != self.made[place].file:
-            file = self.made[place].file
-            self._last = file, (self.folder / file).read_bytes().splitlines(keepends=True)
+            self._last = self.made[place].file, self.lines.whole(self.folder, self.made[place])
         begins = b"[%s," % json.dumps(name).encode()
         line = next((line for line in self._last[1] if line.startswith(begins, DIGITS + 1)), None)
-        try:
-            return None if line is None else opened(line)
-        except ValueError as fault:
-            raise Damaged(self.folder / self._last[0], f"the answer to {name!r} is not as it was kept") from fault
+        return None if line is None else opened(line)
 
     def digest_of(self, name: str) -> str | None:
         """Returns what a kept answer depends on; None if there is none. Raises Damaged."""

@@ -13,6 +13,8 @@ import hashlib
 import itertools
 import os
 import shutil
+import stat
+import tempfile
 from collections.abc import Callable, Iterator
 from pathlib import Path
 from types import CodeType, FunctionType
@@ -23,19 +25,52 @@ left: list[bool] = []  # has one for each block that leaves loops plain
 PLAIN_CALLS = 50  # of a loop that takes a few milliseconds as it is written
 
 
-def cache_folder() -> Path:
-    """Returns the folder in which compiled loops are kept."""
-    return Path(os.environ.get("XDG_CACHE_HOME") or Path.home() / ".cache") / "crnplan"
+def has_home() -> bool:
+    """Returns whether the machine knows a home of this user."""
+    return os.path.expanduser("~") != "~"
+
+
+def cache_folders() -> list[Path]:
+    """Returns where compiled loops may be kept: in the user's folder for caches, if the user has a home, and in that for
+    temporary files.
+
+    Source: XDG Base Directory Specification, whose folder has to be an absolute path.
+    """
+    stated, folders = os.environ.get("XDG_CACHE_HOME", ""), list[Path]()
+    if os.path.isabs(stated):
+        folders.append(Path(stated, "crnplan"))
+    elif has_home():
+        folders.append(Path.home() / ".cache/crnplan")
+    return [*folders, Path(tempfile.gettempdir(), f"crnplan-{os.geteuid()}")]
+
+
+def is_own(folder: Path) -> bool:
+    """Returns whether a folder, which is made if it is missing, is this user's, and no other can write there. What others
+    put there would be run."""
+    try:
+        folder.mkdir(mode=0o700, parents=True, exist_ok=True)
+        state = folder.lstat()
+    except OSError:
+        return False
+    is_alone = state.st_uid == os.geteuid() and not state.st_mode & (stat.S_IWGRP | stat.S_IWOTH)
+    return stat.S_ISDIR(state.st_mode) and is_alone and os.access(folder, os.W_OK)
+
+
+def cache_folder() -> Path | None:
+    """Returns the folder in which compiled loops are kept; None if none is the user's own."""
+    return next((folder for folder in cache_folders() if is_own(folder)), None)
 
 
 @functools.cache
 def numba_njit() -> Callable[..., Any] | None:
-    """Returns numba's `njit`; None if numba is missing."""
+    """Returns numba's `njit`, which keeps loops in a folder of the user's own; None if numba is missing."""
     try:
         from numba import __version__, config, njit
     except ImportError:
         return None
-    config.CACHE_DIR = config.CACHE_DIR or str(cache_folder() / __version__)  # Another may have imported it before.
+    stated, own = config.CACHE_DIR, cache_folder()  # Another may have imported it before.
+    if own and not (stated and is_own(Path(stated))):
+        config.CACHE_DIR = str(own / __version__)
     compiler: Callable[..., Any] = njit
     return compiler
 
@@ -64,27 +99,29 @@ def traits(loop: Callable[..., Any]) -> tuple[Any, ...]:
 def kept(loop: Callable[..., Any]) -> Iterator[str]:
     """Gives the path of a copy of the source of a loop, which follows from its traits: numba finds what it has kept by
     the path and the time of a source. In the block one process compiles, and others wait for what it keeps."""
-    path = Path(loop.__code__.co_filename)
-    copy = cache_folder() / hashlib.sha256(repr(traits(loop)).encode()).hexdigest() / path.name
+    path, own = Path(loop.__code__.co_filename), cache_folder()
     with contextlib.ExitStack() as stack:
-        with contextlib.suppress(OSError):  # no folder to keep it in
-            copy.parent.mkdir(parents=True, exist_ok=True)
-            folder = os.open(copy.parent, os.O_RDONLY)
-            stack.callback(os.close, folder)
-            fcntl.flock(folder, fcntl.LOCK_EX)
-            if not copy.exists():
-                shutil.copyfile(path, copy)
-            path = copy
+        if own:
+            with contextlib.suppress(OSError):  # the disk is full
+                copy = own / hashlib.sha256(repr(traits(loop)).encode()).hexdigest() / path.name
+                copy.parent.mkdir(exist_ok=True)
+                folder = os.open(copy.parent, os.O_RDONLY)
+                stack.callback(os.close, folder)
+                fcntl.flock(folder, fcntl.LOCK_EX)
+                if not copy.exists():
+                    shutil.copyfile(path, copy)
+                path = copy
         yield str(path)
 
 
 def compiled_by(njit: Callable[..., Any], loop: Callable[..., Any], path: str) -> Callable[..., Any]:
-    """Returns a loop as numba compiles it, with the functions of its module that it calls, from a source at a path."""
+    """Returns a loop as numba compiles it, with the functions of its module that it calls, from a source at a path. It is
+    kept if that is a copy."""
     parts = {name: compiled_by(njit, part, path) for name, part in called_by(loop).items()}
     whole = FunctionType(loop.__code__.replace(co_filename=path), {**loop.__globals__, **parts},
                          closure=loop.__closure__)
     try:
-        made: Callable[..., Any] = njit(cache=True)(whole)
+        made: Callable[..., Any] = njit(cache=path != loop.__code__.co_filename)(whole)
     except RuntimeError:  # no folder to keep it in
         made = njit(whole)
     return made

@@ -16,6 +16,7 @@ import os
 import re
 import secrets
 import shutil
+import socket
 import sqlite3
 import stat
 import sys
@@ -30,7 +31,8 @@ SIGNATURE = "crnplan folder, version 1: {kind}. Only the files named below are o
 KEPT = "what was done before is kept"
 # Errors of a name that can't be used. All others are of the disk.
 NO_SUCH_PLACE = {errno.EACCES, errno.EPERM, errno.EROFS, errno.EEXIST, errno.ENOTDIR, errno.EISDIR, errno.ENOENT,
-                 errno.ELOOP, errno.ENAMETOOLONG}
+                 errno.ELOOP, errno.ENAMETOOLONG, errno.EBUSY, errno.ETXTBSY, errno.ENXIO, errno.ENODEV,
+                 errno.ECONNREFUSED}
 # A folder for what is not finished, with a random name, so that it is nobody else's.
 UNFINISHED = re.compile(r"unfinished-[0-9a-f]{16}/")
 
@@ -51,6 +53,12 @@ def package_digest() -> str:
     return bytes_digest("\n".join(texts).encode())
 
 
+def is_of_disk(fault: sqlite3.Error) -> bool:
+    """Returns whether an error of SQLite is one of the disk, the memory or the rights, and not of what it reads."""
+    code = getattr(fault, "sqlite_errorcode", sqlite3.SQLITE_ERROR) & 0xff  # an extended code says more in high bits
+    return isinstance(fault, sqlite3.OperationalError) and code != sqlite3.SQLITE_ERROR
+
+
 @contextlib.contextmanager
 def faults_of(folder: Path) -> Iterator[None]:
     """Turns errors of the file system and of SQLite into Refused for a name that can't be used, and Failed for a disk
@@ -64,40 +72,156 @@ def faults_of(folder: Path) -> Iterator[None]:
         if fault.errno in NO_SUCH_PLACE:
             raise Refused(what, "name a folder that can be written") from fault
         raise Failed(what, f"{KEPT}; make room, and run again") from fault
-    except sqlite3.OperationalError as fault:
-        raise Failed(f"{folder}: {fault}", f"{KEPT}; make room, or name a folder that can be written, and run "
-                     "again") from fault
     except sqlite3.DatabaseError as fault:
+        if is_of_disk(fault):
+            raise Failed(f"{folder}: {fault}", f"{KEPT}; make room, or name a folder that can be written, and run "
+                         "again") from fault
         raise Failed(f"{folder}: a store in it is damaged ({fault})", "remove its .sqlite files, and run "
                      "again") from fault
 
 
+def is_replaceable(path: Path) -> bool:
+    """Returns whether a name is free, or that of a regular file or a symlink. All else may be in use by others: a
+    device, a pipe, a socket, a folder."""
+    return not os.path.lexists(path) or path.is_symlink() or path.is_file()
+
+
+def put_in_place(part: Path, path: Path) -> None:
+    """Gives a finished file its name. A file or a symlink that has the name is replaced. Raises Refused for anything
+    else."""
+    if not is_replaceable(path):
+        raise Refused(f"{path}: it is no regular file, and is not replaced", "move it away, or name another one")
+    os.replace(part, path)
+
+
+def part_in(folder: Path) -> Path:
+    """Returns a random name in a folder, for what is not finished."""
+    return folder / f".{secrets.token_hex(8)}.part"
+
+
 @contextlib.contextmanager
-def new_file(path: Path, room: Path | None = None) -> Iterator[IO[str]]:
-    """Gives a file for a text, as `new_bytes` does."""
-    with new_bytes(path, room) as data:
-        file = io.TextIOWrapper(data, encoding="utf-8", errors="backslashreplace", newline="")
-        yield file
-        file.detach()
+def finished(part: Path, path: Path, old: os.stat_result | None = None) -> Iterator[IO[bytes]]:
+    """Gives a new file to write, which takes the name `path` when it is finished, and is removed if that fails. In place
+    of an `old` file it gets the mode, the owner and the attributes of that."""
+    try:
+        descriptor = os.open(part, os.O_WRONLY | os.O_CREAT | os.O_EXCL | os.O_NOFOLLOW, 0o600 if old else 0o666)
+    except OSError as fault:
+        fault.filename = str(path)
+        raise
+    try:
+        with open(descriptor, "wb") as file:
+            if old:
+                take_traits(part, path, old)
+            yield file
+            file.flush()
+            os.fsync(file.fileno())
+        put_in_place(part, path)
+    except BaseException:
+        part.unlink(missing_ok=True)
+        raise
+
+
+def take_traits(part: Path, path: Path, old: os.stat_result) -> None:
+    """Gives a new file the mode, the owner and the attributes of an old one. Raises Refused for an owner that it can't
+    have."""
+    try:
+        os.chown(part, old.st_uid, old.st_gid)
+    except PermissionError as fault:
+        raise Refused(f"{path}: it belongs to another user or group, and a new file in its place would not",
+                      "name another file") from fault
+    shutil.copystat(path, part)
+
+
+@contextlib.contextmanager
+def as_text(data: IO[bytes]) -> Iterator[IO[str]]:
+    """Gives a file of bytes as one of text."""
+    file = io.TextIOWrapper(data, encoding="utf-8", errors="backslashreplace", newline="")
+    yield file
+    file.detach()
 
 
 @contextlib.contextmanager
 def new_bytes(path: Path, room: Path | None = None) -> Iterator[IO[bytes]]:
-    """Gives a file to write, which is there whole or not at all. Until then it has a random name, beside the target or
-    in another folder of the same disk, its `room`. A symlink at the target is replaced, and not followed. Raises as
-    `faults_of` does."""
-    part = (room or path.parent) / f".{secrets.token_hex(8)}.part"
-    with faults_of(room.parent if room else path):
-        descriptor = os.open(part, os.O_WRONLY | os.O_CREAT | os.O_EXCL | os.O_NOFOLLOW, 0o666)
-        try:
-            with open(descriptor, "wb") as file:
+    """Gives a file of one of our folders to write, which is there whole or not at all. Until then it stands beside its
+    place, or in another folder of the same disk, its `room`. A symlink at its place is replaced, and not followed.
+    Raises as `faults_of` does, and Refused for a device or a pipe there."""
+    with faults_of(room.parent if room else path), finished(part_in(room or path.parent), path) as file:
+        yield file
+
+
+@contextlib.contextmanager
+def named_text(path: Path) -> Iterator[IO[str]]:
+    """Gives a file for a text that the user has named, as `named_bytes` does."""
+    with named_bytes(path) as data, as_text(data) as file:
+        yield file
+
+
+@contextlib.contextmanager
+def named_bytes(path: Path) -> Iterator[IO[bytes]]:
+    """Gives a file to write that the user has named, opened as other programs do.
+
+    A symlink is followed. What is no regular file (a device, a pipe, a socket, a terminal) is written into, and so is
+    the file in which standard output or error end. Any other file is there whole or as it was: a new one takes its
+    place, with its mode, its owner and its attributes. Raises Failed if the reader of a pipe has gone, Refused for a
+    file that can't be replaced so, and else as `faults_of` does.
+    """
+    with faults_of(path):
+        descriptor, old = opened_name(path)
+        target = Path(os.path.realpath(path))
+        if descriptor is not None:
+            with written_into(path, descriptor) as file:
                 yield file
-                file.flush()
-                os.fsync(file.fileno())
-            os.replace(part, path)
-        except BaseException:
-            part.unlink(missing_ok=True)
-            raise
+        elif old and not os.access(target.parent, os.W_OK):
+            raise Refused(f"{path}: its folder {target.parent} can't be written, so that it can't be replaced whole",
+                          "name a file in another folder")
+        else:
+            with finished(part_in(target.parent), target, old) as file:
+                yield file
+
+
+def opened_name(path: Path) -> tuple[int | None, os.stat_result | None]:
+    """Returns the descriptor through which what stands at a name is written, or else the state of the file that is to be
+    replaced; None for both if nothing is there. A pipe waits for its reader."""
+    try:
+        descriptor = os.open(path, os.O_WRONLY | os.O_NOCTTY)
+    except FileNotFoundError:
+        return None, None
+    except OSError:
+        if path.is_socket():
+            return connected(path), None
+        raise
+    state = os.fstat(descriptor)
+    if not stat.S_ISREG(state.st_mode):
+        return descriptor, None
+    os.close(descriptor)
+    return standard_stream(state), state
+
+
+def connected(path: Path) -> int:
+    """Returns the descriptor of a socket whose other end is at a path."""
+    with socket.socket(socket.AF_UNIX) as line:
+        line.connect(str(path))
+        return line.detach()
+
+
+def standard_stream(state: os.stat_result) -> int | None:
+    """Returns a new descriptor of the standard output or error, if that ends in the file with this state; else None."""
+    for stream in filter(None, (sys.stdout, sys.stderr)):
+        with contextlib.suppress(OSError, ValueError):  # closed, or no file
+            if os.path.samestat(os.fstat(stream.fileno()), state):
+                stream.flush()
+                return os.dup(stream.fileno())
+    return None
+
+
+@contextlib.contextmanager
+def written_into(path: Path, descriptor: int) -> Iterator[IO[bytes]]:
+    """Gives a file that writes into what is open already."""
+    try:
+        with open(descriptor, "wb") as file:
+            yield file
+    except BrokenPipeError as fault:
+        raise Failed(f"{path}: its reader has gone before all was written", "run again") from fault
 
 
 class Folder:
@@ -159,13 +283,24 @@ class Folder:
         """Gives a file of text that is there whole, or not at all, and claims it."""
         with faults_of(self.path):
             self.claim(name)
-            with new_file(self.path / name, self.room()) as file:
+            with new_bytes(self.path / name, self.room()) as data, as_text(data) as file:
                 yield file
+
+    @property
+    def names(self) -> frozenset[str]:
+        """Returns the names of what is crnplan's in the folder."""
+        return frozenset(self._names)
+
+    def take(self, part: Path, name: str) -> None:
+        """Gives a finished file, which stands in `room`, its name, and claims it."""
+        self.claim(name)
+        put_in_place(part, self.path / name)
 
     def remove(self, *names: str) -> None:
         """Removes those of the files that are crnplan's."""
-        for name in self._names.intersection(names):
-            (self.path / name).unlink(missing_ok=True)
+        for path in map(self.path.joinpath, self._names.intersection(names)):
+            if is_replaceable(path):
+                path.unlink(missing_ok=True)
 
     def room(self) -> Path:
         """Returns a folder for what is not finished, on the same disk, which `close` removes."""
@@ -193,7 +328,7 @@ def read_folder(path: Path, kind: str) -> Iterator[None]:
         with faults_of(path):
             if not (path / MARKER).is_file():
                 raise Refused(f"{path}: this is no folder of crnplan {kind}")
-            marker = stack.enter_context((path / MARKER).open(encoding="utf-8"))
+            marker = stack.enter_context((path / MARKER).open(encoding="utf-8", errors="replace"))
             try:
                 fcntl.flock(marker, fcntl.LOCK_SH | fcntl.LOCK_NB)
             except BlockingIOError as fault:

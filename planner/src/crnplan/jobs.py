@@ -34,6 +34,8 @@ BATCH = 8
 # A batch of items takes seconds. After so many it is given to a further worker, and after so many workers all ends.
 LIMIT_SECONDS, MOST_TRIES = 900.0, 3
 LOOKS = 8  # for late batches, in that time
+# A worker of a cluster that nobody has heard of for so long does nothing more. Most send a sign each second.
+LOST_SECONDS = 60.0
 MOST_POOLS = 4  # that a run may begin, since a process of the one before has ended by force
 WATCH_SECONDS = 0.5
 CONNECT_SECONDS, WORKER_SECONDS = 10, 30
@@ -72,6 +74,15 @@ class Workers:
     def begun(self, waiting: Iterable[Any]) -> list[Any]:
         """Returns those of some futures that a worker has."""
         return [future for future in waiting if future.running()]
+
+    def silent(self, waiting: Iterable[Any]) -> list[Any]:
+        """Returns those of some futures whose worker is not heard of any more. Raises Failed if no worker is."""
+        return []
+
+    @property
+    def look_seconds(self) -> float:
+        """Returns after how many seconds batches are looked at."""
+        return LIMIT_SECONDS / LOOKS
 
     def renew(self, fault: BrokenProcessPool) -> None:
         """Begins again after a fault. Raises it if that can't be."""
@@ -127,7 +138,7 @@ class _Run(Generic[Key]):
     def __init__(self, workers: Workers, function: Callable[..., Any]) -> None:
         self.workers, self.function = workers, function
         self.under_way, self.done = dict[Any, _Batch[Key]](), queue.SimpleQueue[Any]()
-        self.due = time.monotonic() + LIMIT_SECONDS / LOOKS
+        self.due = time.monotonic() + workers.look_seconds
 
     def room(self, ahead: int | None) -> int | None:
         """Returns how many more batches are given; None for all."""
@@ -174,16 +185,34 @@ class _Run(Generic[Key]):
     def _give_late(self) -> None:
         """Gives each batch that takes too long to a further worker. Raises Failed if enough of them have it."""
         now = time.monotonic()
-        self.due = now + LIMIT_SECONDS / LOOKS
+        self.due, silent = now + self.workers.look_seconds, {*self.workers.silent(self.under_way)}
         for batch in dict.fromkeys(self.under_way[future] for future in self.workers.begun(self.under_way)):
             batch.since = batch.since or now
-            if now - batch.since < LIMIT_SECONDS:
+            if now - batch.since < LIMIT_SECONDS and not silent.issuperset(batch.futures):
                 continue
             if len(batch.futures) == MOST_TRIES:
                 raise Failed(f"a batch has taken longer than {LIMIT_SECONDS:g} seconds on each of {MOST_TRIES} workers",
                              f"{KEPT}; look at these workers, and run again")
             batch.since = now
             self._watch(batch, self.workers.submit(self.function, batch.words, batch.futures))
+
+
+def end_programs(process: int) -> None:
+    """Ends the programs that a process runs, at once."""
+    for path in Path("/proc").glob("[0-9]*/stat"):
+        with contextlib.suppress(OSError):  # it has ended meanwhile
+            _, parent, *_ = path.read_text("utf-8", "replace").rpartition(")")[2].split()
+            if int(parent) == process:
+                os.kill(int(path.parent.name), signal.SIGKILL)
+
+
+def end_with_programs(worker: multiprocessing.process.BaseProcess) -> None:
+    """Ends a worker process, which begins no more, and the programs that it runs."""
+    if worker.pid is not None and worker.is_alive():
+        with contextlib.suppress(ProcessLookupError):  # it has ended meanwhile
+            os.kill(worker.pid, signal.SIGSTOP)
+            end_programs(worker.pid)
+        worker.kill()
 
 
 def _begin_worker(parent: int) -> None:
@@ -194,6 +223,7 @@ def _begin_worker(parent: int) -> None:
     def watch() -> None:
         while os.getppid() == parent:
             time.sleep(WATCH_SECONDS)
+        end_programs(os.getpid())
         os._exit(1)
     threading.Thread(target=watch, daemon=True).start()
 
@@ -244,7 +274,7 @@ def processes(jobs: int) -> Iterator[Workers]:
     finally:
         # If all is well they have ended. Otherwise nobody waits for what they do.
         for worker in set(multiprocessing.active_children()) - before:
-            worker.kill()
+            end_with_programs(worker)
         workers.pool.shutdown(wait=False, cancel_futures=True)
 
 
@@ -282,6 +312,7 @@ class Cluster(Workers):
         """Asks all workers that are there what they have. Raises Refused if one has something else."""
         client.wait_for_workers(1, WORKER_SECONDS)
         self.client, self.program, self.own = client, program, identity(program)
+        self.signs, self.heard = dict[str, tuple[Any, float]](), time.monotonic()
         answers, workers = client.run(identity, program, on_error="return"), client.scheduler_info()["workers"]
         if not self.own["crnsim"]:
             self.own["crnsim"] = next((answer["crnsim"] for answer in answers.values() if isinstance(answer, dict)), "")
@@ -309,6 +340,23 @@ class Cluster(Workers):
     def submit_all(self, function: Callable[..., Any], many: Sequence[Sequence[Any]]) -> list[Any]:
         own = [[word] * len(many) for word in (function, self.own, self.program)]
         return [*self.client.map(run_as_here, *own, *zip(*many, strict=True), pure=False, retries=2)] if many else []
+
+    @property
+    def look_seconds(self) -> float:
+        return min(LIMIT_SECONDS, LOST_SECONDS) / LOOKS
+
+    def silent(self, waiting: Iterable[Any]) -> list[Any]:
+        now, signs = time.monotonic(), self.client.scheduler_info()["workers"]
+        for address, sign in signs.items():
+            if self.signs.get(address, ("", 0.0))[0] != sign.get("last_seen"):
+                self.signs[address], self.heard = (sign.get("last_seen"), now), now
+        if now - self.heard > LOST_SECONDS:
+            raise Failed(f"no worker has been heard of for {LOST_SECONDS:g} seconds",
+                         f"{KEPT}; look at the workers, and run again")
+        gone = [address for address in signs if now - self.signs[address][1] > LOST_SECONDS]
+        running = self.client.processing() if gone else {}
+        keys = {key for address in gone for key in running.get(address, ())}
+        return [future for future in waiting if future.key in keys]
 
     def begun(self, waiting: Iterable[Any]) -> list[Any]:
         keys = {*itertools.chain.from_iterable(self.client.processing().values())}

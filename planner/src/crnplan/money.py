@@ -1,6 +1,8 @@
 """Makes whole numbers of what stands in tables and notebooks, and scales money to the program's whole numbers."""
 from __future__ import annotations
 
+import re
+import sys
 from collections.abc import Mapping
 from dataclasses import dataclass
 from fractions import Fraction
@@ -15,7 +17,11 @@ Number = SupportsFloat
 Amount = SupportsFloat | str
 # Costs are scaled by a power of ten from -8 to 8, the nearest to 0 that can be.
 MOST_DECIMALS = 8
+MOST_DIGITS = 15  # of an amount before the decimal sign
 SCALES = [Fraction(10)**power for power in sorted(range(-MOST_DECIMALS, MOST_DECIMALS + 1), key=abs)]
+# The power of ten at the end of a number; that of the smallest float, and the greatest float.
+EXPONENT = re.compile(r"e([-+]?\d[\d_]*)\s*$", re.IGNORECASE)
+MOST_EXPONENT, GREATEST = 324, Fraction(sys.float_info.max)
 # The decimals of currencies that don't have two. Source: ISO 4217, table A.1, minor units.
 PLACES = {**dict.fromkeys(("CLP", "ISK", "JPY", "KRW", "PYG", "UGX", "VND", "XAF", "XOF", "XPF"), 0),
           **dict.fromkeys(("BHD", "IQD", "JOD", "KWD", "LYD", "OMR", "TND"), 3)}
@@ -51,35 +57,19 @@ class Currency:
 
 
 def exact(value: Any) -> Fraction | None:
-    """Returns a number exactly; a float is what its shortest spelling says. None if it is no finite number."""
+    """Returns a number exactly; a float is what its shortest spelling says. None if it is no finite number, or is beyond
+    the range of floats, where an exact number may not be computed in any time."""
     if isinstance(value, bool):
         return None
+    text = value if isinstance(value, (int, Fraction)) else str(value)
+    power = EXPONENT.search(text) if isinstance(text, str) else None
     try:
-        return Fraction(value if isinstance(value, (int, Fraction)) else str(value))
+        if power and abs(int(power[1])) > MOST_EXPONENT:
+            return None
+        number = Fraction(text)
     except (ValueError, ZeroDivisionError):
         return None
-
-
-def amount_of(value: Any) -> Fraction:
-    """Returns an amount of money from 0, exactly. Raises Refused for anything else."""
-    amount = exact(getattr(value, "spelt", value))
-    if amount is None or amount < 0 or (amount * 10**MOST_DECIMALS).denominator != 1:
-        raise Refused(f"{shown(value)} is no cost", f"write 0 or more, as 12.50, with at most {MOST_DECIMALS} decimals")
-    return amount
-
-
-def share_of(value: Any) -> Fraction:
-    """Returns a share between 0 and 1, such as "20%", "0.2" or 0.2, exactly. Raises Refused for anything else; a number
-    from 1 on, which may be in percent, with both readings."""
-    text = str(getattr(value, "spelt", value)).strip()
-    number = exact(text.removesuffix("%"))
-    if number is not None and number >= 1 and not text.endswith("%"):
-        raise Refused(f"{shown(value)} may be {text}% or {text} as a share",
-                      f"write {text}% or {float(number / 100):g}")
-    share = None if number is None else number / 100 if text.endswith("%") else number
-    if share is None or not 0 < share < 1:
-        raise Refused(f"{shown(value)} is no share", "write 2% or 0.02")
-    return share
+    return number if abs(number) <= GREATEST else None
 
 
 def whole(value: Any, name: str) -> int:

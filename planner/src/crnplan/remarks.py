@@ -1,7 +1,7 @@
 """Something that must be said of an item, as data: a code and its facts. Words are made of it where it is shown."""
 from __future__ import annotations
 
-from collections.abc import Mapping
+from collections.abc import Mapping, Sequence
 from dataclasses import dataclass, field
 
 Value = int | float | str | None
@@ -13,3 +13,14 @@ class Remark:
 
     code: str
     facts: Mapping[str, Value] = field(default_factory=dict)
+
+
+def joined(remarks: Sequence[Remark]) -> Remark:
+    """Returns several remarks as one."""
+    if len(remarks) == 1:
+        return remarks[0]
+    facts: dict[str, Value] = {}
+    for place, remark in enumerate(remarks):
+        facts[str(place)] = remark.code
+        facts |= {f"{place} {name}": value for name, value in remark.facts.items()}
+    return Remark("several", facts)

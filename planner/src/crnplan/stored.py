@@ -2,6 +2,7 @@
 from __future__ import annotations
 
 import base64
+import contextlib
 import dataclasses
 import functools
 import hashlib
@@ -14,7 +15,8 @@ from fractions import Fraction
 from pathlib import Path
 from typing import Any, Generic, TypeVar
 
-from .errors import Failed
+from .errors import CrnplanError, Failed
+from .files import is_of_disk
 from .remarks import Remark
 
 Cell = int | float | str | None
@@ -64,14 +66,26 @@ KINDS: dict[Any, tuple[Callable[[Any], Cell], Callable[[Any], Any]]] = {
                          lambda text: tuple(Remark(*parts) for parts in json.loads(text)))}
 
 
-def check_whole(base: sqlite3.Connection, path: Path) -> None:
-    """Raises Damaged if a store is not whole, as SQLite sees it."""
+@contextlib.contextmanager
+def reading(path: Path) -> Iterator[None]:
+    """Raises Damaged for what is read of a store, or made of that, and is not as it was written. Errors of the disk stay
+    as they are."""
     try:
-        states = [str(state) for (state,) in base.execute("PRAGMA quick_check(1)")]
-    except sqlite3.OperationalError:
+        yield
+    except CrnplanError:
         raise
     except sqlite3.DatabaseError as fault:
+        if is_of_disk(fault):
+            raise
         raise Damaged(path, str(fault)) from fault
+    except (ValueError, TypeError, LookupError) as fault:
+        raise Damaged(path, f"what is kept is not as it was written ({fault})") from fault
+
+
+def check_whole(base: sqlite3.Connection, path: Path) -> None:
+    """Raises Damaged if a store is not whole, as SQLite sees it."""
+    with reading(path):
+        states = [str(state) for (state,) in base.execute("PRAGMA quick_check(1)")]
     if states != ["ok"]:
         raise Damaged(path, states[0])
 
@@ -140,18 +154,20 @@ columns_of: Callable[[Any], Any] = functools.cache(Columns)
 class Facts:
     """Texts by name in a file of SQLite."""
 
-    def __init__(self, path: Path, is_known: bool = False) -> None:
-        """Opens the file, or makes it. Raises Damaged, but for a file that is known to be whole."""
-        self.path, self.base = path, sqlite3.connect(path)
+    def __init__(self, path: Path, is_known: bool = False, named: Path | None = None) -> None:
+        """Opens the file, or makes it. Raises Damaged, but for a file that is known to be whole. A copy has the name of
+        its original in messages."""
+        self.path, self.named, self.base = path, named or path, sqlite3.connect(path)
         if not is_known:
-            check_whole(self.base, path)
+            check_whole(self.base, self.named)
         self.base.executescript("PRAGMA journal_mode = WAL; PRAGMA synchronous = NORMAL;"
                                 "CREATE TABLE IF NOT EXISTS facts (name TEXT PRIMARY KEY, value TEXT)")
 
     def fact(self, name: str) -> str | None:
-        """Returns a text that is kept; None if there is none."""
-        row = self.base.execute("SELECT value FROM facts WHERE name = ?", [name]).fetchone()
-        return None if row is None else str(row[0])
+        """Returns a text that is kept; None if there is none. Raises Damaged."""
+        with reading(self.named):
+            row = self.base.execute("SELECT value FROM facts WHERE name = ?", [name]).fetchone()
+            return None if row is None else str(row[0])
 
     def keep_facts(self, facts: Mapping[str, str]) -> None:
         """Keeps texts: all of them or none."""

@@ -53,7 +53,7 @@ def _several(which: int) -> Say:
         for place in filter(str.isdecimal, facts):
             own = {name.removeprefix(f"{place} "): value for name, value in facts.items() if name != place}
             words.append(_said(WORDS[facts[place]][which], own))
-        return " and ".join(dict.fromkeys(words))
+        return " and ".join(filter(None, dict.fromkeys(words)))
     return said
 
 
@@ -186,7 +186,10 @@ WORDS: dict[str, tuple[Say, Say]] = {
     # Of what masters need not say (records/defaults.py).
     "taken from": (lambda it: f"{it['role']}: " + ", ".join(
         f"{counted(it[source], 'item')} by {words}" for source, words in (
-            ("masters", "the masters"), ("class", "the class"), ("default", "the default")) if it[source]), ""),
+            ("masters", "the masters"), ("class", "the class"), ("orders", "receipts of orders"),
+            ("default", "the default")) if it[source]), ""),
+    "leads of receipts": (lambda it: "no column is the lead, so lead times are those of receipts of orders: of "
+                          + counted(it["items"], "item"), ""),
     # Of what a catalogue has learned (plan/catalogue.py).
     "own laws": (lambda it: "each item has the law of its own history" + f" ({it['reason']})" * bool(it["reason"]), ""),
     "learned": (lambda it: f"laws of demand were learned from {counted(it['items'], 'item')}"

@@ -49,7 +49,7 @@ def write(folder: Path, items: Mapping[str, Item], later: int = 1) -> list[Path]
                     rows.writerow((item.name, START + datetime.timedelta(7 * week), asked, returned))
     with (folder / "items.csv").open("w", newline="") as file:
         rows = csv.writer(file)
-        rows.writerow(("item", "class", "setup", "holding", "backlog", "fill", "lead", "s", "S"))
+        rows.writerow(("item", "class", "setup", "holding", "backlog", "fill", "lead (weeks)", "s", "S"))
         rows.writerows((it.name, "ab"[place % 2], float(it.setup), float(it.holding),
                         "" if it.backlog is None else float(it.backlog), "" if it.fill is None else float(it.fill),
                         " ".join(map(str, it.leads)), *it.levels) for place, it in enumerate(items.values()))

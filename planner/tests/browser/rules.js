@@ -160,6 +160,23 @@ const rules = (() => {
     return named(pairs.map(([one, other]) => `${place(one.element)} overlaps ${place(other.element)}`));
   }
 
+  // A word in a card, such as a number, is on one line and within the card.
+  function cards() {
+    const isBroken = (boxes) => new Set([...boxes].map((box) => Math.round(box.top))).size > 1;
+    const faults = all(".card b").flatMap((value) => {
+      const card = value.closest(".card").getBoundingClientRect();
+      const range = document.createRange();
+      return [...value.firstChild.data.matchAll(/\S+/g)].flatMap((word) => {
+        range.setStart(value.firstChild, word.index);
+        range.setEnd(value.firstChild, word.index + word[0].length);
+        const boxes = range.getClientRects();
+        if (isBroken(boxes)) return [`${place(value)}: a word is broken`];
+        return range.getBoundingClientRect().right > card.right ? [`${place(value)}: a word runs over its card`] : [];
+      });
+    });
+    return named(faults);
+  }
+
   // WCAG 1.3.1.
   function tables() {
     const scopes = ["col", "row", "colgroup", "rowgroup"];
@@ -251,6 +268,6 @@ const rules = (() => {
     return edges.size;
   }
 
-  return {place, overflow, clipped, overlaps, contrast, tables, headings, page, policy, regions, toName, partsOfTables,
+  return {place, overflow, clipped, overlaps, cards, contrast, tables, headings, page, policy, regions, toName, partsOfTables,
     watch};
 })();

@@ -58,7 +58,7 @@ def keyboard(browser: Browser) -> Faults:
 
 RULES: dict[str, Rule] = {
     "console": console, "requests": requests, "names": names, "roles": roles, "keyboard": keyboard,
-    **{it: by_script(it) for it in ("overflow", "clipped", "overlaps", "contrast", "tables", "headings", "page",
+    **{it: by_script(it) for it in ("overflow", "clipped", "overlaps", "cards", "contrast", "tables", "headings", "page",
                                     "policy", "regions")}}
 
 

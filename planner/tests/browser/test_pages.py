@@ -11,14 +11,15 @@ from selenium.webdriver.common.by import By
 from selenium.webdriver.common.keys import Keys
 
 from crnplan.pages.catalogue_page import ROWS_A_GROUP
-from planner.tests.browser.browser import FORMS, TALL, WIDE, Browser, Form
-from planner.tests.browser.conftest import PLANNED, Pages
+from planner.tests.browser.browser import FORMS, PAPER, TALL, WIDE, Browser, Form
+from planner.tests.browser.conftest import MARKUP, PLANNED, Pages
 from planner.tests.browser.items import PLAIN, Items, in_order, is_number
 from planner.tests.browser.rules import faults_of, rules_of
 from planner.tests.pages.page_reader import Row, rows_of
 
-NAMES = ("catalogue", "catalogue without a curve", "planned catalogue", "item", *PLANNED)
-IDS = [*NAMES[:4], "item of markup", "item in Arabic", "item of a long name"]
+NAMES = ("catalogue", "catalogue without a curve", "planned catalogue", "catalogue with orders", "item",
+         *PLANNED)
+IDS = [*NAMES[:5], "item of markup", "item in Arabic", "item of a long name"]
 INJECTED = Path(__file__).with_name("injected.js").read_text("utf-8")
 
 
@@ -29,6 +30,15 @@ INJECTED = Path(__file__).with_name("injected.js").read_text("utf-8")
 def test_page_has_no_fault(browser: Browser, pages: Pages, name: str, form: Form) -> None:
     browser.open(pages(name), form)
     assert faults_of(browser, *rules_of(form)) == []
+
+
+@pytest.mark.parametrize("form", [Form(1440), Form(768), Form(390), Form(PAPER, medium="print")], ids=str)
+@pytest.mark.parametrize("name", ["catalogue of large money", MARKUP], ids=["catalogue", "item"])
+def test_large_money_stays_in_its_card(browser: Browser, pages: Pages, name: str, form: Form) -> None:
+    """However large an amount is, each word of it is on one line within its card, and no table widens the page."""
+    browser.open(pages(name), form)
+    assert len(browser.driver.find_elements(By.CSS_SELECTOR, ".card")) > 4
+    assert faults_of(browser, "cards", "overflow", "clipped") == []
 
 
 @pytest.mark.parametrize("form", [WIDE, Form(390)], ids=str)

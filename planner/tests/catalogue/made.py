@@ -16,7 +16,7 @@ START = datetime.date(2024, 11, 25)  # a Monday
 TODAY = datetime.date(2026, 11, 26)
 TITLES = ["Warenbewegungen;;;;", ";;;;"]
 DEMAND = "Beleg;Artikel;Buchungstag;Menge;Retouren"
-MASTERS = ("Artikel;Bezeichnung;Bestellkosten;Lagerkosten;Fehlmengenkosten;Servicegrad;Lieferzeit;Bestellpunkt;"
+MASTERS = ("Artikel;Bezeichnung;Bestellkosten;Lagerkosten;Fehlmengenkosten;Servicegrad;Lieferzeit (Wochen);Bestellpunkt;"
            "Höchstbestand;Bestand;Preis;Klasse")
 ORDERS = "Artikel;Bestellt;Geliefert"
 # Texts in place of a quantity, or of a date, for which the row is rejected.
@@ -24,8 +24,8 @@ BAD_QUANTITIES = ["n/a", "", "3,5", "-2", "zwei", "1.2.3"]
 BAD_DATES = ["", "31.02.2026", "bald", "2062-03-04", "1999-01-04", "45678"]
 # Changes of a master for which the item is left out.
 BAD_MASTERS: list[dict[str, str]] = [
-    {"Bestellkosten": ""}, {"Bestellpunkt": "90", "Höchstbestand": "5"}, {"Lagerkosten": "0"}, {"Lieferzeit": "n/a"},
-    {"Fehlmengenkosten": "", "Servicegrad": ""}, {"Lieferzeit": "0"}, {"Bestellkosten": "45,00 Stk"},
+    {"Bestellkosten": ""}, {"Bestellpunkt": "90", "Höchstbestand": "5"}, {"Lagerkosten": "0"},
+    {"Lieferzeit (Wochen)": "n/a"}, {"Fehlmengenkosten": "", "Servicegrad": ""}, {"Lieferzeit (Wochen)": "0"}, {"Bestellkosten": "45,00 Stk"},
     {"Fehlmengenkosten": "", "Servicegrad": "120%"}, {"Preis": "teuer", "Bestellkosten": "-3"}]
 
 

@@ -143,7 +143,7 @@ def test_reasons(month: Month) -> None:
     """New rows are counted, and each change of a master, an item that is new and one that is gone are named."""
     words = month.until(WEEKS)
     sales, masters = words["sales"].copy(), words["masters"].set_index("item")
-    masters.loc["I-001", ["holding", "lead"]] = 0.6, "2 2 4"
+    masters.loc["I-001", ["holding", "lead (weeks)"]] = 0.6, "2 2 4"
     masters.loc["I-004", ["s", "S", "class"]] = 1, 99, "c"
     masters.loc["I-012"] = masters.loc["I-000"]
     masters = masters.drop("I-005")

@@ -39,7 +39,7 @@ def write(folder: Path, items: int = ITEMS) -> list[Path]:
     with paths[0].open("w", newline="") as demand, paths[1].open("w", newline="") as masters:
         rows, facts = csv.writer(demand), csv.writer(masters)
         rows.writerow(("item", "date", "quantity"))
-        facts.writerow(("item", "setup", "holding", "backlog", "fill", "lead", "s", "S"))
+        facts.writerow(("item", "setup", "holding", "backlog", "fill", "lead (weeks)", "s", "S"))
         for place in range(items):
             counts = 1 + random.negative_binomial(1, 1 / (2 + place % 7), WEEKS)
             rows.writerows((f"I-{place:02}", START + datetime.timedelta(7 * week), count)

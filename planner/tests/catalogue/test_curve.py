@@ -72,6 +72,17 @@ def tables_of(plan: Path) -> dict[str, bytes]:
     return {name: (plan / name).read_bytes() for name in TABLES}
 
 
+def test_points_are_known_without_a_curve(twenty: Path) -> None:
+    """Today's point and the chosen one are what the answers add up to: of all items with a price, of which one without a
+    policy today counts with its chosen one."""
+    found = drawn(twenty)
+    with planned_folder(twenty) as planned:
+        totals = planned.totals
+    for name in ("today", "chosen"):
+        point, _ = found.points[name]
+        assert totals.stock_and_service(name) == pytest.approx((point.value, point.fill), rel=1e-6)
+
+
 def test_named_points(twenty: Path) -> None:
     """Has today's point of decisions.csv, and points that are as good with less stock, or better with the same. An item
     without a policy today counts there with the chosen one."""

@@ -136,6 +136,14 @@ def test_other_program(folder: Path, names: list[str], tmp_path: Path, program: 
         item_page(folder, names[0], other)
 
 
+def parts_of(page: Page) -> tuple[str, str]:
+    """Returns the source of a page without what is folded away for statisticians, and that."""
+    before, _, rest = page.source.partition("<details>")
+    folded, _, after = rest.partition("</details>")
+    assert folded.strip().startswith("<summary>For statisticians</summary>")
+    return before + after, folded
+
+
 @pytest.fixture(scope="module")
 def learned(tmp_path_factory: pytest.TempPathFactory, program: Path) -> Path:
     """Returns a planned folder whose items learn from one another. Few of them have a plan."""
@@ -157,7 +165,10 @@ def test_learned_law_stands_beside_the_items_own(learned: Path, program: Path) -
     assert laws[2] == "the law of this item alone"
     picture = next(text for title, text in page.pictures.items() if title.startswith("In how many weeks"))
     assert "the law of this item alone: " in picture
-    assert "Learned from the whole catalogue" in page.words and "without a confidence" in page.words
+    open_words, folded = parts_of(page)
+    assert "Demand is planned by a law that was learned from all items of the catalogue" in open_words
+    assert "10^" in folded and "10^" not in open_words and "guard" not in open_words.casefold()
+    assert "Learned from the whole catalogue" in folded and "without a confidence" in page.words
     row = rows[name]
     levels = [f"({row[f's_{it}']}, {row[f'S_{it}']})" for it in ("today", "chosen", "alone")]
     assert len({*levels}) < 3 or [row["s_alone"], row["S_alone"]] in [it[1:3] for it in page.tables[ALL]]

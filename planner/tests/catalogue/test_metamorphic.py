@@ -44,7 +44,7 @@ class Item(NamedTuple):
 def master(holding: float, setup: float, backlog: float | None, fill: float | None, lead: str, levels: tuple[int, int],
            price: float) -> Master:
     """Returns the master of an item. Costs are multiples of 0.006, so that a third and a half are decimals too."""
-    return {"setup": setup, "holding": holding, "backlog": backlog, "fill": fill, "lead": lead, "s": levels[0],
+    return {"setup": setup, "holding": holding, "backlog": backlog, "fill": fill, "lead (weeks)": lead, "s": levels[0],
             "S": levels[1], "price": price}
 
 
@@ -162,7 +162,7 @@ def test_fill_rates_on_a_coarse_lattice(planned: Planner) -> None:
     for item, row in zip(items, planned(items, fit="empirical").itertuples()):
         assert "in steps of" in row.warnings
         levels, wanted = (int(row.s_chosen), int(row.S_chosen)), item.master["fill"]
-        scenario = crn.Scenario.of(item.counts, [int(item.master["lead"])], setup=item.master["setup"], holding="0.03",
+        scenario = crn.Scenario.of(item.counts, [int(item.master["lead (weeks)"])], setup=item.master["setup"], holding="0.03",
                                    backlog="0.9", today=levels)
         theory, _ = theories_of(scenario)
         assert theory.exact and wanted - 2e-5 <= theory.figures(*levels).fill <= wanted + 1e-4, item.name

@@ -44,7 +44,7 @@ def test_figures_are_the_programs(planned: Path, files: Path, program: Path) -> 
     masters = rows_of(files / FILES[1], "Artikel", delimiter=";")
     tested = 0
     for name in sorted(exact):
-        its, lead = exact[name], masters[name]["Lieferzeit"]
+        its, lead = exact[name], masters[name]["Lieferzeit (Wochen)"]
         if not lead.isdigit() or name == "A-007" or sums.back[name].total() or its["s_today"] == its["s_chosen"]:
             continue
         counts = Counter({0: WEEKS - len(+sums.asked[name])}) + Counter((+sums.asked[name]).values())

@@ -18,7 +18,7 @@ from crnplan.errors import Refused, RefusedFaults
 from crnplan.files import MARKER
 from crnplan.records.blocks import Sizes
 from crnplan.records.catalogue_reading import Catalogue, read_alone, read_catalogue
-from crnplan.records.cells import period_of
+from crnplan.records.dates import period_of
 from crnplan.records.item import Item
 from crnplan.records.items import Reader, Words
 from crnplan.records.observed import Record, record_of
@@ -73,7 +73,7 @@ def test_planted_items_are_left_out(planted: Made, catalogue: Catalogue, rejects
     named = {name_of(it) for it in range(ITEMS)} | {"A-777", "A-888", IDLE}
     assert set(found.index) == bad and set(items_of(catalogue)) == named - bad
     assert list(found[found.file == FILES[1]].column[[name_of(it) for it in range(20, 29)]]) == [
-        "Bestellkosten", "Bestellpunkt", "Lagerkosten", "Lieferzeit", "Fehlmengenkosten", "Lieferzeit",
+        "Bestellkosten", "Bestellpunkt", "Lagerkosten", "Lieferzeit (Wochen)", "Fehlmengenkosten", "Lieferzeit (Wochen)",
         "Bestellkosten", "Servicegrad", "Bestellkosten, Preis"]
     assert found.text["A-026"] == "45,00 Stk" and "120%" in found.text["A-027"]
 
@@ -114,7 +114,7 @@ def test_what_was_found_is_stated(catalogue: Catalogue, files: Path) -> None:
     import tomllib
     found = tomllib.loads(catalogue.found)["catalogue"]
     assert found["demand"] == {"item": "Artikel", "date": "Buchungstag", "quantity": "Menge", "returned": "Retouren"}
-    assert found["items"]["S"] == "Höchstbestand" and found["items"]["lead"] == "Lieferzeit"
+    assert found["items"]["S"] == "Höchstbestand" and found["items"]["lead"] == "Lieferzeit (Wochen)"
     for text in ('"Artikel"  # found by its name', "the day comes first in", "heading in line 3",
                  "decimal sign of holding is the comma in 0,", "not used: Beleg", "the record: 2024-11-25 to"):
         assert text in catalogue.found
@@ -182,11 +182,11 @@ def test_far_above(amounts: list[int], far: int) -> None:
 
 ROWS = "".join(f"A,2026-{month:02}-15,3\n" for month in range(1, 11))
 DEMAND = "item,date,quantity\n" + ROWS
-MASTER = {"setup": "10", "holding": "0.5", "backlog": "5", "lead": "2", "s": "3", "S": "9"}
+MASTER = {"setup": "10", "holding": "0.5", "backlog": "5", "lead (weeks)": "2", "s": "3", "S": "9"}
 
 
 def master(**changes: str) -> str:
-    cells = MASTER | changes
+    cells = MASTER | {"lead (weeks)" if name == "lead" else name: text for name, text in changes.items()}
     return f"item,{','.join(cells)}\nA,{','.join(cells.values())}\n"
 
 
@@ -200,7 +200,7 @@ def read_text(folder: Path, demand: str = DEMAND, masters: str = master(), least
     ("item,date\n" + ROWS, master(), 'demand.csv:1: no column looks like the quantity; say columns={"demand": {"quan'),
     ("item,date,quantity,Menge\n" + ROWS, master(), "the columns 'quantity' and 'Menge' may both be the quantity; say"),
     ("item,date,quantity\n", master(), "no row of demand has a date"), ("", master(), "there is no row below"),
-    ("item,date,quantity\nA,soon,3\n", master(), "no row of demand has a date"),
+    ("item,date,quantity\nA,soon,3\n", master(), "can be read and 'soon' is no date"),
     (DEMAND, "item,setup,s\nA,1,1\n", "no column looks like the holding;"),
     (DEMAND, "item,setup,holding,s\nA,1,1,1\n", "no column looks like the S;"),
     (DEMAND, "item,setup,holding,max stock\nA,1,1,1\n", "no column looks like the s;")])
@@ -219,7 +219,7 @@ def test_faults_of_all_files_at_once(tmp_path: Path) -> None:
     lines = ["item,date,quantity", *(f"A,2026-03-{1 + it % 28:02},{it % 7}" for it in range(80_000))]
     path.write_bytes("\n".join(lines).encode() + b"\nB\xfcrste,2026-03-02,1\n")
     (tmp_path / "items.csv").write_text(master())
-    with pytest.raises(RefusedFaults, match=r"demand.csv:80002:2: the byte 0xfc is not UTF-8; say encoding=latin-1"):
+    with pytest.raises(RefusedFaults, match=r"demand.csv:80002:2: the byte 0xfc is not UTF-8; say encoding=cp1252 if 'Bürste' is"):
         read_catalogue(path, tmp_path / "items.csv", today=TODAY)
 
 
@@ -253,7 +253,8 @@ def test_cells_of_masters_that_are_not_taken(tmp_path: Path, changes: dict[str, 
     """Leaves an item out for one cell of its master, and names the column and why."""
     units = {"items": {"holding": unit}} if unit else {}
     rejects = read_text(tmp_path, masters=master(**changes), units=units).rejects
-    assert list(rejects.column) == [next(iter(changes))] and said in rejects.reason[0]
+    column, = rejects.column
+    assert column.removesuffix(" (weeks)") == next(iter(changes)) and said in rejects.reason[0]
 
 
 def test_several_cells_of_a_master(tmp_path: Path) -> None:
@@ -264,7 +265,7 @@ def test_several_cells_of_a_master(tmp_path: Path) -> None:
     assert rejects.reason[0].count("is not a number") == 2
     share = {"items": {"fill": "share"}}
     rejects = read_text(tmp_path, masters=master(**{"fill rate %": "0.95"})).rejects
-    assert "0.95% or 0.95 as a share" in rejects.reason[0] and json.dumps(share) in rejects.advice[0]
+    assert "'0.95' may be 0.95% or 95%" in rejects.reason[0] and json.dumps(share) in rejects.advice[0]
     for text, units, fill in (("0.95", share, "19/20"), ("0.95%", {}, "19/2000"), ("95", {}, "19/20")):
         its = read_text(tmp_path, masters=master(**{"fill rate %": text}), units=units)
         assert str(items_of(its)["A"].fill) == fill
@@ -281,7 +282,7 @@ def test_masters_at_the_borders(tmp_path: Path, changes: dict[str, str], least: 
 
 def test_items_without_levels(tmp_path: Path) -> None:
     """Empty s and S, or no column of either, are no policy."""
-    for masters in (master(s="", S=""), "item,setup,holding,backlog,lead\nA,10,0.5,5,2\n"):
+    for masters in (master(s="", S=""), "item,setup,holding,backlog,lead (weeks)\nA,10,0.5,5,2\n"):
         assert items_of(read_text(tmp_path, masters=masters))["A"].levels is None
 
 
@@ -334,7 +335,7 @@ PASTS: dict[str, tuple[range, str, int | None, str, str, int | str]] = {
 def test_what_the_record_says_of_the_past(tmp_path: Path) -> None:
     """An item is new by too few weeks, and has no demand by none that asks for it. Where its history begins is said by its
     master, or else by its first row. Each item that is named is read or left out, then with the value of its stock."""
-    sales, masters = ["item,date,quantity"], ["item,setup,holding,backlog,lead,stock,price,price unit,created on"]
+    sales, masters = ["item,date,quantity"], ["item,setup,holding,backlog,lead (weeks),stock,price,price unit,created on"]
     for name, (weeks, amount, since, stock, *_) in PASTS.items():
         sales += [f"{name},{MONDAY + datetime.timedelta(7 * week)},{amount}" for week in weeks]
         day = "" if since is None else (MONDAY + datetime.timedelta(7 * since)).strftime("%d.%m.%Y")

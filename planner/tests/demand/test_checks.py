@@ -21,7 +21,7 @@ from crnplan.demand.permutation import (Orders, autocorrelation_seen, bound_of, 
                                         statistics_of, tilted, trend_seen)
 from crnplan.demand.sample import Sample
 from crnplan.errors import Refused, spelt
-from crnplan.records.cells import period_name, period_of
+from crnplan.records.dates import period_name, period_of
 from crnplan.remarks import Remark
 from crnplan.words import advised, sentence
 from planner.studies.warnings import p_value

@@ -44,7 +44,8 @@ def test_from_two_files_to_orders_and_a_workbook(system: str, crnplan: Command, 
     wanted = (decisions.S_chosen - parts.stock)[orders.index]
     assert (orders.order == wanted).all() and (orders.placed >= wanted).all()
     assert (orders.value - orders.placed * parts.price[orders.index]).abs().max() < CENT
-    assert f"{TODAY}: {due.sum()} orders, worth {export.currency} {orders.value.sum():,.2f}\n" in listed.output
+    said = f"{TODAY}: {due.sum()} orders, worth {export.currency} {orders.value.sum():,.2f}, without what is on order: say"
+    assert said in listed.output
 
     book = tmp_path / "plan.xlsx"
     assert crnplan("report", plan, "--xlsx", book, "--program", program).status == 0
@@ -53,5 +54,5 @@ def test_from_two_files_to_orders_and_a_workbook(system: str, crnplan: Command, 
     assert sheets["Decisions"].saving.sum() == pytest.approx(decisions.saving.sum(), abs=CENT * len(decisions))
     saved = sheets["Summary"].set_index("figure").chosen["saved a week"]
     assert saved == pytest.approx(sheets["Decisions"].saving.sum())
-    assert sheets["Today"].value.sum() == pytest.approx(orders.value.sum())
+    assert sheets["Without what is on order"].value.sum() == pytest.approx(orders.value.sum())
     assert {*sheets["Left out"].item.dropna()} | {*decisions.index} >= {*counts.index}

@@ -171,7 +171,12 @@ def test_a_page_says_by_which_law(fit: str, room: Path, plan: Plan) -> None:
     scenario = crn.Scenario.read(room / "plan/scenario.toml")
     assert (scenario.demand, scenario.lead) == (law.table, lead.table)
     words = {"empirical": "this history.", "hurdle-geometric": "the law fitted to this history (hurdle-geometric)."}
-    page = Page(room / "plan/summary.html").words
+    shown = Page(room / "plan/summary.html")
+    page, (before, _, folded) = shown.words, shown.source.partition("<details>")
+    plain = {"empirical": "Demand is planned as it was seen in this history."}
+    assert plain.get(fit, "Demand is planned by a law that was fitted to this history.") in before
+    assert "BIC" not in before and ("BIC above the least" in folded) == (fit != "empirical")
+    assert ("BIC above the least" in (room / "plan/notes.txt").read_text()) == (fit != "empirical")
     for text in (output.replace("\n", " "), page):
         assert words.get(fit, "the law fitted to this history (auto: ") in text
 

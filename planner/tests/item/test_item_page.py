@@ -13,7 +13,8 @@ import pytest
 
 import crnplan as crn
 from crnplan.demand.fitted import Diagnostics, FittedLaw
-from crnplan.pages.item_page import LAW_COLUMNS, law_words, laws_of
+from crnplan.pages.item_page import LAW_COLUMNS, laws_of
+from crnplan.pages.law_words import law_words
 from crnplan.plan.question import Settings, question_of
 from planner.tests.conftest import Command
 from planner.tests.item.conftest import Plan

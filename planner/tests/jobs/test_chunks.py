@@ -218,7 +218,7 @@ def test_parts_that_are_cut(store: Chunked[Correction], monkeypatch: pytest.Monk
         [*store.answers()]
     file.write_bytes(b"".join(lines).replace(b"number", b"numbeR"))
     with (contextlib.closing(Chunked(store.path, Correction, store.folder)) as other,
-          pytest.raises(Damaged, match="the answer to .05.* is not as it was kept")):
+          pytest.raises(Damaged, match="a line is not as it was written")):
         [*map(other.answer, NAMES[3:])]
     for text in (b"", b"other"):
         file.write_bytes(text)

@@ -2,6 +2,7 @@
 from __future__ import annotations
 
 import os
+import signal
 import subprocess
 import sys
 from collections.abc import Iterator, Sequence
@@ -120,6 +121,36 @@ def test_a_batch_that_hangs(cluster: Cluster, room: Path, program: Path, monkeyp
             swept(hanging, **others)
     else:
         assert swept(hanging, **others) == swept(program) and taken(room, "leaves")[1] < taken(room, "leaves")[0]
+
+
+@pytest.mark.parametrize("how", [signal.SIGKILL, signal.SIGSTOP])
+def test_no_worker_is_left(cluster: Cluster, room: Path, monkeypatch: pytest.MonkeyPatch, how: signal.Signals) -> None:
+    """If all workers have ended or have stopped, the work ends, with what to do."""
+    monkeypatch.setattr(jobs, "LOST_SECONDS", 3.0)
+    wait = f"until [ -e {room}/go_on ]; do sleep 0.1; done"
+    with pytest.raises(crn.Failed, match="no worker has been heard of for 3 seconds; what was done before is kept"):
+        with jobs.cluster(cluster.address) as workers:
+            answers = workers.answers(subprocess.getoutput, ((place, [wait]) for place in range(3)), None)
+            for name in WORKERS:
+                os.killpg(cluster.processes[name].pid, how)
+            next(answers)
+    for name in WORKERS:
+        cluster.end(name)
+
+
+def test_silent_workers(monkeypatch: pytest.MonkeyPatch) -> None:
+    """What a silent worker has is given to another one. If none is heard of for too long, the work ends."""
+    clock, seen = [0.0], {"a": 1.0, "b": 1.0}
+    client = Mock(scheduler_info=lambda: {"workers": {name: {"last_seen": time} for name, time in seen.items()}},
+                  processing=lambda: {"a": ["one"], "b": ["two"]}, ncores=lambda: {"a": 1}, run=lambda *_, **__: {})
+    monkeypatch.setattr(jobs.time, "monotonic", lambda: clock[0])
+    workers, futures = jobs.Cluster(client, ""), [Mock(key="one"), Mock(key="two")]
+    assert workers.silent(futures) == []
+    for clock[0], seen["a"], gone in ((40.0, 2.0, []), (70.0, 3.0, ["two"]), (100.0, 3.0, ["two"])):
+        assert [future.key for future in workers.silent(futures)] == gone
+    clock[0] = 131.0
+    with pytest.raises(crn.Failed, match="no worker has been heard of for 60 seconds"):
+        workers.silent(futures)
 
 
 @pytest.mark.parametrize("late, wanted", [([], None), (["one"], ["b", "c"]), (["one", "two", "three"], None)])

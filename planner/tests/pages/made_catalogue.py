@@ -18,7 +18,7 @@ from crnplan.files import Folder, own_folder
 from crnplan.jobs import Workers
 from crnplan.law import Law
 from crnplan.pages.catalogue_page import CATALOGUE_FILES, write_catalogue, write_tables
-from crnplan.plan.answer import CHEAPER, RUN, SAME, SERVICE, THEORY, UNDECIDED, Answer, Figures, LawFacts, Laws, Run
+from crnplan.plan.answer import CHEAPER, RUN, SAME, SERVICE, THEORY, UNCOMPARED, UNDECIDED, Answer, Figures, LawFacts, Laws, Run
 from crnplan.plan.catalogue import ANSWERS, IN_CHUNKS, PlanAsking, Planned, PlannedFolder, sums_of
 from crnplan.plan.question import Settings
 from crnplan.plan.survey import Survey
@@ -59,7 +59,8 @@ def made_folder(path: Path, items: int, names: Sequence[str] = (), has_curve: bo
         writer.add_rows(ADD_ITEM, (ITEM.cells(item) for item, _ in pairs))
         writer.add_rows(ADD_REJECT, map(REJECT.cells, rejects))
         writer.finish({"counts": made_counts(len(pairs), rejects), "every": "week", "decimals": DECIMALS,
-                       "periods": [1000, 1003], "currency": currency, "abc": [80, 95], "sources": {}})
+                       "periods": [1000, 1003], "currency": currency, "abc": [80, 95], "sources": {}, "remarks": [],
+                       "told": {}, "controls": []})
         planned = Planned(Settings(), Prior("none"), "made")
         with (contextlib.closing(Catalogued(path / READ)) as read,
               contextlib.closing(Chunked(folder.store(ANSWERS), Answer, folder.inner(IN_CHUNKS))) as answers):
@@ -81,14 +82,15 @@ def made_answers(asked: Sequence[tuple[Item, Any]], answers: dict[str, Answer | 
 
 
 def keep_made(folder: Folder, planned: PlannedFolder) -> None:
-    """Keeps what would change the answer: of each drawn item a tenth more cost in each case, and one point less service
-    than planned."""
+    """Keeps what would change the answer: in each case each drawn item costs a tenth more than planned, and a fifth more
+    of its demand is not met at once. The best policy costs what the chosen one does as planned."""
     with contextlib.closing(Store(folder.store(SWINGS), Swing)) as kept:
         for name, digest in drawn_items(planned, Survey.of(planned)).items():
             answer = planned.store.answer(name)
             assert isinstance(answer, Answer)
-            today, cost, fill = answer.cost_today, 1.1 * answer.cost_chosen, answer.chosen.fill - 0.01
-            kept.keep([(name, digest, Swing(((today, cost, answer.cost_chosen, fill, fill + 0.02),) * len(CASES)))])
+            assert answer.today is not None
+            today, cost, fill = 1.1 * answer.today.cost, answer.chosen.cost, 1 - 1.2 * (1 - answer.chosen.fill)
+            kept.keep([(name, digest, Swing(((today, 1.1 * cost, cost, fill),) * len(CASES)))])
 
 
 def made_pair(source: random.Random, name: str) -> Pair:
@@ -110,6 +112,13 @@ def made_pair(source: random.Random, name: str) -> Pair:
                     None, None, None, 1, None, None, None, LawFacts("poisson", 0.5, None, demand, 2.0), LAWS, run,
                     source.choice(REMARKS))
     return item, with_verdict(source, answer)
+
+
+def without_today(answer: Answer) -> Answer:
+    """Returns an answer to an item that has no policy today."""
+    beside = ("total_today", "difference", "variance", "cost_today", "saving", "error", "low", "high")
+    return replace(answer, verdict=UNCOMPARED, today=None, cost_today=None, saving=None,
+                   run=replace(answer.run, **dict.fromkeys(beside)))
 
 
 def with_verdict(source: random.Random, answer: Answer) -> Answer:
@@ -149,7 +158,7 @@ def made_counts(items: int, rejects: Sequence[Reject]) -> dict[str, Any]:
     rejected, with_item = sum(it.kind == "row" for it in rejects), sum(it.rows for it in left)
     files = {"demand": (100 * items, rejected, with_item), "items": (items, 0, len(left)), "orders": (3 * items, 0, 0)}
     return {"files": {kind: {"name": f"{kind}.csv", "read": used + out + held, "blank": 0, "used": used,
-                             "rejected": out, "with_item": held} for kind, (used, out, held) in files.items()},
+                             "rejected": out, "with_item": held, "other": 0} for kind, (used, out, held) in files.items()},
             "items": {"named": items + len(left), "ready": items, "left_out": len(left), "twice": items // 20,
                       "open_orders": 0, "late": 0}}
 

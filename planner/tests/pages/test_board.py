@@ -12,12 +12,20 @@ import pandas as pd
 import pytest
 
 import crnplan as crn
+from crnplan.pages.board import Board, LeftOut, Row, service_cell
+from crnplan.pages.catalogue_tables import reasons_of
 from crnplan.pages.page import Money, Unit
-from crnplan.plan.answer import DEARER, SAME
+from crnplan.plan.answer import CHEAPER, DEARER, RUN, SAME, THEORY, Answer
+from crnplan.plan.catalogue import planned_folder
+from crnplan.plan.drawn import Estimate
+from crnplan.plan.swings import CaseSum, Swings
 from crnplan.records.columns import periods_a_year
+from crnplan.records.item import NEW
+from crnplan.records.items import Reject
 from crnplan.remarks import Remark
 from planner.tests.conftest import shared
-from planner.tests.pages.made_catalogue import Pair, made_folder, made_pair
+from planner.tests.pages import made_catalogue
+from planner.tests.pages.made_catalogue import Pair, made_folder, made_pair, without_today
 from planner.tests.pages.page_reader import Page
 
 YEAR = 365.25 / 7  # weeks
@@ -50,11 +58,11 @@ def test_classes_are_those_of_pandas(large: Path) -> None:
     wanted = rows.assign(**{"class": rows["class"].replace("", "no class"), "items": 1}).groupby("class")[[
         "items", "saving", "asked", "met_today", "met_chosen", "value_today", "value_chosen"]].sum()
     names = wanted.saving.abs().sort_values(ascending=False).index
-    wanted.loc["3 other classes"] = wanted.loc[names[5:]].sum()
+    wanted.loc["3 others"] = wanted.loc[names[5:]].sum()
     wanted.loc["all"] = wanted.loc[names].sum()
     heading, *shown = Page(large / "report.html").tables["By class"]
-    assert heading[2:] == ["saved a year,thousands", "met at once,today \u2192 new", "stock, today \u2192 new,millions"]
-    assert [row[0] for row in shown] == ["all", *sorted(names[:5]), "3 other classes"]
+    assert heading[2:] == ["saved a year,thousands", "met at once,today \u2192 new", "stock value,millions"]
+    assert [row[0] for row in shown] == ["all", *sorted(names[:5]), "3 others"]
     for name, items, saved, met, value in shown:
         its = wanted.loc[name]
         assert int(items) == its["items"] and numbers(saved) == pytest.approx([YEAR * its.saving / 1e3], abs=0.51)
@@ -63,23 +71,149 @@ def test_classes_are_those_of_pandas(large: Path) -> None:
         assert numbers(value) == pytest.approx([its.value_today / 1e6, its.value_chosen / 1e6], abs=0.006)
 
 
+def cells_of(row: list[str], unit: float, beyond_unit: float) -> list[float]:
+    """Returns the numbers of a case, as money and as a share: cost, saving, service, and what is saved beyond."""
+    cost, saved, met, beyond = numbers(" ".join(row[1:]))
+    return [cost * unit, saved * unit, met / 100, beyond * beyond_unit]
+
+
+def case_of(answers: list[Pair], what: str) -> list[float]:
+    """Returns what a case comes to by the figures that were made, in a year: cost, saving, service, and beyond. A cost of
+    stock or delay changes its part of the cost alone, which is worked out here as by hand."""
+    cost, saving, asked, unmet, more = 0.0, 0.0, 0.0, 0.0, 0.0
+    for item, answer in answers:
+        changes = []
+        for figures, own in ((answer.today, answer.cost_today), (answer.chosen, answer.cost_chosen)):
+            orders, stock = 9 * figures.orders, 0.6 * figures.stock
+            parts = {"stock": stock, "delay": max(0.0, figures.cost - orders - stock), "orders": orders}
+            name = what.partition(" of ")[2].partition(" ")[0]
+            part = parts[name] * own / sum(parts.values()) if name else figures.cost / 2
+            changes.append((0.2 if "+" in what or not name else -0.2) * part)
+        cost += answer.cost_chosen + changes[1]
+        saving += answer.saving + changes[0] - changes[1]
+        more += 0.1 * answer.chosen.cost
+        asked += float(item.price or 0) * answer.law.mean
+        unmet += (1 if "cost" in what else 1.2) * float(item.price or 0) * answer.law.mean * (1 - answer.chosen.fill)
+    return [YEAR * cost, YEAR * saving, 1 - unmet / asked, YEAR * more]
+
+
 def test_what_would_change_the_answer(large: Path, tmp_path: Path) -> None:
-    """A tenth more cost, a point less service and what a new choice saves are those of all items, as far as they are
-    drawn. Of all items they are exact."""
+    """What each case costs, saves and serves is that of all items: to a twentieth if some are drawn, else exactly."""
+    said = "From 120 items:"
     for folder, items in ((large, 600), (made_folder(tmp_path / "plan", 12), 12)):
-        rows, page = pd.read_csv(folder / "decisions.csv"), Page(folder / "report.html")
-        today, chosen = (YEAR * rows[name].sum() for name in ("cost_today", "cost_chosen"))
-        met = float(page.tables["By class"][1][3].split("\u2192")[1].strip(" %")) - 1
+        with planned_folder(folder) as planned:
+            answers = [(item, answer) for item, answer in planned.answers() if isinstance(answer, Answer)]
+        page = Page(folder / "report.html")
         heading, plain, *cases = page.tables["What would change the answer"]
-        unit = 1e3 if "thousand" in heading[1] else 1
-        assert numbers(" ".join(plain[1:])) == pytest.approx(
-            [chosen / unit, (today - chosen) / unit, met + 1, 0], rel=2e-3, abs=0.51)
-        for _, cost, saved, served, beyond in cases:
-            assert numbers(cost) == pytest.approx([1.1 * chosen / unit], rel=1e-3, abs=0.51)
-            assert numbers(beyond) == pytest.approx([0.1 * chosen / unit], rel=1e-2, abs=0.51)
-            assert numbers(served) == pytest.approx([met], abs=0.11)
-            assert items == 600 or numbers(saved) == pytest.approx([(today - 1.1 * chosen) / unit], rel=2e-3, abs=0.51)
-        assert ("From 100 items; standard errors are up to" in page.words) == (items == 600)
+        unit, beyond_unit = (1e6 if "million" in words else 1e3 if "thousand" in words else 1 for words in heading[1::3])
+        assert len(answers) == items and len(cases) == 8
+        planned_cost, planned_saving, *_ = cells_of(plain, unit, beyond_unit)
+        wanted = [YEAR * sum(answer.cost_chosen for _, answer in answers), YEAR * sum(answer.saving for _, answer in answers)]
+        assert [planned_cost, planned_saving] == pytest.approx(wanted, abs=0.51 * unit)
+        for row in cases:
+            close = 0.05 if items == 600 else 1e-4
+            *money, beyond = (one for place, one in enumerate(cells_of(row, unit, beyond_unit)) if place != 2)
+            *known, wanted_beyond = (one for place, one in enumerate(case_of(answers, row[0])) if place != 2)
+            assert money == pytest.approx(known, rel=close, abs=0.51 * unit)
+            assert beyond == pytest.approx(wanted_beyond, rel=close, abs=0.51 * beyond_unit)
+            assert numbers(row[3]) == pytest.approx([100 * case_of(answers, row[0])[2]], abs=0.06)
+        assert (said in page.words) == (items == 600)
+
+
+def test_service_without_demand_that_counts() -> None:
+    """A service is not said if no demand is known by which it is measured, and said of what is not met."""
+    assert service_cell(None) == "-"
+    assert service_cell(Estimate(0.125, 0.001)) == "87.5%"
+
+
+def test_what_is_not_known_well_enough() -> None:
+    """A figure whose standard error is above a tenth of it is not printed, and a line says why."""
+    near, far = Estimate(100.0, 10.0), Estimate(100.0, 10.1)
+    cases = [CaseSum("", 10, Estimate(90.0), Estimate(50.0), Estimate(0.0), Estimate(0.04), 0),
+             CaseSum("demand", 12, near, far, far, Estimate(0.04, 0.005), 0),
+             CaseSum("demand", 8, near, near, near, Estimate(0.04, 0.003), 2)]
+    everything = Row("all", 500, 50.0, (0.9, 0.96), (1.0, 2.0))
+    board = Board(Money("", 2), 1.0, True, everything, [], [], Unit.of(1, 2), Unit.of(1, 2), 1, LeftOut(0, 0, 0, 0.0, 0.0, 0, 0),
+                  [], Swings(cases, 120, 30, 0.82))
+    assert board.cases == [["as planned", "90", "50", "96.0%", "0"],
+                           ["demand +20%", "100", "not known", "not known", "not known"],
+                           ["demand \u221220%", "100", "100", "96.0%", "100"]]
+    assert board.case_words == (
+        "From 120 items: 30 that carry 82% of all costs, and 90 drawn from the others. No standard error is above a tenth. "
+        "Not known: its standard error is above a tenth of it. Up to 2 of these items have no plan in a case, and follow "
+        "the others.")
+
+
+def hand_pair(name: str = "it", **facts: Any) -> Pair:
+    """Returns an item whose figures are worked by hand. An order costs 9, an item in stock 0.60 a week, and a price of 30.
+
+    Today's: half an order a week costs 4.50, 10 in stock cost 6.00, late deliveries 3.00. The chosen one's: a quarter of
+    an order costs 2.25, 15 in stock cost 9.00, late deliveries 0.45.
+    """
+    item, answer = made_pair(random.Random(1), name)
+    today = replace(answer.today, cost=13.5, fill=0.9, stock=10.0, orders=0.5)
+    chosen = replace(answer.chosen, cost=11.7, fill=0.98, stock=15.0, orders=0.25)
+    law = replace(answer.law, mean=4.0)
+    return (replace(item, price=Fraction(30), category="P", **facts),
+            replace(answer, verdict=CHEAPER, source=THEORY, today=today, chosen=chosen, cost_today=13.5, cost_chosen=11.7,
+                    saving=1.8, law=law))
+
+
+def test_where_the_saving_comes_from(tmp_path: Path) -> None:
+    """Orders, stock and late deliveries cost before and after what the item's costs say, and add up to the saving."""
+    folder = made_folder(tmp_path / "plan", 0, has_curve=False, change=hand_pair())
+    page = Page(crn.report(folder))
+    heading, *rows = page.tables["Where the saving comes from"]
+    assert heading == ["a year", "today", "new levels", "saved"]
+    by_hand = {"orders": (4.5, 2.25), "stock": (6.0, 9.0), "late deliveries": (3.0, 0.45), "together": (13.5, 11.7)}
+    assert [row[0] for row in rows] == [*by_hand]
+    for name, *cells in rows:
+        today, chosen = by_hand[name]
+        wanted = [YEAR * today, YEAR * chosen, YEAR * (today - chosen)]
+        assert numbers(" ".join(cells)) == pytest.approx(wanted, abs=0.51)
+    assert "The mean stock is worth 150 more, and to hold it costs 157 more a year." in page.words
+    summary = (folder / "summary.txt").read_text("utf-8")
+    assert "of it: orders 4.50 today, 2.25 chosen; stock 6.00 and 9.00; late deliveries 3.00 and 0.45\n" in summary
+
+
+def test_parts_of_a_run(tmp_path: Path) -> None:
+    """If the costs of an item are those of a run, its parts are those of theory in proportion, so they still add up."""
+    item, answer = hand_pair()
+    by_run = replace(answer, source=RUN, cost_today=27.0, cost_chosen=11.7, saving=15.3)
+    page = Page(crn.report(made_folder(tmp_path / "plan", 0, has_curve=False, change=(item, by_run))))
+    _, orders, stock, late, together = page.tables["Where the saving comes from"]
+    for row, amount in ((orders, 9.0), (stock, 12.0), (late, 6.0), (together, 27.0)):
+        assert numbers(row[1]) == pytest.approx([YEAR * amount], abs=0.51)
+
+
+def test_without_levels_today(tmp_path: Path) -> None:
+    """Without today's levels the first screen has what the new ones cost, serve and hold."""
+    item, answer = hand_pair(levels=None)
+    folder = made_folder(tmp_path / "plan", 0, has_curve=False, change=(item, without_today(answer)))
+    page = Page(crn.report(folder))
+    assert "No planned item has levels today to compare with" in page.words
+    assert page.parts["h1"] == ["New reorder levels of 1 items meet 98.0% of demand at once"]
+    assert not {"The greatest savings", "Where the saving comes from"} & page.tables.keys()
+    assert "the 1 planned items cost 11.70 a week with the chosen policies, if the coming year" in page.words
+    for card in ("610 cost a year of orders, stock", "98.0% of demand met at once by value",
+                 "450 value of the mean stock", "0.25 orders a week", "1 items get new levels"):
+        assert card in page.words
+    said = "chosen: 11.70 a week, 98.0% of demand met at once, stock value 450.00\n"
+    assert said in (folder / "summary.txt").read_text("utf-8")
+
+
+def test_a_new_item_counts_as_others_do(tmp_path: Path) -> None:
+    """A new item with levels today is in all sums, and one without in those of such items, as other items are. So the
+    sum of the column saving is that of the page."""
+    item, answer = hand_pair(past=NEW)
+    folder = made_folder(tmp_path / "plan", 12, has_curve=False, change=(item, replace(answer, verdict=NEW)))
+    page, rows = Page(crn.report(folder)), pd.read_csv(folder / "decisions.csv")
+    assert (rows.verdict == "new").sum() == 1
+    assert numbers(page.tables["By class"][1][2]) == pytest.approx([YEAR * rows.saving.sum()], abs=0.51)
+    assert ["new", "1", "1.80"] == page.tables["Verdicts"][-1][:3]
+    values = re.search("stock value: (.*) today, (.*) chosen", (folder / "summary.txt").read_text("utf-8"))
+    assert values and [float(value.replace(",", "")) for value in values.groups()] == pytest.approx(
+        [rows.value_today.sum(), rows.value_chosen.sum()], abs=0.1)
 
 
 def test_no_technical_word_is_on_the_first_screen(large: Path) -> None:
@@ -132,8 +266,34 @@ def test_value_of_what_is_left_out(tmp_path: Path) -> None:
     assert "1: no policy meets" in words
 
 
+def reject_of(code: str, facts: dict[str, Any], rows: int = 1, kind: str = "row") -> Reject:
+    return Reject(kind, "demand.csv", 7, "it", "date", "2062-03-04", Remark(code, facts), rows)
+
+
+def test_rows_that_were_read_are_counted_apart(tmp_path: Path, monkeypatch: pytest.MonkeyPatch) -> None:
+    """A cell that is no number could not be read. A date outside the record was, and so was a row that stands twice; one
+    with both faults could not. Rows of orders are not counted here."""
+    number = {"text": "n/a"}
+    late = {"day": "2062-03-04", "last": "2026-11-20"}
+    both = {"0": "late date", "0 day": "2062-03-04", "0 last": "2026-11-20", "1": "no number", "1 text": "n/a"}
+    outside = {"0": "late date", "0 day": "2062-03-04", "0 last": "2026-11-20", "1": "total"}
+    rejects = [reject_of("no number", number), reject_of("no number", number), reject_of("late date", late),
+               reject_of("twins", {"count": 4, "lines": "3 to 6", "first": "2"}, 4), reject_of("several", both),
+               reject_of("no number", number, 0), reject_of("no lead", {}, 12, "item")]
+    assert [reason.group for reason in reasons_of([reject_of("several", outside)])] == ["read"]
+    monkeypatch.setattr(made_catalogue, "made_rejects", lambda source, items: rejects)
+    page = Page(crn.report(made_folder(tmp_path / "plan", 5, has_curve=False)))
+    assert "with 12 rows of demand. " in page.words
+    assert ("Of 518 rows of demand 3 could not be read. 5 more were read, and are left out: outside the record, twice, or "
+            "totals.") in page.words
+    assert [row[3] for row in page.tables["Rows that could not be read"][1:]] == ["3", "1"]
+    assert [row[3] for row in page.tables["Rows that were read, and are left out"][1:]] == ["1", "4"]
+
+
 @pytest.mark.parametrize("amount, currency, text", [
     (1_239_600.0, "EUR", "EUR 1.24 million"), (999_960.0, "", "1.00 million"), (-2.5e9, "", "\u22122.50 billion"),
+    (9_872_319.0, "", "9.87 million"), (99_960_000.0, "", "100 million"),
+    (1.5e15, "JPY", "JPY 1,500 trillion"),
     (250_400.0, "EUR", "EUR 250 thousand"), (99_960.0, "", "100 thousand"), (12_345.0, "JPY", "JPY 12,300"),
     (7_028.25, "", "7,030"), (45.314, "EUR", "EUR 45.31"), (0.0, "", "0.00"), (-0.001, "", "0.00")])
 def test_money_as_people_say_it(amount: float, currency: str, text: str) -> None:

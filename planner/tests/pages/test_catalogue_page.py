@@ -15,34 +15,37 @@ from fractions import Fraction
 from pathlib import Path
 from urllib.parse import unquote
 
+import pandas as pd
 import pytest
 from hypothesis import HealthCheck, given, settings, strategies as st
 
 import crnplan as crn
 from crnplan.files import own_folder
 from crnplan.pages import catalogue_page
-from crnplan.pages.catalogue_page import COLUMNS, MEANING, clipped, file_of
+from crnplan.pages.catalogue_page import COLUMNS, MEANING, OPTIONAL, clipped, file_of
 from crnplan.pages.catalogue_tables import reasons_of
 from crnplan.pages.page import LARGE
 from crnplan.plan.answer import BOUNDED, CHEAPER, DEARER, RUN, SAME, SERVICE, UNCOMPARED, UNDECIDED, Answer
 from crnplan.plan.catalogue import ANSWERS, planned_folder
 from crnplan.plan.totals import Totals
 from crnplan.records.catalogue_reading import ADD_ITEM, CATALOGUE, READ, Writer
-from crnplan.records.item import NEW, NO_DEMAND
+from crnplan.records.item import NEW, NO_DEMAND, PHASE_OUT, STOPPED
 from crnplan.records.items import Reject
+from crnplan.records.overrides import DO_NOT_ORDER
 from crnplan.records.parts import ITEM
 from crnplan.remarks import Remark
 from crnplan.stored import Facts
 from planner.tests.catalogue.conftest import FILES, SETTINGS, leave_few
 from planner.tests.catalogue.made import TODAY, made
 from planner.tests.conftest import Command, shared
-from planner.tests.pages.made_catalogue import QUANTILE, made_folder, made_pair
+from planner.tests.pages.made_catalogue import QUANTILE, made_folder, made_pair, without_today
 from planner.tests.pages.page_reader import Page, rows_of
 
 YEAR = 365.25 / 7  # weeks
 HOSTILE = ("<img src=x onerror=alert(1)>", "<script>alert(1)</script>", "=1+1", "\"quoted\" & 'single'", "  leading",
            "قطعة ٣", "x" * 300, "&lt;", "{{ 7 * 7 }}", "A/B\\C", "..", "%41")
 CURVE = "Exchange curve: demand met at once against the value of the stock"
+KNOWN = "Demand met at once against the value of the stock"
 NAMES = st.text(st.characters(blacklist_categories=("Cc", "Cs")), min_size=1, max_size=20)
 
 
@@ -73,7 +76,7 @@ def test_cells_are_those_of_the_table(name: str, request: pytest.FixtureRequest)
     """The page has each item once, each cell as decisions.csv spells it, by falling saving."""
     folder = request.getfixturevalue(name)
     page, rows = Page(folder / "report.html"), rows_of(folder / "decisions.csv")
-    assert page.columns == [name for name in COLUMNS if not name.endswith("_alone")]
+    assert page.columns == [name for name in COLUMNS if name not in OPTIONAL]
     assert page.items == {row["item"]: {it: row[it] for it in page.columns} for row in rows}
     savings = [Decimal(row["saving"]) for row in page.items.values()]
     assert savings == sorted(savings, reverse=True)
@@ -124,7 +127,7 @@ def test_totals(large: Path, large_page: Page) -> None:
     assert min(saving, run, today, chosen) > LARGE
     assert f"The difference is {saving:,.0f}, if the coming year is like the last one, by the laws" in page.words
     assert f"By these the difference is {run:,.0f}, from {run - half:,.0f} to {run + half:,.0f} (95% interval" in page.words
-    assert f"cost {today:,.0f} a week with today's policies, and {chosen:,.0f} with the chosen ones" in page.words
+    assert f"cost {today:,.0f} a week with these, and {chosen:,.0f} with the chosen ones" in page.words
     assert f"{today:,.2f} today, {chosen:,.2f} chosen" in summary
     assert f"saved: {saving:,.2f} a week; by crnsim's runs " in summary
     assert f"{run:,.2f}, 0.95 interval {run - half:,.2f} to {run + half:,.2f}" in summary
@@ -139,13 +142,6 @@ def test_totals(large: Path, large_page: Page) -> None:
     assert verdicts == Counter(it.verdict for it in answers)
 
 
-def without_today(answer: Answer) -> Answer:
-    """Returns an answer to an item that has no policy today."""
-    beside = ("total_today", "difference", "variance", "cost_today", "saving", "error", "low", "high")
-    return replace(answer, verdict=UNCOMPARED, today=None, cost_today=None, saving=None,
-                   run=replace(answer.run, **dict.fromkeys(beside)))
-
-
 def test_an_item_without_a_policy_today(tmp_path: Path) -> None:
     """It comes last, with empty cells, and in no sum but those of such items, which page and summary name."""
     item, answer = made_pair(random.Random(1), "it")
@@ -157,11 +153,13 @@ def test_an_item_without_a_policy_today(tmp_path: Path) -> None:
     assert {row[name] for name in ("s_today", "S_today", "cost_today", "saving", "run_saving", "fill_today")} == {""}
     exact, = (its for its in rows_of(tmp_path / "more/exact.csv") if its["item"] == "it")
     assert {exact[name] for name in ("s_today", "total_today", "cost_today", "saving", "saving_variance")} == {""}
-    costs = [re.findall("deliveries cost (.*?) a year today, (.*?) with", page.words) for page in pages]
-    assert costs[0] == costs[1] and len(costs[0]) == 1
+    parts, more = (page.tables["Where the saving comes from"] for page in pages)
+    assert parts == more and len(parts) == 5
     cost, value = f"{answer.cost_chosen:,.2f}", f"{3 * answer.chosen.stock:,.2f}"
-    assert "1 planned items are new or have no levels today to compare with, and are in no other sum." in pages[1].words
-    assert f"1 items, in no sum above; chosen: {cost} a week, stock value {value}\n" in summary
+    assert "1 planned items have no levels today to compare with, and are in no other sum." in pages[1].words
+    met = f"{answer.chosen.fill:.1%} of demand met at once"
+    assert f"{met}, and their mean stock is worth" in pages[1].words
+    assert f"1 items, in no sum above; chosen: {cost} a week, {met}, stock value {value}\n" in summary
     assert ["no policy today", "1", ""] == pages[1].tables["Verdicts"][-1][:3]
     alone = Page(crn.report(made_folder(tmp_path / "alone", 0, has_curve=False, change=(item, answer))))
     assert "No planned item has levels today to compare with" in alone.words
@@ -214,7 +212,7 @@ def test_headline_of_runs(tmp_path: Path, error: float, said: str) -> None:
 def test_left_out_and_curve(large: Path, large_page: Page) -> None:
     """Each kind has the rows of rejects.csv, the first of each reason with its place. The curve has its figures."""
     page, rejects = large_page, rows_of(large / "rejects.csv")
-    titles = {"Items left out": "item", "Rows rejected": "row",
+    titles = {"Items left out": "item", "Rows that could not be read": "row",
               "Suspicious rows, which count all the same": "suspicious"}
     for title, kind in titles.items():
         wanted = sum(int(row["rows"]) if kind == "item" else 1 for row in rejects if row["kind"] == kind)
@@ -248,7 +246,8 @@ def test_reasons_verdicts_and_service() -> None:
         ("theory counts in steps of \u2026 items", "day", 2, 2, {"A"}),
         ("theory counts in steps of \u2026 items", "amount", 1, 3, {"B"}),
         ("each item has the law of its own history", "day", 1, 4, {"B"})]
-    assert set(MEANING) == {CHEAPER, DEARER, SERVICE, SAME, UNDECIDED, UNCOMPARED, BOUNDED, NEW, NO_DEMAND}
+    assert set(MEANING) == {CHEAPER, DEARER, SERVICE, SAME, UNDECIDED, UNCOMPARED, BOUNDED, NEW, NO_DEMAND,
+                            STOPPED, PHASE_OUT, DO_NOT_ORDER}
     totals = Totals()
     for price, demand, fill in ((30, 3, 1.0), (2, 5, 0.5)):
         item, answer = made_pair(random.Random(1), "it")
@@ -276,7 +275,7 @@ def test_greatest_are_shown_of_very_many(hostile: Path, folder: Path, monkeypatc
     monkeypatch.setattr(catalogue_page, "MOST_ROWS", 10)
     monkeypatch.setattr(catalogue_page, "MOST_REASONS", 1)
     page, rows = Page(crn.report(folder)), rows_of(folder / "decisions.csv")
-    assert len(page.tables["Rows rejected"]) == 2 and "2 more reasons, 4 times." in page.words
+    assert len(page.tables["Rows that could not be read"]) == 2 and "2 more reasons, 4 times." in page.words
     assert set(page.items) == {row["item"] for row in sorted(rows, key=lambda row: -abs(float(row["saving"])))[:10]}
     assert "The 10 items with the greatest saving or loss are shown. The other 50 stand in decisions.csv" in page.words
     assert Page(hostile / "report.html").words.split(".")[0] in page.words
@@ -297,15 +296,38 @@ def test_curve_is_clipped(points: list[tuple[float, float]], right: float, botto
 
 @pytest.mark.parametrize("kept, said", [
     ({"plan": "another"}, "The curve here is not that of this plan. Run crnplan curve FOLDER again"),
-    (None, "There is no curve yet. It is drawn by crnplan curve FOLDER, and then")])
+    (None, "What stock is needed for more or less service is drawn by crnplan curve FOLDER, and then")])
 def test_no_curve(kept: dict[str, str] | None, said: str, tmp_path: Path) -> None:
-    """If there is no curve, or that of other answers, the page says what to run."""
+    """If there is no curve, or that of other answers, the page says what to run. It has the points that are known all the
+    same: what the items with a price hold and serve, with today's levels and with the chosen ones."""
     folder = made_folder(tmp_path / "plan", 12, has_curve=kept is not None)
     if kept:
         with contextlib.closing(Facts(folder / ANSWERS)) as store:
             store.keep_facts({"curve": json.dumps(json.loads(store.fact("curve") or "") | kept)})
     page = Page(crn.report(folder))
     assert said in page.words and CURVE not in page.pictures
+    rows = pd.read_csv(folder / "decisions.csv")
+    rows["asked"] = rows.value_chosen / rows.stock_chosen * rows.demand
+    heading, *points = page.tables["Points that are known"]
+    assert heading == ["point", "stock value", "met at once"]
+    assert [point[0].strip() for point in points] == ["today", "chosen item by item"]
+    for (_, value, met), policy in zip(points, ("today", "chosen")):
+        assert float(value.replace(",", "")) == pytest.approx(rows[f"value_{policy}"].sum(), abs=0.51)
+        fill = (rows.asked * rows[f"fill_{policy}"]).sum() / rows.asked.sum()
+        assert float(met.strip("%")) == pytest.approx(100 * fill, abs=0.006)
+    assert f"today: {points[0][2]} met at once with a stock of {points[0][1]}" in page.pictures[KNOWN]
+
+
+def test_known_points_without_prices_or_levels(tmp_path: Path) -> None:
+    """Without prices there are none, and the page says which column is missing. Without today's levels there is one."""
+    item, answer = made_pair(random.Random(1), "it")
+    pair = replace(item, price=None), answer
+    page = Page(crn.report(made_folder(tmp_path / "plain", 0, has_curve=False, change=pair)))
+    assert "No item has a price, so its stock has no value" in page.words and "Points that are known" not in page.tables
+    pair = replace(item, levels=None, price=Fraction(3)), without_today(answer)
+    page = Page(crn.report(made_folder(tmp_path / "new", 0, has_curve=False, change=pair)))
+    (_, *points), value = page.tables["Points that are known"], 3 * answer.chosen.stock
+    assert points == [["chosen item by item", f"{value:,.2f}", f"{answer.chosen.fill:.2%}"]]
 
 
 def test_links_and_command(folder: Path, tmp_path: Path, crnplan: Command) -> None:

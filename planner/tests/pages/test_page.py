@@ -5,6 +5,7 @@ import csv
 import itertools
 import math
 import sys
+import tempfile
 import xml.etree.ElementTree
 from collections.abc import Callable
 from fractions import Fraction
@@ -79,8 +80,10 @@ def test_compiled_templates_are_kept(tmp_path: Path, monkeypatch: pytest.MonkeyP
     for folder in (tmp_path / "new", tmp_path / "new", tmp_path / "file"):
         (tmp_path / "file").touch()
         monkeypatch.setenv("XDG_CACHE_HOME", str(folder))
+        monkeypatch.setattr(tempfile, "tempdir", str(tmp_path / "file"))
         template = templates.__wrapped__(False).get_template("found.toml")
-        pages.append(template.render({"every": "week", "first": 1, "last": 9, "periods": 9, "tables": []}))
+        pages.append(template.render({"every": "week", "first": 1, "last": 9, "periods": 9, "tables": [],
+                                       "words": {}, "groups": {}}))
     assert len({*pages}) == 1 and pages[0].startswith('[catalogue]\nevery = "week"\n# the record: 1 to 9, 9 weeks')
     assert len([*(tmp_path / "new/crnplan").iterdir()]) == 1
 

@@ -1,7 +1,6 @@
 """Tests the workbook of a plan, read again by openpyxl: each cell is that of the tables, and nothing runs."""
 from __future__ import annotations
 
-import datetime
 import random
 import sqlite3
 import zipfile
@@ -21,9 +20,9 @@ from crnplan.plan.catalogue import planned_folder
 from crnplan.records.catalogue_reading import READ
 from planner.tests.conftest import Command
 from planner.tests.pages.made_catalogue import made_folder, made_pair
+from planner.tests.pages.page_reader import Page
 
 NAMES = ("000123", "=1+1", "@SUM(A1)", "https://example.org", "قطعة ٣", "  two  blanks ", "<b>&amp;", "1e5")
-DAY = datetime.date(20, 3, 23)  # behind the record of made folders, whose last week is 1002
 DIGITS = 16  # that a workbook keeps
 
 
@@ -58,7 +57,7 @@ def test_cells_are_those_of_the_frames(book: Any, folder: Path) -> None:
     plan = crn.Plan(folder)
     assert sheet_cells(book["Decisions"]) == cells_of(plan.decisions)
     assert sheet_cells(book["Left out"]) == cells_of(plan.rejects)
-    assert sheet_cells(book["Today"]) == cells_of(plan.orders_today(date=DAY).frame)
+    assert sheet_cells(book["Without what is on order"]) == cells_of(plan.orders_today().frame)
     assert {*NAMES} < {row[0].value for row in book["Decisions"].iter_rows(min_row=2)}
     with planned_folder(folder) as planned:
         curve = kept_curve(planned.store)
@@ -82,7 +81,8 @@ def test_classes_and_meanings(book: Any, folder: Path) -> None:
 
 def test_formats_and_panes(book: Any) -> None:
     """Each sheet has its heading frozen and filters on; numbers have the decimals of their columns and the currency."""
-    assert book.sheetnames == ["Summary", "Decisions", "Today", "Left out", "Curve", "Classes", "Read me"]
+    assert book.sheetnames == ["Summary", "Decisions", "Without what is on order", "Left out", "Curve", "Classes",
+                               "Read me"]
     for sheet in book.worksheets:
         assert sheet.freeze_panes == "B2" and sheet.auto_filter.ref == sheet.dimensions
         assert all(sheet.column_dimensions[cell.column_letter].width >= len(cell.value) for cell in sheet[1])
@@ -128,3 +128,61 @@ def test_plain_plans_and_those_that_are_refused(tmp_path: Path, monkeypatch: pyt
     with pytest.raises(crn.Refused, match="'Decisions' would have more than 50 rows.*decisions.csv"):
         crn.Plan(made_folder(tmp_path / "large", 50, has_curve=False)).to_excel(tmp_path / "more.xlsx")
     assert not (tmp_path / "more.xlsx").exists()
+
+
+def test_one_computation_of_orders(tmp_path: Path, crnplan: Command, monkeypatch: pytest.MonkeyPatch) -> None:
+    """Command, workbook, page and Python say the same number and value of orders, with what is on order and without; the
+    sheet and the page without it say so, and are not called today's orders."""
+    monkeypatch.chdir(tmp_path)
+    folder = made_folder(tmp_path / "plan", 60, has_curve=False, has_swings=False, currency="EUR")
+    plan = crn.Plan(folder)
+    decisions = plan.decisions
+    pd.DataFrame({"item": decisions.item, "stock": 3}).to_csv("stock.csv", index=False)
+    pd.DataFrame({"item": decisions.item[:40], "quantity": 30, "due": "2026-12-09"}).to_csv("open.csv", index=False)
+    positions = pd.Series([33] * 40 + [3] * 20)
+    price = (decisions.value_chosen / decisions.stock_chosen).astype(float)
+    counts = []
+    for words, on_order, position in ((("--on-order", "open.csv"), "open.csv", positions), ((), None, 3)):
+        due = decisions.s_chosen > position
+        value = ((decisions.S_chosen - position).astype(float) * price)[due].sum()
+        said = f"2026-11-27: {due.sum()} orders, worth EUR {value:,.2f}"
+        words = "--stock", "stock.csv", *words, "--date", "2026-11-27"
+        listed = crnplan("today", folder, *words)
+        written = crnplan("report", folder, *words, "--xlsx", "plan.xlsx")
+        assert listed.status == written.status == 0, written.errors
+        orders = plan.orders_today("stock.csv", on_order, "2026-11-27")
+        plan.to_excel("again.xlsx", orders)
+        assert Path("plan.xlsx").read_bytes() == Path("again.xlsx").read_bytes()
+        book = openpyxl.load_workbook("plan.xlsx")
+        name = "Today" if on_order else "Without what is on order"
+        assert sheet_cells(book[name]) == cells_of(orders.frame) and ("Today" in book.sheetnames) == bool(on_order)
+        page = Page(folder / "report.html")
+        texts = [listed.output, page.words, *(str(row[0]) for row in sheet_cells(book["Summary"]))]
+        assert [said in text for text in texts[:2]] == [True, True] and sum(said in text for text in texts[2:]) == 1
+        without = [text for text in texts if "without what is on order: say --on-order" in text]
+        assert len(without) == (0 if on_order else 3)
+        assert ("Orders of 2026-11-27" in page.words) == bool(on_order)
+        assert len(page.tables["The most urgent orders"]) == 11
+        source = page.source
+        plan.report(orders=orders)
+        assert Page(folder / "report.html").source == source
+        counts.append(due.sum())
+    assert 0 < counts[0] < counts[1]
+
+
+def test_what_is_at_risk_in_a_workbook(folder: Path, tmp_path: Path) -> None:
+    """A workbook has what is late or at risk and the orders by supplier, if it is known what is on order. Orders of
+    another plan are refused."""
+    plan = crn.Plan(folder)
+    on_order = pd.DataFrame({"item": ["held"], "quantity": [2], "due": ["2026-11-20"]})
+    orders = plan.orders_today(None, on_order, "2026-11-27")
+    plan.to_excel(tmp_path / "plan.xlsx", orders)
+    book = openpyxl.load_workbook(tmp_path / "plan.xlsx")
+    assert book.sheetnames[2:5] == ["Today", "At risk", "Orders by supplier"]
+    assert sheet_cells(book["At risk"]) == cells_of(orders.at_risk) and [*orders.at_risk.item] == ["held"]
+    assert sheet_cells(book["Orders by supplier"]) == cells_of(orders.lines)
+    other = crn.Plan(made_folder(tmp_path / "other", 12, has_curve=False))
+    for write in (lambda: other.to_excel(tmp_path / "no.xlsx", orders), lambda: other.report(orders=orders)):
+        with pytest.raises(crn.Refused, match="these orders are not those of this plan"):
+            write()
+    assert not (tmp_path / "no.xlsx").exists()

@@ -14,8 +14,9 @@ import pytest
 from crnplan.curve.candidates import PRICES, candidates_of
 from crnplan.law import Law
 from crnplan.plan.aims import FILLS, Aims, Tried
-from crnplan.plan.answer import BOUNDED, Answer
-from crnplan.plan.bounds import feasible_of
+from crnplan.plan import one
+from crnplan.plan.answer import BOUNDED, CHEAPER, RUN, SAME, Answer
+from crnplan.plan.bounds import MOST_COVERAGE, feasible_of
 from crnplan.plan.catalogue import planned_folder
 from crnplan.plan.changes import masters_of
 from crnplan.plan.item import Depth, read_item
@@ -26,6 +27,7 @@ from crnplan.records.item import Item
 from crnplan.remarks import Value
 from crnplan.scenario import Policy
 from crnplan.theory.feasible import ALL, Feasible
+from crnplan.theory.many_laws import Promises
 from crnplan.words import sentence
 from planner.tests.conftest import Command, rows_of
 from planner.tests.plan.items import alone
@@ -35,6 +37,8 @@ from planner.tests.theory.long_run_costs import costs_of, fills_of, shortfall_of
 # A demand of 0, 1 or 4 a week, 1 on average.
 SEEN = (0, 0, 0, 1, 4, 0, 1, 2) * 8
 FILL: dict[str, Any] = {"backlog": None, "fill": Fraction(19, 20)}
+# A policy of today that costs more than others.
+DEAR = {"levels": (0, 90)}
 
 
 def asked(bounds: Bounds = Bounds(), settings: Mapping[str, Any] = {}, **changed: Any) -> Question:
@@ -70,6 +74,11 @@ def figures_of(question: Question, levels: tuple[int, int]) -> tuple[float, floa
     (Bounds(coverage=Fraction(9), shelf_life=Fraction(5)), 1, Feasible(most_level=12)),
     # S covers what s, here of a whole pack, and the smallest order need.
     (Bounds(5, 7, 6, Fraction(1)), 1, Feasible(6, 6, 20, 5)),
+    # S - s covers 9 periods, and at least what a pack needs, or the smallest order, in whole packs.
+    (Bounds(order_coverage=Fraction(9)), 1, Feasible(most_gap=22)),
+    (Bounds(24, order_coverage=Fraction(9)), 1, Feasible(multiple=24, most_gap=24)),
+    (Bounds(order_min=30, order_coverage=Fraction(9)), 1, Feasible(29, most_gap=29)),
+    (Bounds(12, 30, order_coverage=Fraction(9)), 1, Feasible(29, multiple=12, most_gap=36)),
 ], ids=str)
 def test_feasible_policies(bounds: Bounds, box: int, feasible: Feasible) -> None:
     assert feasible_of(bounds, box, Law((2, 3), (1, 1))) == feasible
@@ -77,31 +86,36 @@ def test_feasible_policies(bounds: Bounds, box: int, feasible: Feasible) -> None
 
 @pytest.mark.parametrize("every, coverage", [("day", 728), ("week", 104), ("month", 24), (None, None)])
 def test_bounds_where_masters_state_none(every: str | None, coverage: int | None) -> None:
-    """Masters come first, then settings. Else S covers two years, and s is at least 1 for a wanted fill rate."""
+    """Masters come first, then settings. Else S - s covers two years, and s is at least 1 for a wanted fill rate."""
     plain, wanted = asked().item, asked(**FILL).item
     own = replace(plain, bounds=Bounds(4, 9, 0, Fraction(3), Fraction(2)))
     usual, stated = Settings(every=every), Settings(every=every, order_min=7, max_coverage=30, s_min=2)
     years = None if coverage is None else Fraction(coverage)
-    assert usual.bounds_of(plain) == Bounds(s_min=0, coverage=years)
-    assert usual.bounds_of(wanted) == Bounds(s_min=1, coverage=years)
+    assert usual.bounds_of(plain) == Bounds(s_min=0, order_coverage=years)
+    assert usual.bounds_of(wanted) == Bounds(s_min=1, order_coverage=years)
+    assert usual.bounds_of(replace(plain, bounds=Bounds(shelf_life=Fraction(9)))).order_coverage == years
     assert stated.bounds_of(wanted) == Bounds(1, 7, 2, Fraction(30))
     assert stated.bounds_of(own) == usual.bounds_of(own) == own.bounds
 
 
 @pytest.mark.parametrize("name, bounds, settings", [
     ("coverage", Bounds(coverage=Fraction(5)), {}), ("coverage", Bounds(), {"max_coverage": 5}),
+    ("order_coverage", Bounds(), {"every": "week"}),
     ("shelf_life", Bounds(shelf_life=Fraction(4)), {}), ("order_min", Bounds(order_min=30), {}),
     ("pack", Bounds(pack=7), {}), ("s_min", Bounds(s_min=8), {})], ids=str)
-def test_what_a_bound_costs(name: str, bounds: Bounds, settings: Mapping[str, Any], program: Path) -> None:
-    """A bound that the best policy would leave is said with what it costs, by a second computation."""
-    question, free = asked(bounds, settings), asked()
+def test_what_a_bound_costs(name: str, bounds: Bounds, settings: Mapping[str, Any], program: Path,
+                            monkeypatch: pytest.MonkeyPatch) -> None:
+    """A bound that the best policy would leave is said with what it costs, by a second computation: also the default,
+    here of 4 weeks."""
+    monkeypatch.setitem(MOST_COVERAGE, "week", 4)
+    question, free = asked(bounds, settings, **DEAR), asked(**DEAR)
     answer, remarks = answer_of(question, program)
     best = plan_one(free, str(program)).chosen.levels
     facts = remarks[f"bound of {name}"]
     assert (facts["s"], facts["S"]) == best
     cost = figures_of(free, answer.chosen.levels)[0] - figures_of(free, best)[0]
     assert cost > 0 and facts["cost"] == pytest.approx(cost, rel=1e-6)
-    assert answer.coverage_cost == (facts["cost"] if name == "coverage" else None)
+    assert answer.coverage_cost == (facts["cost"] if name in ("coverage", "order_coverage") else None)
     assert [code for code in remarks if code.startswith("bound of")] == [f"bound of {name}"]
 
 
@@ -116,16 +130,96 @@ def test_a_smallest_order_beyond_what_s_may_cover(program: Path) -> None:
 def test_bounds_that_leave_no_policy_for_a_fill(program: Path) -> None:
     """No policy within the bounds has the wanted fill: of all these the chosen one meets most. That is a verdict."""
     aims = Aims(1.0, (Tried(20, 20, tuple(1 - fill for fill in FILLS)),) * 2)  # which correct nothing
-    question, free = asked(Bounds(coverage=Fraction(3)), {"aims": aims}, **FILL), asked(**FILL)
+    question, free = asked(Bounds(coverage=Fraction(3)), {"aims": aims}, **FILL | DEAR), asked(**FILL | DEAR)
     answer, remarks = answer_of(question, program)
     assert answer.correction and answer.correction.plain_stock == answer.chosen.stock
     fills = {(s, S): figures_of(question, (s, S))[1] for S in range(4) for s in range(1, S + 1)}
     best = plan_one(free, str(program)).chosen.levels
     facts = remarks["bounded"]
     assert answer.verdict == BOUNDED and answer.chosen.levels == max(fills, key=fills.__getitem__)
+    assert (facts["bound"], facts["periods"]) == ("coverage", 3)
     assert facts["fill"] == pytest.approx(max(fills.values()), rel=1e-9) and max(fills.values()) < facts["wanted"]
     assert (facts["s"], facts["S"]) == best and facts["cost"] == pytest.approx(figures_of(free, best)[0], rel=1e-6)
-    assert remarks["today out of bounds"] == {"s": 3, "S": 9}
+    assert remarks["today out of bounds"] == {"s": 0, "S": 90}
+
+
+# Asked for twice in three years, for 1 and for 4: two years of its mean demand are 3 items.
+RARE = tuple({40: 1, 110: 4}.get(week, 0) for week in range(156))
+# Demands of a spare part: whole years without one, and then some at once.
+LUMPY = tuple({30: 12, 31: 2, 90: 12}.get(week, 0) for week in range(156))
+
+
+@pytest.mark.parametrize("counts, levels", [(RARE, (1, 6)), (LUMPY, (12, 24)), (SEEN, (4, 9))], ids=str)
+@pytest.mark.parametrize("leads", [(2,), (1, 3, 2)], ids=["one lead time", "several"])
+def test_a_default_costs_no_wanted_service(counts: tuple[int, ...], levels: tuple[int, int], leads: tuple[int, ...],
+                                           program: Path) -> None:
+    """No coverage is stated, so S - s alone covers two years at most, and the wanted share is met: by the cheapest of
+    all such pairs, by a second computation."""
+    asked_for = {"counts": counts, "levels": levels, "leads": leads, "setup": Fraction(60)}
+    question = asked(settings={"every": "week"}, **FILL | asked_for)
+    answer, remarks = answer_of(question, program)
+    point, level = answer.chosen.levels
+    most = sum(counts) * 104 // len(counts)
+    assert question.theory().feasible == Feasible(0, 1, most_gap=most)
+    assert level - point <= most and answer.chosen.fill >= 0.95
+    assert answer.verdict != BOUNDED and BOUNDED not in remarks
+    pairs = {(s, s + gap): figures_of(question, (s, s + gap)) for gap in range(min(most, 30) + 1)
+             for s in range(1, 40)}
+    costs = [cost for cost, fill in pairs.values() if fill >= 0.95]
+    assert figures_of(question, (point, level))[0] <= min(costs) * (1 + 1e-9)
+
+
+@pytest.mark.parametrize("bounds, wanted", [
+    (Bounds(coverage=Fraction(3)), {}), (Bounds(pack=20), {}), (Bounds(order_min=30), {}),
+    (Bounds(shelf_life=Fraction(5)), FILL), (Bounds(coverage=Fraction(5)), FILL)], ids=str)
+def test_nothing_worse_than_today_is_chosen(bounds: Bounds, wanted: Mapping[str, Any], program: Path) -> None:
+    """The best policy within bounds costs more than today's and meets less, so today's stays. Both are said."""
+    free = plan_one(asked(**wanted), str(program)).chosen
+    question = asked(bounds, **{**wanted, "levels": free.levels})
+    answer, remarks = answer_of(question, program)
+    feasible, worse = question.theory().feasible, remarks["today stays"]
+    levels = worse["s"], worse["S"]
+    assert not feasible.allows(*free.levels) and feasible.allows(*levels)
+    (cost, fill), (own_cost, own_fill) = (figures_of(question, pair) for pair in (levels, free.levels))
+    assert cost > own_cost and fill < own_fill
+    assert worse["cost"] == pytest.approx(cost - own_cost, rel=1e-6)
+    assert (worse["fill"], worse["today"]) == pytest.approx((fill, own_fill), rel=1e-9)
+    assert answer.chosen.levels == free.levels and answer.verdict == SAME and answer.saving == 0
+
+
+@pytest.mark.parametrize("keeps", [True, False])
+def test_today_stays_if_it_keeps_what_is_promised(keeps: bool, program: Path, monkeypatch: pytest.MonkeyPatch) -> None:
+    """Today's policy costs less and meets more by the law of the item, but stays only if it keeps the promise too."""
+    free = plan_one(asked(**FILL), str(program)).chosen
+    question = asked(Bounds(order_min=30), {"confidence": 0.5}, **FILL | {"levels": free.levels, "setup": Fraction(1)})
+    theory, known = question.theory(), one.figures_of
+    monkeypatch.setattr(Promises, "keeps", lambda *_: keeps)
+    monkeypatch.setattr(one, "figures_of", lambda *its: replace(known(*its), cost=1, fill=1) if its[-1] == free.levels
+                        else known(*its))
+    assert (one.choice_of(theory, question, True).worse is not None) == keeps
+
+
+def test_today_stays_beside_what_a_run_shows_as_worse(program: Path, monkeypatch: pytest.MonkeyPatch) -> None:
+    """If theory is rounded, the run judges. A policy that it shows as dearer, and that serves less, is not chosen."""
+    source = np.random.default_rng(71)
+    item = {"counts": tuple(source.integers(0, 9_973, 64).tolist()), "levels": (40_000, 90_000), "leads": (1, 3, 2)}
+    question = asked(holding=Fraction(1, 100), backlog=Fraction(1, 10), **item)
+    plain, _ = answer_of(question, program)
+    assert plain.source == RUN and plain.verdict == CHEAPER and plain.today and plain.chosen.fill < plain.today.fill
+    known = one.run_of
+    monkeypatch.setattr(one, "run_of", lambda *its: replace(run, saving=-min(run.saving or 0, 7))
+                        if (run := known(*its)) else run)
+    answer, remarks = answer_of(question, program)
+    assert answer.chosen.levels == (40_000, 90_000) and answer.verdict == SAME and not answer.saving
+    stays = remarks["today stays"]
+    assert (stays["s"], stays["S"], stays["cost"]) == (*plain.chosen.levels, 7)
+
+
+def test_what_costs_more_and_serves_more_is_chosen(program: Path) -> None:
+    """A smallest order that costs more and meets more than today's policy is a choice, and so is one that costs less."""
+    for levels in ((1, 3), (9, 30)):
+        answer, remarks = answer_of(asked(Bounds(order_min=12), levels=levels), program)
+        assert answer.chosen.levels != levels and "today stays" not in remarks
 
 
 def test_no_order_waits_for_a_customer(program: Path) -> None:
@@ -172,15 +266,15 @@ def test_orders_that_are_rounded_up(changed: dict[str, Any], program: Path, monk
 def test_deeper_looks_respect_the_bounds(program: Path) -> None:
     """All suggested policies but today's are within the bounds, and so is the best of each case, the decision without
     the largest periods, and the best of each law, beside which nothing is cheaper."""
-    question = asked(Bounds(3, 7, 3, Fraction(30)), counts=(*SEEN, 40), levels=(4, 9))
+    question = asked(Bounds(3, 7, 3, Fraction(30)), counts=(*SEEN, 40), **DEAR)
     depth = Depth(question, plan_one(question, str(program)), str(program), laws=4)
     feasible = question.theory().feasible
-    own = {(policy.s, policy.S) for policy in depth.policies} - {(4, 9)}
+    own = {(policy.s, policy.S) for policy in depth.policies} - {(0, 90)}
     assert len(own) > 5 and all(feasible.allows(*levels) for levels in own)
     moves = {(move.s, move.S) for move in depth.moves.moves}
     assert len(moves) > 3 and all(s % 3 == S % 3 == 0 and S - s >= 6 and s >= 3 for s, S in moves)
     assert depth.without and depth.without.rare.point % 3 == depth.without.rare.level % 3 == 0
-    free = asked(counts=question.item.counts, levels=(4, 9))
+    free = asked(counts=question.item.counts, **DEAR)
     doubts = [depth.doubt, Depth(free, plan_one(free, str(program)), str(program), laws=4).doubt]
     least, least_free = (doubt.figures.least for doubt in doubts if doubt)
     assert (least >= least_free).all() and (least > 1.001 * least_free).any()
@@ -192,7 +286,7 @@ def test_bounds_of_a_catalogue(crnplan: Command, tmp_path: Path, program: Path) 
     rows = [f"{name},{monday + datetime.timedelta(weeks=week)},{count}" for name in "AB"
             for week, count in enumerate(SEEN[:40])]
     texts = {"demand.csv": "\n".join(["item,date,quantity", *rows, ""]),
-             "items.csv": "item,setup,holding,backlog,lead,s,S,coverage\n"
+             "items.csv": "item,setup,holding,backlog,lead (weeks),s,S,coverage (weeks)\n"
                           "A,30.25,1,19,2,3,9,\nB,30.25,1,19,2,3,9,90\n",
              "mine.toml": '[catalogue]\nfit = "empirical"\nperiods = 64\nreplications = 2\norder_min = 9\n'
                           "max_coverage = 8\n"}
@@ -209,7 +303,7 @@ def test_bounds_of_a_catalogue(crnplan: Command, tmp_path: Path, program: Path) 
     assert decisions["A"]["S_chosen"] == "8" and int(decisions["B"]["S_chosen"]) > 8
     cost = decisions["A"]["cost_coverage"]
     assert float(cost) > 0 and not decisions["B"]["cost_coverage"]
-    assert f"S may cover no more periods of demand: 1 items, which costs {float(cost):.2f} a week" in answer.output
+    assert f"S, or S less s, may cover no more periods of demand: 1 items, which costs {float(cost):.2f} a week" in answer.output
     assert "no more periods of demand for 1 items" in (tmp_path / "plan/report.html").read_text("utf-8")
 
 
@@ -231,12 +325,13 @@ def test_bounds_of_settings(tmp_path: Path) -> None:
 
 
 @pytest.mark.parametrize("bounds, size", [
-    (Bounds(coverage=Fraction(7)), 1), (Bounds(pack=3), 1), (Bounds(order_min=5, s_min=2), 1),
+    (Bounds(coverage=Fraction(7)), 1), (Bounds(), 1), (Bounds(pack=3), 1), (Bounds(order_min=5, s_min=2), 1),
     (Bounds(4, coverage=Fraction(9)), 6)], ids=str)
-def test_candidates_of_the_curve(bounds: Bounds, size: int) -> None:
+def test_candidates_of_the_curve(bounds: Bounds, size: int, monkeypatch: pytest.MonkeyPatch) -> None:
     """For each price the candidate of the curve is as good as the best of all feasible pairs, by a second computation,
     but for what a search on a grid may miss."""
-    question = asked(bounds, price=Fraction(5), counts=tuple(size * count for count in SEEN))
+    monkeypatch.setitem(MOST_COVERAGE, "week", 3)  # as far as S - s goes without a coverage
+    question = asked(bounds, {"every": "week"}, price=Fraction(5), counts=tuple(size * count for count in SEEN))
     feasible, scenario = question.theory().feasible, question.scenario()
     most = min(feasible.top, 40 * size)
     pairs, figures, mean = list[tuple[int, int]](), list[list[float]](), float(scenario.demand.mean)

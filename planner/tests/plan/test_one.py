@@ -315,7 +315,7 @@ def folder(items: Mapping[str, Item], tmp_path_factory: pytest.TempPathFactory, 
     room = tmp_path_factory.mktemp("both") / "plan"
     sales = [(item.name, *move) for item in items.values() for move in moves(item)]
     masters = [{"item": it.name, "setup": float(it.setup), "holding": float(it.holding), "s": it.levels[0],
-                "S": it.levels[1], "lead": " ".join(map(str, it.leads)), "stock": 7,
+                "S": it.levels[1], "lead (weeks)": " ".join(map(str, it.leads)), "stock": 7,
                 "backlog": it.backlog and float(it.backlog), "fill": it.fill and float(it.fill)}
                for it in items.values()]
     crn.plan(pd.DataFrame(sales, columns=["item", "date", "quantity", "returned"]), pd.DataFrame(masters), start=START,

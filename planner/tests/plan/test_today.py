@@ -18,14 +18,16 @@ from hypothesis import given, strategies as some
 import crnplan as crn
 from crnplan.files import MARKER
 from crnplan.law import Law
-from crnplan.pages.today_tables import OrdersToday, orders_today
+from crnplan.pages.today_tables import OrdersToday
 from crnplan.plan.answer import IDLE, Answer, Laws
 from crnplan.plan.catalogue import ANSWERS, PLANNED
-from crnplan.plan.today import Group, Lying, Standing, Today, by_urgency, minimums_of, quiet_periods
+from crnplan.plan.today import Group, Lying, Standing, Today, by_urgency, minimums_of
 from crnplan.records.bounds import Bounds
 from crnplan.records.catalogue_reading import READ
 from crnplan.records.item import NO_DEMAND
+from crnplan.records.defaults import Defaults
 from crnplan.records.items import Words
+from crnplan.records.quiet import is_dead, quiet_periods
 from crnplan.records.stock import Arrival, OnHand
 from crnplan.remarks import Remark
 from crnplan.stored import Facts
@@ -68,7 +70,7 @@ def standing_of(stock: int = 5, owed: int = 0, arrivals: Sequence[Arrival] = (),
     (standing_of(laws=replace(LAWS, box=3)), 5, 15, 5 / 6, days(0), 7 / 8)])
 def test_order_by_hand(standing: Standing, position: int, placed: int, weeks: float, latest: datetime.date,
                        chance: float) -> None:
-    assert (standing.position, standing.placed, standing.latest) == (position, placed, latest)
+    assert (standing.position, standing.placed, standing.last_day) == (position, placed, latest)
     assert standing.is_due and standing.to_level == 20 - position and standing.worth(standing.placed) == 3 * placed
     assert [standing.weeks, standing.chance] == pytest.approx([weeks, chance])
 
@@ -123,7 +125,8 @@ def test_a_year_without_demand() -> None:
     """An item lies dead if the last year of its record has no demand: one that is known for less is not."""
     for every, year in (("week", 52), ("month", 12), ("day", 365)):
         counts = [(1, *[0] * year), (*[0] * year, 1), (*[0] * (year - 1),)]
-        assert [quiet_periods(item_of(counts=it), every) for it in counts] == [year, None, None]
+        assert [is_dead(its, every) for its in counts] == [True, False, False]
+        assert quiet_periods(counts[0]) == year
 
 
 def test_additions_for_a_supplier() -> None:
@@ -162,7 +165,7 @@ def test_least_order_values_of_suppliers() -> None:
     with pytest.raises(crn.Refused, match="two least order values"):
         minimums_of([*items, item_of(name="4", supplier="Bosch", supplier_min=Fraction(4))], {})
     with pytest.raises(crn.Refused, match="supplier_min: 'much' is no cost"):
-        orders_today(Path(), {}, Words(), None, {"ABB": "much"})
+        Words(defaults=Defaults.of(supplier_min={"ABB": "much"}))
     with pytest.raises(crn.Refused, match="no item has this supplier; did you mean 'Bosch'?"):
         minimums_of(items, {"Boschh": Fraction(400)})
 
@@ -302,3 +305,23 @@ def test_plan_of_another_version(tmp_path: Path, crnplan: Command) -> None:
     assert answer.status == 2 and "run crnplan catalogue" in answer.errors
     with contextlib.closing(sqlite3.connect(tmp_path / "plan" / ANSWERS)) as base:
         assert base.execute("SELECT sum(items) FROM chunks").fetchone() == (12,)
+
+
+def test_status_of_tables_that_say_nothing(folder: Path, stock: pd.DataFrame, tmp_path: Path, crnplan: Command,
+                                           monkeypatch: pytest.MonkeyPatch) -> None:
+    """A table whose rows are rejected for more than half, or of which no row is used, ends with status 1, and so does one
+    of orders; a word allows it. At a half it is used."""
+    monkeypatch.chdir(tmp_path)
+    first, second = crn.open_plan(folder).decisions.item[:2]
+    stock.to_csv("stock.csv", index=False)
+    cases = {"item,stock\n{0},many\n{1},few\n": "2 of 2 rows were rejected, more than half",
+             "item,stock\n{0},many\n{0},few\n{1},3\n": "2 of 3 rows were rejected, more than half",
+             "item,stock\nX-1,5\n": "none of 1 row is used", "item,stock\n{0},many\n{1},3\n": ""}
+    for lines, said in cases.items():
+        Path("odd.csv").write_text(lines.format(first, second), "utf-8")
+        Path("open.csv").write_text(lines.format(first, second).replace("stock", "quantity"), "utf-8")
+        for words in (["--stock", "odd.csv"], ["--stock", "stock.csv", "--on-order", "open.csv"]):
+            answer = crnplan("today", folder, *words)
+            assert answer.status == (1 if said else 0) and f"{words[-1]}: {said}" * bool(said) in answer.errors
+            assert not said or "correct the files, or say --anyway" in answer.errors
+            assert crnplan("today", folder, *words, "--anyway").status == 0

@@ -58,7 +58,7 @@ def test_rejects_in_a_call_and_in_a_command(crnplan: Callable[..., Any], tmp_pat
     """Advice in a table of rejects names the argument in a call, and the option in the table of a command."""
     demand = pd.DataFrame({"item": ["A", "A"], "date": ["2026-03-02", "2026-03-09"], "quantity": [3, -1]})
     masters = pd.DataFrame([["A", 45, 1, 10, 2, 3, 9]],
-                           columns=["item", "setup", "holding", "backlog", "lead", "s", "S"])
+                           columns=["item", "setup", "holding", "backlog", "lead (weeks)", "s", "S"])
     advice = crn.read_catalogue(demand, masters).rejects.advice
     assert list(advice) == [
         "correct it, or say net to take it off the sale that it undoes, or negate if what is issued is below 0"]

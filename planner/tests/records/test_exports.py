@@ -26,7 +26,7 @@ MONDAY = datetime.date(2026, 3, 2)
 CASES = tomllib.loads(Path(__file__).with_name("exports.toml").read_text("utf-8"))
 DAYS = [str(MONDAY + datetime.timedelta(days=7 * week)) for week in range(WEEKS)]
 HEADING = "item,date,quantity"
-MASTERS = "item,setup,holding,backlog,lead,s,S"
+MASTERS = "item,setup,holding,backlog,lead (weeks),s,S"
 MONTHS = ["--every", "month", "--least", "2", *(word for role in ("lead", "holding", "backlog")
                                                 for word in ("--unit", f"items.{role}=month"))]
 
@@ -116,7 +116,7 @@ def test_units_of_masters(heading: str, cells: str, role: str, value: Any, check
     assert answer.status == 0 and not rejects
     its = getattr(check.items["A"], role)
     assert list(its) == value if isinstance(value, list) else its == Fraction(value)
-    is_plain = "lead" in heading.split(",") and role == "leads" or "tygodnie" in heading or "Preiseinheit" in heading
+    is_plain = "lead" in heading.split(",") or "tygodnie" in heading or "Preiseinheit" in heading
     assert ("converted from" in answer.errors) != is_plain
 
 
@@ -316,7 +316,7 @@ def test_defaults_of_masters(case: dict[str, Any], check: Checked, tmp_path: Pat
 @pytest.mark.parametrize("words, said", CASES["wrong_defaults"]["words"])
 def test_defaults_that_cannot_be_meant(words: str, said: str, check: Checked, tmp_path: Path) -> None:
     """A default that may be meant in two ways is refused with both, by words as by crnplan.toml."""
-    masters = "item,setup,holding,backlog,price,lead,s,S\nA,45,1,10,8,2,3,9\n"
+    masters = "item,setup,holding,backlog,price,lead (weeks),s,S\nA,45,1,10,8,2,3,9\n"
     answer, _ = check(demand_of(["2", "3"]), *words.split(), masters=masters)
     assert answer.status == 2 and said in answer.errors
     name, value = words[2:].split()
@@ -330,7 +330,7 @@ def test_defaults_that_cannot_be_meant(words: str, said: str, check: Checked, tm
 def test_masters_that_lack_what_a_default_needs(cells: str, words: str, said: str, check: Checked) -> None:
     """An item whose default needs its price, and amounts in two currencies, are left out."""
     _, rejects = check(demand_of(["2", "3"]), *words.split(),
-                       masters=f"item,setup,holding,backlog,price,lead,s,S\n{cells}\n")
+                       masters=f"item,setup,holding,backlog,price,lead (weeks),s,S\n{cells}\n")
     assert [row["kind"] for row in rejects] == ["item"] and said in rejects[0]["reason"]
 
 
@@ -344,7 +344,7 @@ def test_a_currency_that_is_none(check: Checked) -> None:
 def test_currency_of_a_catalogue(setup: str, price: str, words: str, currency: str, check: Checked) -> None:
     """The currency is that of the signs, of a column, or the stated one, which a sign may stand for."""
     _, rejects = check(demand_of(["2", "3"]), *words.split(),
-                       masters=f"item,setup,holding,backlog,price,lead,s,S\nA,{setup},1,10,{price},2,3,9\n")
+                       masters=f"item,setup,holding,backlog,price,lead (weeks),s,S\nA,{setup},1,10,{price},2,3,9\n")
     assert not rejects and check.facts["currency"] == currency
     column = currency if len(currency) == 3 else ""
     check(demand_of(["2", "3"]), masters=f"{MASTERS},WAERS\nA,45,1,10,2,3,9,{column}\n")

@@ -21,7 +21,8 @@ from crnplan.records.columns import find_columns
 from crnplan.records.filed import Part, read_tables
 from crnplan.records.items import Words
 from crnplan.records.rows import Rows, rows_of
-from crnplan.records.sources import Sheet, opened
+from crnplan.records.opening import opened
+from crnplan.records.sources import Sheet
 
 HEADING, FIRST = "item,date,quantity,note\n", "A,2026-03-02,1,0\n" * 3
 HEAD = 60  # bytes that are looked at first, so that faults are found later

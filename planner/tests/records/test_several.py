@@ -3,21 +3,25 @@ from __future__ import annotations
 
 import datetime
 import gzip
+import io
 from pathlib import Path
 from typing import Any
 
+import pandas as pd
 import pytest
 
 from crnplan.errors import RefusedFaults
+from crnplan.records import opening
 from crnplan.records.blocks import Sizes
 from crnplan.records.catalogue_reading import Catalogue, read_alone, read_catalogue
 from crnplan.records.items import Words
+from crnplan.records.several import open_tables
 
 TODAY = datetime.date(2027, 1, 1)
 HEADING = "item,date,quantity\n"
 ROWS = [f"{'AB'[week % 2]},{datetime.date(2026, 3, 2) + datetime.timedelta(days=7 * week)},{1 + week % 5}\n"
         for week in range(40)]
-MASTERS = "item,setup,holding,backlog,lead,s,S\nA,45,1,10,2,3,9\nB,45,1,10,2,3,9\n"
+MASTERS = "item,setup,holding,backlog,lead (weeks),s,S\nA,45,1,10,2,3,9\nB,45,1,10,2,3,9\n"
 
 
 @pytest.fixture
@@ -46,6 +50,13 @@ def test_several_files_are_one_table(folder: Path) -> None:
     assert several.counts["files"]["demand"] == {**whole.counts["files"]["demand"], "name": "demand-*.csv"}
     (folder / "demand-*.csv").write_text(HEADING + "".join(ROWS[:26]))
     assert read(folder, "demand-*.csv").counts["files"]["demand"]["read"] == 26
+
+
+def test_what_concerns_no_row_names_the_pattern(folder: Path) -> None:
+    """What is said of a table as a whole, at no line, is said of the pattern, and at a line of the file."""
+    with open_tables({"demand": folder / "demand-*.csv"}, Words(today=TODAY)) as sheets:
+        assert sheets["demand"].where(0) == ("demand-*.csv", 0)
+        assert sheets["demand"].where(3) == ("demand-1.csv", 3)
 
 
 @pytest.mark.parametrize("jobs", [1, 2])
@@ -94,3 +105,38 @@ def test_gzipped_files(folder: Path) -> None:
     (folder / "packed.csv.gz").write_bytes(packed[:-20])
     with pytest.raises(RefusedFaults, match="packed.csv.gz: this is no gzipped file that can be read"):
         read(folder, "packed.csv.gz")
+
+
+def test_a_gzipped_file_that_unpacks_to_too_much(folder: Path, monkeypatch: pytest.MonkeyPatch) -> None:
+    """A bomb ends as soon as it is above the limit, and leaves nothing on the disk. A file of that size is read."""
+    data = (folder / "whole.csv").read_bytes()
+    (folder / "packed.csv.gz").write_bytes(gzip.compress(data))
+    monkeypatch.setattr(opening, "MOST_UNPACKED", len(data))
+    assert len(rows_of(read(folder, "packed.csv.gz"))) == 2
+    monkeypatch.setattr(opening, "MOST_UNPACKED", 10_000_000)
+    monkeypatch.setenv("TMPDIR", str(folder))
+    monkeypatch.setattr("tempfile.tempdir", None)
+    # 40 members of 16 MB each, of which the file has a thousandth.
+    (folder / "bomb.csv.gz").write_bytes(gzip.compress(data) + 40 * gzip.compress(bytes(16_000_000)))
+    for pattern in ("bomb.csv.gz", "bomb*.gz"):
+        with pytest.raises(RefusedFaults, match="bomb.csv.gz: it unpacks to more than 10,000,000 bytes; unpack it, and give"):
+            read(folder, pattern)
+    assert not [*folder.glob("crnplan-*")]
+
+
+def test_locks_are_no_tables(folder: Path) -> None:
+    """The lock of an open workbook, which a pattern names too, is passed over, and that is said; one that is named itself is
+    refused."""
+    for name, rows in (("a", ROWS[:15]), ("b", ROWS[15:])):
+        frame = pd.read_csv(io.StringIO(HEADING + "".join(rows)))
+        frame.to_excel(folder / f"{name}.xlsx", index=False)
+    (folder / "~$b.xlsx").write_bytes(b"\x06planner" + bytes(157))
+    catalogue = read(folder, "*.xlsx")
+    assert rows_of(catalogue) == rows_of(read(folder, "whole.csv"))
+    said = "passed over, since they are locks of open workbooks and no tables: ~$b.xlsx"
+    assert [line for line in catalogue.said if said in line] == [f"{folder / '*.xlsx'}: {said}"]
+    for name in ("~$b.xlsx", "~$*.xlsx"):
+        with pytest.raises(RefusedFaults, match="this is no table, but the lock of|No such file"):
+            read(folder, name)
+    with pytest.raises(RefusedFaults, match="the lock of b.xlsx, which a spreadsheet program has open; give b.xlsx"):
+        read(folder, "~$b.xlsx")

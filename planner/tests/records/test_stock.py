@@ -77,7 +77,7 @@ def test_rows_that_cannot_be_read(tmp_path: Path, row: str, code: str, text: str
     assert holdings.on_hand is not None and holdings.on_hand["B"] == OnHand(Fraction(4))
     assert holdings.unread == ({"A"} if code != "long" else set()) and ("A" in holdings.on_hand) == (code == "long")
     assert holdings.counts["stock"] == {"name": "stock.csv", "read": 3, "blank": 0, "used": 2 if code == "long" else 1,
-                                        "rejected": 1, "with_item": 0 if code == "long" else 1}
+                                        "rejected": 1, "with_item": 0 if code == "long" else 1, "other": 0}
 
 
 def test_rows_that_are_named(tmp_path: Path) -> None:
@@ -112,7 +112,7 @@ def test_frames_and_tables_that_cannot_be_read(tmp_path: Path) -> None:
 def test_suppliers_of_masters(heading: list[str], least: int | None) -> None:
     """A supplier is found by the whole name of its column alone: others that begin so are no suppliers."""
     demand = pd.DataFrame({"item": "A", "date": [f"2026-{month:02}-02" for month in range(1, 12)], "quantity": 3})
-    rest = {"item": "A", "setup": 9, "holding": 1, "backlog": 9, "lead": 2, "s": 1, "S": 4}
+    rest = {"item": "A", "setup": 9, "holding": 1, "backlog": 9, "lead (weeks)": 2, "s": 1, "S": 4}
     for names, wanted in ((heading, ("Bosch", least)), ([f"{heading[0]} x", "note", "z"], ("", None))):
         masters = pd.DataFrame([{**rest, **dict(zip(names, ("Bosch", "5 days", 500)))}])
         with read_catalogue(demand, masters).opened() as read:

@@ -2,6 +2,7 @@
 from __future__ import annotations
 
 import datetime
+import math
 import subprocess
 import sys
 import time
@@ -20,16 +21,16 @@ from crnplan.records.columns import find_columns
 from crnplan.records.cells import Unreadable
 from crnplan.records.item import Item
 from crnplan.records.items import Words
-from crnplan.records.masters import leads_of
 from crnplan.records.observed import sums_of
-from crnplan.records.sources import opened
+from crnplan.records.opening import opened
+from crnplan.records.times import TimeReader
 from crnplan.remarks import Remark
 
 Day = datetime.date
 MONDAY = Day(2026, 3, 2)
 WEEKS = 26
 TODAY = Day(2026, 11, 26)
-MASTERS = "item,setup,holding,backlog,lead,s,S\n"
+MASTERS = "item,setup,holding,backlog,lead (weeks),s,S\n"
 COST = Path(__file__).parents[3] / "tests/hostile/cost.py"
 
 
@@ -69,7 +70,7 @@ def book(path: Path, **sheets: list[list[Any]]) -> Path:
 DEMAND: list[list[Any]] = [["item", "date", "quantity"], *(
     ["00123", datetime.datetime.combine(MONDAY, datetime.time(9, 30)) + datetime.timedelta(days=7 * week), 1 + week % 3]
     for week in range(WEEKS)), [4711, datetime.datetime(2026, 3, 2), 1000.0], [None, None, None]]
-ITEMS: list[list[Any]] = [["item", "setup", "holding", "backlog", "lead", "s", "S"], ["00123", 45, 1.234, 10, 2, 3, 9],
+ITEMS: list[list[Any]] = [["item", "setup", "holding", "backlog", "lead (weeks)", "s", "S"], ["00123", 45, 1.234, 10, 2, 3, 9],
                           [4711, 45, "1.234", 10, 2, 3, 9]]
 
 
@@ -116,7 +117,7 @@ def test_frames(tmp_path: Path) -> None:
     assert counted.counts == (3, 0, 2)
     with pytest.raises(RefusedFaults, match="the cell is empty"):
         read_history(pd.DataFrame({"n": [3, None, 2]}), demand="n")
-    for cell, text in ((True, "TRUE"), (MONDAY, "2026-03-02"), (float("inf"), "inf")):
+    for cell, text in ((True, "True"), (MONDAY, "2026-03-02"), (float("inf"), "inf")):
         with pytest.raises(RefusedFaults, match=f"history:3:1: .*'{text}' is not a number"):
             read_history(pd.DataFrame({"n": [3, cell, 2]}, dtype=object), demand="n")
 
@@ -149,12 +150,13 @@ def test_longest_lead_time_of_orders(tmp_path: Path) -> None:
     ("utf-16-le", "item,date,quantity,note", "x"),
     ("utf-16-be", "item,date,quantity,note", "größer als"), ("latin-1", "Artikel,Datum,Menge,Gerät", "größer als")])
 def test_encodings_are_named(encoding: str, heading: str, unit: str, tmp_path: Path) -> None:
-    """A file that is not UTF-8 is refused with the name of its encoding, by which it is read."""
+    """A file that is not UTF-8 is refused with the name of its encoding among others, by which it is read."""
     rows = weekly([2] * WEEKS).replace("\n", f",{unit}\n")
     data = f"{heading}\n{rows}".encode(encoding)
-    with pytest.raises(RefusedFaults, match=f"say encoding={encoding},"):
+    named = f"say .*encoding={encoding.replace('latin-1', 'cp1252')}"
+    with pytest.raises(RefusedFaults, match=named):
         read(tmp_path, data)
-    with pytest.raises(RefusedFaults, match=f"say encoding={encoding},"):
+    with pytest.raises(RefusedFaults, match=named):
         read_history(tmp_path / "demand.csv", demand=heading.split(",")[2])
     assert items_of(read(tmp_path, data, encoding=encoding))["A"].counts == (2,) * WEEKS
 
@@ -215,17 +217,17 @@ def test_half_a_letter_of_utf_16_far_down(tmp_path: Path) -> None:
 
 @pytest.mark.serial
 def test_many_rows_of_one_item(tmp_path: Path) -> None:
-    """Rows of one item take no longer than rows of many."""
-    count, seconds = 60_000, []
-    for items in (1, 600):
+    """Rows of one item take no longer than rows of many. The least of three runs counts."""
+    count, seconds = 60_000, dict[int, float]()
+    for items in (1, 600) * 3:
         rows = "".join(f"A{row % items},{MONDAY + datetime.timedelta(days=row % 180)},{1 + row // 7 % 5}\n"
                        for row in range(count))
         masters = MASTERS + "".join(f"A{item},45,1,10,2,3,9\n" for item in range(items))
         begin = time.process_time()
         counts = read(tmp_path, rows, masters).counts
-        seconds.append(time.process_time() - begin)
+        seconds[items] = min(time.process_time() - begin, seconds.get(items, math.inf))
         assert counts["files"]["demand"]["used"] == count and counts["items"]["ready"] == items
-    assert seconds[0] <= 1.2 * seconds[1]
+    assert seconds[1] <= 1.2 * seconds[600]
 
 
 @pytest.mark.parametrize("twice, total", [("keep", 2 * (WEEKS + 999)), ("leave-out", 2 * WEEKS)])
@@ -281,14 +283,14 @@ def test_units_of_lead_times(heading: str, every: str | None, leads: tuple[int, 
 
 @pytest.mark.parametrize("text, leads", [
     ("3", [3]), ("2 3 3 4", [2, 3, 3, 4]), ("2;3|4/5", [2, 3, 4, 5]), ("32", [32]), ("33", None), ("0", None),
-    ("", None), ("2,5", None), ("n/a", None), ("-1", None)])
+    ("", None), ("2,5", None), ("2.5", None), ("n/a", None), ("-1", None)])
 def test_lead_times(text: str, leads: list[int] | None) -> None:
     """Reads one lead time or several, from 1 to 32 periods."""
     if leads is None:
         with pytest.raises(Unreadable):
-            leads_of(text, "", "week")
+            TimeReader().leads(text, "period", "week")
     else:
-        assert leads_of(text, "", "week") == leads
+        assert TimeReader().leads(text, "period", "week") == leads
 
 
 @pytest.mark.parametrize("heading, factor", [

@@ -37,7 +37,7 @@ def drawn_bounds(source: random.Random) -> Feasible:
     """Returns bounds of all kinds, some together."""
     return Feasible(source.choice([0, 0, source.randint(1, 9)]), source.choice([0, 0, 1, source.randint(1, 6)]),
                     source.choice([10**6, source.randint(3, 24), source.randint(6, 24)]),
-                    source.choice([1, 1, 2, 3, 4, 6]))
+                    source.choice([1, 1, 2, 3, 4, 6]), source.choice([10**6, source.randint(0, 9)]))
 
 
 def theory_within(scenario: Scenario, feasible: Feasible) -> LongRun:
@@ -52,8 +52,9 @@ def kept_of(pairs: np.ndarray, feasible: Feasible) -> np.ndarray:
     """Returns the rows of feasible pairs, of those with cost, fill, s and S."""
     _, _, point, level = pairs.T
     multiple = feasible.multiple
-    return pairs[(level - point >= feasible.least_gap) & (point >= feasible.least_point)
-                 & (level <= feasible.most_level) & (point % multiple == 0) & (level % multiple == 0)]
+    return pairs[(level - point >= feasible.least_gap) & (level - point <= feasible.most_gap)
+                 & (point >= feasible.least_point) & (level <= feasible.most_level)
+                 & (point % multiple == 0) & (level % multiple == 0)]
 
 
 def check(found: Candidate, pairs: np.ndarray, share: float = 0.0) -> None:
@@ -90,8 +91,8 @@ def test_the_cheapest_of_feasible_pairs(seed: int) -> None:
 
 
 @pytest.mark.parametrize("lead", [[2], [1, 3]], ids=["one lead time", "several"])
-@pytest.mark.parametrize("feasible", [Feasible(0, 1, 4), Feasible(6, 2, 9), Feasible(3, 0, 8, 4), Feasible(0, 0, 11)],
-                         ids=str)
+@pytest.mark.parametrize("feasible", [Feasible(0, 1, 4), Feasible(6, 2, 9), Feasible(3, 0, 8, 4), Feasible(0, 0, 11),
+                                      Feasible(most_gap=3), Feasible(most_gap=14), Feasible(4, 0, 60, 4, 7)], ids=str)
 def test_few_feasible_pairs_on_a_coarse_lattice(feasible: Feasible, lead: list[int]) -> None:
     """Policies are found within bounds that are narrower than a cell, also the fullest."""
     scenario = scenario_of((range(41), [1 + it % 5 for it in range(41)]), (lead, [1] * len(lead)))
@@ -112,7 +113,8 @@ def test_feasible_pairs_by_a_chain(lead: list[int]) -> None:
     assert (found.point, found.level) == best and found.cost == pytest.approx(costs[best], rel=1e-9)
 
 
-@pytest.mark.parametrize("feasible", [Feasible(), Feasible(3), Feasible(0, 2, 7), Feasible(multiple=4)], ids=str)
+@pytest.mark.parametrize("feasible", [Feasible(), Feasible(3), Feasible(0, 2, 7), Feasible(multiple=4),
+                                      Feasible(most_gap=2)], ids=str)
 def test_the_best_of_other_laws_is_feasible(feasible: Feasible) -> None:
     """Under each law a policy is compared with the cheapest feasible pair of that law."""
     laws = [table(([0, 1, 4], [weight, 3, 1])) for weight in (1, 9)]
@@ -123,7 +125,8 @@ def test_the_best_of_other_laws_is_feasible(feasible: Feasible) -> None:
 
 
 @pytest.mark.parametrize("lead", [[2], [1, 3]], ids=["one lead time", "several"])
-@pytest.mark.parametrize("feasible", [Feasible(multiple=3), Feasible(7, 3), Feasible(0, 1, 14)], ids=str)
+@pytest.mark.parametrize("feasible", [Feasible(multiple=3), Feasible(7, 3), Feasible(0, 1, 14), Feasible(most_gap=5)],
+                         ids=str)
 def test_promises_within_bounds(feasible: Feasible, lead: list[int]) -> None:
     """A promise is feasible, and kept under enough laws: of its gap, no smaller feasible S keeps it. It costs no more
     than with the gap of the policy that promises nothing."""

@@ -4,10 +4,12 @@ There is no arithmetic in a command: it reads its words, calls the package and p
 """
 from __future__ import annotations
 
+import contextlib
 import difflib
 import importlib
 import io
 import os
+import shlex
 import sys
 import tomllib
 import traceback
@@ -27,6 +29,7 @@ for _threads in ("OMP_NUM_THREADS", "OPENBLAS_NUM_THREADS"):
     os.environ.setdefault(_threads, "1")
 
 INTERRUPTED = 130
+STREAMS = "stdin", "stdout", "stderr"  # in the order of their numbers
 # The subcommands: the module of each, and its help.
 COMMANDS: dict[str, dict[str, str]] = tomllib.loads(Path(__file__).with_name("help.toml").read_text("utf-8"))
 asked: list[str] = []  # the subcommand that was asked for last
@@ -83,7 +86,7 @@ def as_option(name: str, value: str) -> str:
     options = (option for command in (*asked, "catalogue") for option in _command(command).params
                if isinstance(option, click.Option))
     spelling = next((option.opts[0] for option in options if option.name == name), f"--{name.replace('_', '-')}")
-    return spelling + f" {value}" * bool(value)
+    return spelling + f" {shlex.quote(value)}" * bool(value)
 
 
 def note(message: str) -> None:
@@ -97,7 +100,9 @@ def main() -> None:
     """Runs the command. Ends with status 0; 1 if the answer is no; 2 if an input or a word is refused; 3 if no input is
     to blame; 130 if interrupted."""
     status = Failed.status
-    with redirect_stdout(_shown(sys.stdout)), redirect_stderr(_shown(sys.stderr)), spelt(as_option):
+    open_streams()
+    output, errors = _shown(sys.stdout, BrokenPipeError), _shown(sys.stderr, OSError)
+    with redirect_stdout(output), redirect_stderr(errors), spelt(as_option):
         try:
             with faults_of(Path("crnplan")):
                 result: Any = group.main(prog_name="crnplan", standalone_mode=False)
@@ -123,12 +128,32 @@ def main() -> None:
     sys.exit(status)
 
 
+def open_streams() -> None:
+    """Opens the null device in place of each standard stream that is closed: what is printed there is read by nobody, as
+    if its reader had gone. Else the next file that is opened would have its number, and be written into."""
+    for number, name in enumerate(STREAMS):
+        with contextlib.suppress(OSError):
+            if not is_open(number):
+                os.open(os.devnull, os.O_RDWR)  # which gets the lowest number that is free
+        if getattr(sys, name) is None:
+            setattr(sys, name, open(number, "r" if name == "stdin" else "w", encoding="utf-8", closefd=False))
+
+
+def is_open(number: int) -> bool:
+    """Returns whether a descriptor is open."""
+    try:
+        os.fstat(number)
+    except OSError:
+        return False
+    return True
+
+
 class _Shown:
     """A standard stream on which texts of others may be shown: control characters are escaped. That its reader has gone
-    is no fault: what is left is dropped, and the command goes on."""
+    is no fault, and nor is any error of `faults`: what is left is dropped, and the command goes on."""
 
-    def __init__(self, stream: TextIO) -> None:
-        self.stream = stream
+    def __init__(self, stream: TextIO, faults: type[OSError]) -> None:
+        self.stream, self.faults = stream, faults
 
     def __getattr__(self, name: str) -> Any:
         return getattr(self.stream, name)
@@ -141,15 +166,15 @@ class _Shown:
         self._try(self.stream.flush)
 
     def _try(self, step: Callable[..., object], *words: str) -> None:
-        """Takes a step, after which nothing is written any more if there is no reader."""
+        """Takes a step, after which nothing is written any more if that can't be."""
         try:
             step(*words)
-        except BrokenPipeError:
+        except self.faults:
             os.dup2(os.open(os.devnull, os.O_WRONLY), self.stream.fileno())
 
 
-def _shown(stream: TextIO | None) -> Any:
-    """Returns a standard stream as one on which all may be shown; None if it is closed."""
+def _shown(stream: TextIO, faults: type[OSError]) -> Any:
+    """Returns a standard stream as one on which all may be shown, and whose errors of a kind are none."""
     if isinstance(stream, io.TextIOWrapper):
         stream.reconfigure(errors="backslashreplace")
-    return stream and _Shown(stream)
+    return _Shown(stream, faults)

@@ -44,8 +44,7 @@ def backtest(tables: Sequence[Path], orders: str | None, out: Path | None, recor
         with planned_folder(tables[0]) as planned:
             settings = planned.settings
     elif len(tables) == 2 and out:
-        stated: dict[str, Any] = {"columns": {}, "units": {}, "factors": {}, "date_formats": ()}
-        words, settings = words_of(stated, read_config(config))
+        words, settings = words_of({}, read_config(config))
     else:
         raise Refused("name a folder of crnplan catalogue, or two tables and --out")
     walk = Walk(record, every, window or settings.window or Walk.window, least_gain or settings.least_gain)

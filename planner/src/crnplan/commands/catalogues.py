@@ -2,8 +2,8 @@
 from __future__ import annotations
 
 import tempfile
-from collections.abc import Iterator, Mapping
-from dataclasses import fields
+from collections.abc import Iterable, Iterator, Mapping
+from dataclasses import fields, replace
 from pathlib import Path
 from typing import Any
 
@@ -11,18 +11,22 @@ import click
 
 import crnplan as crn
 from ..demand import METHODS
-from ..files import Folder, new_file, own_folder
-from ..pages.catalogue_page import CATALOGUE_FILES, FOUND
-from ..pages.catalogue_tables import counted_rows, reasons_of, rejects_of
+from ..files import Folder, named_text, own_folder
+from ..pages.catalogue_page import CATALOGUE_FILES, write_found
+from ..pages.catalogue_tables import counted_rows, hardly_read, reasons_of, rejects_of
 from ..plan.catalogue import Lost, check_earlier, plan_into
 from ..plan.question import Settings
 from ..plan.settings import CONFIG, read_config
 from ..records.catalogue_reading import CATALOGUE, Catalogue, read_into
-from ..records.cells import DECIMALS, EVERY
-from ..records.columns import ROLES
+from ..records.amounts import DECIMALS
+from ..records.dates import EVERY
 from ..records.defaults import KEEP, LEAVE_OUT, Defaults
 from ..records.item import BORROW
 from ..records.items import Words
+from ..records.leads import LEAD_FROM
+from ..records.overriding import set_overrides
+from ..records.status import AS_STATED, BY_TEST
+from ..records.told import KEYS, by_kind, made_from, merged, words_from
 from . import note
 from .histories import writing_options
 from .words import command, csv_style_option, pairs_of, program_option, share_of, together, worker_options
@@ -35,12 +39,15 @@ TAKEN = (KEEP, LEAVE_OUT)
 # The columns of tables and what they count.
 column_options = together(
     click.option("--column", "columns", metavar="FILE.ROLE=NAME", multiple=True,
-                 callback=pairs_of(r"([^=]*\.[^=]*)=(.*\S.*)", "demand.quantity=Menge"),
-                 help="A column, as demand.quantity=Menge. May be given several times."),
+                 callback=pairs_of(r"([^=]*\.[^=]*)=(.*)", "demand.quantity=Menge"),
+                 help="A column, as demand.quantity=Menge, or items.class= for none. May be given several times."),
     click.option("--unit", "units", metavar="FILE.ROLE=UNIT", multiple=True,
                  callback=pairs_of(r"([^=]*\.[^=]*)=(.*\S.*)", "items.lead=day"),
                  help="What a column counts, as items.lead=day, items.holding=percent (of the price a year), "
-                 "items.price=100, demand.quantity=12. May be given several times."))
+                 "items.price=100, demand.quantity=12. May be given several times."),
+    click.option("--where", metavar="COLUMN=VALUE", multiple=True,
+                 help="Read only rows with this value, as Location=Main, or demand.Location=Main for one file. Of one "
+                 "column each value is taken. May be given several times."))
 decimal_option = click.option("--decimal", type=click.Choice(DECIMALS),
                               help="The decimal sign; without it each column must decide it.")
 
@@ -49,6 +56,8 @@ decimal_option = click.option("--decimal", type=click.Choice(DECIMALS),
 @click.argument("demand", metavar="DEMAND.csv")
 @click.argument("items", metavar="ITEMS.csv")
 @click.option("--orders", metavar="ORDERS.csv", help="Dates of orders and of their receipts, for lead times.")
+@click.option("--overrides", metavar="FILE", help="Levels that hold whatever is chosen: item, s, S, or override (do not "
+              "order), and reason. A later plan keeps them (--after).")
 @click.option("--out", metavar="FOLDER", type=click.Path(path_type=Path), help="Keep every file here.")
 @click.option("--check", "only_read", is_flag=True,
               help="Only read the files, and say what was found and left out. Nothing is written, whatever --out says.")
@@ -61,20 +70,33 @@ decimal_option = click.option("--decimal", type=click.Choice(DECIMALS),
 @click.option("--factor", "factors", metavar="MEASURE=NUMBER", multiple=True,
               callback=pairs_of(r"(.*\S.*)=(0*[1-9][0-9]*)", "KAR=12"),
               help="How many items one of a unit of measure is, as KAR=12. May be given several times.")
+@click.option("--status", "statuses", metavar="TEXT=MEANING", multiple=True,
+              callback=pairs_of(r"(.*\S.*)=(.*\S.*)", "Z3=stopped"),
+              help="What a text of the masters' column status means, as Z3=stopped: active, phase out or stopped. May be "
+              "given several times.")
+@click.option("--stopped", type=click.Choice((BY_TEST, AS_STATED)),
+              help="Which items are asked for no longer if their status says nothing: by default those with a record "
+              "that says so.")
 @click.option("--every", type=click.Choice(EVERY), help="The period; by default week. Weeks are ISO weeks.")
 @click.option("--from", "start", metavar="DATE", help="The first day of the record, for all items.")
 @click.option("--to", "end", metavar="DATE", help="The last day of the record, for all items.")
 @click.option("--net", is_flag=True, default=None, help="Take quantities below 0 off their period.")
 @click.option("--negate", is_flag=True, default=None,
               help="Take quantities with the other sign: issues are below 0, as in SAP. What undoes them is taken off.")
-@click.option("--twice", type=click.Choice(TAKEN), help="Rows that stand twice; by default they are kept and named.")
+@click.option("--twice", type=click.Choice(TAKEN), help="Rows that stand twice; by default they are kept and named, but a file whose rows are all in another one is "
+              "refused.")
 @click.option("--far", type=click.Choice(TAKEN),
               help="Items with an amount far above all others; by default they are left out.")
 @click.option("--least", type=click.IntRange(1), metavar="N", help="The periods that a history needs; by default 13.")
+@click.option("--lead-from", type=click.Choice(LEAD_FROM),
+              help="From where lead times are: receipts of orders if an item has 5, else masters (orders, the default); "
+              "masters if they state one; or both, where the stated one counts as one receipt more.")
 @click.option("--setup", metavar="MONEY", help="The cost of an order, for items whose masters say none.")
 @click.option("--holding-rate", metavar="SHARE",
               help="What holding costs a year, as 20% of the price, for items whose masters say no holding cost.")
 @click.option("--fill", metavar="SHARE", help="The wanted fill rate of items whose masters say none, as 97%.")
+@click.option("--lead", metavar="TIME",
+              help="The lead time, as '14 days', of items for which neither masters nor receipts say one.")
 @click.option("--service", metavar="CLASS=SHARE", multiple=True, callback=pairs_of(r"(.*\S.*)=(.*\S.*)", "A=0.98"),
               help="That of a class, as A=0.98, which counts before --fill. May be given several times.")
 @click.option("--currency", metavar="CODE", help="The currency of all money, as EUR, if the masters do not say it.")
@@ -100,7 +122,7 @@ decimal_option = click.option("--decimal", type=click.Choice(DECIMALS),
 @click.option("--order-min", type=click.IntRange(1), metavar="N",
               help="The items of the smallest order, where the masters state none.")
 @click.option("--max-coverage", type=click.IntRange(1), metavar="N",
-              help="S covers at most N periods of mean demand; by default two years.")
+              help="S covers at most N periods of mean demand; without it S less s covers at most two years.")
 @click.option("--s-min", type=click.IntRange(0), metavar="N",
               help="The smallest s; by default 1 for items with a wanted fill rate, else 0.")
 @click.option("--correct", is_flag=True, default=None,
@@ -116,6 +138,8 @@ def catalogue(**asked: Any) -> int:
     if path.is_file():
         click.echo(f"# settings are from {path}", err=True)
     words, settings = words_of(asked, config)
+    if asked["after"] is None and asked["least_gain"] is None:
+        settings = replace(settings, least_gain=None)  # It is that of plans after an earlier one.
     if not asked["only_read"] and asked["out"] is None:
         raise crn.Refused("--out is missing; name the folder for the plan, or say --check to only read the files")
     check_earlier(asked["after"], asked["out"], settings)
@@ -123,28 +147,37 @@ def catalogue(**asked: Any) -> int:
             Path(room) if asked["only_read"] else asked["out"], CATALOGUE, CATALOGUE_FILES) as folder):
         tables = {kind: asked[kind] for kind in ("demand", "items", "orders")}
         read = Catalogue(read_into(folder, tables, words, asked["jobs"]))
-        folder.write(FOUND, read.found)
+        set_overrides(folder, asked["overrides"], words, asked["after"])
+        found = write_found(folder, read, settings)
         if not any(name in config for name in ("demand", "items")) and not asked["columns"]:
-            click.echo(read.found, err=True)
+            click.echo(found, err=True)
         for line in read.said:
             click.echo(f"# {line}", err=True)
         missing = only_read(read, asked["rejects"]) if asked["only_read"] else planned(folder, settings, asked)
         for line in reason_lines(read):
             click.echo(line)
         counts = read.counts
-        no = ["no item can be planned"] * (counts["items"]["ready"] == counts["items"]["no_demand"])
-        no += [f"{rows['name']}: {rows['rejected']:,} of {rows['read']:,} rows were rejected, more than half"
-               for rows in counts["files"].values() if 2 * rows["rejected"] > rows["read"]]
-    no = [] if asked["anyway"] else [f"{line}; correct the files, or say --anyway" for line in no]
-    for line in (*missing, *no):
+        unordered = sum(counts["items"][past] for past in ("no_demand", "stopped", "phase_out"))
+        no = ["no item can be planned"] * (counts["items"]["ready"] == unordered)
+        no += hardly_read(counts["files"])
+    for line in missing:
         note(line)
-    return Lost.status if missing else int(bool(no))
+    status = status_of([] if asked["anyway"] else no)
+    return Lost.status if missing else status
+
+
+def status_of(no: Iterable[str]) -> int:
+    """Says why the answer is no, and returns the status: 1, or 0 without a reason."""
+    lines = [f"{line}; correct the files, or say --anyway" for line in no]
+    for line in lines:
+        note(line)
+    return int(bool(lines))
 
 
 def only_read(read: Catalogue, rejects: Path | None) -> list[str]:
     """Says what became of all rows, and writes what was left out into a file if one is named. Returns what is lost."""
     if rejects:
-        with read.opened() as base, new_file(rejects) as file:
+        with read.opened() as base, named_text(rejects) as file:
             file.writelines(rejects_of(base.rejects()).lines)
     for line in counted_rows(read.counts["files"]):
         click.echo(line)
@@ -164,30 +197,13 @@ def planned(folder: Folder, settings: Settings, asked: Mapping[str, Any]) -> lis
 
 def words_of(asked: Mapping[str, Any], config: Mapping[str, Any]) -> tuple[Words, Settings]:
     """Returns how files are read and how items are planned: by the command's words, else by the configuration."""
-    named = {f"{kind}.{role}": name for kind in ROLES for role, name in config.get(kind, {}).items()}
-    factors = {measure: int(number) for measure, number in asked["factors"].items()}
-    stated: dict[str, Any] = {
-        **config, "start": config.get("from"), "end": config.get("to"),
-        **{name: value for name, value in asked.items() if value not in (None, ())},
-        "columns": _by_kind(named | asked["columns"]), "units": _by_kind(config.get("units", {}) | asked["units"]),
-        "names": _by_kind(config.get("names", {})), "factors": factors or config.get("factors"),
-        "defaults": Defaults.of(**{it.name: asked.get(it.name) or config.get(it.name) for it in fields(Defaults)
-                                   if it.name != "service"},
-                                service=config.get("service", {}) | asked.get("service", {})),
-        "date_formats": tuple(asked["date_formats"] or config.get("date_formats", ()))}
-
-    def given(kind: type) -> dict[str, Any]:
-        return {it.name: stated[it.name] for it in fields(kind) if stated.get(it.name) is not None}
-    return Words(**given(Words)), Settings(**given(Settings))
-
-
-def _by_kind(table: Mapping[str, Any]) -> dict[str, dict[str, Any]]:
-    """Returns what a table states by FILE.ROLE, by file and role."""
-    tree: dict[str, dict[str, Any]] = {}
-    for place, value in table.items():
-        kind, _, role = place.partition(".")
-        tree.setdefault(kind, {})[role] = value
-    return tree
+    known = {field.name for kind in (Words, Defaults, Settings) for field in fields(kind)} - {"columns"}
+    stated = {KEYS.get(name, name): value for name, value in asked.items()
+              if name in known and value not in (None, (), {})}
+    if "factors" in stated:
+        stated["factors"] = {measure: int(number) for measure, number in asked["factors"].items()}
+    tree = merged(config, stated, by_kind(asked.get("columns", {})))
+    return words_from(tree), made_from(Settings, tree)
 
 
 def reason_lines(catalogue: Catalogue) -> Iterator[str]:

@@ -14,7 +14,8 @@ import crnplan as crn
 from ..decide.doubt import TIMES, WITHIN
 from ..demand import FAMILIES, METHODS
 from ..errors import RefusedFaults
-from ..records.cells import DECIMALS, EVERY
+from ..records.amounts import DECIMALS
+from ..records.dates import EVERY
 from ..records.histories import RefusedFiles, column_names, printed, write_rejects
 from ..records.observed import LeadTimes, Observed
 from ..records.sources import Rules
@@ -49,7 +50,8 @@ writing_options = together(
     click.option("--encoding", metavar="NAME",
                  help="For example cp1252; without it that of the byte order mark, or UTF-8."),
     click.option("--date-format", "date_formats", metavar="PATTERN", multiple=True,
-                 help="A pattern as %d/%m/%y in place of the usual forms. May be given several times."))
+                 help="A pattern as %d/%m/%y in place of the usual forms, or excel for a spreadsheet's numbers. May be given "
+                 "several times."))
 file_options = together(
     click.option("--lead", type=(str, str.strip), metavar="FILE.csv COLUMN", help="Lead times, in periods."),
     click.option("--orders", metavar="FILE.csv",

@@ -1,4 +1,4 @@
-"""The commands that plan one item, and that show a planned catalogue. Each imports what takes long itself."""
+"""The commands that plan one item, and that draw the curve of a catalogue. Each imports what takes long itself."""
 from __future__ import annotations
 
 import sys
@@ -8,9 +8,7 @@ from typing import Any
 import click
 
 import crnplan as crn
-from .words import command, csv_style_option, picture, program_option, worker_options
-
-folder_argument = click.argument("folder", metavar="FOLDER", type=click.Path(path_type=Path))
+from .words import command, csv_style_option, folder_argument, picture, program_option, worker_options
 
 
 @command()
@@ -50,21 +48,3 @@ def curve(folder: Path, plot: Path | None, is_csv: bool, **options: Any) -> None
         currency = drawn.gathered.folder.currency
         save(exchange_picture(drawn.curve, drawn.named, Money(currency.code, currency.decimals)), plot)
     click.echo(drawn.table.csv if is_csv else drawn.text, nl=False)
-
-
-@command()
-@folder_argument
-@click.option("--item", "items", metavar="NAME", multiple=True,
-              help="Write the page of this item too, by crnsim. May be given several times.")
-@click.option("--xlsx", metavar="FILE", type=click.Path(dir_okay=False, path_type=Path),
-              help="Write the plan as a workbook for spreadsheets too.")
-@worker_options
-@program_option
-def report(folder: Path, items: tuple[str, ...], xlsx: Path | None, **options: Any) -> None:
-    from ..pages.catalogue_page import file_of
-    if xlsx:
-        crn.Plan(folder).to_excel(xlsx)
-        click.echo(xlsx)
-    page = crn.report(folder, items, progress=True, **options)
-    for path in (*(file_of(folder, name) for name in items), page):
-        click.echo(path)

@@ -12,7 +12,6 @@ from typing import Any
 import click
 
 import crnplan as crn
-from .. import money
 from ..table import STYLES, DataTable, Result, csv_style
 from . import COMMANDS
 
@@ -43,8 +42,9 @@ def pairs_of(form: str, example: str) -> Callable[[click.Context, click.Paramete
 
 def share_of(context: click.Context, option: click.Parameter, word: str | None) -> float | None:
     """Returns a share, as 2% or 0.02. Raises Refused for a number that may be either."""
+    from ..records import amounts
     try:
-        return None if word is None else float(money.share_of(word))
+        return None if word is None else float(amounts.share_of(word))
     except crn.Refused as why:
         raise crn.Refused(f"{option.opts[0]} {why.what}", why.advice) from why
 
@@ -67,6 +67,7 @@ def in_style(context: click.Context, option: click.Parameter, name: str) -> None
     context.with_resource(csv_style(name))
 
 
+folder_argument = click.argument("folder", metavar="FOLDER", type=click.Path(path_type=Path))
 scenario_argument = click.argument("scenario", metavar="SCENARIO.toml", type=click.Path())
 program_option = click.option("--program", metavar="PATH", help="The program crnsim.")
 worker_options = together(

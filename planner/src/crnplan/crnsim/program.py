@@ -8,14 +8,19 @@ from __future__ import annotations
 import contextlib
 import ctypes
 import os
+import select
 import shutil
+import signal
 import subprocess
 import tempfile
+import threading
 import tomllib
 from collections.abc import Iterable, Iterator, Mapping, Sequence
 from concurrent.futures import ThreadPoolExecutor
 from dataclasses import dataclass, field
 from pathlib import Path
+from types import FrameType
+from typing import IO
 
 from .. import formats
 from ..errors import ProgramError, ProgramFailed, argument
@@ -27,6 +32,8 @@ STREAMS = "input", "output", "errors"
 JOBS = 4  # runs at a time: a run itself uses several processors
 # Statuses with which no input is to blame.
 FAILURES = {STATUSES[line] for line in ("reading", "writing", "thread", "gate", "memory")}
+# A run that takes longer never ends: the largest one takes some 30 ms on four processors.
+RUN_SECONDS = 100.0
 PERIODS_OF_BLOCK = 4
 FIELDS = 5
 # The greatest stock and position; more by MOST_DEMAND for each period that has passed, if there are returns. The stock
@@ -110,8 +117,72 @@ def own_processor() -> Iterator[None]:
         os.sched_setaffinity(0, allowed)
 
 
-def run_program(program: Path, text: str, *words: str) -> str:
-    """Runs the program with words on a text, and returns its standard output. Raises ProgramError with its line.
+@contextlib.contextmanager
+def interrupted_later() -> Iterator[None]:
+    """Has an interrupt raise its error at the end of the block: within it, what the block begins would be lost."""
+    usual, late = signal.getsignal(signal.SIGINT), list[tuple[int, FrameType | None]]()
+    if threading.current_thread() is not threading.main_thread() or not callable(usual):
+        yield
+        return
+
+    def keep(number: int, frame: FrameType | None) -> None:
+        late.append((number, frame))
+    signal.signal(signal.SIGINT, keep)
+    try:
+        yield
+    finally:
+        signal.signal(signal.SIGINT, usual)
+    for interrupt in late:
+        usual(*interrupt)
+
+
+class Runs:
+    """The runs of the program that are under way, perhaps in several threads."""
+
+    def __init__(self) -> None:
+        self.under_way, self.is_over = set[subprocess.Popen[bytes]](), False
+
+    def status_of(self, program: Path, words: Sequence[str], given: IO[bytes], output: IO[bytes],
+                  errors: IO[bytes]) -> int:
+        """Runs the program, and returns its status. It is ended if it takes too long, or if an error is raised
+        meanwhile. Raises ProgramFailed."""
+        with contextlib.ExitStack() as stack:
+            with own_processor(), interrupted_later():
+                run = stack.enter_context(subprocess.Popen([program, *words], stdin=given, stdout=output, stderr=errors))
+                stack.callback(self.under_way.discard, run)
+                stack.callback(run.kill)
+                self.under_way.add(run)
+            if not self.is_over and has_ended(run):
+                return run.wait()
+        raise ProgramFailed(f"{program}: a run has not ended in {RUN_SECONDS:g} seconds, and was ended",
+                            "look for processes and memory of this machine, and run again")
+
+    def end(self) -> None:
+        """Ends all runs, and begins no more."""
+        self.is_over = True
+        for run in [*self.under_way]:
+            run.kill()
+
+
+def has_ended(run: subprocess.Popen[bytes]) -> bool:
+    """Waits until a run has ended, and returns whether it has in time."""
+    try:
+        ending = os.pidfd_open(run.pid)
+    except OSError:  # an old kernel, on which waiting with a limit looks every 50 ms
+        with contextlib.suppress(subprocess.TimeoutExpired):
+            run.wait(RUN_SECONDS)
+        return run.returncode is not None
+    try:
+        poll = select.poll()
+        poll.register(ending, select.POLLIN)
+        return bool(poll.poll(1_000 * RUN_SECONDS))
+    finally:
+        os.close(ending)
+
+
+def run_program(program: Path, text: str, *words: str, together: Runs | None = None) -> str:
+    """Runs the program with words on a text, perhaps together with other runs, and returns its standard output. Raises
+    ProgramError with its line.
 
     Its streams are files in memory: pipes would wake both processes in turn.
     """
@@ -120,8 +191,7 @@ def run_program(program: Path, text: str, *words: str) -> str:
         given.write(text.encode())
         given.seek(0)
         try:
-            with own_processor():
-                status = subprocess.call([program, *words], stdin=given, stdout=output, stderr=errors)
+            status = (together or Runs()).status_of(program, words, given, output, errors)
         except OSError as fault:
             raise ProgramError(f"{program}: {fault.strerror}; build crnsim, or name it with "
                                f"{argument('program')}") from fault
@@ -141,8 +211,13 @@ def run_all(program: Path, runs: Iterable[tuple[str, ...]], jobs: int = JOBS) ->
     given = list(runs)
     if len(given) == 1:  # as for most items of a catalogue: threads would take longer than the run
         return [run_program(program, *given[0])]
+    together = Runs()
     with ThreadPoolExecutor(jobs) as pool:  # whose map begins no more runs when one has failed
-        return list(pool.map(lambda run: run_program(program, *run), given))
+        try:
+            return list(pool.map(lambda run: run_program(program, *run, together=together), given))
+        except BaseException:
+            together.end()
+            raise
 
 
 def writes_known_report(program: Path) -> bool:

@@ -293,7 +293,7 @@ class Cases:
         self.theory, self.costs, feasible, step = theory, costs, theory.feasible, theory.step
         self.gaps = theory.every_gap(0, theory.most)
         self.lows = theory.lows_of(int(self.gaps[-1]))
-        if feasible.has_all_gaps:
+        if feasible.has_narrow_gaps:
             self.gaps = self.gaps[self.lows[self.gaps] > 0]
         self.orders = 1 / (theory.span * np.cumsum(self.lows))
         self.levels = np.unique(np.minimum(feasible.up(step * np.arange(self.gaps[-1] + width)), feasible.top)) / step

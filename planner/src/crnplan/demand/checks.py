@@ -17,8 +17,9 @@ from scipy import special
 from ..chances import Floats, Whole
 from ..errors import Refused
 from ..money import Number, whole
-from ..records.cells import first_day, period_name
+from ..records.dates import first_day, period_name
 from ..records.observed import History, Observed
+from ..records.quiet import chance_of_quiet, quiet_periods
 from ..remarks import Remark, Value
 from ..words import advised, sentence
 from .fitted import numbers_of
@@ -349,13 +350,9 @@ def _notes(facts: Facts) -> Iterator[Remark]:
     pack = Sample.of(numbers).pack
     if pack > 1:
         yield Remark("packs", {"pack": pack})
-    # If all orders of the periods are as likely, the chance that all demands fall into the first ones is that of
-    # drawing these periods without putting one back (Feller, An Introduction to Probability Theory and Its
-    # Applications, volume I, section II.6).
-    last = max(place for place, number in enumerate(numbers) if number)
-    chance = math.comb(last + 1, len(demands)) / math.comb(len(numbers), len(demands))
-    if chance <= NO_DEMAND:
-        yield Remark("no recent demand", {"periods": len(numbers) - 1 - last, "last": facts.name(last),
+    if (chance := chance_of_quiet(numbers)) <= NO_DEMAND:
+        quiet = quiet_periods(numbers)
+        yield Remark("no recent demand", {"periods": quiet, "last": facts.name(len(numbers) - 1 - quiet),
                                           "chance": chance})
     if len(demands) < LEAST_DEMANDS:
         yield Remark("few demands in record", {"demands": len(demands), "periods": len(numbers),

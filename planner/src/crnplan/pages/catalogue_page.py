@@ -13,17 +13,22 @@ from urllib.parse import quote
 
 from ..crnsim.program import find_program
 from ..curve.parts import Point
-from ..curve.exchange_curve import kept_curve
+from ..curve.exchange_curve import SAID, kept_curve
 from ..files import Folder, own_folder
 from ..jobs import batched
-from ..plan.answer import BOUNDED, CHEAPER, COMPARED, DEARER, SAME, SERVICE, UNCOMPARED, UNDECIDED, Answer
+from ..plan.answer import (BOUNDED, CHEAPER, CHOSEN, DEARER, SAME, SERVICE, TODAY, UNCOMPARED, UNDECIDED,
+                           Answer)
 from ..plan.backtest.catalogue import past_of
 from ..plan.catalogue import PlannedFolder, planned_folder
 from ..plan.item import Depth
+from ..plan.question import Settings
 from ..plan.survey import Decided, Survey, saving_of
 from ..plan.swings import keep_swings
-from ..records.catalogue_reading import CATALOGUE, missing_of
-from ..records.item import NEW, NO_DEMAND, Item
+from ..plan.totals import Totals
+from ..records.catalogue_reading import CATALOGUE, Catalogue, missing_of, stated_of
+from ..records.item import NEW, NO_DEMAND, PHASE_OUT, STOPPED, Item
+from ..records.overrides import DO_NOT_ORDER
+from ..records.told import told_of
 from ..remarks import Remark
 from ..table import DataTable
 from .backtest_tables import past_line
@@ -31,7 +36,10 @@ from .board import board_of
 from .catalogue_tables import (DECISION_COLUMNS, DECISIONS, EXACT, REJECTS, aims_of, catalogue_summary, decision_row,
                                decisions_of, exact_of, reasons_of, rejects_of)
 from .change_tables import CHANGES, change_lines, changes_of, moved_rows
+from .control_tables import controls_of
 from .item_page import ItemWords, item_page
+from .lateness import LATENESS, lateness_of
+from .today_tables import OrdersToday, orders_by_masters
 from .page import OF_CHOSEN, UNITS, Line, Money, Plot, Scale, curve_ends, percent, rendered
 
 SUMMARY, PAGE, FOUND = "summary.txt", "report.html", "found.toml"
@@ -53,15 +61,15 @@ MOST_LETTERS, KEPT_LETTERS, DIGITS = 120, 80, 32
 # The columns of the table of items, which are some of decisions.csv, and their headings.
 COLUMNS = {
     **{name: name.replace("_", " ") for name in (
-        "item", "description", "class", "verdict", "s_today", "S_today", "s_chosen", "S_chosen", "s_alone", "S_alone",
-        "cost_today", "cost_chosen", "saving", "by")},
+        "item", "description", "class", "verdict", "s_today", "S_today", "s_chosen", "S_chosen", "s_override", "S_override",
+        "s_alone", "S_alone", "cost_today", "cost_chosen", "saving", "cost_override", "by")},
     "run_saving": "saving by crnsim", "run_low": "crnsim from", "run_high": "crnsim to",
     "fill_today": "met at once today", "fill_chosen": "met at once chosen", "value_today": "stock value today",
     "value_chosen": "stock value chosen", "warnings": "warnings"}
 # Those that are printed.
 PRINTED = ("item", "description", "class", "verdict", "s_today", "S_today", "s_chosen", "S_chosen", "cost_today",
            "cost_chosen", "saving", "fill_today", "fill_chosen", "value_today", "value_chosen")
-OPTIONAL = ("s_alone", "S_alone")  # They are left out if no item has a figure in them.
+OPTIONAL = ("s_alone", "S_alone", "s_override", "S_override", "cost_override")  # They are left out if no item has a figure in them.
 # The most characters of a line: of texts by their columns, and of numbers.
 TEXTS, MOST_DIGITS = {"item": 22, "description": 26, "class": 12, "verdict": 14, "by": 8, "warnings": 60}, 16
 # The padding of a cell, and the width of a letter, in digits.
@@ -74,10 +82,16 @@ MEANING = {
     UNDECIDED: "Theory is rounded here, and the runs cannot tell which policy costs less.",
     SAME: "Today's policy is the best one already.",
     DEARER: "The chosen policy costs more, though it is the best by theory. Look at these items.",
-    BOUNDED: "No policy within the item's bounds meets the wanted share of demand at once. The chosen one meets most.",
-    UNCOMPARED: "The masters have no s and S, so nothing is compared. No sum of costs, savings or stock has these items.",
-    NEW: "Its past is too short for a law of its own, so it has that of its class or of all items. No sum has it either.",
-    NO_DEMAND: "Nobody has asked for it in the record: order nothing, and see whether its stock is still of use."}
+    BOUNDED: "No policy within the bounds that are stated for the item meets the wanted share of demand at once. The "
+             "chosen one meets most.",
+    UNCOMPARED: "The masters have no s and S, so nothing is compared. The sums of today and of savings do not have these "
+                "items.",
+    NEW: "Its past is too short for a law of its own, so it has that of its class or of all items. It is in the sums if it "
+         "has s and S today, as any other item.",
+    NO_DEMAND: "Nobody has asked for it in the record: order nothing, and see whether its stock is still of use.",
+    STOPPED: "It is asked for no longer, by its record or its status: order nothing. No sum has it.",
+    PHASE_OUT: "Its status says that its stock is used up: order what is owed at most. No sum has it.",
+    DO_NOT_ORDER: "Its planner has set that nothing is ordered. No sum has it."}
 
 
 class Shown(NamedTuple):
@@ -93,8 +107,9 @@ class Shown(NamedTuple):
         return *self.item.remarks, *own
 
 
-def catalogue_page(folder: PlannedFolder, survey: Survey) -> str:
-    """Returns the page of a planned catalogue, with a link to the page of each item that has one."""
+def catalogue_page(folder: PlannedFolder, survey: Survey, orders: OrdersToday | None = None) -> str:
+    """Returns the page of a planned catalogue, with a link to the page of each item that has one, and perhaps with the
+    orders of a day."""
     totals, settings, currency, curve = survey.totals, folder.settings, folder.currency, kept_curve(folder.store)
     rows = shown_items(survey.greatest, currency.digits)
     there = {path.name for path in (folder.path / ITEMS).glob("*.html")}
@@ -102,16 +117,19 @@ def catalogue_page(folder: PlannedFolder, survey: Survey) -> str:
     columns = [name for name in COLUMNS if name not in OPTIONAL or any(row.cells[name] for row in rows)]
 
     reasons, money = reasons_of(folder.read.rejects(survey.faults)), Money(currency.code, currency.decimals)
-    plot, points = exchange_plot(curve, money) if curve else (None, [])
+    shown_curve = curve or known_points(totals)
+    plot, points = exchange_plot(shown_curve, money) if shown_curve else (None, [])
     codes = Counter(code for row in rows for code in {remark.code for remark in row.remarks})
     return rendered("catalogue.html", {
         "every": folder.every, "money": money.exact, "currency": currency, "settings": settings,
-        "totals": totals, "sources": folder.counts["files"], "named": folder.counts["items"]["named"],
+        "totals": totals, "sources": folder.counts["files"],
+        "controls": controls_of(folder.read.controls(), folder.decimals, currency.code),
+        "remarks": folder.read.remarks(), "named": folder.counts["items"]["named"],
         "ends": totals.run_ends(settings.level), "aims": aims_of(folder, totals),
         "pages": {name: quote(f"{ITEMS}/{file}") for name, file in files.items() if file in there},
         "rows": rows, "lost": missing_of(folder.counts, totals.answered), "meanings": MEANING,
-        "compared": COMPARED,
-        "plot": plot, "points": points, "is_old": curve is not None, "headings": COLUMNS,
+        "orders": orders, "plot": plot, "points": points, "has_curve": bool(curve), "is_old": curve is not None,
+        "headings": COLUMNS,
         "savings": savings(rows), "styles": VERDICT_STYLES, "most_reasons": MOST_REASONS,
         "reasons": reasons, "board": board_of(folder, survey, reasons, money), "columns": columns,
         "printed": PRINTED, "rows_a_group": ROWS_A_GROUP, "texts": TEXTS,
@@ -137,22 +155,31 @@ def clipped(points: Sequence[tuple[float, float]], right: float, bottom: float) 
     return [*zip(places.tolist(), np.interp(places, values, shares).tolist())]
 
 
+def known_points(totals: Totals) -> list[tuple[str, Point]]:
+    """Returns the points of the exchange curve that are known before it is drawn, without their orders and costs."""
+    names = (TODAY, CHOSEN) if totals.compared else (CHOSEN,)
+    found = {name: totals.stock_and_service(name) for name in names}
+    return [(SAID[name], Point(*figures, math.nan, math.nan)) for name, figures in found.items() if figures]
+
+
 def exchange_plot(curve: Sequence[tuple[str, Point]], money: Money) -> tuple[Plot, list[dict[str, object]]]:
-    """Returns the exchange curve as a line, and its named points."""
+    """Returns the exchange curve as a line, if it has one, and its named points."""
     named = {name: point for name, point in curve if name}
     most, bottom = curve_ends(named.values())
     unit = money.unit([most])
     across, up = Scale.of([most / unit.size or 1.0]), Scale.between(bottom, 100.0)
-    line = clipped([(point.value / unit.size, 100 * point.fill) for name, point in curve if not name], across.high, bottom)
-    path = "L".join(f"{across.at(x):g} {UNITS - up.at(y):g}" for x, y in line)
+    line = [(point.value / unit.size, 100 * point.fill) for name, point in curve if not name]
+    ends = clipped(line, across.high, bottom) if line else []
+    path = "L".join(f"{across.at(x):g} {UNITS - up.at(y):g}" for x, y in ends)
     points: list[dict[str, object]] = [
         {"name": name, "css": f"point-{place}", "form": FORMS[place], "figures": point,
          "x": round(across.at(point.value / unit.size) / 10, 2), "y": round(100 - up.at(100 * point.fill) / 10, 2)}
         for place, (name, point) in enumerate(named.items())]
     said = "; ".join(f"{name}: {percent(point.fill, 2)} met at once with a stock of {money.exact(point.value)}"
                      for name, point in named.items())
-    return Plot("Exchange curve: demand met at once against the value of the stock", f"{said}.", up, across.marks,
-                money.heading("value of the mean stock", unit), [Line("", OF_CHOSEN, f"M{path}")]), points
+    title = "demand met at once against the value of the stock"
+    return Plot(f"Exchange curve: {title}" if path else title.capitalize(), f"{said}.", up, across.marks,
+                money.heading("value of the mean stock", unit), [Line("", OF_CHOSEN, f"M{path}")] * bool(path)), points
 
 
 def savings(rows: Sequence[Shown]) -> dict[str, object]:
@@ -208,38 +235,53 @@ def write_tables(folder: Folder, planned: PlannedFolder, answers: Iterable[Decid
     return Survey.of(planned, MOST_ROWS, tabled(folder, planned, answers))
 
 
+def write_found(folder: Folder, read: Catalogue, settings: Settings) -> str:
+    """Writes what was stated of the tables of a catalogue and of its planning, and what was found, and returns it."""
+    found = stated_of(read, told_of(settings))
+    folder.write(FOUND, found)
+    return found
+
+
 def write_catalogue(folder: Folder, planned: PlannedFolder, survey: Survey, learned: Sequence[Remark],
                     missing: Sequence[str]) -> str:
     """Writes what a planned catalogue has beside its tables, the summary and the page, and returns the summary."""
     folder.write(REJECTS, rejects_of(planned.read.rejects(survey.faults)).lines)
-    folder.remove(CHANGES)
+    folder.remove(CHANGES, LATENESS)
     if planned.planned.earlier:
         folder.write(CHANGES, changes_of(planned).lines)
+    lateness = lateness_of(planned.read)
+    if lateness.rows:
+        folder.write(LATENESS, lateness.lines)
     summary = catalogue_summary(planned, survey.totals, learned, change_lines(planned), missing)
     folder.write(SUMMARY, summary)
     folder.write(PAGE, catalogue_page(planned, survey))
     return summary
 
 
-def report(folder: str | Path, items: Iterable[str] = (), *, jobs: int | None = None, cluster: str | None = None,
-           program: str | Path | None = None, progress: bool = False) -> Path:
+def report(folder: str | Path, items: Iterable[str] = (), *, orders: OrdersToday | None = None,
+           jobs: int | None = None, cluster: str | None = None, program: str | Path | None = None,
+           progress: bool = False) -> Path:
     """Writes the page of a planned folder, report.html, and returns its path.
 
     `folder` is that of `plan`, or of `crnplan catalogue`, in which the run has ended. The page has what the plan saves
     a year, with service and stock before and after, what would change that, the exchange curve if `exchange_curve` has
     drawn it, the greatest savings, what was left out and why, and a table of all items, which sorts and filters; above
-    5,000 items, of those with the greatest saving or loss. It is one file that asks for no other; the same plan gives
-    the same bytes.
+    5,000 items, of those with the greatest saving or loss. It has the `orders` that `Plan.orders_today` gives, or without
+    them those of today by the stock of the masters, if these have one: that it is not known what is on order is said. It
+    is one file that asks for no other; the same plan and orders give the same bytes.
 
-    What would change the answer is computed for at most 100 items by `jobs` processes or a Dask `cluster`, and kept in
+    What would change the answer is computed for at most 120 items by `jobs` processes or a Dask `cluster`, and kept in
     the folder.
 
     `items` get pages of their own first, below `items` in the folder, to which the table links. These need the program
     crnsim, found as `program` says. Raises Refused for a folder without a finished plan of the rows that were read
     last, for an item that is not planned, and for a folder that cannot be written; and ProgramError.
     """
+    orders = orders or orders_by_masters(Path(folder))
     with planned_folder(Path(folder)) as planned, own_folder(Path(folder), CATALOGUE) as own:
         planned.check()
+        if orders:
+            orders.check(planned)
         for name in items:
             item, answer = planned.item(name)
             own.claim(f"{ITEMS}/", in_place=True)
@@ -249,5 +291,5 @@ def report(folder: str | Path, items: Iterable[str] = (), *, jobs: int | None = 
             own.write(f"{ITEMS}/{file_name(name)}", item_page(words))
         survey = Survey.of(planned, MOST_ROWS)
         keep_swings(own, planned, survey, jobs=jobs, address=cluster, shown=progress)
-        own.write(PAGE, catalogue_page(planned, survey))
+        own.write(PAGE, catalogue_page(planned, survey, orders))
     return Path(folder) / PAGE

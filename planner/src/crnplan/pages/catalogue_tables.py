@@ -9,10 +9,12 @@ from typing import TYPE_CHECKING
 from ..plan.aims import CLASSES
 from ..plan.answer import RUN, THEORY, Answer, Figures
 from ..records.classes import xyz_of
-from ..records.item import NO_DEMAND, Item
+from ..records.item import NO_DEMAND, UNORDERED, Item
+from ..records.items import OUTSIDE
 from ..remarks import Remark
 from ..table import MONEY, Cell, Column, DataTable, exact, number, text, whole
-from ..words import advice, pattern, sentence
+from ..words import advice, counted, pattern, sentence
+from .control_tables import controls_of
 from .page import rendered
 
 if TYPE_CHECKING:
@@ -22,6 +24,8 @@ if TYPE_CHECKING:
     from ..records.items import FileCounts, Reject
 
 DECISIONS, EXACT, REJECTS = "decisions.csv", "exact.csv", "rejects.csv"
+UNREAD_ROWS, READ_ROWS = "unread", "read"  # Rows that are left out: for a cell that can't be read, or for what it says.
+AS_READ = frozenset((*OUTSIDE, "total", "twin", "twins", "before order", "lead range"))  # codes of the latter
 PLANNED_BY = {THEORY: "theory", RUN: "crnsim"}
 
 
@@ -33,7 +37,8 @@ def money(name: str, meaning: str) -> Column:
 DECISION_COLUMNS = (
     text("item", "the item"), text("description", "of the masters"),
     text("class", "of the masters; that of `abc` if no item has one there"),
-    text("verdict", "cheaper, more service, undecided, same, dearer, bounded; no policy today; new; or no demand"),
+    text("verdict", "cheaper, more service, undecided, same, dearer, bounded; no policy today; new; or without an order: "
+         "no demand, stopped (asked for no longer), phase out or do not order"),
     *(whole(f"{letter}_{policy}", "items", f"{letter} of {words}") for policy, words in (
         ("today", "today's policy"), ("chosen", "the chosen policy")) for letter in "sS"),
     money("cost_today", "what today's policy costs: by theory, or by crnsim (column by)"),
@@ -52,7 +57,7 @@ DECISION_COLUMNS = (
     *(number(f"value_{it}", "money", "that stock at the price of the masters", MONEY) for it in ("today", "chosen")),
     *(number(f"orders_{it}", "orders a period", "by theory", ".5g") for it in ("today", "chosen")),
     money("cost_confidence", "what the confidence in the wanted fill costs, by theory"),
-    money("cost_coverage", "what it costs that S covers no more periods of demand, by theory"),
+    money("cost_coverage", "what it costs that S, or S less s, covers no more periods of demand, by theory"),
     whole("s_alone", "items", "s of the policy by the item's own history alone"), whole("S_alone", "items", "its S"),
     money("cost_alone", "what that policy costs under the law that the item has, by theory"),
     number("fill_alone", "share", "of demand that it meets at once", ".4f"),
@@ -70,7 +75,13 @@ DECISION_COLUMNS = (
     number("fill_high", "share", "that it meets under no more than a tenth", ".4f"),
     money("cost_low", "what its chosen policy costs, under these laws, if it has a backlog cost"),
     money("cost_high", "the same"),
-    text("codes", "codes of all that must be said of the item"), text("warnings", "the same in words"))
+    text("codes", "codes of all that must be said of the item"), text("warnings", "the same in words"),
+    text("override", "what the planner has set, whatever is chosen: levels, or do not order"),
+    whole("s_override", "items", "s that the planner has set, by which is ordered"), whole("S_override", "items", "its S"),
+    money("cost_override", "what that policy costs more than the chosen one, by theory"),
+    number("fill_override", "share", "of demand that it meets at once, by theory", ".4f"),
+    text("override_reason", "of the planner"))
+OVERRIDDEN = [column.name for column in DECISION_COLUMNS[-6:]]
 EXACT_COLUMNS = (
     text("item", "the item"),
     *(whole(f"{letter}_{it}", "boxes", "as run") for it in ("today", "chosen") for letter in "sS"),
@@ -103,15 +114,26 @@ def level_cells(*policies: Figures | None) -> list[Cell]:
     return [level for policy in policies for level in (policy.levels if policy else (None, None))]
 
 
+def override_cells(item: Item, answer: Answer | None) -> list[Cell]:
+    """Returns what the planner has set of an item, and what that comes to, if it is planned."""
+    override, figures = item.override, answer and answer.override
+    if override is None:
+        return [None] * len(OVERRIDDEN)
+    s, S = override.levels or (None, None)
+    cost = answer.override_cost if answer else None
+    return [override.kind, s, S, cost, figures.fill if figures else None, override.reason]
+
+
 def idle_row(item: Item, why: Remark) -> list[Cell]:
-    """Returns the row of an item without demand: nothing is ordered."""
+    """Returns the row of an item of which nothing is ordered."""
     s, S = item.levels or (None, None)
     cells: dict[str, Cell] = {
         "item": item.name, "description": item.description, "class": item.category, "verdict": item.past, "s_today": s,
         "S_today": S, "s_chosen": 0, "S_chosen": 0, "fill_wanted": None if item.fill is None else float(item.fill),
         "stock_today": None if item.stock is None else float(item.stock),
-        "value_today": None if item.value is None else float(item.value), "demand": 0.0, "periods": len(item.counts),
-        "periods_with_demand": 0, **said_of(item, why)}
+        "value_today": None if item.value is None else float(item.value), "demand": 0.0 if item.past == NO_DEMAND else None,
+        "periods": len(item.counts), "periods_with_demand": item.demands, **said_of(item, why),
+        **dict(zip(OVERRIDDEN, override_cells(item, None)))}
     return [cells.get(column.name) for column in DECISION_COLUMNS]
 
 
@@ -122,7 +144,7 @@ def said_of(item: Item, *more: Remark) -> dict[str, str]:
 
 
 def decision_row(item: Item, answer: Answer | Remark) -> list[Cell]:
-    """Returns the row of an item in decisions.csv, unrounded: of a planned one, or of one without demand."""
+    """Returns the row of an item in decisions.csv, unrounded: of a planned one, or of one that is not ordered."""
     if isinstance(answer, Remark):
         return idle_row(item, answer)
     today, chosen, alone, run, correction = (
@@ -139,7 +161,7 @@ def decision_row(item: Item, answer: Answer | Remark) -> list[Cell]:
             alone.cost if alone else None, alone.fill if alone else None, answer.law.mean, len(item.counts),
             item.demands, answer.law.family, answer.law.share, answer.law.log10_bayes,
             item.abc, xyz_of(item.counts), *(astuple(allowed) if allowed else [None] * 4),
-            *said_of(item, *answer.remarks).values()]
+            *said_of(item, *answer.remarks).values(), *override_cells(item, answer)]
 
 
 def exact_row(item: Item, answer: Answer) -> list[Cell]:
@@ -157,10 +179,10 @@ def exact_row(item: Item, answer: Answer) -> list[Cell]:
 
 
 def decisions_of(folder: PlannedFolder, answers: Iterable[Decided]) -> DataTable:
-    """Returns the decisions of a folder: of its items with their answers a row for each that is planned or has no
-    demand."""
+    """Returns the decisions of a folder: of its items with their answers a row for each that is planned, or of which no
+    order is."""
     rows = (decision_row(item, answer) for item, answer in answers
-            if isinstance(answer, Answer) or item.past == NO_DEMAND)
+            if isinstance(answer, Answer) or item.past in UNORDERED)
     return folder.table(DECISION_COLUMNS, rows)
 
 
@@ -168,6 +190,13 @@ def exact_of(answers: Iterable[Decided]) -> DataTable:
     """Returns the exact figures of the runs of the items that are planned."""
     rows = (exact_row(item, answer) for item, answer in answers if isinstance(answer, Answer))
     return DataTable(EXACT_COLUMNS, rows, missing="")
+
+
+def was_read(remark: Remark) -> bool:
+    """Returns whether the cells of a row that is left out were read, and it is left out for what they say."""
+    several = remark.code == "several"
+    codes = [code for place, code in remark.facts.items() if place.isdigit()] if several else [remark.code]
+    return all(code in AS_READ for code in codes)
 
 
 @dataclass
@@ -183,6 +212,18 @@ class Reason:
     valued: int = 0
     value: Fraction = Fraction(0)
     items: set[str] = field(default_factory=set)
+
+    @property
+    def group(self) -> str:
+        """Returns its kind; of rows that are left out `unread` or `read`."""
+        if self.kind != "row":
+            return self.kind
+        return READ_ROWS if was_read(self.first.remark) else UNREAD_ROWS
+
+    @property
+    def lines(self) -> int:
+        """Returns how many rows there are: of an item all that it has."""
+        return self.rows if self.kind == "item" else max(self.rows, self.count)
 
     @property
     def pattern(self) -> str:
@@ -225,7 +266,18 @@ def counted_rows(files: Mapping[str, FileCounts]) -> Iterator[str]:
     for counts in files.values():
         yield (f"{counts['name']}: {counts['read']:,} rows = {counts['used']:,} used + {counts['rejected']:,} rejected "
                f"+ {counts['with_item']:,} left out with their item"
+               + f" + {counts['other']:,} other rows" * (counts["other"] > 0)
                + f"; {counts['blank']:,} blank rows" * (counts["blank"] > 0))
+
+
+def hardly_read(files: Mapping[str, FileCounts]) -> Iterator[str]:
+    """Yields a line for each file of which more than half of the rows were rejected, or no row is used."""
+    for counts in files.values():
+        read, rejected = counts["read"], counts["rejected"]
+        if 2 * rejected > read:
+            yield f"{counts['name']}: {rejected:,} of {read:,} rows were rejected, more than half"
+        elif read and not counts["used"]:
+            yield f"{counts['name']}: none of {counted(read, 'row')} is used"
 
 
 def aims_of(folder: PlannedFolder, totals: Totals) -> DataTable | None:
@@ -245,9 +297,12 @@ def catalogue_summary(folder: PlannedFolder, totals: Totals, learned: Sequence[R
     """Returns as a text what became of all rows and items, what was learned, the totals, lines on what has changed
     since an earlier plan, and what is lost."""
     from ..records.catalogue_reading import defaulted
+    from .lateness import receipt_remarks
     return rendered("summary.txt", {
         "settings": folder.settings, "every": folder.every, "items": folder.counts["items"], "totals": totals,
         "files": counted_rows(folder.counts["files"]), "rejects": REJECTS, "learned": learned, "changes": changes,
         "ends": totals.run_ends(folder.settings.level), "missing": missing, "aims": aims_of(folder, totals),
-        "money": folder.currency.text, "sources": defaulted(folder.read.fact("sources")),
+        "money": folder.currency.text, "remarks": folder.read.remarks(),
+        "controls": controls_of(folder.read.controls(), folder.decimals, folder.currency.code),
+        "sources": [*defaulted(folder.read.fact("sources")), *receipt_remarks(folder.read)],
         "cuts": folder.read.fact("abc")})

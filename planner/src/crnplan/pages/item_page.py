@@ -25,12 +25,13 @@ from ..plan.answer import BOUNDED, CHEAPER, CHOSEN, DEARER, SAME, SERVICE, THEOR
 from ..plan.item import Coming, Depth, Facts, planned, read_item
 from ..plan.question import Question
 from ..plan.settings import as_setting
-from ..records.cells import EVERY, period_name
+from ..records.dates import EVERY, period_name
 from ..records.item import NEW
 from ..remarks import Remark
 from ..table import MONEY, Cell, DataTable, number as numbers, text, whole
 from ..words import PREMISE, advised, exactness, sentence
 from .catalogue_tables import DECISION_COLUMNS, EXACT, decision_row, exact_of
+from .law_words import law_said, law_words
 from .page import (OF_CHOSEN, OF_TODAY, UNITS, Line, Plot, Scale, capital, marks_of, number, percent, rendered,
                    tick)
 
@@ -84,23 +85,6 @@ MOST_BARS = 520
 # The classes of lines of the law of a period's demand (its mean, and what 99 of 100 periods do not exceed), and of the
 # law of the item alone.
 MEAN, HIGH, OF_ALONE = "of-mean", "of-high", "of-alone"
-
-
-def law_words(law: FittedLaw) -> str:
-    """Returns in words what a figure is by that rests on a law: on a fitted one, or on the history."""
-    its, method = law.diagnostics, law.diagnostics.method
-    if law.family == EMPIRICAL:
-        is_unlike = method != EMPIRICAL and not law.is_of_leads
-        return "this history" + f" ({method}: no family gives it back)" * is_unlike
-    if its.borrowed and not its.borrowed.alone:
-        borrowed = its.borrowed
-        source = "all items of the catalogue" if borrowed.prior == "all" else f"the items of class {borrowed.prior}"
-        return f"the law learned from {source}" + f" ({1 - borrowed.share:.0%} from what was seen)" * (
-            borrowed.share < 1)
-    others = len(its.families) - 1
-    named = law.family + f" {its.families.get(law.family, 1):.0%} and {others} more" * (others > 0)
-    seen = f"; {1 - its.share:.0%} from what was seen" * (its.share < 1)
-    return f"the law fitted to this history ({f'{method}: ' * (method != law.family)}{named}{seen})"
 
 
 class ItemWords:
@@ -251,12 +235,27 @@ class ItemWords:
 
     @property
     def notes(self) -> list[str]:
+        """Returns what is to be said of the files and the history, and of how its law was fitted."""
+        return [*self.plain_notes, *self.statistics]
+
+    @property
+    def plain_notes(self) -> list[str]:
         """Returns what is to be said of the files, by their names without folders and with the keys of the settings for
-        arguments; of the history, and of how its law was fitted."""
+        arguments, and of the history."""
         with spelt(as_setting):
             heard = [advised(note) if isinstance(note, Remark) else worded(
                 replace(note, file=Path(note.file).name).message) for note in self.heard]
-        return [*map(capital, (*heard, *map(sentence, self.item.remarks), *fit_words(self.question.demand)))]
+        return [*map(capital, (*heard, *map(sentence, self.item.remarks)))]
+
+    @property
+    def statistics(self) -> list[str]:
+        """Returns how the law of demand was fitted, for statisticians; nothing if it is as it was seen."""
+        return [*map(capital, fit_words(self.question.demand))]
+
+    @property
+    def law_said(self) -> str:
+        """Returns in plain words by which law demand is planned."""
+        return law_said(self.question.demand)
 
     @property
     def over_coming_periods(self) -> str:

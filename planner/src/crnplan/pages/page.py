@@ -18,7 +18,7 @@ from typing import TYPE_CHECKING, Any, NamedTuple
 from .. import __version__
 from ..compiled import cache_folder
 from ..money import Currency
-from ..words import PREMISE, sentence
+from ..words import PREMISE, advised, sentence
 
 if TYPE_CHECKING:
     import jinja2
@@ -33,7 +33,7 @@ MOST_SIGNS = 12  # of texts at an axis that have room on a narrow page
 MARKS = 4
 ROOM, BELOW = 1.35, 4.0  # times the greatest stock of a named point, and percent below the least service of one
 # From which amount on, how much of it is one, and its word: of amounts of money.
-WORDS = ((1e9, 1e9, "billion"), (1e6, 1e6, "million"), (1e5, 1e3, "thousand"))
+WORDS = ((1e12, 1e12, "trillion"), (1e9, 1e9, "billion"), (1e6, 1e6, "million"), (1e5, 1e3, "thousand"))
 MINUS = "\u2212"
 FIGURES = 3  # of an amount that is rounded for a reader
 LARGE = 1_000  # Sums of so much money are shown in whole numbers.
@@ -65,7 +65,7 @@ class Unit(NamedTuple):
         size, word = next(((size, word) for least, size, word in WORDS if most >= least), (1.0, ""))
         if size == 1:
             return cls(size, word, 0 if most >= 10**(FIGURES - 1) else decimals)
-        return cls(size, word, max(0, FIGURES - len(f"{most / size:.0f}")))
+        return cls(size, word, max(0, FIGURES - len(str(int(most / size)))))
 
     def cell(self, amount: float) -> str:
         """Returns an amount in a column of this unit."""
@@ -121,6 +121,7 @@ def templates(is_html: bool) -> jinja2.Environment:
     """Returns the templates of the package. As numba does with loops, jinja2 keeps what it compiles in the user's folder
     for caches, if it can."""
     import jinja2
+    own = cache_folder()
 
     class Kept(jinja2.FileSystemBytecodeCache):
         def load_bytecode(self, bucket: jinja2.bccache.Bucket) -> None:
@@ -129,12 +130,11 @@ def templates(is_html: bool) -> jinja2.Environment:
 
         def dump_bytecode(self, bucket: jinja2.bccache.Bucket) -> None:
             with contextlib.suppress(OSError):
-                cache_folder().mkdir(parents=True, exist_ok=True)
                 super().dump_bytecode(bucket)
     pages = jinja2.Environment(loader=jinja2.PackageLoader("crnplan.pages"), autoescape=is_html, trim_blocks=True,
                                lstrip_blocks=True, keep_trailing_newline=True, undefined=jinja2.StrictUndefined,
-                               bytecode_cache=Kept(str(cache_folder())))
-    pages.filters |= {"number": number, "percent": percent, "capital": capital, "sentence": sentence,
+                               bytecode_cache=Kept(str(own)) if own else None)
+    pages.filters |= {"number": number, "percent": percent, "capital": capital, "sentence": sentence, "advised": advised,
                       "source": source, "quoted": partial(json.dumps, ensure_ascii=False)}
     pages.globals |= {"version": __version__, "premise": PREMISE}
     return pages

@@ -6,7 +6,9 @@ in grey.
 from __future__ import annotations
 
 import contextlib
+import io
 import math
+import os
 from collections.abc import Mapping, Sequence
 from pathlib import Path
 from typing import Any
@@ -14,14 +16,18 @@ from typing import Any
 import numpy as np
 
 from ..chances import Floats
+from ..compiled import cache_folder, has_home
 from ..crnsim.trajectory import Period
 from ..curve.parts import Point
 from ..decide.doubt import MOST, Doubt
 from ..decide.verdicts import Compared, Decision
 from ..errors import Refused
+from ..files import named_bytes
 from ..scenario import Policy
 from .page import Money, curve_ends
 
+if not has_home():  # for whom matplotlib would fail
+    os.environ.setdefault("MPLCONFIGDIR", str(cache_folder() or os.devnull))
 try:
     import matplotlib
     from matplotlib import cm, colors, ticker
@@ -63,12 +69,13 @@ def blank(width: float, height: float, rows: int = 1) -> tuple[Figure, list[Axes
 
 @STYLED
 def save(figure: Figure, path: str | Path) -> None:
-    """Writes a picture. The same picture gives the same bytes. Raises Refused if the file cannot be written."""
+    """Writes a picture into a file that the user has named. The same picture gives the same bytes. Raises Refused if the
+    file cannot be written."""
     kind = Path(path).suffix[1:].lower()
-    try:
-        figure.savefig(path, format=kind, dpi=150, metadata={"Date": None} if kind == "svg" else {"Software": None})
-    except OSError as fault:
-        raise Refused(f"{path}: {fault.strerror or fault}") from fault
+    data = io.BytesIO()
+    figure.savefig(data, format=kind, dpi=150, metadata={"Date": None} if kind == "svg" else {"Software": None})
+    with named_bytes(Path(path)) as file:
+        file.write(data.getbuffer())
 
 
 def marker_of(colour: str, form: str, is_filled: bool) -> dict[str, Any]:

@@ -3,6 +3,8 @@ additions, what is left out), and what they add up to as a text."""
 from __future__ import annotations
 
 import datetime
+import math
+import re
 import tempfile
 from collections.abc import Iterable, Mapping, Sequence
 from dataclasses import dataclass, field, replace
@@ -11,16 +13,20 @@ from functools import cached_property
 from pathlib import Path
 from typing import TYPE_CHECKING
 
+from ..errors import Refused
 from ..files import Folder
-from ..money import Amount, Currency, amount_of
-from ..plan.catalogue import copied_folder
+from ..money import Currency
+from ..plan.catalogue import PlannedFolder, copied_folder, planned_folder
+from ..plan.risk import Risk, risks_of
+from ..plan.ended import Ended
 from ..plan.today import Addition, Group, Lying, Money, Standing, Today, sum_of_money, today_of
-from ..records.defaults import read_argument
-from ..records.item import Item
+from ..records.item import PHASE_OUT, Item
 from ..records.items import Words
 from ..records.observed import Day, stated_day
-from ..records.sources import Table
+from ..records.opening import Table
 from ..records.stock import NONE
+from ..records.told import merged, told_of, words_from
+from ..remarks import Remark
 from ..table import MONEY, Cell, Column, DataTable, TextResult, names_of, number, text, whole
 from ..words import counted, sentence
 from .catalogue_tables import REJECT_COLUMNS, counted_rows, reasons_of, rejects_of
@@ -31,6 +37,7 @@ if TYPE_CHECKING:
 
 TODAY, SUMMARY = "today", "today.txt"  # the kind of the folder, and its text
 MOST_URGENT, MOST_NAMED = 10, 8
+WITHOUT = "without what is on order"
 URGENT = ["item", "stock", "on_order", "owed", "s", "S", "placed", "value", "weeks", "chance", "latest"]  # of the text
 
 
@@ -50,27 +57,35 @@ def weeks(name: str, meaning: str) -> Column:
 NAMED = (text("item", "the item"), text("description", "of the masters"), text("class", "of the masters"),
          text("supplier", "of the masters"))
 STOCK = items("stock", "by the table of stock, else by the masters; not below 0")
+ON_ORDER = items("on_order", "ordered before, and still to come")
 OWED = items("owed", "to customers; what a stock is below 0, too")
-LEVELS = whole("s", "items", "s of the chosen policy"), whole("S", "items", "its S")
+LEVELS = whole("s", "items", "s of the chosen policy, or of the planner's"), whole("S", "items", "its S")
 POSITION = items("position", "the stock, less what is owed, plus all that is on order")
 ORDER_COLUMNS = (
-    *NAMED, STOCK, items("on_order", "ordered before, and still to come"), OWED, POSITION, *LEVELS,
+    *NAMED, STOCK, ON_ORDER, OWED, POSITION, *LEVELS,
     items("order", "S less the position, as that is below s"), whole("packs", "packs", "that order, rounded up"),
     whole("placed", "items", "the order in whole packs"),
     worth("value", "the placed order at the price of the masters"),
     weeks("weeks", "until a shortage at mean demand if nothing came: the stock less what is owed, over the mean"),
     number("chance", "share", "the chance of a shortage before delivery: that the demand of a lead time and one more "
            "period exceeds the stock less what is owed and what is due by then, by the laws of the plan, if periods "
-           "are independent; what has no date, or is overdue, comes in time", ".5g", ".1%"),
-    text("latest", "the day on which the order has to leave to arrive, at mean demand and after the mean lead time, "
-         "before the position is used up; today if that is past"),
-    text("code", "of the reason; of items without an order, why nothing is known of them"), text("why", "it in words"))
+           "are independent; what has no date, or is overdue, comes in time (at_risk has it without that)", ".5g",
+           ".1%"),
+    text("latest", "the day on which the order has to leave: today, as the position is below s; if the least value of "
+         "its supplier's order is not met whatever is added, until when it may wait: at mean demand and after the mean "
+         "lead time it arrives before the position is used up"),
+    text("code", "of the reasons; of items without an order, why nothing is known of them"), text("why", "it in words"))
 ABOVE_COLUMNS = (
     *NAMED, STOCK, OWED, POSITION, *LEVELS, items("excess", "the position less S"), worth("value", "of the excess"),
     weeks("weeks", "until the excess is used at mean demand"))
 DEAD_COLUMNS = (
     *NAMED, STOCK, whole("periods", "periods", "at the end of the record without demand: a year or more"),
     worth("value", "of the stock"))
+STOPPED_COLUMNS = (
+    *NAMED, text("status", "stopped (asked for no longer, by its status or its record), do not order (as its planner has set), "
+                 "or phase out: of these what is owed is ordered"), STOCK, OWED, items("on_order", "ordered before, and still to come"),
+    whole("periods", "periods", "at the end of the record without demand"), worth("value", "of the stock"),
+    text("code", "of the reasons"), text("why", "it in words"))
 OWED_COLUMNS = (*NAMED, STOCK, OWED, POSITION, *LEVELS, whole("placed", "items", "today's order, in whole packs"),
                 worth("value", "of the items owed"))
 SUM_COLUMNS = (
@@ -80,21 +95,50 @@ SUM_COLUMNS = (
 CLASS_COLUMNS = (text("class", "of the masters"), *SUM_COLUMNS)
 SUPPLIER_COLUMNS = (
     text("supplier", "of the masters"), *SUM_COLUMNS, worth("minimum", "the least value of an order of the supplier"),
-    worth("short", "by how much today's orders lack it; 0 if nothing is ordered"))
+    worth("short", "by how much today's orders lack it; 0 if nothing is ordered"),
+    text("number", "of today's order: the day, and the place of the supplier among all of the plan; empty if nothing "
+         "is ordered"), text("file", "with the lines of that order, beside this file"))
 ADDED_COLUMNS = (
     *NAMED, POSITION, *LEVELS, weeks("weeks", "of mean demand that the position is above s"),
     whole("packs", "packs", "an order up to S, rounded up"), whole("placed", "items", "that order in whole packs"),
     worth("value", "of that order"), worth("total", "of all orders of the supplier with this one"))
+LINE_COLUMNS = (
+    text("number", "of the order of a supplier"), text("supplier", "of the masters"), text("ordered", "the day"),
+    text("due", "the day after the mean lead time, in days rounded up"), text("item", "the item"),
+    text("description", "of the masters"), whole("packs", "packs", "that are ordered"),
+    whole("pack", "items", "in each of them"), whole("placed", "items", "the order in whole packs"),
+    worth("price", "of an item, by the masters"), worth("value", "of the placed order"),
+    text("code", "of the reasons"), text("why", "it in words"))
+RISK_COLUMNS = (
+    *NAMED, STOCK, ON_ORDER, OWED, whole("overdue_orders", "orders", "that were due before the day"),
+    items("overdue", "on these orders"), whole("days_late", "days", "since the oldest of them was due"),
+    text("next_receipt", "the next day on which an order is due; empty if that is an order of today"),
+    number("days", "days", "until then; of an order of today the mean lead time", ".4g"),
+    weeks("weeks", "until a shortage at mean demand if nothing came: the stock less what is owed, over the mean"),
+    number("chance", "share", "the chance of a shortage before the next receipt, if what is overdue or has no date comes "
+           "in time: that the demand of the periods until then, rounded up, or of the lead time of an order of today and "
+           "one more period, exceeds what is there", ".5g", ".1%"),
+    number("chance_without", "share", "the same if none of that comes before", ".5g", ".1%"),
+    number("short", "items", "expected to lack then, if none of that comes before", ".5g"),
+    worth("value", "of what is expected to lack: the item to expedite first is the first row"),
+    text("code", "of the reasons"), text("why", "it in words"))
 
 
 # The tables by name, with their columns.
-TABLES = {"orders": ORDER_COLUMNS, "above": ABOVE_COLUMNS, "dead": DEAD_COLUMNS, "owed": OWED_COLUMNS,
-          "classes": CLASS_COLUMNS, "suppliers": SUPPLIER_COLUMNS, "added": ADDED_COLUMNS, "left_out": REJECT_COLUMNS}
+TABLES = {"orders": ORDER_COLUMNS, "above": ABOVE_COLUMNS, "dead": DEAD_COLUMNS, "stopped": STOPPED_COLUMNS,
+          "owed": OWED_COLUMNS, "classes": CLASS_COLUMNS, "suppliers": SUPPLIER_COLUMNS, "added": ADDED_COLUMNS, "lines": LINE_COLUMNS,
+          "at_risk": RISK_COLUMNS, "left_out": REJECT_COLUMNS}
+SUPPLIER_FILE = re.compile("today_supplier_[0-9]{3,}[.]csv")
 
 
 def file_of(table: str) -> str:
     """Returns the file of a table."""
     return f"today_{table}.csv"
+
+
+def supplier_file(place: int) -> str:
+    """Returns the file of the order of a supplier, by its place: no name comes from masters."""
+    return f"today_supplier_{place:03}.csv"
 
 
 def named(item: Item) -> list[Cell]:
@@ -106,14 +150,34 @@ def plain(amount: Money) -> float | None:
 
 
 def levels_of(standing: Standing) -> list[Cell]:
-    return [float(standing.position), *standing.answer.chosen.levels]
+    return [float(standing.position), *standing.levels]
 
 
-def order_row(standing: Standing) -> list[Cell]:
-    hand, reason = standing.hand, standing.reason
+def said(remarks: Sequence[Remark]) -> list[Cell]:
+    """Returns the codes of remarks, and their words."""
+    return ["; ".join(remark.code for remark in remarks), "; ".join(map(sentence, remarks))]
+
+
+def order_row(today: Today, standing: Standing) -> list[Cell]:
+    hand = standing.hand
     return [*named(standing.item), float(hand.stock), float(standing.on_order), float(hand.owed), *levels_of(standing),
             float(standing.to_level), standing.packs, standing.placed, plain(standing.worth(standing.placed)),
-            standing.weeks, standing.chance, str(standing.latest), reason.code, sentence(reason)]
+            standing.weeks, standing.chance, str(today.latest(standing)), *said(today.reasons(standing))]
+
+
+def line_row(today: Today, standing: Standing) -> list[Cell]:
+    """Returns a line of the order of a supplier."""
+    item = standing.item
+    return [today.number(item.supplier), item.supplier, str(today.day), str(standing.due), item.name, item.description,
+            standing.packs, item.bounds.pack, standing.placed, plain(item.price),
+            plain(standing.worth(standing.placed)), *said(today.reasons(standing))]
+
+
+def risk_row(risk: Risk) -> list[Cell]:
+    standing = risk.standing
+    return [*named(standing.item), float(standing.hand.stock), float(standing.on_order), float(standing.hand.owed),
+            len(standing.overdue), float(risk.overdue), risk.days_late, str(risk.receipt or ""), risk.days, standing.weeks, risk.chance,
+            risk.chance_without, risk.short, risk.value, *said(risk.reasons)]
 
 
 def above_row(standing: Standing) -> list[Cell]:
@@ -124,6 +188,12 @@ def above_row(standing: Standing) -> list[Cell]:
 
 def dead_row(lying: Lying) -> list[Cell]:
     return [*named(lying.item), float(lying.stock), lying.periods, plain(lying.value)]
+
+
+def stopped_row(ended: Ended) -> list[Cell]:
+    stock, owed = (ended.hand.stock, ended.hand.owed) if ended.hand else (None, None)
+    return [*named(ended.item), ended.item.past, plain(stock), plain(owed), float(ended.on_order), ended.periods,
+            plain(ended.value), *said(ended.reasons)]
 
 
 def owed_row(standing: Standing) -> list[Cell]:
@@ -137,8 +207,9 @@ def sum_row(group: Group) -> list[Cell]:
         group.value, group.excess, group.dead_value, group.owed))]
 
 
-def supplier_row(group: Group) -> list[Cell]:
-    return [*sum_row(group), plain(group.minimum), float(group.short)]
+def supplier_row(today: Today, group: Group) -> list[Cell]:
+    order = [today.number(group.name), supplier_file(today.place(group.name))] if group.due else ["", ""]
+    return [*sum_row(group), plain(group.minimum), float(group.short), *order]
 
 
 def added_row(addition: Addition) -> list[Cell]:
@@ -151,8 +222,7 @@ def short_of(group: Group) -> tuple[Group, str, Fraction]:
     """Returns a supplier whose order is below its least value, with what to add, and what is lacking then."""
     added = [*group.additions()]
     names = [f"{it.standing.placed:,} {it.standing.item.name}" for it in added]
-    total = added[-1].total if added else group.value
-    return group, names_of(names, MOST_NAMED), max((group.minimum or NONE) - total, NONE)
+    return group, names_of(names, MOST_NAMED), max((group.minimum or NONE) - group.filled, NONE)
 
 
 @dataclass(frozen=True)
@@ -163,6 +233,7 @@ class OrdersToday(TextResult):
     today: Today = field(repr=False)
     every: str = field(default="", repr=False)
     currency: Currency = field(default=Currency(), repr=False)
+    plan: str = field(default="", repr=False)  # the digest of the plan
 
     def _table(self, name: str, rows: Iterable[Sequence[Cell]]) -> DataTable:
         return DataTable(TABLES[name], [*rows], self.currency.decimals, "", currency=self.currency.code,
@@ -173,7 +244,43 @@ class OrdersToday(TextResult):
         """Returns the orders, and items without one since nothing is known of them."""
         unknown = ([*named(item), *[None] * (len(ORDER_COLUMNS) - 6), reason.code, sentence(reason)]
                    for item, reason in self.today.unknown)
-        return self._table("orders", [*map(order_row, self.today.whole.due), *unknown])
+        return self._table("orders", [*self._orders(), *unknown])
+
+    def _orders(self, most: int | None = None) -> list[list[Cell]]:
+        """Returns the orders, the most urgent first, perhaps so many alone."""
+        return [order_row(self.today, standing) for standing in self.today.whole.due[:most]]
+
+    @property
+    def urgent(self) -> DataTable:
+        """Returns the most urgent orders."""
+        return self._table("orders", self._orders(MOST_URGENT)).with_columns(URGENT)
+
+    def money(self, amount: Fraction | float) -> str:
+        """Returns an amount of money with all its decimals."""
+        return self.currency.named(f"{float(amount):,.{self.currency.digits}f}")
+
+    @property
+    def headline(self) -> str:
+        """Returns how many orders there are and what they are worth, and that it is not known what is on order."""
+        due = self.today.whole.due
+        unpriced = sum(standing.item.price is None for standing in due)
+        return (f"{self.today.day}: {counted(len(due), 'order')}, worth {self.money(self.today.whole.value)}"
+                + f", and {unpriced:,} of them without a price" * bool(unpriced)
+                + f", {WITHOUT}: say --on-order" * (not self.today.has_orders))
+
+    def check(self, plan: PlannedFolder) -> None:
+        """Raises Refused if these are not the orders of a plan as it is now."""
+        if self.plan != plan.digest:
+            raise Refused(f"{plan.path}: these orders are not those of this plan", "ask the plan for its orders again")
+
+    @cached_property
+    def risks(self) -> list[Risk]:
+        """Returns the items that are late or at risk, what to expedite first before others."""
+        return risks_of(self.today.standings)
+
+    def _lines(self, groups: Iterable[Group]) -> DataTable:
+        """Returns the lines of the orders of suppliers, each with its most urgent item first."""
+        return self._table("lines", (line_row(self.today, standing) for group in groups for standing in group.due))
 
     @cached_property
     def tables(self) -> dict[str, DataTable]:
@@ -182,15 +289,22 @@ class OrdersToday(TextResult):
         additions = (addition for group in today.suppliers if group.short for addition in group.additions())
         return {"orders": self.table, "above": self._table("above", map(above_row, today.above)),
                 "dead": self._table("dead", map(dead_row, today.dead)),
+                "stopped": self._table("stopped", map(stopped_row, today.ended)),
                 "owed": self._table("owed", map(owed_row, today.owed)),
                 "classes": self._table("classes", map(sum_row, today.classes)),
-                "suppliers": self._table("suppliers", map(supplier_row, today.suppliers)),
-                "added": self._table("added", map(added_row, additions)), "left_out": rejects_of(today.rejects)}
+                "suppliers": self._table("suppliers", (supplier_row(today, group) for group in today.suppliers)),
+                "added": self._table("added", map(added_row, additions)), "lines": self._lines(today.suppliers),
+                "at_risk": self._table("at_risk", map(risk_row, self.risks)), "left_out": rejects_of(today.rejects)}
 
     def write(self, folder: Folder) -> None:
-        """Writes all tables and the text into a folder."""
+        """Writes all tables, the order of each supplier, and the text into a folder. The order of a supplier without
+        one is removed."""
         for name, table in self.tables.items():
             folder.write(file_of(name), table.lines)
+        orders = {supplier_file(self.today.place(group.name)): group for group in self.today.suppliers if group.due}
+        folder.remove(*(name for name in folder.names if SUPPLIER_FILE.fullmatch(name) and name not in orders))
+        for name, group in orders.items():
+            folder.write(name, self._lines([group]).lines)
         folder.write(SUMMARY, self.text)
 
     @property
@@ -202,6 +316,11 @@ class OrdersToday(TextResult):
     def dead(self) -> pd.DataFrame:
         """Returns the items with stock that nobody has asked for during the last year of the record."""
         return self.tables["dead"].frame
+
+    @property
+    def stopped(self) -> pd.DataFrame:
+        """Returns the items that have stopped, are phased out or not to be ordered, with their stock."""
+        return self.tables["stopped"].frame
 
     @property
     def owed(self) -> pd.DataFrame:
@@ -224,6 +343,17 @@ class OrdersToday(TextResult):
         return self.tables["added"].frame
 
     @property
+    def lines(self) -> pd.DataFrame:
+        """Returns the orders of suppliers line by line, with numbers, days on which they are due, and reasons."""
+        return self.tables["lines"].frame
+
+    @property
+    def at_risk(self) -> pd.DataFrame:
+        """Returns the items with overdue orders, or with less stock than mean demand up to the next receipt: what to
+        expedite first stands first."""
+        return self.tables["at_risk"].frame
+
+    @property
     def left_out(self) -> pd.DataFrame:
         """Returns rows of the tables that count for nothing, or are suspicious, with reason and advice."""
         return self.tables["left_out"].frame
@@ -231,24 +361,38 @@ class OrdersToday(TextResult):
     @cached_property
     def text(self) -> str:
         """Returns how many orders there are and what they are worth, the most urgent ones, and all totals."""
-        today, whole = self.today, self.today.whole
-        urgent = self._table("orders", map(order_row, whole.due[:MOST_URGENT])).with_columns(URGENT)
+        today = self.today
         return rendered("today.txt", {
-            "today": today, "whole": whole, "urgent": urgent.text, "counted": counted,
+            "orders": self, "today": today, "whole": today.whole, "counted": counted,
             "files": counted_rows(today.counts), "reasons": reasons_of(today.rejects),
             "short": [short_of(group) for group in today.suppliers if group.short],
             "unknown": names_of([item.name for item, _ in today.unknown], MOST_NAMED),
-            "unpriced": sum(it.item.price is None for it in whole.due),
-            "owed": sum_of_money(it.worth(it.hand.owed) for it in today.owed),
-            "money": lambda amount: self.currency.named(f"{float(amount):,.{self.currency.digits}f}")})
+            "ended": sum_of_money(ended.value for ended in today.ended),
+            "unserved": sum(bool(it.hand and it.hand.owed) for it in today.ended if it.item.past != PHASE_OUT),
+            "expedited": names_of([risk.standing.item.name for risk in self.risks if risk.standing.on_order], MOST_NAMED),
+            "late": sum(bool(risk.standing.overdue) for risk in self.risks),
+            "lacking": math.fsum(risk.value or 0.0 for risk in self.risks),
+            "owed": sum_of_money(it.worth(it.hand.owed) for it in today.owed)})
 
 
-def orders_today(path: Path, tables: Mapping[str, Table | None], words: Words, day: Day | str | None,
-                 minimums: Mapping[str, Amount]) -> OrdersToday:
-    """Returns what a planned folder, which is only read, says on a day: see `Plan.orders_today`. Tables are by kind."""
-    stated = {name: amount for name, value in minimums.items()
-              if (amount := read_argument("supplier_min", value, amount_of)) is not None}
+def orders_today(path: Path, tables: Mapping[str, Table | None], words: Words,
+                 day: Day | str | None) -> OrdersToday:
+    """Returns what a planned folder, which is only read, says on a day: see `Plan.orders_today`. Tables are by kind, and
+    are read as those of the plan were, unless `words` say otherwise."""
     with (tempfile.TemporaryDirectory(prefix="crnplan-") as room, copied_folder(path, Path(room)) as folder):
-        today = today_of(folder, folder.answers(is_whole=True), tables, replace(words, every=folder.every),
-                         stated_day("date", day) or datetime.date.today(), stated)
-        return OrdersToday(today, folder.every, folder.currency)
+        kept = replace(words_from({**merged(folder.read.fact("told"), told_of(words)), "every": folder.every}),
+                       is_where_needed=bool(words.where))
+        today = today_of(folder, folder.answers(is_whole=True), tables, kept,
+                         stated_day("date", day) or datetime.date.today(), kept.defaults.supplier_min)
+        return OrdersToday(today, folder.every, folder.currency, folder.digest)
+
+
+def has_stock(path: Path) -> bool:
+    """Returns whether the masters of a planned folder say the stock of an item."""
+    with planned_folder(path) as folder:
+        return any(stock is not None for (stock,) in folder.read.cells("stock"))
+
+
+def orders_by_masters(path: Path) -> OrdersToday | None:
+    """Returns what a planned folder says today by the stock of its masters; None if these have none."""
+    return orders_today(path, {}, Words(), None) if has_stock(path) else None

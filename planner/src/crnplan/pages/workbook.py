@@ -1,7 +1,7 @@
 """Writes a plan as a workbook for spreadsheets: a sheet for each table, a chart of the curve, and what columns mean.
 
 Texts are texts, so an item number keeps its zeros, and no cell is run. Numbers are unrounded, and shown as their
-columns are declared. The same plan gives the same bytes.
+columns are declared. The same plan with the same orders gives the same bytes.
 """
 from __future__ import annotations
 
@@ -9,28 +9,29 @@ import datetime
 import io
 import math
 import re
-from collections.abc import Iterable, Iterator, Sequence
+from collections.abc import Iterator, Sequence
 from pathlib import Path
 from typing import TYPE_CHECKING
 
-from ..curve.parts import Point
 from ..curve.exchange_curve import FIGURES, kept_curve
+from ..curve.parts import Point
 from ..errors import Refused
-from ..files import new_bytes
+from ..files import named_bytes
 from ..money import Currency
 from ..plan.answer import CHOSEN, TODAY
 from ..plan.catalogue import PlannedFolder, planned_folder
-from ..plan.survey import Decided, Survey
-from ..plan.totals import Totals
+from ..plan.survey import Survey
 from ..plan.today import today_of
-from ..records.cells import first_day
+from ..plan.totals import Totals
+from ..records.dates import first_day
 from ..records.items import Words
 from ..table import MONEY, Cell, Column, DataTable, is_missing, number, text, whole
-from .board import NO_CLASS
+from .board import ALL_PARTS, NO_CLASS, PARTS
 from .catalogue_tables import DECISIONS, catalogue_summary, decisions_of, money, rejects_of
 from .change_tables import change_lines
+from .lateness import lateness_of
 from .page import curve_ends
-from .today_tables import OrdersToday
+from .today_tables import WITHOUT, OrdersToday, orders_by_masters
 
 if TYPE_CHECKING:
     from xlsxwriter.format import Format
@@ -45,6 +46,7 @@ A4 = 9
 MARKERS = (("circle", "#000000"), ("diamond", "#d55e00"), ("triangle", "#009e73"), ("square", "#0072b2"),
            ("star", "#cc79a7"))
 SUMMARY, CURVE = "Summary", "Curve"
+SHEETS = {"Today": "orders", "At risk": "at_risk", "Orders by supplier": "lines"}  # of orders, with their tables
 POLICIES = TODAY, CHOSEN
 SUM_COLUMNS = (text("figure", "what all items come to"), *(number(it, "", f"with {words} policies") for it, words in (
     (TODAY, "today's"), (CHOSEN, "the chosen"))))
@@ -168,8 +170,9 @@ class Book:
 def sums_of(folder: PlannedFolder, totals: Totals) -> Iterator[tuple[list[Cell], Column]]:
     """Yields what all items come to, today and chosen, and a column of such figures."""
     amount, every = money("", ""), folder.every
-    for words, name in ((f"cost a {every}", "cost"), ("value of the mean stock", "value")):
-        yield [words, *(totals[f"{name}_{it}"] for it in POLICIES)], amount
+    parts = {f"of it {words}": name for words, name in PARTS.items() if name != ALL_PARTS}
+    for words, name in {f"cost a {every}": ALL_PARTS, **parts, "value of the mean stock": "value"}.items():
+        yield [words, *(totals[f"{name}_{policy}"] for policy in POLICIES)], amount
     yield [f"saved a {every}", None, totals["saving"]], amount
     yield ["demand met at once, by value", *map(totals.fill, POLICIES)], number("", "share", "", ".4f")
     yield [f"orders a {every}", *(totals[f"orders_{it}"] for it in POLICIES)], number("", "orders", "", ".1f")
@@ -183,44 +186,50 @@ def class_rows(survey: Survey) -> Iterator[list[Cell]]:
                *(totals[f"value_{it}"] for it in POLICIES)]
 
 
-def orders_of(folder: PlannedFolder, answers: Iterable[Decided]) -> OrdersToday:
-    """Returns the orders on the day after the record by the stock of the masters, of items by all their periods."""
-    day, words = first_day(folder.read.fact("periods")[1], folder.every), Words(every=folder.every)
-    return OrdersToday(today_of(folder, answers, {}, words, day, {}), folder.every, folder.currency)
+def add_orders(book: Book, orders: OrdersToday) -> None:
+    """Writes the orders of a day; by supplier, with what is at risk, if it is known what is on order."""
+    if not orders.today.has_orders:
+        book.add(WITHOUT.capitalize(), orders.table)
+        return
+    for name, table in SHEETS.items():
+        book.add(name, orders.tables[table])
 
 
-def fill_book(book: Book, folder: PlannedFolder) -> None:
-    """Writes all sheets of a planned folder, whose items are read once. Raises Refused if one has too many rows."""
+def fill_book(book: Book, folder: PlannedFolder, orders: OrdersToday | None) -> None:
+    """Writes all sheets of a planned folder. Raises Refused if one has too many rows."""
     survey, curve = Survey(folder), kept_curve(folder.store)
     sums = [*sums_of(folder, survey.totals)]
     lines = catalogue_summary(folder, survey.totals, (), change_lines(folder)).splitlines()
+    lines = [*([orders.headline, ""] if orders else []), *lines]
     summary = folder.table(SUM_COLUMNS, [row for row, _ in sums] + [[line, None, None] for line in ["", *lines]])
     styles = [[TEXT, *[number_format(column, summary)] * 2] for _, column in sums] + [[TEXT] * 3] * (len(lines) + 1)
     book.add(SUMMARY, summary, styles)
-    answers: Iterable[Decided] = folder.answers(is_whole=True)
-    has_stock = any(stock is not None for (stock,) in folder.read.cells("stock"))
-    if has_stock:
-        answers = [*answers]
-    counting = ((folder.read.counting(item), answer) for item, answer in answers)
-    book.add("Decisions", decisions_of(folder, survey.seen(counting)))
-    if has_stock:
-        book.add("Today", orders_of(folder, answers).table)
+    book.add("Decisions", decisions_of(folder, survey.seen(folder.answers())))
+    if orders:
+        add_orders(book, orders)
     book.add("Left out", rejects_of(folder.read.rejects(survey.faults)))
     if curve:
         book.add_curve(curve, folder.table(CURVE_COLUMNS, [[name, *point] for name, point in curve]),
                        folder.currency.code)
     book.add("Classes", folder.table(CLASS_COLUMNS, [*class_rows(survey)]))
+    lateness = lateness_of(folder.read)
+    if lateness.rows:
+        book.add("Suppliers", lateness)
     book.add("Read me", folder.table(READ_ME_COLUMNS, book.meanings[:]), widest=MEANING_WIDTH)
 
 
-def write_workbook(folder: Path, path: Path) -> None:
-    """Writes the plan of a folder as a workbook. Raises Refused for a folder without a finished plan of the rows that
-    were read last, and for a table with more rows than a sheet has."""
+def write_workbook(folder: Path, path: Path, orders: OrdersToday | None = None) -> None:
+    """Writes the plan of a folder as a workbook, with the orders of a day, or without them those of today by the stock
+    of the masters, if these have one. Raises Refused for a folder without a finished plan of the rows that were read
+    last, for orders of another plan, and for a table with more rows than a sheet has."""
     data = io.BytesIO()
+    orders = orders or orders_by_masters(folder)
     with planned_folder(folder) as planned:
         planned.check()
+        if orders:
+            orders.check(planned)
         book = Book(data)
-        fill_book(book, planned)
+        fill_book(book, planned, orders)
         book.book.close()
-    with new_bytes(path) as file:
+    with named_bytes(path) as file:
         file.write(data.getbuffer())

@@ -34,6 +34,10 @@ def check_records(earlier: PlannedFolder, read: Catalogued) -> None:
     if earlier.every != every:
         raise Refused(f"{earlier.path}: its periods are {earlier.every}s, and these are {every}s",
                       "read the files by the same periods")
+    names = heapq.merge(earlier.read.names(), read.names())
+    if all(name != following for name, following in itertools.pairwise(names)):
+        raise Refused(f"{earlier.path}: none of its items is in these tables",
+                      "name the folder of an earlier plan of this catalogue")
     missing = earlier.read.fact("periods")[1] - stop
     if missing > 0:
         raise Refused(f"{earlier.path}: its record ends {missing:,} {every}s after this one",

@@ -3,18 +3,21 @@ from __future__ import annotations
 
 from dataclasses import dataclass
 from fractions import Fraction
+from typing import NamedTuple
 
 from ..law import Law
+from ..records.item import NEW, Item
 from ..remarks import Remark
 
 # Policies: today's, the chosen one, the one that the item would get by its own history alone, that of an earlier plan,
 # and the one that would be chosen if that one did not stay.
 TODAY, CHOSEN, ALONE, BEFORE, UNDAMPED = "today", "chosen", "alone", "before", "undamped"
+OVERRIDE = "override"  # that of the planner
 # Verdicts. `more service`: today's policy misses the wanted fill, and keeping it costs more. `bounded`: no policy
 # within the bounds of the item has the wanted fill; the chosen one meets most.
 CHEAPER, DEARER, UNDECIDED, SAME, SERVICE = "cheaper", "dearer", "undecided", "same", "more service"
 BOUNDED = "bounded"
-COMPARED = CHEAPER, DEARER, UNDECIDED, SAME, SERVICE, BOUNDED
+COMPARED = CHEAPER, DEARER, UNDECIDED, SAME, SERVICE, BOUNDED, NEW
 UNCOMPARED = "no policy today"  # the verdict on an item without one, beside which nothing is compared
 # Whose figures costs and savings are: those of theory where it is exact, else those of the run.
 THEORY, RUN = "theory", "run"
@@ -125,8 +128,9 @@ class Answer:
     the policy of the item's own history under the law that it has; None if there is none. So is `before`, that of an
     earlier plan, and `undamped`, which would be chosen if that one did not stay because a change gains too little.
     Theory counts in steps of `step` boxes. `confidence_cost` is what the confidence in a wanted fill costs a period,
-    None without one; `coverage_cost` is what it costs that S covers no more periods of demand, None if that does not
-    bind. `correction` is None if the wanted fill is not corrected, `allowed` unless the item is new.
+    None without one; `coverage_cost` is what it costs that S, or S - s, covers no more periods of demand, None if that
+    does not bind. `correction` is None if the wanted fill is not corrected, `allowed` unless the item is new. `override`
+    is the policy that the planner has set, None if there is none.
     """
 
     verdict: str
@@ -148,3 +152,33 @@ class Answer:
     run: Run
     remarks: tuple[Remark, ...]
     allowed: Allowed | None = None
+    override: Figures | None = None
+
+    @property
+    def override_cost(self) -> float | None:
+        """Returns what the planner's policy costs a period more than the chosen one, by theory; None without one."""
+        return None if self.override is None else self.override.cost - self.chosen.cost
+
+    @property
+    def is_compared(self) -> bool:
+        """Returns whether the item is compared with a policy of today. If so, it is in all sums, be it new or not."""
+        return self.today is not None and self.verdict in COMPARED
+
+
+class CostParts(NamedTuple):
+    """What a policy of an item costs a period, in money: its orders, its stock, and items that are late."""
+
+    orders: float
+    stock: float
+    late: float
+
+    @classmethod
+    def of(cls, item: Item, figures: Figures, cost: float) -> CostParts:
+        """Returns the parts of a cost of a policy: those of theory. If the cost is that of a run, each is the same share
+        of it as of the cost by theory."""
+        orders = float(item.setup) * figures.orders
+        stock = float(item.holding) * figures.stock
+        late = 0.0 if item.backlog is None else max(0.0, figures.cost - orders - stock)
+        known = orders + stock + late
+        times = cost / known if known else 0.0
+        return cls(times * orders, times * stock, times * late)

@@ -73,7 +73,7 @@ class Planned:
             settings = Settings(**tree["settings"], aims=None if aims is None else Aims.parse(aims))
             return cls(settings, prior, str(tree["common"]), str(tree.get("earlier", "")))
         except (ValueError, LookupError, TypeError) as fault:
-            raise Damaged(answers.path, f"what was planned is not as it was kept ({fault})") from fault
+            raise Damaged(answers.named, f"what was planned is not as it was kept ({fault})") from fault
 
 
 class PlannedFolder:
@@ -206,7 +206,7 @@ def planned_folder(path: Path, index: Path | None = None, is_known: bool = False
     no_plan = Refused(f"{path}: no plan is in it", f"run crnplan catalogue DEMAND.csv ITEMS.csv --out {path} first")
     if not (path / READ).is_file() or not index.is_file():
         raise no_plan
-    with contextlib.closing(Chunked(index, Answer, path / IN_CHUNKS, is_known)) as answers:
+    with contextlib.closing(Chunked(index, Answer, path / IN_CHUNKS, is_known, path / ANSWERS)) as answers:
         planned = Planned.of(answers)
         if planned is None:
             raise no_plan

@@ -23,7 +23,7 @@ from ..errors import Refused, argument
 from ..files import Folder
 from ..jobs import Work, Workers
 from ..records.catalogue_reading import Catalogued
-from ..records.item import USUAL, Item
+from ..records.item import TEACHING, Item
 from ..remarks import Remark
 from ..stored import Facts, Store
 from ..theory.long_run import LongRun
@@ -92,7 +92,7 @@ def tried_names(read: Catalogued) -> frozenset[str]:
     """Returns the names of the items with a past and a wanted fill rate, of at most 1,000 with the least digests, which
     is as good as at random."""
     facts = read.cells("name", "fill", "past")
-    return drawn_from((name for name, fill, past in facts if fill is not None and past == USUAL), MOST_ITEMS)
+    return drawn_from((name for name, fill, past in facts if fill is not None and past in TEACHING), MOST_ITEMS)
 
 
 def aims_of(folder: Folder, answers: Facts, read: Catalogued, settings: Settings, prior: Prior, *, again: bool,

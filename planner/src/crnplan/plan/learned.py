@@ -12,7 +12,7 @@ import numpy as np
 from ..demand.learning import LEAST_ITEMS, LEAST_ON_REQUEST, MOST_PULLED, Prior, learn
 from ..errors import Refused
 from ..records.catalogue_reading import Catalogued
-from ..records.item import NO_DEMAND, USUAL, Item
+from ..records.item import NO_DEMAND, TEACHING, Item
 from ..remarks import Remark
 from ..stored import Facts
 from .question import ALL, CLASS, NONE, Settings
@@ -60,13 +60,13 @@ def learners(read: Catalogued, by_class: bool) -> Iterator[Item]:
     """Yields in order of their names the items with a past from which others learn, but for those counted in boxes: of
     many so many are drawn, or as many of each class."""
     if by_class:
-        groups = Counter(group for past, group in read.cells("past", "group") if past == USUAL)
+        groups = Counter(group for past, group in read.cells("past", "group") if past in TEACHING)
         most = max(MOST_PULLED + 1, MOST_OF_CLASSES // max(1, len(groups)))
         most = MOST_OF_CLASSES if groups.total() <= MOST_OF_CLASSES else most
     else:
         most = MOST_READ
     drawn = drawn_of_groups(((name, group if by_class else "") for name, past, group in
-                             read.cells("name", "past", "group") if past == USUAL), most)
+                             read.cells("name", "past", "group") if past in TEACHING), most)
     yield from (item for item in read.some_items(drawn) if item.box == 1)
 
 

@@ -14,7 +14,6 @@ import dataclasses
 import itertools
 import math
 from collections.abc import Callable, Iterator, Mapping, Sequence
-from dataclasses import dataclass
 from typing import NamedTuple, TypeVar
 
 import numpy as np
@@ -30,16 +29,17 @@ from ..demand.posterior import allowed_laws, allowed_leads
 from ..errors import Failed, Refused, worded
 from ..formats import MOST_ITEMS, MOST_REPLICATIONS
 from ..law import Law
-from ..records.item import NEW, NO_DEMAND, Item
+from ..records.item import ENDED, NEW, NO_DEMAND, Item
 from ..remarks import Remark, Value
 from ..scenario import Policy, Scenario, key_words
 from ..theory.long_run import Candidate, LongRun
 from ..theory.lattice import NoTheory
 from ..theory.many_laws import Promises, figures_of_laws
 from ..theory.run_effects import start_bias
-from .answer import (ALONE, BEFORE, BOUNDED, CHEAPER, CHOSEN, DAMPED, DEARER, IDLE, RUN, SAME, SERVICE, THEORY, TODAY,
-                     UNDAMPED, UNCOMPARED, UNDECIDED, Allowed, Answer, Correction, Figures, LawFacts, Laws, Run)
-from .bounds import COVERAGE, LEFT_OUT, binding
+from .answer import (ALONE, BEFORE, BOUNDED, CHEAPER, CHOSEN, DAMPED, DEARER, IDLE, OVERRIDE, RUN, SAME, SERVICE, THEORY,
+                     TODAY, UNDAMPED, UNCOMPARED, UNDECIDED, Allowed, Answer, Correction, Figures, LawFacts, Laws, Run)
+from .bounds import COVERAGES, LEFT_OUT, binding, shortest
+from .choice import Choice
 from .packs import remarks_of_packs
 from .question import NONE, Levels, NoPolicy, Question, Settings, Terms, Unplanned, question_of
 
@@ -57,25 +57,6 @@ SUSPECT, CHANCE = 1e-4, 1e-9
 
 class Disagreement(Unplanned, Failed):
     """A run whose figure is further from exact theory than chance allows: one of both is wrong, a fault of ours."""
-
-
-@dataclass(frozen=True)
-class Choice:
-    """The policy of an item in boxes, and the one without a confidence in its fill rate, which is mostly the same.
-    `is_promised` says whether that confidence is kept, if there is one. `undamped` would be chosen if that of an
-    earlier plan did not stay. `is_bounded` says that no policy within the bounds of the item has the wanted fill rate:
-    this one comes nearest."""
-
-    levels: Levels
-    plain: Levels
-    is_promised: bool = True
-    undamped: Levels | None = None
-    is_bounded: bool = False
-
-    @property
-    def best(self) -> Levels:
-        """Returns the policy that is best, whatever an earlier plan has."""
-        return self.undamped or self.levels
 
 
 def allowed_by(question: Question, laws: int = LAWS) -> tuple[tuple[Law, ...], tuple[Law, ...]]:
@@ -104,22 +85,43 @@ def best_of(theory: LongRun, terms: Terms) -> tuple[Candidate, bool]:
     return best, is_bounded
 
 
-def choice_of(theory: LongRun, question: Question) -> Choice:
+def choice_of(theory: LongRun, question: Question, beside_today: bool = False) -> Choice:
     """Returns the policy of `best_of`; with a confidence, the cheapest that meets the share under so many of the laws
-    that the history allows. That of an earlier plan may stay: see `damped`. Raises NoPolicy if there is none."""
+    that the history allows. That of an earlier plan may stay: see `damped`; and if the policy stands beside today's,
+    that one: see `unless_worse`. Raises NoPolicy if there is none."""
+    choice, promises = promised(theory, question)
+    if not choice.is_bounded:
+        choice = damped(choice, theory, question, promises)
+    return unless_worse(choice, theory, question, promises) if beside_today else choice
+
+
+def promised(theory: LongRun, question: Question) -> tuple[Choice, Promises | None]:
+    """Returns the policy of a question as if there were no other, and what it promises, if it does. Raises NoPolicy."""
     confidence, fill = question.settings.confidence, question.aim
     best, is_bounded = best_of(theory, question)
     plain = best.point, best.level
-    if is_bounded:
-        return Choice(plain, plain, is_bounded=True)
-    if fill is None or confidence is None:
-        return damped(Choice(plain, plain), theory, question)
+    if is_bounded or fill is None or confidence is None:
+        return Choice(plain, plain, is_bounded=is_bounded), None
     gap = theory.gap_of(*plain)
     promises = Promises(question.scenario(), theory, gap, *allowed_by(question), [fill], confidence)
     sure = promises.cheapest(best, fill)
     if sure.cost == math.inf:
-        return damped(Choice(plain, plain, False), theory, question)
-    return damped(Choice((sure.point, sure.level), plain), theory, question, promises)
+        return Choice(plain, plain, False), None
+    return Choice((sure.point, sure.level), plain), promises
+
+
+def unless_worse(choice: Choice, theory: LongRun, question: Question, promises: Promises | None) -> Choice:
+    """Returns the choice; or today's policy if that costs less and meets more at once by the law of the item, and keeps
+    what is promised, if anything is. Its levels may be out of bounds, or finer than a lattice that is not exact."""
+    today, fill = question.levels, question.aim
+    if today is None or today == choice.levels:
+        return choice
+    known, new = (figures_of(question, theory, levels) for levels in (today, choice.levels))
+    if new.cost <= known.cost * (1 + CLOSE) or new.fill >= known.fill:
+        return choice
+    if promises and fill is not None and not promises.keeps(*today, fill):
+        return choice
+    return choice.beside(today)
 
 
 def damped(choice: Choice, theory: LongRun, question: Question, promises: Promises | None = None) -> Choice:
@@ -141,7 +143,8 @@ def levels_of(question: Question, choice: Choice) -> dict[str, Levels]:
     """Returns s and S of each policy that there is, in boxes. There is none of the item alone if its own law has no
     best policy, or if it is new."""
     levels = {CHOSEN: choice.levels} | ({} if question.is_new else {ALONE: choice.best})
-    others = ((TODAY, question.levels), (BEFORE, question.before), (UNDAMPED, choice.undamped))
+    others = ((TODAY, question.levels), (BEFORE, question.before), (UNDAMPED, choice.undamped),
+              (OVERRIDE, question.override))
     levels |= {name: policy for name, policy in others if policy}
     if question.learned and not question.is_new:
         try:
@@ -315,6 +318,12 @@ def damping_of(figures: Mapping[str, Figures]) -> Iterator[Remark]:
         yield Remark(DAMPED, {"s": best.point, "S": best.level, "gain": gain, "share": gain / before.cost})
 
 
+def override_of(item: Item, figures: Mapping[str, Figures]) -> Figures | None:
+    """Returns the figures of the policy that the planner has set, in boxes by theory, with its levels as they are set."""
+    levels = item.override.levels if item.override else None
+    return dataclasses.replace(figures[OVERRIDE], point=levels[0], level=levels[1]) if levels else None
+
+
 def correction_of(question: Question, theory: LongRun) -> Correction | None:
     """Returns where the plan of an item aims by the past of its catalogue; None if nothing is corrected."""
     aim, wanted = question.aim, question.item.fill
@@ -337,9 +346,14 @@ def remarks_of_bounds(question: Question, theory: LongRun, choice: Choice) -> It
         return {"s": levels[0] * box, "S": levels[1] * box}
     if question.levels and not feasible.allows(*question.levels):
         yield Remark("today out of bounds", in_items(question.levels))
+    if choice.worse:
+        today, worse = (figures_of(question, theory, levels) for levels in (choice.levels, choice.worse))
+        more = worse.cost - today.cost if choice.more_by_run is None else choice.more_by_run
+        yield Remark("today stays", {**in_items(choice.worse), "cost": more, "fill": worse.fill, "today": today.fill})
     if choice.is_bounded:
-        free, fill = theory.free.best(share)[1:], theory.figures(*choice.levels).fill
-        yield Remark(BOUNDED, {**in_items(free), "cost": cost(free), "wanted": share, "fill": fill})
+        free, fill = theory.free.best(share)[1:], theory.figures(*choice.plain).fill
+        yield Remark(BOUNDED, {**in_items(free), "cost": cost(free), "wanted": share, "fill": fill,
+                               **shortest(question.bounds)})
         return
     is_usual = question.item.bounds.s_min is None and question.settings.s_min is None
     named = [name for name in LEFT_OUT if not (is_usual and name == "s_min")]
@@ -391,23 +405,36 @@ def plan_one(question: Question, program: str) -> Answer:
     Raises Refused if the item can't be planned, Disagreement if the run is further from theory than chance allows, and
     ProgramError.
     """
-    item = question.item
+    periods = len(question.item.counts)
     if not any(question.demand.values):
-        raise NoPolicy(Remark("no demand in window", {"periods": len(item.counts)}))
+        raise NoPolicy(Remark("no demand in window", {"periods": periods}))
     if question.is_new and not question.learned:
-        raise NoPolicy(Remark("new and unlike", {"periods": len(item.counts)}))
+        raise NoPolicy(Remark("new and unlike", {"periods": periods}))
     theory = question.theory()
-    choice = choice_of(theory, question)
+    choice = choice_of(theory, question, True)
+    answer = answer_of(question, theory, choice, program)
+    if answer.source == THEORY or question.levels is None or question.settings.confidence is not None:
+        return answer
+    more, today = -(answer.saving or 0.0), answer.today  # by the run, since theory is rounded
+    if today and more > CLOSE * today.cost and answer.chosen.fill < today.fill:
+        return answer_of(question, theory, choice.beside(question.levels, more), program)
+    return answer
+
+
+def answer_of(question: Question, theory: LongRun, choice: Choice, program: str) -> Answer:
+    """Returns the answer with a choice, beside which stands a run. Raises as `plan_one` does."""
+    item = question.item
     report = report_of(scenario_of(question, theory, choice.levels), program)
     sample = sample_of(question, theory, report)
     figures = {name: figures_of(question, theory, levels) for name, levels in levels_of(question, choice).items()}
     check_run(question, theory, report, sample, figures, program)
     run, chosen = run_of(question, report, sample), figures[CHOSEN]
     verdict, cost_today, saving = beside_today(question, theory, figures, run)
-    if choice.is_bounded and verdict not in (UNCOMPARED, NEW):
+    if choice.is_bounded and verdict not in (UNCOMPARED, NEW) and not choice.worse:
         verdict = BOUNDED
     bounds = [*remarks_of_bounds(question, theory, choice), *remarks_of_packs(question, theory, choice.levels)]
-    coverage = next((cost for remark in bounds if remark.code == f"bound of {COVERAGE}" and isinstance(
+    codes = [f"bound of {name}" for name in COVERAGES]
+    coverage = next((cost for remark in bounds if remark.code in codes and isinstance(
         cost := remark.facts["cost"], float)), None)
     confidence_cost = None
     if question.settings.confidence is not None and item.fill is not None:
@@ -420,7 +447,7 @@ def plan_one(question: Question, program: str) -> Answer:
                   figures.get(BEFORE), figures.get(UNDAMPED), theory.step, confidence_cost, coverage,
                   correction_of(question, theory), law_facts(question.demand, item.box), laws, run,
                   (*remarks_of_past(question, allowed), *remarks_of(question, theory, sample, choice), *bounds,
-                   *damping_of(figures)), allowed)
+                   *damping_of(figures)), allowed, override_of(item, figures))
 
 
 def or_fault(answer: Callable[[Item], Result], item: Item) -> Result | Remark:
@@ -442,5 +469,8 @@ def plan_batch(items: Sequence[tuple[Item, Levels | None]], settings: Settings, 
                program: str) -> list[Answer | Remark]:
     """Returns for each item, with its policy in an earlier plan, the answer, or why it can't be planned. Raises
     ProgramError."""
-    return [or_fault(lambda asked: plan_one(question_of(asked, settings, prior, before), program), item)
-            for item, before in items]
+    def planned(item: Item, before: Levels | None) -> Answer | Remark:
+        if item.past in ENDED:
+            return Remark(item.past)
+        return or_fault(lambda asked: plan_one(question_of(asked, settings, prior, before), program), item)
+    return [planned(*pair) for pair in items]

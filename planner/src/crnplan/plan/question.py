@@ -23,14 +23,14 @@ from ..records.bounds import Bounds
 from ..records.item import BORROW, NEW, Item
 from ..remarks import Remark
 from ..scenario import Costs, Scenario
-from ..theory.lattice import lattice_of, shape_of, theory_on
+from ..theory.lattice import lattice_of, rough_lattice, shape_of, theory_on
 from ..theory.long_run import LongRun
 from ..words import advice, sentence
 from .aims import Aims
 from .answer import Laws
 from .bounds import MOST_COVERAGE, feasible_of
 
-VERSION = 8  # Answers of others are not used again.
+VERSION = 9  # Answers of others are not used again.
 NONE, CLASS, ALL = BORROW
 MOST_GAPS = 4_000  # of a lattice: with 150 times as many, a search takes half a minute
 Levels = tuple[int, int]
@@ -59,9 +59,9 @@ class Settings:
     Laws are fitted, learned and checked on the last `window` periods of each history alone, or on all. The levels of an
     earlier plan stay if a change gains less than the share `least_gain` of their cost. `correct` has wanted fill rates
     corrected by the catalogue's past, by which items then have their `aims`. `order_min`, `max_coverage` and `s_min`
-    are bounds of items whose masters state none: the smallest order, the most periods of demand that S covers (by
-    default two years), and the smallest s (by default 1 if a fill rate is wanted, so that no order waits for a
-    customer).
+    are bounds of items whose masters state none: the smallest order, the most periods of demand that S covers (without
+    one S - s covers at most two years), and the smallest s (by default 1 if a fill rate is wanted, so that no order
+    waits for a customer).
     """
 
     seed: str = "crnplan"
@@ -114,11 +114,13 @@ class Settings:
 
     def bounds_of(self, item: Item) -> Bounds:
         """Returns the bounds of an item: those of its masters, else those of the settings."""
-        own, coverage = item.bounds, self.max_coverage or MOST_COVERAGE.get(self.every or "")
+        own = item.bounds
         s_min = int(item.fill is not None) if self.s_min is None else self.s_min
+        stated = None if self.max_coverage is None else Fraction(self.max_coverage)
+        coverage, usual = own.coverage or stated, MOST_COVERAGE.get(self.every or "")
         return dataclasses.replace(
             own, order_min=own.order_min or self.order_min, s_min=s_min if own.s_min is None else own.s_min,
-            coverage=own.coverage or (None if coverage is None else Fraction(coverage)))
+            coverage=coverage, order_coverage=Fraction(usual) if usual and coverage is None else None)
 
     def seed_of(self, purpose: str, name: str) -> int:
         """Returns the seed of random numbers for a purpose, which follows from an item's name and the seed."""
@@ -128,7 +130,8 @@ class Settings:
 @dataclass(frozen=True, eq=False)
 class Terms:
     """What theory takes of an item: its facts, its costs as whole rates of a box with their scale, its laws in boxes,
-    and the settings."""
+    and the settings. With `cells` theory is rough, which takes less time: the largest demand and order have together at
+    most so many steps. No run has such terms, so their numbers may be beyond the program's ranges."""
 
     item: Item
     settings: Settings
@@ -137,11 +140,21 @@ class Terms:
     demand: Law
     lead: Law
     returns: Law | None
+    cells: int | None = field(default=None, kw_only=True)
 
     @property
     def levels(self) -> Levels | None:
         """Returns today's policy in boxes; None if there is none."""
-        levels, box = self.item.levels, self.item.box
+        return self._rounded(self.item.levels)
+
+    @property
+    def override(self) -> Levels | None:
+        """Returns the policy in boxes that the planner has set; None if there is none."""
+        override = self.item.override
+        return None if override is None else self._rounded(override.levels)
+
+    def _rounded(self, levels: Levels | None) -> Levels | None:
+        box = self.item.box
         return None if levels is None else (round(levels[0] / box), round(levels[1] / box))
 
     @property
@@ -187,7 +200,7 @@ class Terms:
                                 settings.replications, f"{settings.seed}\n{self.item.name}")
         fits = (self.demand.values[-1] <= MOST_DEMAND and self.lead.values[-1] <= MOST_LEAD
                 and (today is None or today[1] <= MOST_ITEMS))
-        return made if fits else made.changed()  # which checks it, and names all faults
+        return made if fits or self.cells else made.changed()  # which checks it, and names all faults
 
     def scenario(self, backlog: int | None = None, initial: int = 0) -> Scenario:
         """Returns the scenario of today's policy, or of none, with a backlog rate, by default that of the rates or else
@@ -212,8 +225,11 @@ class Terms:
         scenario, (point, level) = self.scenario(), self.levels or (0, 0)
         feasible = feasible_of(self.bounds, self.item.box, self.demand)
         shape = shape_of(self.for_theory(), feasible.gap(1) - 1)
-        return theory_on(scenario, shape, *lattice_of(scenario, shape, level - point, MOST_GAPS), feasible,
-                         known)
+        if self.cells is None:
+            lattice = lattice_of(scenario, shape, level - point, MOST_GAPS)
+        else:
+            lattice = (known.step, known.exact) if known else rough_lattice(shape, self.cells)
+        return theory_on(scenario, shape, *lattice, feasible, known)
 
 
 @dataclass(frozen=True, eq=False)

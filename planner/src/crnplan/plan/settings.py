@@ -15,12 +15,16 @@ from ..decide.doubt import TIMES
 from ..demand import LEAD_METHODS, METHODS
 from ..errors import Refused
 from ..formats import MOST_ITEMS, MOST_PERIODS, MOST_REPLICATIONS, MOST_WEIGHT
-from ..money import amount_of, share_of
-from ..records.cells import DECIMALS, EVERY
+from ..money import MOST_DIGITS, exact
+from ..records.amounts import DECIMALS, amount_of, share_of
+from ..records.choosing import Condition
 from ..records.columns import COLUMNS, ROLES, unit_fault
-from ..records.defaults import KEEP, LEAVE_OUT, cuts_of, currency_of
+from ..records.dates import EVERY
+from ..records.defaults import KEEP, LEAVE_OUT, cuts_of, currency_of, lead_of
 from ..records.item import BORROW
+from ..records.leads import LEAD_FROM
 from ..records.sources import DELIMITERS
+from ..records.status import AS_STATED, BY_TEST, MEANINGS
 from ..toml.documents import Path as Place, TreeFault, shown
 from ..toml.rules import (MISSING, RANGE, Check, Key, Table, choice, date, flag, money, number, numbers, read_tables,
                           share, text, texts)
@@ -42,10 +46,27 @@ def horizon(path: Place, value: Any) -> list[TreeFault]:
     return [fault._replace(advice=f"{fault.advice}, or remove this line for the long run") for fault in faults]
 
 
+def number_of(value: Any) -> Fraction | None:
+    """Returns a number of TOML exactly, as it is spelt; None if that is beyond the range of floats."""
+    return exact(getattr(value, "spelt", value))
+
+
+def cost(path: Place, value: Any) -> list[TreeFault]:
+    """Returns the faults of an amount of money from 0."""
+    faults, number = money(path, value), number_of(value)
+    return faults or ([] if number is not None and number < 10**MOST_DIGITS else [
+        TreeFault(RANGE, path, f"{shown(value)} is no cost", f"write 0 or more, with at most {MOST_DIGITS} digits")])
+
+
 def amount(path: Place, value: Any) -> list[TreeFault]:
     """Returns the faults of an amount of money above 0."""
-    faults = money(path, value)
+    faults = cost(path, value)
     return faults or ([] if value > 0 else [TreeFault(RANGE, path, f"{shown(value)} is free", "write a cost above 0")])
+
+
+def column_name(path: Place, value: Any) -> list[TreeFault]:
+    """Returns the faults of the name of a column, which is empty if no column has the role."""
+    return [] if value == "" else text(path, value)
 
 
 def unit(path: Place, value: Any) -> list[TreeFault]:
@@ -55,6 +76,12 @@ def unit(path: Place, value: Any) -> list[TreeFault]:
         return faults
     what = unit_fault(str(path[-1]).partition(".")[2], value)
     return [TreeFault(RANGE, path, what, "write a unit of this column")] if what else []
+
+
+def conditions(path: Place, value: Any) -> list[TreeFault]:
+    """Returns the faults of conditions on rows."""
+    faults = texts(path, value)
+    return faults or [fault for one in value for fault in stated(Condition.of)(path, one)]
 
 
 def stated(read: Callable[[Any], object]) -> Check:
@@ -80,8 +107,8 @@ RULES = Table({
         "received": Key(text, default="received"), "times": Key(numbers(*formats.limits("lead", "values"))),
         "fit": Key(choice(*LEAD_METHODS), default="auto")}, needed=True),
     "costs": Table({
-        "setup": Key(money, needed=True), "holding": Key(amount, needed=True), "backlog": Key(amount),
-        "unit": Key(money, default=0)}, needed=True),
+        "setup": Key(cost, needed=True), "holding": Key(amount, needed=True), "backlog": Key(amount),
+        "unit": Key(cost, default=0)}, needed=True),
     "today": Table({"s": ITEMS, "S": ITEMS, "stock": ITEMS}, needed=True),
     "bounds": Table({
         "order_min": Key(number(1, MOST_ITEMS)), "pack": Key(number(1, MOST_ITEMS), default=1),
@@ -98,22 +125,31 @@ RULES = Table({
     elsewhere={"check": "an item is no longer checked by itself: run crnplan check on scenario.toml, and remove this "
                         "table"})
 SHARE = Key(stated(share_of))
+# How a single file is written.
+ONE_FILE: dict[str, Key | Table] = {
+    "delimiter": READING["delimiter"], "encoding": TEXT, "day_first": Table({"/": Key(flag), "-": Key(flag)}),
+    "decimal": Table({}, other=READING["decimal"])}
 HOMES = {key: name for name, table in reversed(RULES.keys.items()) if isinstance(table, Table) for key in table.keys}
 CATALOGUE_RULES = Table({"catalogue": Table({
     **READING, "date_formats": Key(texts), "net": Key(flag), "negate": Key(flag), "twice": Key(choice(KEEP, LEAVE_OUT)),
-    "far": Key(choice(KEEP, LEAVE_OUT)), "borrow": Key(choice(*BORROW)), "least": Key(number(1, MOST_WEIGHT)),
+    "far": Key(choice(KEEP, LEAVE_OUT)), "lead_from": Key(choice(*LEAD_FROM)), "stopped": Key(choice(BY_TEST, AS_STATED)),
+    "borrow": Key(choice(*BORROW)), "least": Key(number(1, MOST_WEIGHT)),
     "seed": TEXT, "fit": Key(choice(*METHODS)), "correct": Key(flag),
     "confidence": Key(share("0.8 for 80% of the laws that a history allows")),
     "level": Key(share("0.95 for 95 of 100 samples")), "window": Key(number(1, MOST_WEIGHT)),
+    "least_gain": Key(share("0.02 for 2% of the cost")), "written": Table(dict.fromkeys(ROLES, Table(ONE_FILE))),
+    "where": Key(conditions),
     "periods": Key(number(1, MOST_PERIODS)),
     "order_min": Key(number(1, MOST_ITEMS)), "max_coverage": Key(number(1, MOST_WEIGHT)),
     "s_min": Key(number(0, MOST_ITEMS)),
     "replications": Key(number(2, MOST_REPLICATIONS)),
-    "setup": Key(stated(amount_of)), "holding_rate": SHARE, "fill": SHARE, "service": Table({}, other=SHARE),
+    "setup": Key(stated(amount_of)), "holding_rate": SHARE, "fill": SHARE, "lead": Key(stated(lead_of)),
+    "service": Table({}, other=SHARE),
     "currency": Key(stated(currency_of)), "abc": Key(stated(cuts_of)),
-    **{kind: Table(dict.fromkeys(roles, TEXT)) for kind, roles in ROLES.items()},
+    **{kind: Table(dict.fromkeys(roles, Key(column_name))) for kind, roles in ROLES.items()},
     "units": Table(dict.fromkeys(COLUMNS, Key(unit))), "names": Table(dict.fromkeys(COLUMNS, Key(texts))),
-    "factors": Table({}, other=Key(number(1, MOST_WEIGHT))), "supplier_min": Table({}, other=Key(stated(amount_of)))})},
+    "factors": Table({}, other=Key(number(1, MOST_WEIGHT))), "statuses": Table({}, other=Key(choice(*MEANINGS))),
+    "supplier_min": Table({}, other=Key(stated(amount_of)))})},
     other=Key(lambda path, value: []))
 
 
@@ -168,9 +204,7 @@ def read_settings(path: str | Path) -> Tables:
     tables = RULES.completed(read_tables(path, rules))
     for table, names in (("costs", tables["costs"]), ("run", ["fill"])):
         for name in names:
-            value = tables[table][name]
-            spelt = str(getattr(value, "spelt", value)).replace("_", "")
-            tables[table][name] = None if value is None else Fraction(spelt)
+            tables[table][name] = number_of(tables[table][name])
     file = tables["lead"]["file"] or tables["lead"]["orders"]
     tables["lead"]["path"] = folder / file if file else None
     return tables

@@ -9,23 +9,26 @@ from functools import cached_property
 
 from ..law import Law
 from ..records.columns import periods_a_year
-from ..records.item import NO_DEMAND, Item
+from ..records.item import UNORDERED, Item
 from ..records.items import Reject
 from ..remarks import Remark
-from .answer import COMPARED, Answer, Laws
+from .answer import Answer, Laws
 from .catalogue import PlannedFolder
-from .learned import drawn_from
+from .drawn import Drawn, Draws
 from .totals import Totals
 
-MOST_DRAWN = 100  # items from which all follow
-MOST_NAMES = 10_000  # from which these are drawn at a time
 Decided = tuple[Item, Answer | Remark]
 NO_LAWS = Laws(1, Law((), ()), Law((), ()), None)
 
 
 def saving_of(answer: Answer | Remark) -> float | None:
     """Returns what an item saves that is compared with a policy of today; None for others."""
-    return answer.saving if isinstance(answer, Answer) and answer.verdict in COMPARED else None
+    return answer.saving if isinstance(answer, Answer) and answer.is_compared else None
+
+
+def size_of(answer: Answer) -> float:
+    """Returns how large an item is when some are drawn: what it costs a period with today's levels and with new ones."""
+    return (answer.cost_today or 0.0) + answer.cost_chosen
 
 
 class Survey:
@@ -38,7 +41,7 @@ class Survey:
         self._folder, self.classes = folder, defaultdict[str, Totals](Totals)
         self.faults, self.asked = list[Reject](), list[float]()
         # The greatest decisions so far, the least of them first, by their size and their place from the end.
-        self._most, self._kept, self._names = most, list[tuple[float, int, Decided]](), list[str]()
+        self._most, self._kept, self._draws = most, list[tuple[float, int, Decided]](), Draws()
         self._masters, self._periods = folder.counts["files"]["items"]["name"], float(periods_a_year(folder.every))
 
     @classmethod
@@ -57,18 +60,19 @@ class Survey:
     @property
     def greatest(self) -> list[Decided]:
         """Returns the decisions with the greatest saving or loss, the first of equal ones: items that are planned or have
-        no demand."""
+        no order."""
         return [decided for *_, decided in sorted(self._kept, reverse=True)]
 
     @property
-    def drawn(self) -> list[str]:
-        """Returns the names of some of the items that are compared, from which all follow."""
-        return sorted(drawn_from(self._names, MOST_DRAWN))
+    def drawn(self) -> Drawn:
+        """Returns some of the items that are compared, from which sums over all of these are estimated. Their sizes are
+        what they cost with today's levels and with the new ones."""
+        return self._draws.drawn(self.totals["cost_today"] + self.totals["cost_chosen"])
 
     def seen(self, answers: Iterable[Decided]) -> Iterator[Decided]:
         """Yields all items with their answers, and notes each."""
         for place, (item, answer) in enumerate(answers):
-            if isinstance(answer, Remark) and item.past != NO_DEMAND:
+            if isinstance(answer, Remark) and item.past not in UNORDERED:
                 self._note_fault(item, answer)
             else:
                 self._note(item, answer)
@@ -81,11 +85,9 @@ class Survey:
             self.asked.append(self._periods * float(item.price) * sum(item.counts) / max(len(item.counts), 1))
 
     def _note(self, item: Item, answer: Answer | Remark) -> None:
-        if isinstance(answer, Answer) and answer.verdict in COMPARED:
+        if isinstance(answer, Answer) and answer.is_compared:
             self.classes[item.category].add(item, answer)
-            self._names.append(item.name)
-        if len(self._names) > MOST_NAMES:  # What is kept does not grow with the catalogue.
-            self._names = [*drawn_from(self._names, MOST_DRAWN)]
+            self._draws.add(item.name, size_of(answer))
 
     def _keep(self, place: int, item: Item, answer: Answer | Remark) -> None:
         """Keeps a decision that is one of the greatest so far, but not its laws, which take most of the memory."""

@@ -1,5 +1,10 @@
 """Says what the chosen policies of a catalogue would cost and serve if costs, demand or lead times were a fifth off, and
-how much better the best ones would then be. It is computed by theory for at most 100 items, from which all follow."""
+how much better the best ones would then be.
+
+Theory computes it for few items: those that carry four fifths of all costs, as far as these are few, and some that are
+drawn from the others. If the cost of stock or of delay changes, what policies cost is known for all items, and only the
+best ones are computed.
+"""
 from __future__ import annotations
 
 import contextlib
@@ -21,22 +26,29 @@ from ..records.item import Item
 from ..remarks import Remark
 from ..stored import Store, digest_of
 from ..theory.long_run import LongRun
-from .answer import Answer
+from .answer import CHOSEN, TODAY as TODAY_POLICY, Answer
 from .catalogue import PlannedFolder
+from .drawn import Drawn, Estimate, estimated
 from .one import best_of, figures_of, or_fault
 from .question import Levels, Settings, Terms, rates_of, terms_of
-from .survey import Survey
-from .totals import Totals
+from .survey import Survey, size_of
+from .totals import Totals, asked_value
 
 SWINGS = "swings.sqlite"
-VERSION = 1  # Answers of others are not used again.
+VERSION = 2  # Answers of others are not used again.
 # What differs, and how many tenths of it there are.
-BACKLOG, LEADS, NOTHING = "backlog", "lead", ""
-LAWS = "demand", LEADS
-CASES = tuple((what, tenths) for what in ("holding", BACKLOG, *LAWS) for tenths in (12, 8))
-# The figures of a case: what today's, the chosen and the best policy cost a period, and the shares that the last two
-# meet at once.
-TODAY, KEPT, BEST, KEPT_FILL, BEST_FILL = range(5)
+HOLDING, BACKLOG, DEMAND, LEADS, NOTHING = "holding", "backlog", "demand", "lead", ""
+LAWS = DEMAND, LEADS
+CASES = tuple((what, tenths) for what in (HOLDING, BACKLOG, *LAWS) for tenths in (12, 8))
+# The part of the cost of a policy that changes with a cost.
+PARTS = {HOLDING: "holding", BACKLOG: "late"}
+CELLS = 200  # steps of the largest demand and order, by which theory is some hundredths of a percent off
+LEAST_ERROR = 0.0005  # of a share: it is shown in tenths of a percent
+MOST_LACKING = 0.1  # of all costs
+CLOSE = 1e-9  # A rest that is a smaller share is none, but for rounding.
+# The figures of a case: what today's, the chosen and the best policy cost a period, and the share that the chosen one
+# meets at once.
+TODAY, KEPT, BEST, KEPT_FILL = range(4)
 
 
 @dataclass(frozen=True)
@@ -44,34 +56,6 @@ class Swing:
     """The figures of an item in each of `CASES`, as places of a row; an empty row if the case has no plan."""
 
     rows: tuple[tuple[float, ...], ...]
-
-
-class CaseSum(NamedTuple):
-    """A case of a whole catalogue, in money of a period: what the chosen policies cost, what they save beside today's,
-    and what the best ones would save beyond; and the shares of demand met at once. `lacking` items are not in it."""
-
-    what: str
-    tenths: int
-    cost: float
-    saving: float
-    beyond: float
-    fill: float | None
-    best_fill: float | None
-    lacking: int
-
-
-class Swings(NamedTuple):
-    """All cases of a catalogue, from so many items, with the greatest standard errors of costs and of shares."""
-
-    cases: Sequence[CaseSum]
-    drawn: int
-    cost_error: float
-    fill_error: float
-
-    @property
-    def lacking(self) -> int:
-        """Returns how many of the items are not in each case, at most."""
-        return max(case.lacking for case in self.cases)
 
 
 def changed_lead(lead: Law, tenths: int) -> Law:
@@ -104,7 +88,7 @@ def figures_in(terms: Terms, known: LongRun | None, chosen: Levels, today: Level
         anew, kept, base = (figures_of(terms, theory, levels) for levels in policies)
     except Refused:
         return ()
-    return base.cost, kept.cost, anew.cost, kept.fill, anew.fill
+    return base.cost, kept.cost, anew.cost, kept.fill
 
 
 def swing_of(terms: Terms, chosen: Levels) -> Swing:
@@ -121,13 +105,13 @@ def swing_batch(batch: Sequence[tuple[Item, Answer]], settings: Settings) -> lis
     """Returns the figures of items with their answers, or why an item has none."""
     def asked(item: Item, answer: Answer) -> Swing:
         chosen = answer.chosen.point // item.box, answer.chosen.level // item.box
-        return swing_of(terms_of(item, answer.laws, settings), chosen)
+        return swing_of(replace(terms_of(item, answer.laws, settings), cells=CELLS), chosen)
     return [or_fault(lambda item: asked(item, answer), item) for item, answer in batch]
 
 
 def drawn_items(folder: PlannedFolder, survey: Survey) -> dict[str, str]:
     """Returns the items of a survey that are drawn, each with the digest of all that its figures depend on."""
-    return {name: digest_of(folder.store.digest_of(name), VERSION) for name in survey.drawn}
+    return {name: digest_of(folder.store.digest_of(name), VERSION) for name in survey.drawn.names}
 
 
 def keep_swings(own: Folder, folder: PlannedFolder, survey: Survey, *, jobs: int | None = None, address: str | None = None,
@@ -150,48 +134,125 @@ def kept_swings(folder: PlannedFolder, survey: Survey) -> Swings | None:
         if not drawn or any(digests.get(name) != digest for name, digest in drawn.items()):
             return None
         pairs = [(folder.item(name), kept.answer(name)) for name in drawn]
-    return swings_of([(*planned, swing) for planned, swing in pairs if isinstance(swing, Swing)], survey.totals)
+    known = [Known(*planned, swing) for planned, swing in pairs if isinstance(swing, Swing)]
+    return swings_of(known, survey.drawn, survey.totals)
 
 
-def estimated(parts: Floats, sizes: Floats, total: float, items: int) -> tuple[float, float]:
-    """Returns the sum over so many items of a figure that is known of some, and its standard error: the sum follows
-    that of their sizes, whose total is known.
+class Known(NamedTuple):
+    """An item whose figures in all cases are known."""
 
-    Source: Cochran, Sampling Techniques, 1977, chapter 6: the ratio estimate, its error with the finite correction.
-    """
-    drawn, ratio = len(parts), parts.sum() / sizes.sum()
-    rest = (parts - ratio * sizes) * (total / sizes.sum())
-    error = math.sqrt(max(0.0, 1 - drawn / items) * drawn / max(1, drawn - 1) * float(rest @ rest))
-    return float(ratio * total), error
+    item: Item
+    answer: Answer
+    swing: Swing
 
 
-def swings_of(known: Sequence[tuple[Item, Answer, Swing]], totals: Totals) -> Swings | None:
+class CaseSum(NamedTuple):
+    """A case of a whole catalogue, in money of a period: what the chosen policies cost, what they save beside today's,
+    and what the best ones would save beyond; and the shares of demand that is not met at once, None if that is not
+    known of any. `lacking` of the drawn items are not in it."""
+
+    what: str
+    tenths: int
+    cost: Estimate
+    saving: Estimate
+    beyond: Estimate
+    unmet: Estimate | None
+    lacking: int
+
+
+class Swings(NamedTuple):
+    """All cases of a catalogue, from so many items. Those that are `taken` for certain carry a `share` of all costs."""
+
+    cases: Sequence[CaseSum]
+    computed: int
+    taken: int
+    share: float
+
+    @property
+    def lacking(self) -> int:
+        """Returns how many of the items are not in each case, at most."""
+        return max(case.lacking for case in self.cases)
+
+
+class Sample:
+    """The items that have a case, as arrays: their `answers`, their rows, their sizes, what of their demand the chosen
+    policies do not meet at once, and of that demand itself; `by_value`, or as shares. The first ones are taken for
+    certain, and the others have `chances`."""
+
+    def __init__(self, known: Sequence[Known], place: int, drawn: Drawn, totals: Totals) -> None:
+        """Takes the items that have the case at a place of `CASES`."""
+        some = sorted((one for one in known if one.swing.rows[place]), key=lambda one: one.item.name not in drawn.taken)
+        self.answers = [one.answer for one in some]
+        self.rows = np.array([one.swing.rows[place] for one in some])
+        self.sizes = np.array([size_of(answer) for answer in self.answers])
+        names = [one.item.name for one in some]
+        self._taken = sum(name in drawn.taken for name in names)
+        self._chances = np.array([drawn.chances[name] for name in names[self._taken:]])
+        by_value = totals["demand"] > 0
+        self.asked = np.array([asked_value(one.item, one.answer) if by_value else 1.0 for one in some])
+        self.unmet = self.asked * np.array([1 - answer.chosen.fill for answer in self.answers])
+        self.total, self.demand = totals["cost_today"] + totals["cost_chosen"], totals["demand"] or float(totals.compared)
+        self.all_unmet = self.demand - totals["met_chosen" if by_value else "fill_chosen"]
+        self.lacking = len(known) - len(some)
+        lost = [size_of(one.answer) for one in known if not one.swing.rows[place] and one.item.name in drawn.taken]
+        self._is_enough = sum(lost) <= MOST_LACKING * self.total
+
+    def sum_of(self, parts: Floats, sizes: Floats, total: float) -> Estimate:
+        """Returns the sum of a figure over all items from its parts. That of items that are not taken for certain
+        follows the sum of their sizes, as `total` is that of all."""
+        taken, left = self._taken, total - float(sizes[:self._taken].sum())
+        if not self._is_enough:
+            return Estimate(0.0, math.inf)
+        others = estimated(parts[taken:], sizes[taken:], self._chances, left if left > CLOSE * total else 0.0)
+        return others.plus(float(parts[:taken].sum()))
+
+    def money_of(self, parts: Floats) -> Estimate:
+        """Returns the sum of an amount of money over all items."""
+        return self.sum_of(parts, self.sizes, self.total)
+
+    def unmet_share(self, fills: Floats) -> Estimate:
+        """Returns the share of the demand of all items that is not met at once, if drawn ones meet these shares. What is
+        not met follows what is not met as planned, and is no more than all."""
+        unmet, error = self.sum_of(self.asked * (1 - fills), self.unmet, self.all_unmet)
+        return Estimate(min(max(unmet, 0.0) / self.demand, 1.0), error / self.demand)
+
+
+def cost_case(what: str, tenths: int, sample: Sample, totals: Totals) -> CaseSum:
+    """Returns a case of another cost. What policies cost then is known for all items, and service is as planned."""
+    more = tenths / 10 - 1
+    today, chosen = (more * totals[f"{PARTS[what]}_{policy}"] for policy in (TODAY_POLICY, CHOSEN))
+    return CaseSum(what, tenths, Estimate(totals["cost_chosen"] + chosen), Estimate(totals["saving"] + today - chosen),
+                   sample.money_of(sample.rows[:, KEPT] - sample.rows[:, BEST]), planned_unmet(totals), sample.lacking)
+
+
+def law_case(what: str, tenths: int, sample: Sample, totals: Totals) -> CaseSum:
+    """Returns a case of other laws. What all items cost and save as planned is known: what the case changes of that is
+    estimated."""
+    rows, answers = sample.rows, sample.answers
+    chosen = rows[:, KEPT] - np.array([answer.chosen.cost for answer in answers])
+    today = rows[:, TODAY] - np.array([answer.today.cost if answer.today else math.nan for answer in answers])
+    unmet = sample.unmet_share(rows[:, KEPT_FILL]) if sample.demand else None
+    return CaseSum(what, tenths, sample.money_of(chosen).plus(totals["cost_chosen"]),
+                   sample.money_of(today - chosen).plus(totals["saving"]),
+                   sample.money_of(rows[:, KEPT] - rows[:, BEST]), unmet, sample.lacking)
+
+
+def planned_unmet(totals: Totals) -> Estimate | None:
+    """Returns the share of demand that is not met at once as planned."""
+    service = totals.service(CHOSEN)
+    return None if service is None else Estimate(1 - service)
+
+
+def swings_of(known: Sequence[Known], drawn: Drawn, totals: Totals) -> Swings | None:
     """Returns the catalogue as it is, and all cases that some of the items have; None without such a case."""
-    items, errors, service = totals.compared, np.zeros(2), totals.service("chosen")
-    cases = [CaseSum(NOTHING, 10, totals["cost_chosen"], totals["saving"], 0.0, service, service, 0)]
+    cases = [CaseSum(NOTHING, 10, Estimate(totals["cost_chosen"]), Estimate(totals["saving"]), Estimate(0.0),
+                     planned_unmet(totals), 0)]
     for place, (what, tenths) in enumerate(CASES):
-        some = [(item, answer, swing.rows[place]) for item, answer, swing in known if swing.rows[place]]
-        if not some or what == BACKLOG and all(item.backlog is None for item, *_ in some):
-            continue
-        costs = np.array([answer.cost_chosen for _, answer, _ in some])
-        rows, fills = np.array([row for *_, row in some]), np.array([answer.chosen.fill for _, answer, _ in some])
-        saved = np.array([answer.saving or 0.0 for _, answer, _ in some])
-        weights = np.array([float(item.price or 0) * answer.law.mean if totals["demand"] else 1.0
-                            for item, answer, _ in some])
-        # What all items cost and save is known: what a case changes of that is estimated.
-        changes = (rows[:, KEPT] - costs, rows[:, TODAY] - rows[:, KEPT] - saved, rows[:, KEPT] - rows[:, BEST])
-        cost, saving, beyond = (estimated(part, costs, totals["cost_chosen"], items) for part in changes)
-        fill, best = (shifted(rows[:, column] - fills, weights, service, items)
-                      for column in (KEPT_FILL, BEST_FILL))
-        cases.append(CaseSum(what, tenths, totals["cost_chosen"] + cost[0], totals["saving"] + saving[0], beyond[0],
-                             fill[0], best[0], len(known) - len(some)))
-        errors = np.maximum(errors, [max(cost[1], saving[1], beyond[1]), max(fill[1], best[1])])
-    return Swings(cases, len(known), *errors.tolist()) if len(cases) > 1 else None
-
-
-def shifted(more: Floats, weights: Floats, share: float | None, items: int) -> tuple[float | None, float]:
-    """Returns a share of all items that is so much more of some, by their weights, with its standard error."""
-    if share is None or not weights.sum() > 0:
-        return None, 0.0
-    change, error = estimated(more * weights, weights, 1.0, items)
-    return share + change, error
+        sample = Sample(known, place, drawn, totals)
+        has_part = what in LAWS or totals[f"{PARTS[what]}_{TODAY_POLICY}"] + totals[f"{PARTS[what]}_{CHOSEN}"] > 0
+        if sample.answers and has_part:
+            cases.append((law_case if what in LAWS else cost_case)(what, tenths, sample, totals))
+    if len(cases) == 1:
+        return None
+    taken = [size_of(one.answer) for one in known if one.item.name in drawn.taken]
+    return Swings(cases, len(known), len(taken), sum(taken) / (totals["cost_today"] + totals["cost_chosen"]))

@@ -10,9 +10,10 @@ from __future__ import annotations
 import datetime
 import itertools
 import math
+from bisect import bisect_left
 from collections import defaultdict
 from collections.abc import Iterable, Iterator, Mapping, Sequence
-from dataclasses import dataclass
+from dataclasses import dataclass, replace
 from difflib import get_close_matches
 from fractions import Fraction
 from functools import cached_property
@@ -20,18 +21,20 @@ from operator import attrgetter
 
 from ..compiled import left_plain
 from ..errors import Refused, argument
-from ..records.cells import first_day
 from ..records.columns import DAYS
-from ..records.item import NO_DEMAND, Item
+from ..records.dates import first_day
+from ..records.item import ENDED, NO_DEMAND, PHASE_OUT, Item
 from ..records.items import FileCounts, Reject, Words
-from ..records.observed import YEAR, Day
-from ..records.sources import Table
+from ..records.observed import Day
+from ..records.opening import Table
+from ..records.quiet import is_dead, quiet_periods
 from ..records.stock import NONE, ON_ORDER, Arrival, Holdings, OnHand, read_holdings
-from ..remarks import Remark
+from ..remarks import Remark, Value
 from ..theory.walk import NOTHING, LatticeLaw, power_of, sum_of
 from ..words import message
 from .answer import Answer, Laws
 from .catalogue import PlannedFolder
+from .ended import Ended, laws_without_demand
 from .survey import Decided
 
 OLD_DAYS = 56  # after its record, from which on the age of a plan is said
@@ -45,16 +48,37 @@ def net_demand(laws: Laws) -> LatticeLaw:
     return sum_of(demand, LatticeLaw.of(laws.returns, 1).reflected) if laws.returns else demand
 
 
+def demands_of(laws: Laws, horizons: Mapping[int, float]) -> Iterator[tuple[int, float, LatticeLaw]]:
+    """Yields numbers of periods, which rise, each with its chance and with the law of the net demand of so many, in
+    boxes."""
+    total, before = NOTHING, 0
+    net = net_demand(laws)
+    for periods, chance in horizons.items():
+        total, before = sum_of(total, power_of(net, periods - before)), periods
+        yield periods, chance, total
+
+
 @dataclass(frozen=True)
 class Standing:
-    """An item of a plan on a day, of a catalogue whose period is `every`. Amounts are in items."""
+    """An item of a plan on a day, of a catalogue whose period is `every`. Amounts are in items. One that is phased out has
+    no answer: what is owed of it is ordered. Nor needs one whose planner has set levels."""
 
     item: Item
-    answer: Answer
+    answer: Answer | None
     hand: OnHand
     arrivals: Sequence[Arrival]
     day: Day
     every: str
+
+    @property
+    def levels(self) -> tuple[int, int]:
+        """Returns s and S by which the item is ordered: those that its planner has set, else those of the plan."""
+        override = self.item.override and self.item.override.levels
+        return override or (self.answer.chosen.levels if self.answer else (0, 0))
+
+    @cached_property
+    def laws(self) -> Laws:
+        return self.answer.laws if self.answer else laws_without_demand(self.item)
 
     @cached_property
     def on_order(self) -> Fraction:
@@ -67,12 +91,12 @@ class Standing:
     @cached_property
     def is_due(self) -> bool:
         """Returns whether the policy orders: the position is below s."""
-        return self.position < self.answer.chosen.point
+        return self.position < self.levels[0]
 
     @property
     def to_level(self) -> Fraction:
         """Returns what lacks up to S; below 0 if the position is above it."""
-        return self.answer.chosen.level - self.position
+        return self.levels[1] - self.position
 
     @property
     def packs(self) -> int:
@@ -91,7 +115,7 @@ class Standing:
     @cached_property
     def mean(self) -> float:
         """Returns the mean net demand of a period by the laws of the plan."""
-        laws = self.answer.laws
+        laws = self.laws
         return float((laws.demand.mean - (laws.returns.mean if laws.returns else 0)) * laws.box)
 
     def weeks_of(self, items: Fraction) -> float | None:
@@ -106,14 +130,34 @@ class Standing:
     @property
     def weeks_above(self) -> float | None:
         """Returns the weeks of mean demand that the position is above s."""
-        return self.weeks_of(self.position - self.answer.chosen.point)
+        return self.weeks_of(self.position - self.levels[0])
+
+    def after(self, periods: Fraction | float) -> Day:
+        """Returns the day after so many periods, in whole days."""
+        days = math.floor(periods * float(DAYS[self.every]))
+        return self.day + datetime.timedelta(min(max(0, days), MOST_DAYS))
 
     @property
-    def latest(self) -> Day:
+    def last_day(self) -> Day:
         """Returns the day on which an order has to leave so that it arrives, at mean demand and after the mean lead
         time, before the position is used up; the day itself if that is past."""
-        left = float(self.position) / self.mean - float(self.answer.laws.lead.mean) if self.mean > 0 else 0.0
-        return self.day + datetime.timedelta(min(max(0, math.floor(left * float(DAYS[self.every]))), MOST_DAYS))
+        left = float(self.position) / self.mean - float(self.laws.lead.mean) if self.mean > 0 else 0.0
+        return self.after(left)
+
+    @property
+    def lead_days(self) -> Fraction:
+        """Returns the mean lead time in days."""
+        return Fraction(self.laws.lead.mean) * DAYS[self.every]
+
+    @property
+    def due(self) -> Day:
+        """Returns the day on which an order of the day is expected: after the mean lead time, in days rounded up."""
+        return self.day + datetime.timedelta(math.ceil(self.lead_days))
+
+    @cached_property
+    def overdue(self) -> list[Arrival]:
+        """Returns what should have come before the day."""
+        return [arrival for arrival in self.arrivals if arrival.due is not None and arrival.due < self.day]
 
     def there_within(self, periods: int) -> Fraction:
         """Returns the stock less what is owed, and what arrives within so many periods from the day on."""
@@ -121,16 +165,18 @@ class Standing:
         return self.hand.stock - self.hand.owed + sum((arrival.items for arrival in self.arrivals if arrival.due is None
                                                        or (arrival.due - self.day).days < end), NONE)
 
+    @property
+    def horizons(self) -> dict[int, float]:
+        """Returns the chances of the periods of a lead time and one more."""
+        return {lead + 1: chance for lead, chance in self.laws.lead.chances.items()}
+
     @cached_property
     def chance(self) -> float:
         """Returns the chance of a shortage before delivery: see the module."""
-        laws, total, periods, chance = self.answer.laws, NOTHING, 0, 0.0
+        laws = self.laws
         with left_plain():  # The few loops of an item take less than a loop's compiled code to load.
-            net = net_demand(laws)
-            for lead, share in laws.lead.chances.items():
-                total, periods = sum_of(total, power_of(net, lead + 1 - periods)), lead + 1
-                chance += share * total.above(math.floor(self.there_within(periods) / laws.box))
-        return chance
+            return sum(chance * demand.above(math.floor(self.there_within(periods) / laws.box))
+                       for periods, chance, demand in demands_of(laws, self.horizons))
 
     @property
     def time(self) -> float:
@@ -145,11 +191,20 @@ class Standing:
     @property
     def reason(self) -> Remark:
         """Returns why the item is ordered."""
+        up_to: dict[str, Value] = {"order": float(self.to_level), "S": self.levels[1]}
         if self.hand.owed:
-            return Remark("items owed", {"owed": float(self.hand.owed)})
+            return Remark("items owed", {"owed": float(self.hand.owed), **up_to})
         if not self.hand.stock:
-            return Remark("no stock left")
-        return Remark("below s", {"position": float(self.position), "s": self.answer.chosen.point})
+            return Remark("no stock left", up_to)
+        return Remark("below s", {"position": float(self.position), "s": self.levels[0], **up_to})
+
+    @property
+    def reasons(self) -> list[Remark]:
+        """Returns why so many items are ordered."""
+        pack = self.item.bounds.pack
+        is_rounded = self.placed != self.to_level
+        return [self.reason, *[Remark("by override")] * (self.item.override is not None),
+                *[Remark("whole packs", {"packs": self.packs, "pack": pack})] * is_rounded]
 
 
 @dataclass(frozen=True)
@@ -209,6 +264,20 @@ class Group:
         """Returns by how much an order of the supplier lacks its minimum; 0 if nothing is ordered."""
         return max(self.minimum - self.value, NONE) if self.due and self.minimum is not None else NONE
 
+    @property
+    def filled(self) -> Fraction:
+        """Returns what all orders are worth with all additions."""
+        return max((addition.total for addition in self.additions()), default=self.value)
+
+    @cached_property
+    def remark(self) -> Remark | None:
+        """Returns what is to be said of an order below the supplier's minimum; None if it has enough. It may wait if no
+        addition fills it up."""
+        if not self.short:
+            return None
+        code = "fill up" if self.minimum is not None and self.filled >= self.minimum else "may wait"
+        return Remark(code, {"short": float(self.short), "minimum": float(self.minimum or 0)})
+
     def additions(self) -> Iterator[Addition]:
         """Yields what to add next, the item nearest above s in weeks first, until the minimum is met."""
         total = self.value
@@ -229,8 +298,9 @@ def sum_of_money(parts: Iterable[Money]) -> Fraction:
 @dataclass(frozen=True)
 class Today:
     """What a plan says on a day: the items whose stock is known, the most urgent order first, those that are `unknown`,
-    with the reason, and those that lie too long. `end` is the last day of the record. `counts` and `rejects` say what
-    became of the rows of tables."""
+    with the reason, those that lie too long, and those that have `ended`. `end` is the last day of the record. `counts`
+    and `rejects` say what became of the rows of tables, and `said` what is to be said of them. `sellers` are all suppliers
+    of the plan in order, with an empty name of items without one."""
 
     day: Day
     end: Day
@@ -241,6 +311,9 @@ class Today:
     has_orders: bool
     counts: Mapping[str, FileCounts]
     rejects: Sequence[Reject]
+    sellers: Sequence[str] = ("",)
+    ended: Sequence[Ended] = ()
+    said: Sequence[Remark] = ()
 
     @cached_property
     def whole(self) -> Group:
@@ -260,7 +333,8 @@ class Today:
 
     @cached_property
     def classes(self) -> list[Group]:
-        return self._groups("category")
+        groups = self._groups("category")
+        return groups if any(group.name for group in groups) else []
 
     @cached_property
     def suppliers(self) -> list[Group]:
@@ -275,13 +349,39 @@ class Today:
             dead[getattr(lying.item, role)].append(lying)
         names = sorted({*standings, *dead})
         minimums = self.minimums if role == "supplier" else {}
-        return [Group(name, standings[name], dead[name], minimums.get(name)) for name in names if names != [""]]
+        return [Group(name, standings[name], dead[name], minimums.get(name)) for name in names]
 
     @property
     def overdue(self) -> int:
         """Returns how many orders were due before the day."""
-        return sum(arrival.due is not None and arrival.due < self.day
-                   for standing in self.standings for arrival in standing.arrivals)
+        return sum(len(standing.overdue) for standing in self.standings)
+
+    @cached_property
+    def remarks(self) -> dict[str, Remark]:
+        """Returns what is to be said of orders below their supplier's minimum, by supplier."""
+        return {group.name: group.remark for group in self.suppliers if group.remark}
+
+    def latest(self, standing: Standing) -> Day:
+        """Returns the day on which an order has to leave: today, as the position is below s. If its supplier's minimum
+        is not met whatever is added, it may wait until its last day."""
+        remark = self.remarks.get(standing.item.supplier)
+        return standing.last_day if remark and remark.code == "may wait" else self.day
+
+    def reasons(self, standing: Standing) -> list[Remark]:
+        """Returns why an item is ordered, so many of it, and on which day."""
+        remark = self.remarks.get(standing.item.supplier)
+        if remark is None:
+            return standing.reasons
+        facts: dict[str, Value] = {**remark.facts, "latest": str(self.latest(standing))}
+        return [*standing.reasons, replace(remark, facts=facts)]
+
+    def number(self, supplier: str) -> str:
+        """Returns the number of a supplier's order: the day, and its place among all suppliers of the plan."""
+        return f"{self.day:%Y%m%d}-{self.place(supplier):03}"
+
+    def place(self, supplier: str) -> int:
+        """Returns the place of a supplier among all of the plan, from 1."""
+        return bisect_left(self.sellers, supplier) + 1
 
     @property
     def weeks_old(self) -> int | None:
@@ -295,12 +395,6 @@ def by_urgency(standings: Iterable[Standing]) -> Iterator[Standing]:
     for _, tied in itertools.groupby(sorted(standings, key=attrgetter("time")), attrgetter("time")):
         several = [*tied]
         yield from sorted(several, key=attrgetter("urgency")) if len(several) > 1 else several
-
-
-def quiet_periods(item: Item, every: str) -> int | None:
-    """Returns for how many of its last periods nobody has asked for an item; None if that is no year."""
-    quiet = next((place for place, count in enumerate(reversed(item.counts)) if count), len(item.counts))
-    return quiet if quiet >= YEAR[every] else None
 
 
 def minimums_of(items: Iterable[Item], stated: Mapping[str, Fraction]) -> dict[str, Fraction]:
@@ -340,21 +434,26 @@ def today_of(folder: PlannedFolder, answers: Iterable[Decided], tables: Mapping[
     order by kind. Items are by all their periods. Without a table of stock, that of the masters counts. Raises Refused
     if no stock is known, and as `read_holdings` does."""
     holdings = read_holdings(tables, words, {*folder.read.names()})
-    standings, unknown, dead = list[Standing](), list[tuple[Item, Remark]](), list[Lying]()
+    standings, unknown, dead, ended = list[Standing](), list[tuple[Item, Remark]](), list[Lying](), list[Ended]()
     known = [(item, answer, hand_of(item, holdings)) for item, answer in answers]
     if holdings.on_hand is None and all(hand is None for _, _, hand in known):
         raise Refused(f"{folder.path}: no item has a stock in its masters", f"name a table by {argument('stock')}")
     for item, answer, hand in known:
-        quiet = quiet_periods(item, folder.every)
-        if hand is None:
+        quiet, is_set = is_dead(item.counts, folder.every), bool(item.override and item.override.levels)
+        standing = hand and Standing(item, answer if isinstance(answer, Answer) else None, hand,
+                                     holdings.arrivals.get(item.name, ()), day, folder.every)
+        if item.past in ENDED and not is_set:
+            ended.append(Ended(item, hand, standing.on_order if standing else NONE))
+        elif hand is None:
             unknown.append((item, Remark("unread stock" if item.name in holdings.unread else "no stock")))
-        elif isinstance(answer, Answer):
-            standings.append(Standing(item, answer, hand, holdings.arrivals.get(item.name, ()), day, folder.every))
-        elif item.past != NO_DEMAND or hand.owed or not quiet:
+        elif isinstance(answer, Remark) and not is_set and (item.past != NO_DEMAND or hand.owed or not quiet):
             unknown.append((item, answer))
+        if standing and (standing.answer or is_set or item.past == PHASE_OUT and standing.is_due):
+            standings.append(standing)
         if quiet and hand and hand.stock:
-            dead.append(Lying(item, hand.stock, quiet))
+            dead.append(Lying(item, hand.stock, quiet_periods(item.counts)))
     end = first_day(folder.read.fact("periods")[1], folder.every) - datetime.timedelta(1)
     minimums = minimums_of((item for item, _, _ in known), stated)
+    sellers = sorted({item.supplier for item, _, _ in known})
     return Today(day, end, [*by_urgency(standings)], unknown, dead, minimums, tables.get(ON_ORDER) is not None, holdings.counts,
-                 holdings.rejects)
+                 holdings.rejects, sellers, ended, holdings.remarks)

@@ -9,14 +9,15 @@ from statistics import NormalDist
 from typing import Any
 
 from ..records.classes import xyz_of
-from ..records.item import NO_DEMAND, Item
+from ..records.item import ENDED, NO_DEMAND, UNORDERED, Item
 from ..remarks import Remark
 from ..table import Json
-from .answer import CHOSEN, COMPARED, OURS, RUN, TODAY, Answer
+from .answer import CHOSEN, OURS, RUN, TODAY, Answer, CostParts, Figures
 
 MOST_PARTS = 1_000  # of a sum
 COUNTERS = "verdicts", "letters", "corrected"
-COUNTS = "faults", "broken", "by_run", "without_interval", "promised", "covered", "priced"
+COUNTS = "compared", "faults", "broken", "by_run", "without_interval", "promised", "covered", "priced", "overridden"
+UNCOMPARED = "uncompared"  # the name of sums over chosen policies that are compared with none
 
 
 def add_exactly(parts: list[float], *values: float) -> None:
@@ -36,28 +37,53 @@ def exact_parts(values: Sequence[float]) -> list[float]:
     return parts
 
 
+def asked_value(item: Item, answer: Answer) -> float:
+    """Returns the value of the demand of a period, in money; 0 without a price."""
+    return float(item.price or 0) * answer.law.mean
+
+
+def policy_sums(name: str, item: Item, answer: Answer, figures: Figures, cost: float) -> dict[str, float]:
+    """Returns what a policy of an item adds to the sums of its name."""
+    parts = CostParts.of(item, figures, cost)
+    return {f"cost_{name}": cost, f"ordering_{name}": parts.orders, f"holding_{name}": parts.stock,
+            f"late_{name}": parts.late, f"value_{name}": float(item.price or 0) * figures.stock,
+            f"met_{name}": asked_value(item, answer) * figures.fill, f"fill_{name}": figures.fill,
+            f"orders_{name}": figures.orders}
+
+
+def uncompared_sums(item: Item, answer: Answer) -> dict[str, float]:
+    """Returns what an item adds to sums whose policy is compared with none."""
+    sums = policy_sums(UNCOMPARED, item, answer, answer.chosen, answer.cost_chosen)
+    return {f"demand_{UNCOMPARED}": asked_value(item, answer), **sums}
+
+
 @dataclass
 class Totals:
     """What adds up over items. Sums are without rounding but at the end.
 
-    Sums of the items that are compared with a policy of today, as `totals["saving"]`, of money but for the last:
-    `cost_today`, `cost_chosen` and `saving` of a period; `run_saving`, by runs, with its `run_variance`; `value_today`
-    and `value_chosen` of the mean stock; `saving VERDICT`; of those with a price, the value of the demand of a period,
-    `demand`, and `met_today` and `met_chosen` of it at once; of shares of demand met at once, `fill_today` and
-    `fill_chosen`, and of orders a period, `orders_today` and `orders_chosen`. Of the other planned items
-    `cost_uncompared` and `value_uncompared`, by the chosen policies, and of items without demand what their stock is
-    worth, `value_idle`. Of all planned ones `confidence_cost` and `coverage_cost` of a period, and of items whose
-    wanted fill is corrected, what it costs a period to hold the mean stock, `held`, and that of the policies that aim
-    at the wanted fill, `held_plain`.
+    Sums of the policies of today and the chosen ones, over the items that have both, as `totals["cost_today"]` and
+    `totals["cost_chosen"]`, and over the chosen ones of other planned items, as `totals["cost_uncompared"]`: of money a
+    period `cost`, and its parts `ordering`, `holding` and `late`; the `value` of the mean stock; of the value of demand
+    what is `met` at once; of shares of demand met at once `fill`; and of orders a period `orders`.
 
-    Counts of items: by verdict, those that are not planned (`faults`), those of them by a fault of ours (`broken`),
-    with a confidence in their fill rate (`promised`), whose S may cover no more periods (`covered`), by the wanted
-    fill, if that is `corrected`, and by the `letters` A, B, C and X, Y, Z of their classes; of those that are compared,
-    those with the run's figures (`by_run`), without an interval of the run, and with a price.
+    Other sums over the items that are compared: `saving` and `saving VERDICT`; `run_saving`, by runs, with its
+    `run_variance`; and the value of the demand of a period, `demand`, which other planned items have as
+    `demand_uncompared`. Of items without demand `value_idle` is what their stock is worth, and `value_ended` of
+    those that have stopped or are phased out. Of all planned ones `confidence_cost` and `coverage_cost` of a period, `override_cost`,
+    by which the policies of planners cost more than the chosen ones, and
+    of items whose wanted fill is corrected, what it costs a period to hold the mean stock, `held`, and that of the
+    policies that aim at the wanted fill, `held_plain`.
+
+    Counts of items: by verdict, those that are `compared`, those that are not planned (`faults`), those of them by a
+    fault of ours (`broken`), with a confidence in their fill rate (`promised`), whose S, or S - s, may cover no more
+    periods (`covered`), by the wanted fill, if that is `corrected`, and by the `letters` A, B, C and X, Y, Z of their
+    classes, and those with levels of the planner (`overridden`); of those that are compared, those with the run's figures (`by_run`), without an interval of the run, and
+    with a price.
     """
 
     parts: defaultdict[str, list[float]] = field(default_factory=lambda: defaultdict(list))
     verdicts: Counter[str] = field(default_factory=Counter)
+    compared: int = 0
     faults: int = 0
     broken: int = 0
     by_run: int = 0
@@ -65,6 +91,7 @@ class Totals:
     promised: int = 0
     covered: int = 0
     priced: int = 0
+    overridden: int = 0
     letters: Counter[str] = field(default_factory=Counter)
     corrected: Counter[float] = field(default_factory=Counter)
 
@@ -75,9 +102,10 @@ class Totals:
         for item, answer in answers:
             if isinstance(answer, Answer):
                 totals.add(item, answer)
-            elif item.past == NO_DEMAND:
-                totals.verdicts[NO_DEMAND] += 1
-                add_exactly(totals.parts["value_idle"], float(item.value or 0))
+            elif item.past in UNORDERED:
+                totals.verdicts[item.past] += 1
+                name = "value_idle" if item.past == NO_DEMAND else "value_ended"
+                add_exactly(totals.parts[name], float(item.value or 0))
             else:
                 totals.faults += 1
                 totals.broken += answer.code in OURS
@@ -105,60 +133,73 @@ class Totals:
 
     @property
     def planned(self) -> int:
-        return self.verdicts.total() - self.verdicts[NO_DEMAND]
+        return self.verdicts.total() - self.verdicts[NO_DEMAND] - self.ended
+
+    @property
+    def ended(self) -> int:
+        """Returns how many items are ordered no longer: they have stopped, are phased out, or their planner says so."""
+        return sum(self.verdicts[past] for past in ENDED)
 
     @property
     def answered(self) -> int:
-        """Returns how many items are planned, are known to have no demand, or have a fault."""
+        """Returns how many items are planned, are known to need no order, or have a fault."""
         return self.verdicts.total() + self.faults
 
     @property
-    def compared(self) -> int:
-        """Returns how many planned items are compared with a policy of today."""
-        return sum(self.verdicts[verdict] for verdict in COMPARED)
+    def uncompared(self) -> int:
+        """Returns how many planned items are not compared with a policy of today."""
+        return self.planned - self.compared
 
     def __getitem__(self, name: str) -> float:
         return math.fsum(self.parts.get(name, ()))
 
     def add(self, item: Item, answer: Answer) -> None:
-        price = float(item.price or 0)
         self.verdicts[answer.verdict] += 1
         self.promised += answer.confidence_cost is not None
         self.letters.update((item.abc, xyz_of(item.counts)))
         self.covered += answer.coverage_cost is not None
-        values = {"confidence_cost": answer.confidence_cost or 0.0, "coverage_cost": answer.coverage_cost or 0.0}
+        self.overridden += answer.override is not None
+        values = {"confidence_cost": answer.confidence_cost or 0.0, "coverage_cost": answer.coverage_cost or 0.0,
+                  "override_cost": answer.override_cost or 0.0}
         if answer.correction and item.fill is not None:
             self.corrected[float(item.fill)] += 1
             values |= {"held": float(item.holding) * answer.chosen.stock,
                        "held_plain": float(item.holding) * answer.correction.plain_stock}
-        values |= self._compared(answer, price) if answer.verdict in COMPARED else {
-            "cost_uncompared": answer.cost_chosen, "value_uncompared": price * answer.chosen.stock}
+        values |= self._compared(item, answer) if answer.is_compared else uncompared_sums(item, answer)
         for name, value in values.items():
             add_exactly(self.parts[name], value)
 
-    def _compared(self, answer: Answer, price: float) -> dict[str, float]:
+    def _compared(self, item: Item, answer: Answer) -> dict[str, float]:
         """Counts an item that is compared with a policy of today, and returns what it adds to sums."""
-        run, demand, saving = answer.run, price * answer.law.mean, answer.saving or 0.0
+        run, saving = answer.run, answer.saving or 0.0
+        self.compared += 1
         self.by_run += answer.source == RUN
         self.without_interval += run.error is None
-        self.priced += bool(price)
-        values = {"cost_today": answer.cost_today or 0.0, "cost_chosen": answer.cost_chosen, "saving": saving,
-                  f"saving {answer.verdict}": saving, "run_saving": run.saving or 0.0,
-                  "run_variance": (run.error or 0.0)**2, "demand": demand}
-        for name, figures in ((TODAY, answer.today), (CHOSEN, answer.chosen)):
-            if figures:
-                values |= {f"value_{name}": price * figures.stock, f"met_{name}": demand * figures.fill,
-                           f"fill_{name}": figures.fill, f"orders_{name}": figures.orders}
-        return values
+        self.priced += bool(item.price)
+        assert answer.today is not None
+        return {"saving": saving, f"saving {answer.verdict}": saving, "run_saving": run.saving or 0.0,
+                "run_variance": (run.error or 0.0)**2, "demand": asked_value(item, answer),
+                **policy_sums(TODAY, item, answer, answer.today, answer.cost_today or 0.0),
+                **policy_sums(CHOSEN, item, answer, answer.chosen, answer.cost_chosen)}
 
     def fill(self, policy: str) -> float | None:
-        """Returns the share of demand by value that is met at once; None if no item has a price."""
-        asked = self["demand"]
+        """Returns the share of demand by value that policies meet at once, which are `today`, `chosen` or `uncompared`;
+        None if no item has a price."""
+        asked = self["demand_uncompared" if policy == UNCOMPARED else "demand"]
         return self[f"met_{policy}"] / asked if asked else None
 
     def service(self, policy: str) -> float | None:
         """Returns the share of demand met at once: by value, or the mean over items if none has a price."""
-        return self.fill(policy) if self["demand"] or not self.compared else self[f"fill_{policy}"] / self.compared
+        fill, items = self.fill(policy), self.uncompared if policy == UNCOMPARED else self.compared
+        return self[f"fill_{policy}"] / items if fill is None and items else fill
+
+    def stock_and_service(self, policy: str) -> tuple[float, float] | None:
+        """Returns what items with a price hold and serve with the policies of today, or with the chosen ones: the value of
+        the mean stock, and the share of demand, by value, that is met at once. An item without a policy today counts
+        with its chosen one. None if no item has a price."""
+        asked = self["demand"] + self[f"demand_{UNCOMPARED}"]
+        value, met = (self[f"{name}_{policy}"] + self[f"{name}_{UNCOMPARED}"] for name in ("value", "met"))
+        return (value, met / asked) if asked else None
 
     def run_ends(self, level: float) -> tuple[float, float]:
         """Returns the interval of all savings by runs. Those of different items are independent."""

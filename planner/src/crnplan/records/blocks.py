@@ -24,10 +24,11 @@ import numpy as np
 import numpy.typing as npt
 
 from ..errors import Fault, RefusedFaults
-from .cells import UNPRINTABLE, Cell, Numbers, bare_cell, dated_cell, text_of
+from .cells import UNPRINTABLE, Cell, Flags, Numbers, bare_cell, text_of
+from .choosing import is_other
+from .dates import dated_cell
 from .sources import Row, Sheet, TextSheet, readable
 
-Flags = npt.NDArray[np.bool_]
 Seen = dict[str, dict[Cell, int]]  # how many good rows have each value, by role
 DATES = ("date", "ordered", "received", "due", "since")
 ROWS_AT_ONCE = 200_000  # of those that are read one by one
@@ -69,7 +70,8 @@ class Cells(NamedTuple):
 @dataclass
 class Block:
     """Rows of a table, but for blank ones, whose lines are in `blank`. By role it has a code for each row, and the value
-    of each code. `good` says which rows are of use, and rows with equal `hashes` are the same."""
+    of each code. `good` says which rows are of use, `other` which are not wanted, and rows with equal `hashes` are the
+    same."""
 
     lines: Numbers
     codes: dict[str, npt.NDArray[np.int32]]
@@ -77,6 +79,7 @@ class Block:
     hashes: npt.NDArray[np.uint64]
     wide: dict[int, tuple[int, str]]
     good: Flags
+    other: Flags
     blank: list[int] = field(default_factory=list)
 
     def __len__(self) -> int:
@@ -93,6 +96,8 @@ class Block:
         for role, column in sheet.columns.items():
             read = text_of if role == "item" else dated if role in DATES else bare_cell
             codes[role], distinct[role] = read_values(cells.columns[column.place], read, kept)
+        for name, mark in sheet.marks.items():
+            codes[name], distinct[name] = read_values(cells.columns[mark.column.place], text_of, kept)
         hashes = np.zeros(len(kept), np.uint64)
         for its in cells.columns:
             hashes = (hashes ^ its.hashes()) * MIX
@@ -102,7 +107,11 @@ class Block:
             named = [name != "" and not UNPRINTABLE.search(str(name)) for name in distinct["item"]]
             good = np.array(named, bool)[codes["item"]]
         good[[*wide]] = False
-        return cls(cells.lines[kept], codes, distinct, hashes[kept], wide, good, cells.lines[~kept].tolist())
+        other: Flags = np.zeros(len(good), bool)
+        for name, mark in sheet.marks.items():
+            other |= is_other(mark, distinct[name])[codes[name]]
+        return cls(cells.lines[kept], codes, distinct, hashes[kept], wide, good & ~other, other,
+                   cells.lines[~kept].tolist())
 
     def seen(self) -> Seen:
         """Returns how many good rows have each value, in order of the first row that has it."""
@@ -120,7 +129,7 @@ class Block:
             codes[role], distinct[role] = table[its[rows]], [self.distinct[role][code] for code in used.tolist()]
         wide = {place: self.wide[row] for place, row in enumerate(rows.tolist()) if row in self.wide} if (
             self.wide) else {}
-        return Block(self.lines[rows], codes, distinct, self.hashes[rows], wide, self.good[rows])
+        return Block(self.lines[rows], codes, distinct, self.hashes[rows], wide, self.good[rows], self.other[rows])
 
 
 def blank_rows(cells: Cells, place: int) -> Flags:

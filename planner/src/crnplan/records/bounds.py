@@ -10,7 +10,8 @@ class Bounds:
     """What a buyer can order and keep of an item; None where nothing is stated.
 
     Orders come in multiples of `pack` items, and have at least `order_min` items. s is at least `s_min` items. S is at
-    most the mean demand of `coverage` periods, and of `shelf_life` periods, in which items must be used.
+    most the mean demand of `coverage` periods, and of `shelf_life` periods, in which items must be used. S - s is at
+    most the mean demand of `order_coverage` periods, which no master states: it holds where no coverage is stated.
     """
 
     pack: int = 1
@@ -18,3 +19,4 @@ class Bounds:
     s_min: int | None = None
     coverage: Fraction | None = None
     shelf_life: Fraction | None = None
+    order_coverage: Fraction | None = None

@@ -6,7 +6,6 @@ import contextlib
 import datetime
 import heapq
 import json
-import os
 import sqlite3
 import tempfile
 from collections import Counter
@@ -16,31 +15,41 @@ from operator import itemgetter
 from pathlib import Path
 from typing import TYPE_CHECKING, Any, cast
 
-from ..errors import Refused, argument, worded
+from ..errors import Refused, RefusedFaults, argument, worded
 from ..files import Folder, faults_of, own_folder
 from ..jobs import workers_of
 from ..money import Amount, Currency, Number
 from ..remarks import Remark
-from ..stored import Cell, check_whole, digest_of, quoted
+from ..stored import Cell, check_whole, digest_of, quoted, reading
 from ..table import Json
-from ..words import message, sentence
-from .blocks import DATES, Sizes
-from .cells import NAMES, Unreadable, on_one_line, text_of
-from .columns import ROLES, converted
-from .defaults import KEEP, LEAVE_OUT, SOURCES, Defaults, distinct
-from .filed import AMOUNTS, FiledTable, Whole, read_tables
-from .item import PLANNED, Item
+from ..words import advised, message
+from .blocks import Sizes
+from .choosing import Where, conditions_of, said_of_marks
+from .columns import converted, is_converted
+from .controls import Controls, controls_in, no_rows, together, tree_of
+from .defaults import CLASS, DEFAULT, LEAVE_OUT, ORDERS, SOURCES, Defaults, distinct
+from .filed import FiledTable, Whole, read_tables
+from .found import found_of
+from .item import NEW, NO_DEMAND, PHASE_OUT, PLANNED, STOPPED, Item
 from .items import Counts, FileCounts, Reject, Words
+from .leads import RECEIPTS
 from .observed import Day
+from .opening import Table
 from .parts import ITEM, REJECT, PartRead, read_parts, rows_in
+from .repeated import files_within, zeros_apart
+from .settled import settle_times
 from .several import open_tables
-from .sources import Table
+from .sources import Sheet
+from .status import BY_TEST
+from .successors import succeeded
+from .told import merged, told_of
 
 if TYPE_CHECKING:
     import pandas as pd
 
 CATALOGUE = "catalogue"  # the kind of the folder
 READ = "catalogue.sqlite"
+OVERRIDE_KIND = "override_kind"  # the first column of an override
 ADD_ITEM, ADD_REJECT = ITEM.insert("items"), REJECT.insert("rejects")
 
 
@@ -58,28 +67,52 @@ class Catalogued:
             check_whole(self.base, path)
 
     def fact(self, name: str) -> Any:
-        (text,) = self.base.execute("SELECT value FROM facts WHERE name = ?", [name]).fetchone()
-        return json.loads(text)
+        """Returns a fact by its name. Raises Refused if an older crnplan has not kept it, and Damaged."""
+        with reading(self.path):
+            row = self.base.execute("SELECT value FROM facts WHERE name = ?", [name]).fetchone()
+            if row is None:
+                raise Refused(f"{self.path.parent}: another version of crnplan has read it", "run crnplan catalogue again")
+            return json.loads(row[0])
+
+    def controls(self) -> Controls:
+        """Returns the control totals of the tables."""
+        return controls_in(self.fact("controls"))
+
+    def remarks(self) -> Iterator[Remark]:
+        """Yields what is to be said of the rows of the tables."""
+        yield from (Remark(code, facts) for code, facts in self.fact("remarks"))
 
     def rejects(self, more: Iterable[Reject] = ()) -> Iterator[Reject]:
         """Yields what was left out or named, with more of it: by file, line, item and column."""
-        with contextlib.closing(sqlite3.connect("")) as base:
+        with reading(self.path), contextlib.closing(sqlite3.connect("")) as base:
             base.execute(f"CREATE TABLE rejects ({quoted(REJECT.names)})")
             for cells in (self.base.execute("SELECT * FROM rejects"), map(REJECT.cells, more)):
                 base.executemany(REJECT.insert("rejects"), cells)
             yield from map(REJECT.value, base.execute(
                 'SELECT * FROM rejects ORDER BY file, line, item, kind, "column", text, remark'))
 
-    def _rows(self, columns: str, *name: str) -> sqlite3.Cursor:
-        """Returns the rows of all items in order, or of the item of a name."""
-        return self.base.execute(f"SELECT {columns} FROM items {'WHERE name = ?' * len(name)} ORDER BY name", name)
+    def _selected(self, columns: str, where: str, names: Iterable[str]) -> Iterator[tuple[Any, ...]]:
+        """Yields the rows of items in order of their names."""
+        with reading(self.path):
+            # A loop, since `yield from` would close the cursor of a base that may be closed already.
+            for row in self.base.execute(f"SELECT {columns} FROM items {where} ORDER BY name", [*names]):
+                yield row
 
-    def _range(self, columns: str, start: str, stop: str | None) -> sqlite3.Cursor:
-        """Returns the rows, in order, of the items whose names are not before one, but before another, if there is one.
+    def _rows(self, columns: str, *name: str) -> Iterator[tuple[Any, ...]]:
+        """Yields the rows of all items in order, or of the item of a name."""
+        return self._selected(columns, "WHERE name = ?" * len(name), name)
+
+    def _range(self, columns: str, start: str, stop: str | None) -> Iterator[tuple[Any, ...]]:
+        """Yields the rows, in order, of the items whose names are not before one, but before another, if there is one.
         """
-        names = [start] if stop is None else [start, stop]
-        return self.base.execute(f"SELECT {columns} FROM items WHERE name >= ? {'AND name < ?' * (len(names) - 1)} "
-                                 "ORDER BY name", names)
+        if stop is None:
+            return self._selected(columns, "WHERE name >= ?", [start])
+        return self._selected(columns, "WHERE name >= ? AND name < ?", [start, stop])
+
+    def _items(self, rows: Iterable[tuple[Any, ...]]) -> Iterator[Item]:
+        """Yields the items of rows, by all their periods."""
+        with reading(self.path):
+            yield from map(ITEM.value, rows)
 
     def digests(self, common: str, start: str = "", stop: str | None = None) -> Iterator[tuple[str, str]]:
         """Yields the name of each item with the digest of what its plan depends on, and of what is common to all."""
@@ -87,11 +120,18 @@ class Catalogued:
 
     def digest(self, name: str, common: str) -> str:
         """Returns the digest of what the plan of an item depends on."""
-        return digest_of(common, self._rows(quoted(PLANNED), name).fetchone())
+        return digest_of(common, next(self._rows(quoted(PLANNED), name), None))
 
     def cells(self, *columns: str) -> Iterator[tuple[Any, ...]]:
         """Yields some columns of all items, as they are kept, in order."""
         yield from self._rows(quoted(columns))
+
+    def values(self, *fields: str) -> Iterator[tuple[Any, ...]]:
+        """Yields some facts of all items in order, each of which has one column."""
+        parts = dict(ITEM.parts)
+        reads = [parts[field].read for field in fields]
+        for cells in self.cells(*fields):
+            yield tuple(None if cell is None else read(cell) for read, cell in zip(reads, cells))
 
     def names(self, *pasts: str) -> Iterator[str]:
         """Yields the names of the items with one of these pasts, or of all."""
@@ -99,7 +139,7 @@ class Catalogued:
 
     def whole_items(self, start: str = "", stop: str | None = None) -> Iterator[Item]:
         """Yields the items by all their periods."""
-        yield from map(ITEM.value, self._range("*", start, stop))
+        yield from self._items(self._range("*", start, stop))
 
     def counting(self, item: Item) -> Item:
         """Returns an item by the periods that count."""
@@ -110,11 +150,16 @@ class Catalogued:
 
     def some_items(self, names: Iterable[str]) -> Iterator[Item]:
         """Yields the items of some names, as `items` does."""
-        yield from (self.counting(ITEM.value(row)) for name in names for row in self._rows("*", name))
+        yield from (self.counting(item) for name in names for item in self._items(self._rows("*", name)))
 
     def item(self, name: str) -> Item | None:
         """Returns the item of a name; None if there is none."""
         return next(self.some_items([name]), None)
+
+    def overridden(self) -> Iterator[Item]:
+        """Yields the items with an override; none of a file of a version that had none."""
+        if OVERRIDE_KIND in {column[1] for column in self.base.execute("PRAGMA table_info(items)")}:
+            yield from map(ITEM.value, self.base.execute(f"SELECT * FROM items WHERE {OVERRIDE_KIND} IS NOT NULL"))
 
     def close(self) -> None:
         self.base.close()
@@ -124,7 +169,7 @@ class Writer:
     """Writes what is read of a catalogue. The file stands under its name only when `finish` is called."""
 
     def __init__(self, folder: Folder) -> None:
-        self.path, self.part = folder.store(READ), folder.room() / READ
+        self.folder, self.path, self.part = folder, folder.store(READ), folder.room() / READ
         self.base = sqlite3.connect(self.part)
         self.base.executescript("PRAGMA journal_mode = OFF; PRAGMA synchronous = OFF;"
                                 f"CREATE TABLE items ({quoted(ITEM.names)}, PRIMARY KEY (name)) WITHOUT ROWID;"
@@ -134,6 +179,20 @@ class Writer:
     def add_rows(self, insert: str, rows: Iterable[Sequence[Cell]]) -> None:
         """Adds the cells of items, or of what is left out or named."""
         self.base.executemany(insert, rows)
+
+    def _items(self, where: str, *values: str) -> Iterator[Item]:
+        """Yields items that were added."""
+        yield from map(ITEM.value, self.base.execute(f"SELECT * FROM items WHERE {where}", values))
+
+    def succeed(self, words: Words) -> None:
+        """Gives items that succeed others the demand of these. Raises Refused."""
+        heirs = {item.name: item.predecessor for item in self._items("predecessor != ''")}
+        changed = succeeded(heirs, lambda name: next(self._items("name = ?", name), None), words)
+        self.base.executemany(ADD_ITEM.replace("INSERT", "REPLACE", 1), map(ITEM.cells, changed.values()))
+
+    def pasts(self) -> dict[str, int]:
+        """Returns how many items have each past."""
+        return dict(self.base.execute("SELECT past, COUNT(*) FROM items GROUP BY past"))
 
     def close(self) -> None:
         """Removes what is not finished."""
@@ -145,7 +204,7 @@ class Writer:
         self.base.executemany("INSERT INTO facts VALUES (?, ?)", [(name, json.dumps(it)) for name, it in facts.items()])
         self.base.commit()
         self.base.close()
-        os.replace(self.part, self.path)
+        self.folder.take(self.part, READ)
         return self.path
 
 
@@ -173,21 +232,31 @@ class Catalogue:
 
     @property
     def found(self) -> str:
-        """Returns what was found in the files, as TOML that states it."""
-        from ..pages.page import rendered
-        facts = cast(Mapping[str, Json], self.fact("found"))
-        return rendered("found.toml", {**facts, "formats": worded(argument("date_formats"))})
+        """Returns what was stated of the files and what was found in them, as TOML that gives the same reading."""
+        return stated_of(self, {})
 
     @property
     def said(self) -> list[str]:
-        """Returns what is to be said of the files, as units that were converted, and where defaults hold."""
-        return [*cast(list[str], self.fact("said")), *map(sentence, defaulted(self.fact("sources")))]
+        """Returns what is to be said of the files, as units that were converted, where defaults hold, and which receipts
+        are not used or late."""
+        from ..pages.lateness import receipt_remarks
+        with self.opened() as read:
+            remarks = [*read.remarks(), *defaulted(read.fact("sources")), *receipt_remarks(read)]
+            return [*read.fact("said"), *map(advised, remarks)]
 
     @property
     def missing(self) -> list[str]:
         """Returns what is lost: one line for each file, and for the items, whose counts do not add up."""
         counts = self.counts
         return missing_of(counts, counts["items"]["ready"])
+
+    @property
+    def controls(self) -> pd.DataFrame:
+        """Returns rows, sums, value and dates of each file and of what is used, to tick off against the source:
+        docs/TABLES.md has all columns."""
+        from ..pages.control_tables import controls_of
+        with self.opened() as read:
+            return controls_of(read.controls(), read.fact("decimals"), read.fact("currency")).frame
 
     @property
     def rejects(self) -> pd.DataFrame:
@@ -198,11 +267,24 @@ class Catalogue:
             return rejects_of(read.rejects()).frame
 
 
+def stated_of(catalogue: Catalogue, more: Mapping[str, Any]) -> str:
+    """Returns what was stated of the files of a catalogue and found in them, with more words, as those of planning."""
+    from ..pages.page import rendered
+    with catalogue.opened() as read:
+        facts, told = read.fact("found"), read.fact("told") | more
+    named = {table["kind"] for table in facts["tables"]}
+    words = {name: value for name, value in told.items() if name not in ("every", *named)}
+    return rendered("found.toml", {
+        **facts, "formats": worded(argument("date_formats")),
+        "words": {name: value for name, value in words.items() if not isinstance(value, dict)},
+        "groups": {name: value for name, value in merged(words, facts["stated"]).items() if isinstance(value, dict)}})
+
+
 def defaulted(sources: Any) -> Iterator[Remark]:
     """Yields of each value that may have a default, if it is not from the masters alone, of how many items it is from
     where."""
     for role, counts in sources.items():
-        if counts.keys() & {"class", "default"}:
+        if counts.keys() & {CLASS, DEFAULT}:
             yield Remark("taken from", {"role": role, **{name: counts.get(name, 0) for name in SOURCES}})
 
 
@@ -210,7 +292,7 @@ def missing_of(counts: Counts, answered: int) -> list[str]:
     """Returns a line for each file, and for the items, whose counts do not add up. `answered` items have an answer."""
     lines = []
     for kind, its in counts["files"].items():
-        rest = its["read"] - its["used"] - its["rejected"] - its["with_item"]
+        rest = its["read"] - its["used"] - its["rejected"] - its["with_item"] - its["other"]
         if rest:
             lines.append(message(Remark("lost rows", {"kind": kind, "rest": rest, **cast(Mapping[str, int], its)})))
     items = counts["items"]
@@ -225,35 +307,49 @@ def read_catalogue(demand: Table, items: Table, orders: Table | None = None, *,
                    units: Mapping[str, Mapping[str, str]] | None = None,
                    names: Mapping[str, Mapping[str, Sequence[str]]] | None = None,
                    start: Day | str | None = None, end: Day | str | None = None, net: bool = False,
-                   negate: bool = False, twice: str = KEEP, far: str = LEAVE_OUT, least: int = 13,
-                   factors: Mapping[str, int] | None = None,
+                   negate: bool = False, twice: str | None = None, far: str = LEAVE_OUT, least: int = 13,
+                   lead_from: str = RECEIPTS, factors: Mapping[str, int] | None = None,
+                   statuses: Mapping[str, str] | None = None, stopped: str = BY_TEST,
                    setup: Amount | None = None, holding_rate: Amount | None = None, fill: Amount | None = None,
+                   lead: str | None = None,
                    service: Mapping[str, Amount] | None = None, currency: str | None = None,
                    abc: str | Sequence[Number] | None = None, today: Day | None = None,
+                   where: Where | None = None,
                    delimiter: str | None = None, encoding: str | None = None, decimal: str | None = None,
                    date_formats: Sequence[str] = (), jobs: int | None = None) -> Catalogue:
     """Reads a catalogue from CSV files of any size, also gzipped, sheets of workbooks (FILE.xlsx!SHEET) or DataFrames. Of
     demand and orders there may be several files with one heading, as "demand-2026-*.csv".
 
-    `demand` has a row for each movement (item, date, quantity, perhaps returned), `items` one for each item (item,
-    setup, holding, backlog or fill, lead, perhaps s, S, description, stock, price, class, and bounds), `orders` the
-    dates of orders (item, ordered, received). `columns` names columns by file and role, as {"demand": {"quantity":
+    `demand` has a row for each movement (item, date, quantity, perhaps returned), or for each item, with a column for
+    each period, in which an empty cell is no demand. `items` has one for each item (item, setup, holding, backlog or
+    fill, lead, perhaps s, S, description, stock, price, class, and bounds), `orders` the dates of orders (item, ordered,
+    received). `columns` names columns by file and role, as {"demand": {"quantity":
     "Menge"}}; others are found by usual names, to which `names` adds. `units` states what a column counts, as {"items":
     {"lead": "day"}}; else its heading does. Periods are `every` day, week (ISO) or month. The record is that of the
     whole file, or from `start` to `end`; rows after `today` are rejected. With `net` quantities below 0 are taken off
-    their period, and with `negate` too, by which all have the other sign. Rows that stand `twice` and items with
+    their period, and with `negate` too, by which all have the other sign. A file whose rows are all in another file of its
+    table is refused, unless `twice` is said. Rows that stand `twice` (by default they are kept) and items with
     amounts `far` above all others are kept or left out ("keep", "leave-out"). An item needs a history of `least`
-    periods. `factors` says how many items one of a unit of measure is. `setup` to `abc` are what masters need not say:
-    see `plan`. `delimiter`, `encoding`, `decimal` sign and `date_formats` are found if they can be. `jobs` processes
+    periods. Its lead times are those of its receipts if it has at least 5, else that of its master (`lead_from`
+    "orders"); or as its master says, if it does ("masters"); or those of its receipts and the stated one, which counts as
+    one receipt more, rounded up to whole periods ("both"). `factors` says how many items one of a unit of measure is.
+    Masters may have a status: active, phase out, stopped, or successor of another item, whose demand is then taken;
+    `statuses` says what other texts mean, as {"Z3": "stopped"}. Items whose status says nothing are `stopped` "by-test"
+    of their record, or never: "as-stated". `setup` to `abc` are what masters need not say: see `plan`. Only rows with the
+    values of `where` are read, as "Location=Main", several, or {"Location": "Main"}, and for one table {"demand":
+    {"Location": "Main"}}; the others are counted. `delimiter`, `encoding`, `decimal` sign and `date_formats` are found if
+    they can be. `jobs` processes
     read large files, by default one for each processor.
 
     Raises Refused and RefusedFaults for files that can't be read. Rows and items with faults are in `rejects`.
     """
     words = Words(every=every, columns=columns or {}, units=units or {}, names=names or {}, start=start, end=end,
                   today=today or datetime.date.today(), net=net, negate=negate, twice=twice, far=far, least=least,
-                  factors=factors or {}, delimiter=delimiter, encoding=encoding, decimal=decimal,
-                  date_formats=tuple(date_formats), defaults=Defaults.of(
-                      setup=setup, holding_rate=holding_rate, fill=fill, service=service, currency=currency, abc=abc))
+                  lead_from=lead_from, factors=factors or {}, statuses=statuses or {}, stopped=stopped,
+                  delimiter=delimiter, encoding=encoding, decimal=decimal,
+                  date_formats=tuple(date_formats), where=conditions_of(where), defaults=Defaults.of(
+                      setup=setup, holding_rate=holding_rate, fill=fill, lead=lead, service=service, currency=currency,
+                      abc=abc))
     room = tempfile.TemporaryDirectory(prefix="crnplan-")
     path = read_alone(Path(room.name), {"demand": demand, "items": items, "orders": orders}, words, jobs)
     return Catalogue(path, room)
@@ -276,25 +372,63 @@ def read_into(folder: Folder, tables: Mapping[str, Table | None], words: Words, 
         with workers_of(1 if parts == 1 else jobs, None) as workers:
             filed = read_tables(sheets, workers, room, parts, sizes)
             whole = Whole.of(filed, words)
+            settled = settle_times(filed, whole, parts)
             read = read_parts(filed, whole, words, workers, room, parts)
+        repeated = [*files_within(sheets, (part.shared for part in read))] if words.twice is None else []
+        if repeated:
+            raise RefusedFaults(repeated)
         for its in read:
             writer.add_rows(ADD_REJECT, rows_in(its.rejects))
         writer.add_rows(ADD_ITEM, heapq.merge(*(rows_in(its.items) for its in read), key=itemgetter(0)))
+        writer.succeed(words)
         currency = next(iter(distinct(whole.currencies)), "")
         periods = whole.record.periods
-        return writer.finish({"counts": counts_of(filed, read), "every": words.every,
+        return writer.finish({"counts": counts_of(filed, read, writer.pasts()), "every": words.every,
                               "decimals": max(Currency(currency, 0).places, *(its.decimals for its in read)),
                               "currency": currency, "abc": words.defaults.abc, "sources": sources_by_role(read),
-                              "periods": [periods.start, periods.stop], "found": found_of(filed, whole),
-                              "said": [f"{sheet.file_name}: {converted(column, role, words.every)}"
-                                       for sheet in sheets.values() for role, column in sheet.columns.items()
-                                       if column.unit]})
+                              "periods": [periods.start, periods.stop], "found": found_of(filed, whole, words),
+                              "told": told_of(words), "controls": tree_of(together(
+                                  [*(no_rows(kind, sheet) for kind, sheet in sheets.items()),
+                                   *(part.controls for part in read)])), "remarks": [
+                                  [remark.code, remark.facts] for remark in remarks_of(filed, read)],
+                              "said": [*(f"{sheets['items'].file_name}: {message(remark)}" for remark in settled),
+                                       *said_of_leads(sheets, read), *said_of_dates(filed, whole), *said_of(sheets, words.every)]})
 
 
-def counts_of(tables: Mapping[str, FiledTable], parts: Iterable[PartRead]) -> Counts:
-    """Returns what became of all rows and items, by what became of those of each part."""
+def said_of_leads(sheets: Mapping[str, Sheet], parts: Iterable[PartRead]) -> Iterator[str]:
+    """Yields that lead times are those of receipts, if there are orders and no column of lead times."""
+    if "orders" in sheets and "lead" not in sheets["items"].columns:
+        items = sources_by_role(parts).get("lead", {}).get(ORDERS, 0)
+        yield f"{sheets['items'].file_name}: {message(Remark('leads of receipts', {'items': items}))}"
+
+
+def said_of(sheets: Mapping[str, Sheet], every: str) -> Iterator[str]:
+    """Yields what is to be said of tables that were read: units that were converted, files that were passed over, and rows
+    that a workbook hides."""
+    for sheet in sheets.values():
+        for role, column in sheet.columns.items():
+            if is_converted(column, every):
+                yield f"{sheet.file_name}: {converted(column, role, every)}"
+        if sheet.locks:
+            yield f"{sheet.name}: {message(Remark('locks passed over', {'files': ', '.join(sheet.locks)}))}"
+        for file in sheet.files:
+            yield from (f"{file.file_name}: {message(remark)}" for remark in file.notes)
+            if file.hidden:
+                yield f"{file.file_name}: {message(Remark('hidden rows', {'count': file.hidden}))}"
+
+
+def said_of_dates(tables: Mapping[str, FiledTable], whole: Whole) -> Iterator[str]:
+    """Yields what is to be said of the dates of tables."""
+    for kind, table in tables.items():
+        for remark in whole.dates[kind].notes.values():
+            yield f"{table.sheet.file_name}: {message(remark)}"
+
+
+def counts_of(tables: Mapping[str, FiledTable], parts: Iterable[PartRead], pasts: Mapping[str, int]) -> Counts:
+    """Returns what became of all rows and items, by what became of those of each part, and how many items have each
+    past."""
     files: dict[str, FileCounts] = {kind: {"name": its.sheet.file_name, "read": its.rows, "blank": its.blank, "used": 0,
-                                           "rejected": 0, "with_item": 0} for kind, its in tables.items()}
+                                           "rejected": 0, "with_item": 0, "other": 0} for kind, its in tables.items()}
     items = Counter[str]()
     for part in parts:
         items.update(part.counts["items"])
@@ -303,7 +437,19 @@ def counts_of(tables: Mapping[str, FiledTable], parts: Iterable[PartRead]) -> Co
             mine["used"] += its["used"]
             mine["rejected"] += its["rejected"]
             mine["with_item"] += its["with_item"]
-    return {"files": files, "items": dict(items)}
+            mine["other"] += its["other"]
+    kinds = {past.replace(" ", "_"): pasts.get(past, 0) for past in (NEW, NO_DEMAND, STOPPED, PHASE_OUT)}
+    return {"files": files, "items": {**items, **kinds}}
+
+
+def remarks_of(tables: Mapping[str, FiledTable], parts: Sequence[PartRead]) -> Iterator[Remark]:
+    """Yields what is to be said of the rows of tables: over which places items are summed, states of rows, and items
+    that differ by zeros alone."""
+    split = sum((part.split for part in parts), Counter[tuple[str, str]]())
+    for kind, table in tables.items():
+        places = {name: items for (table_kind, name), items in split.items() if table_kind == kind}
+        yield from said_of_marks(kind, table.sheet, table.seen, places)
+    yield from zeros_apart(part.apart for part in parts)
 
 
 def sources_by_role(parts: Iterable[PartRead]) -> dict[str, dict[str, int]]:
@@ -312,33 +458,3 @@ def sources_by_role(parts: Iterable[PartRead]) -> dict[str, dict[str, int]]:
     for (role, source), count in sorted(sum((part.sources for part in parts), Counter[tuple[str, str]]()).items()):
         roles.setdefault(role, {})[source] = count
     return roles
-
-
-def found_of(tables: Mapping[str, FiledTable], whole: Whole) -> dict[str, Any]:
-    """Returns what was found in the tables, of which `Catalogue.found` makes lines of crnplan.toml."""
-    record = whole.record
-    return {"every": record.every, "first": str(record.first), "last": str(record.last), "periods": len(record.periods),
-            "tables": [_table_facts(table, whole, kind) for kind, table in tables.items()]}
-
-
-def _table_facts(table: FiledTable, whole: Whole, kind: str) -> dict[str, Any]:
-    """Returns how a table is written, its columns, its first rows, its dates, and the signs of its amounts."""
-    dates, amounts = whole.dates[kind], {role: whole.amounts[role] for role in AMOUNTS[kind]}
-    sheet, used = table.sheet, {column.place for column in table.sheet.columns.values()}
-    forms, unclear = dict[str, list[Any]](), 0
-    for cell, count in (pair for role in DATES for pair in table.counts(role)):
-        try:
-            form = dates.read(cell)[1]
-            forms.setdefault(form, [form, 0, text_of(cell)])[1] += count
-        except Unreadable as why:
-            unclear += count * (why.remark.code in ("day or month", "day and month"))
-    return {
-        "kind": kind, "file": sheet.file_name, "written": sheet.written, "line": sheet.line, "rows": table.rows,
-        "blank": table.blank, "titles": [on_one_line(" ".join(filter(None, cells))) for _, cells in sheet.titles],
-        "columns": {role: vars(sheet.columns[role]) if role in sheet.columns else None for role in ROLES[kind]},
-        "unused": [on_one_line(name) for place, name in enumerate(sheet.heading) if name and place not in used],
-        "first_rows": [[*map(on_one_line, cells)] for _, cells in sheet.first_rows],
-        "forms": sorted(forms.values()), "unclear": unclear, "by_patterns": bool(dates.patterns),
-        "sides": sorted(dates.sides.items()), "stated": NAMES[sheet.rules.decimal] if sheet.rules.decimal else "",
-        "signs": [[role, [f"{NAMES[sign]} in {on_one_line(text)}" for sign, text in sorted(its.sides.items())]]
-                  for role, its in amounts.items() if its.sides]}

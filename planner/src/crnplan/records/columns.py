@@ -7,8 +7,7 @@ weeks, months and years are of 1, 7, 30.4375 and 365.25 days, so a year has 52.1
 from __future__ import annotations
 
 import re
-import unicodedata
-from collections.abc import Mapping, Sequence
+from collections.abc import Iterator, Mapping, Sequence
 from dataclasses import replace
 from fractions import Fraction
 from typing import TYPE_CHECKING
@@ -16,33 +15,45 @@ from typing import TYPE_CHECKING
 from ..errors import Fault, RefusedFaults
 from ..remarks import Remark, Value
 from ..words import message
-from .cells import HEADINGS
+from .amounts import CODES, ITEM, SIGNS, UNITS
+from .cells import HEADINGS, plain_name
 from .sources import Column, Sheet
+from .wide import NO_WIDE_ROLE, WIDE_ROLES, wide_sheet
 
 if TYPE_CHECKING:
     from .items import Words
 
 # The roles of each table in order, and those that each must have. s and S differ by their case.
-ROLES = {kind: ["item", *HEADINGS[kind]] for kind in ("demand", "items", "orders", "stock", "on_order")}
+ROLES = {kind: ["item", *HEADINGS[kind]] for kind in ("demand", "items", "orders", "stock", "on_order",
+                                                          "overrides")}
 COLUMNS = [f"{kind}.{role}" for kind, roles in ROLES.items() for role in roles]
 NEEDED = {"demand": {"item", "date", "quantity"}, "items": {"item", "setup", "holding"},
-          "orders": {"item", "ordered", "received"}, "stock": {"item", "stock"}, "on_order": {"item", "quantity"}}
-LEVELS = {"s": "S", "S": "s"}  # Each needs the other one.
+          "orders": {"item", "ordered", "received"}, "stock": {"item", "stock"}, "on_order": {"item", "quantity"},
+          "overrides": {"item"}}
+# Each needs the other one.
+LEVELS = {"s": "S", "S": "s", "override_s": "override_S", "override_S": "override_s"}
+# The roles with money, whose decimals say what the smallest unit is.
+MONEY = ("setup", "holding", "backlog", "price", "supplier_min")
 # Roles that a column has by its whole name alone: others that begin so say something else, as a supplier's lead time.
 WHOLE_NAMES = {"supplier"}
-# Letters that are no letter with an accent.
-LETTERS = str.maketrans({"ł": "l", "ø": "o", "æ": "ae"})
-UNITS: dict[str, str] = {word: unit for unit, words in HEADINGS["units"].items() for word in words}
 BESIDE = {*HEADINGS["beside"]["words"]}
 IMPLIED = {name: unit for unit, names in HEADINGS["implied"].items() for name in names}
 DAYS = {"day": Fraction(1), "week": Fraction(7), "month": Fraction(487, 16), "year": Fraction(1461, 4)}
 # What the numbers of a role may count.
 COUNTED = HEADINGS["counted"]
+# Currencies by the plain words of their codes and signs. A sign without letters may stand anywhere in a heading.
+CURRENCIES = {plain_name(word): SIGNS.get(word, word) for word in (*SIGNS, *CODES) if plain_name(word)}
+SYMBOL = re.compile("|".join(re.escape(sign) for sign in (*SIGNS, *CODES) if not sign[-1].isalpha() and sign[-1] != "."))
 ROLE_UNITS = {role: kind for kind, its in COUNTED.items() for role in its["roles"]}
 SHARES = COUNTED["share"]["units"]
 TIMES = ("length", "span")  # the kinds of roles that count times
 MOST_NAME = 100
 NO_ROW = "there is no row below the heading; export the file again, with its rows"
+
+
+def counts_items(role: str, column: Column | None) -> bool:
+    """Returns whether the numbers of a column count items one by one."""
+    return ROLE_UNITS.get(role) in ("count", "size") and (column is None or column.unit in ("", ITEM))
 
 
 def unit_fault(role: str, unit: str) -> str | None:
@@ -80,6 +91,11 @@ def conversion(role: str, unit: str, every: str) -> tuple[Fraction, str]:
             if kind == "rate" else (share, f"{unit} to shares"))
 
 
+def is_converted(column: Column, every: str) -> bool:
+    """Returns whether the numbers of a column are converted from its unit."""
+    return column.unit not in ("", "period", every)
+
+
 def converted(column: Column, role: str, every: str) -> str:
     """Returns how the numbers of a column are converted from its unit."""
     return f"column {column.name!r}: {role}: converted from {conversion(role, column.unit, every)[1]}"
@@ -93,14 +109,6 @@ def periods_of(lead: Fraction) -> tuple[int, ...]:
     lows = (max(1, low),) * (rest.denominator - rest.numerator)
     leads = lows + (max(1, low + 1),) * rest.numerator
     return leads if len({*leads}) > 1 else leads[:1]
-
-
-def plain_name(name: str) -> str:
-    """Returns the words of a name in lower case, without signs and accents; s and S stay as they are."""
-    words: list[str] = re.findall(r"[^\W_]+|%", re.sub("/ *(?=[0-9])", " per ", name))
-    letters = unicodedata.normalize("NFKD", " ".join(words).casefold().translate(LETTERS))
-    plain = "".join(it for it in letters if not unicodedata.combining(it))
-    return words[0] + plain[1:] if words[:1] in (["s"], ["S"]) else plain
 
 
 def is_number(words: Sequence[str], place: int) -> bool:
@@ -124,12 +132,23 @@ def bare_name(name: str) -> tuple[str, str]:
                      key=lambda unit: (not unit.isdecimal(), unit not in SHARES, unit == "item"))
 
 
+def currency_in_name(name: str) -> str:
+    """Returns the currency that the name of a column says; empty if it says none."""
+    sign = SYMBOL.search(name)
+    if sign:
+        return SIGNS.get(sign[0], sign[0])
+    return next((CURRENCIES[word] for word in plain_name(name).split()[1:] if word in CURRENCIES), "")
+
+
 class Finder:
     """Finds the columns of a table in its heading, by the words of a planner and by usual names."""
 
-    def __init__(self, kind: str, words: Words) -> None:
+    def __init__(self, kind: str, words: Words, is_wide: bool = False) -> None:
         self.kind, self.every, self.needed = kind, words.every, NEEDED[kind] - words.defaults.roles
         self.stated, self.units = words.columns.get(kind, {}), words.units.get(kind, {})
+        self.is_wide = is_wide
+        if is_wide:
+            self.stated = {NO_WIDE_ROLE: "", **self.stated, **WIDE_ROLES}
         more = words.names.get(kind, {})
         self.names = {role: {*HEADINGS["all"].get(role, ()), *HEADINGS[kind].get(role, ()),
                              *map(plain_name, more.get(role, ()))} for role in ROLES[kind]}
@@ -140,7 +159,15 @@ class Finder:
     def usual_role(self, cell: str) -> str | None:
         """Returns the role of which a cell has a usual name."""
         plain = plain_name(cell)
-        return self.role_of.get(plain) or self.role_of.get(bare_name(plain)[0])
+        known = self.role_of.get(plain) or self.role_of.get(bare_name(plain)[0])
+        begun = None if known else self._role_of_beginning(plain)
+        return begun if begun and not self._unknown_behind(plain, begun) else known
+
+    @property
+    def may_be_wide(self) -> bool:
+        """Returns whether a table without a column of dates may have them in its heading."""
+        is_open = all(self.stated.get(role, name) == name for role, name in WIDE_ROLES.items())
+        return self.kind == "demand" and is_open and "date" not in self.columns
 
     def find(self, heading: Sequence[str]) -> tuple[dict[str, Column], list[str]]:
         """Returns the column of each role that the heading has, and what is wrong. Names are compared whole first, for
@@ -150,38 +177,77 @@ class Finder:
         stated, self.wrong = stated_columns(heading, self.stated)
         for role, column in stated.items():
             self._add(role, column)
-        for role in (it for it in ROLES[self.kind] if it not in self.stated):
-            places = self._places(role)
-            if len(places) > 1:
-                self._refuse("two columns", role, names=" and ".join(repr(heading[place]) for place in places))
-            elif places:
-                self._add(role, Column(heading[places[0]], places[0], True))
-            elif role in self.needed or self._has_other(role):
-                self._refuse(f"no column of {role}" if role in ("setup", "holding") else "no column", role,
-                             columns=listed(heading))
+        if self.is_wide and self.stated[NO_WIDE_ROLE]:
+            self._refuse("no role of a wide table", NO_WIDE_ROLE)
+        for role in ROLES[self.kind]:
+            self._find(role, heading)
         return self.columns, self.wrong
+
+    def _find(self, role: str, heading: Sequence[str]) -> None:
+        """Adds the column that has a role, or says what is wrong. One that is stated as none is not looked for."""
+        if self.stated.get(role):
+            return
+        places, unclear = ([], []) if role in self.stated else (self._places(role), [*self._unclear(role)])
+        if len(places) > 1:
+            self._refuse("two columns", role, names=" and ".join(repr(heading[place]) for place in places))
+        elif places:
+            self._add(role, Column(heading[places[0]], places[0], True))
+        elif unclear:
+            for place, words in unclear:
+                self._refuse("unknown words", role, name=heading[place], words=", ".join(map(repr, words)))
+        elif role in self.needed or role not in self.stated and self._has_other(role):
+            self._refuse(f"no column of {role}" if role in ("setup", "holding") else "no column", role,
+                         columns=listed(heading))
 
     def _has_other(self, role: str) -> bool:
         """Returns whether a role is s or S, and there is a column of the other one."""
         other = LEVELS.get(role, "")
-        return other in self.stated or other in self.columns or bool(other and self._places(other))
+        return other in self.columns or other not in self.stated and bool(other and self._places(other))
 
     def _refuse(self, code: str, role: str, **facts: Value) -> None:
         own = {"role": role, "place": f"{self.kind}.{role}", "every": self.every}
         self.wrong.append(message(Remark(code, {**own, **facts})))
 
     def _places(self, role: str) -> list[int]:
-        """Returns the places of the columns that may have a role: those with its very name, else those with its name
-        and a unit, else those that begin so."""
-        mine, taken = self.names[role], {column.place for column in self.columns.values()}
-        others = self.role_of.keys() - mine
-        free = [place for place, name in enumerate(self.plain) if place not in taken and name not in others]
+        """Returns the places of the columns that have a role: those with its very name, else those with its name and a
+        unit, or with words behind it that are known."""
+        mine, free = self.names[role], self._free(role)
         exact = [place for place in free if self.plain[place] in mine]
-        if role in WHOLE_NAMES:
+        if exact or role in WHOLE_NAMES:
             return exact
         bare = [place for place in free if role in ROLE_UNITS and self.bare[place][0] in mine]
-        return exact or bare or [place for place in free if self.bare[place][0] not in others
-                                 and self._role_of_beginning(self.plain[place]) == role]
+        known = [place for place, words in self._begun(role) if not words]
+        return sorted({*bare, *known})
+
+    def _unclear(self, role: str) -> Iterator[tuple[int, list[str]]]:
+        """Yields the places of columns that begin with a name of a role, and may be something else by words behind it,
+        with these."""
+        yield from ((place, words) for place, words in self._begun(role) if words and role not in WHOLE_NAMES)
+
+    def _free(self, role: str) -> list[int]:
+        """Returns the places of columns that no role has, and that don't have the very name of another role."""
+        taken, others = {column.place for column in self.columns.values()}, self.role_of.keys() - self.names[role]
+        return [place for place, name in enumerate(self.plain) if place not in taken and name not in others]
+
+    def _begun(self, role: str) -> Iterator[tuple[int, list[str]]]:
+        """Yields the places of columns that begin with a name of a role, each with the words behind it that are not
+        known."""
+        others = self.role_of.keys() - self.names[role]
+        for place in self._free(role):
+            plain = self.plain[place]
+            if self.bare[place][0] not in others and self._role_of_beginning(plain) == role:
+                yield place, self._unknown_behind(plain, role)
+
+    def _unknown_behind(self, plain: str, role: str) -> list[str]:
+        """Returns the words behind the longest name of a role, with which a plain name begins, that are not known. A
+        description may have any."""
+        words, has_unit = plain.split(), role in ROLE_UNITS or role in MONEY
+        if role == "description":
+            return []
+        known = {*BESIDE, *HEADINGS["behind"].get(role, ())} | (UNITS.keys() | CURRENCIES.keys() if has_unit else set())
+        first = max(len(name.split()) for name in self.names[role] if f"{plain} ".startswith(f"{name} "))
+        return [word for place, word in enumerate(words) if place >= first and word not in known
+                and not (has_unit and is_number(words, place))]
 
     def _role_of_beginning(self, plain: str) -> str | None:
         """Returns the role with the longest name that a plain name begins with: a minimum order value is no minimum
@@ -190,18 +256,24 @@ class Finder:
         return self.role_of[max(names, key=len)] if names else None
 
     def _add(self, role: str, column: Column) -> None:
-        """Adds the column of a role with its unit: the stated one, else that of its heading."""
-        plain, stated = self.plain[column.place], self.units.get(role)
-        is_plain = role not in ROLE_UNITS or plain in self.names[role] and plain not in IMPLIED
+        """Adds the column of a role with its unit: the stated one, else that of its heading; and with the currency that
+        this says."""
+        plain, stated, kind = self.plain[column.place], self.units.get(role), ROLE_UNITS.get(role)
+        is_plain = kind is None or plain in self.names[role] and plain not in IMPLIED
+        currency = currency_in_name(column.name) if kind or role in MONEY else ""
         unit = stated or ("" if is_plain else self.bare[column.place][1])
+        if currency and not stated and role not in MONEY:
+            unit = "money" if kind == "size" else currency
         reason = unit_fault(role, unit) if unit else None
         if reason:
             self._refuse("wrong unit" if stated else "wrong unit in the heading", role, unit=unit, why=reason,
                          name=column.name)
-        if ROLE_UNITS.get(role) in (*TIMES, "rate") and not unit and self.every != "week":
+        if kind == "rate" and not unit and self.every != "week":
             self._refuse("no unit", role, name=column.name)
         own = {"item", "period", "order", self.every, *["share"] * (role == "fill")}
-        self.columns[role] = replace(column, unit="" if unit in own else unit)
+        is_own = unit in own and kind not in TIMES
+        self.columns[role] = replace(column, unit="" if is_own else unit, counts=unit,
+                                     currency=currency if role in MONEY else "")
 
 
 def listed(heading: Sequence[str]) -> str:
@@ -212,12 +284,12 @@ def stated_columns(heading: Sequence[str], names: Mapping[str, str]) -> tuple[di
     """Returns the columns that are stated for roles, and what is wrong with those that a heading doesn't have once. A
     heading may name packs of so many items, and a time of lead times. Other units are the item's own, as kilograms."""
     columns = {}
-    for role, name in ((role, name) for role, name in names.items() if heading.count(name) == 1):
+    for role, name in ((role, name) for role, name in names.items() if name and heading.count(name) == 1):
         unit, kind = bare_name(plain_name(name))[1], ROLE_UNITS.get(role)
         is_known = unit.isdecimal() if kind in ("count", "size") else kind in TIMES and unit in DAYS
         columns[role] = Column(name, heading.index(name), unit=unit if is_known else "")
     wrong = []
-    for role in (it for it in names if it not in columns):
+    for role in (role for role, name in names.items() if name and role not in columns):
         facts = {"name": names[role], "role": role, "columns": listed(heading)}
         wrong.append(message(Remark("same columns" if names[role] in heading else "no stated column", facts)))
     return columns, wrong
@@ -227,10 +299,15 @@ def find_columns(kind: str, sheet: Sheet, words: Words) -> Sheet:
     """Returns a table of a catalogue with its heading, its columns and its first rows. Raises RefusedFaults with all
     that is wrong with them."""
     finder = Finder(kind, words)
-    sheet.find_heading([*finder.stated.values()], finder.usual_role)
+    sheet.find_heading([*filter(None, finder.stated.values())], finder.usual_role)
     if sheet.fault:
         raise RefusedFaults([sheet.fault])
     sheet.columns, wrong = finder.find(sheet.heading) if sheet.heading else ({}, [NO_ROW])
+    wide = wide_sheet(sheet) if finder.may_be_wide else None
+    if wide:
+        sheet, finder = wide, Finder(kind, words, is_wide=True)
+        sheet.columns, wrong = finder.find(sheet.heading)
+        wide.mark_used()
     if wrong:
         raise RefusedFaults([Fault(what, sheet.name, sheet.line) for what in wrong])
     return sheet

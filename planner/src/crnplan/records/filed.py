@@ -6,27 +6,36 @@ import contextlib
 from collections import Counter
 from collections.abc import Iterable, Iterator, Mapping
 from dataclasses import dataclass, field, replace
+from fractions import Fraction
 from pathlib import Path
 from typing import TYPE_CHECKING, NamedTuple
 
-from ..errors import RefusedFaults
+from ..errors import Fault, RefusedFaults
 from ..jobs import Workers
+from ..remarks import Remark, Value, joined
+from ..words import message
+from .amounts import AmountReader
 from .blocks import (DATES, Filed, Piece, Range, RangeRead, Seen, Sizes, closed_ranges, ranges_of, read_blocks, read_range,
                      write_block)
-from .cells import AmountReader, Cell, DateReader, Unreadable, text_of
+from .cells import Cell, Unreadable, text_of
+from .dates import DateReader
+from .columns import MONEY, counts_items
 from .defaults import currency_in
-from .masters import MONEY
 from .observed import Day, Record, ends_of, record_of
+from .repeated import sums_of_columns
 from .rows import Codes, Rows
 from .sources import FILE_BITS, Sheet, TextSheet
+from .times import TimeReader
 
 if TYPE_CHECKING:
     from .items import Words
 
 # The roles with amounts by table.
 AMOUNTS = {"items": ("setup", "holding", "backlog", "fill", "s", "S", "stock", "price", "price_for", "order_min",
-                     "pack", "s_min", "supplier_min"),
+                     "pack", "s_min", "supplier_min", "override_s", "override_S"),
            "demand": ("quantity", "returned"), "orders": ()}
+# The roles of masters that are times.
+SPANS = ("lead", "coverage", "shelf_life")
 
 
 @dataclass
@@ -114,33 +123,81 @@ def read_tables(sheets: Mapping[str, Sheet], workers: Workers, room: Path, parts
     return tables
 
 
+def date_reader(table: FiledTable) -> DateReader:
+    """Returns what reads the dates of a table, after a look at all of them. Raises RefusedFaults if it is not known whether
+    day and month are interchanged in some of them."""
+    rules = table.sheet.rules
+    reader = DateReader(rules.date_formats, rules.every, rules.day_first)
+    for role in DATES:
+        reader.look(cell for cell, _ in table.counts(role))
+    doubt = reader.doubt()
+    if doubt:
+        raise RefusedFaults([Fault(message(doubt), table.sheet.name)])
+    return reader
+
+
+def check_readable(table: FiledTable, reader: DateReader) -> None:
+    """Raises RefusedFaults for a table of demand with dates, none of which can be read: with what is wrong with the first
+    one, or with the columns."""
+    sheet, columns, dates = table.sheet, table.sheet.columns, [*table.counts("date")]
+    if not dates:
+        return
+    facts: dict[str, Value] = {"name": columns["date"].name, "count": sum(count for _, count in dates)}
+    try:
+        reader.read(dates[0][0])
+    except Unreadable as why:
+        wrong = joined([Remark("no readable date", facts), why.remark])
+    items = [cells[columns["item"].place] for _, cells in sheet.first_rows if columns["item"].place < len(cells)]
+    of_items = DateReader(reader.patterns, reader.every).look(items)
+    if items and all(map(of_items.is_date, items)):
+        wrong = Remark("swapped columns", {**facts, "text": text_of(dates[0][0]), "item": items[0], "kind": "demand",
+                                           "other": columns["item"].name})
+    raise RefusedFaults([Fault(message(wrong), sheet.name)])
+
+
 @dataclass(frozen=True)
 class Whole:
-    """What all rows say together: how the dates of each table are read, and the amounts of each column; the currencies
-    of the masters, each with its text; the record; and the classes that masters state."""
+    """What all rows say together: how the dates of each table are read, and the amounts and times of each column; the
+    currencies of the masters, each with its text; the record; the classes that masters state; and the sums of their
+    columns, by role."""
 
     dates: Mapping[str, DateReader]
     amounts: Mapping[str, AmountReader]
+    times: Mapping[str, TimeReader]
     currencies: Mapping[str, str]
     record: Record
     groups: frozenset[str]
+    sums: Mapping[str, Fraction]
 
     @classmethod
     def of(cls, tables: Mapping[str, FiledTable], words: Words) -> Whole:
-        """Looks at all tables. Raises Refused if the record has no day, or too many."""
-        dates = {kind: DateReader([cell for role in DATES for cell, _ in its.counts(role)], words.date_formats)
-                 for kind, its in tables.items()}
+        """Looks at all tables. Raises Refused if the record has no day, or too many, and RefusedFaults if dates can't be
+        read."""
+        dates = {kind: date_reader(table) for kind, table in tables.items()}
         currencies = {words.defaults.currency: words.defaults.currency}
         for cell, _ in tables["items"].counts("currency"):
             with contextlib.suppress(Unreadable):
                 currencies.setdefault(currency_in(cell), text_of(cell))
         currencies.pop("", None)
-        amounts = {role: AmountReader(words.decimal, currencies if role in MONEY else None).look(
-            cell for cell, _ in its.counts(role)) for kind, its in tables.items() for role in AMOUNTS[kind]}
+        for column in tables["items"].sheet.columns.values():
+            if column.currency:
+                currencies.setdefault(column.currency, column.name)
+        amounts, times = dict[str, AmountReader](), {
+            role: TimeReader(tables["items"].sheet.rules.decimal_of(role)) for role in SPANS}
+        for kind, table in tables.items():
+            rules = table.sheet.rules
+            for role in AMOUNTS[kind]:
+                amounts[role] = AmountReader(rules.decimal_of(role), currencies if role in MONEY else None,
+                                             counts_items(role, table.sheet.columns.get(role)))
+                amounts[role].look(cell for cell, _ in table.counts(role))
+        for role, reader in times.items():
+            reader.look(cell for cell, _ in tables["items"].counts(role))
         days = Counter[Day]()
         for cell, count in tables["demand"].counts("date"):
             with contextlib.suppress(Unreadable):
                 days[dates["demand"].read(cell)[0]] += count
+        if not days:
+            check_readable(tables["demand"], dates["demand"])
         record = record_of(days, words.every, *ends_of(words.start, words.end), words.today)
         groups = frozenset(text_of(cell) for cell, _ in tables["items"].counts("class"))
-        return cls(dates, amounts, currencies, record, groups)
+        return cls(dates, amounts, times, currencies, record, groups, sums_of_columns(tables["items"].seen, amounts))

@@ -11,19 +11,20 @@ import numpy as np
 import numpy.typing as npt
 
 from ..errors import Fault, Refused, RefusedFaults, argument, worded
-from ..files import new_file
+from ..files import named_text
 from ..formats import MOST_WEIGHT
 from ..remarks import Remark, Value
 from ..table import DataTable, text, whole
 from ..words import message
+from .amounts import DECIMALS, KINDS, NAMES, other_reading
 from .blocks import DATES
-from .cells import (DECIMALS, EVERY, KINDS, MOST_NAMED, NAMES, NEED_PERIOD, TOTAL, Numbers, first_day,
-                    named_lines, other_reading, period_name, period_of, periods_of_days,
-                    shown, text_of)
+from .cells import MOST_NAMED, TOTAL, Numbers, named_lines, shown, text_of
 from .columns import NO_ROW, conversion, converted, periods_of, stated_columns
+from .dates import EVERY, NEED_PERIOD, first_day, period_name, period_of, periods_of_days
 from .observed import Day, History, LeadTimes, ends_of, summed
+from .opening import Table, opened
 from .rows import TIMES_NEXT, far_above, rows_of
-from .sources import Rules, Sheet, Table, opened, sample
+from .sources import Rules, Sheet, sample
 
 # What is said: the line of a row, 0 for the file, the place of a cell in the row, -1 for the row, and a text.
 Said = tuple[int, int, str]
@@ -72,7 +73,7 @@ REJECTS = (text("file", "name of the file"), whole("line", "", "line of the faul
 
 def write_rejects(path: Path, faults: Sequence[Fault]) -> None:
     """Writes all faults as CSV: file, line and column (0 if there is none), what is wrong, and the text of the row."""
-    with new_file(path) as file:
+    with named_text(path) as file:
         file.writelines(DataTable(REJECTS, (
             [fault.file, fault.line, fault.column, worded(fault.what),
              fault.row.replace("\r", "\\r") if isinstance(fault, Reject) else ""] for fault in faults)).lines)
@@ -95,7 +96,7 @@ def read_history(table: Table, *, demand: str, returns: str | None = None, date:
     Raises RefusedFaults with all faults of the file. With `leave_out` rows with faults are left out, and are in
     `faults`.
     """
-    rules = Rules(delimiter, encoding, decimal, tuple(date_formats), item or {}, leave_out)
+    rules = Rules(delimiter, encoding, decimal, tuple(date_formats), item or {}, leave_out, every)
     names = {"quantity": demand} | ({} if returns is None else {"returned": returns})
     if date is None:
         given = {"undated every": every, "undated net": net or whole, "undated ends": start or end}
@@ -127,7 +128,7 @@ def read_lead_times(table: Table, *, lead: str | None = None, every: str | None 
     of period t + L has lead time L, and 1 if both fell in one period. Orders not yet received are left out, with a
     note. Further words are those of `Rules`. Raises RefusedFaults with all faults of the file.
     """
-    rules = Rules(delimiter, encoding, decimal, tuple(date_formats), item or {}, leave_out)
+    rules = Rules(delimiter, encoding, decimal, tuple(date_formats), item or {}, leave_out, every)
     if lead is None and every not in EVERY:
         raise Refused(NEED_PERIOD)
     with opened(table, "lead times" if lead else "orders", rules) as sheet:
@@ -172,10 +173,14 @@ class Reading:
         if sheet.titles:
             texts = ", ".join(repr(shown(" ".join(filter(None, cells)))) for _, cells in sheet.titles)
             self.note("titles", lines=named_lines([line for line, _ in sheet.titles]), texts=texts)
+        if sheet.hidden:
+            self.note("hidden rows", count=sheet.hidden)
         blank = [] if items else [line for line in self.rows.blank if line < self.rows.lines[-1]]
         self.missing = blank if counts_blank else []
         if blank and not counts_blank:
             self.note("blank rows", count=len(blank), lines=named_lines(blank))
+        for remark in self.reader.notes.values():
+            self._notes.append(self.said(remark))
         self._choose(items)
 
     def _choose(self, items: Mapping[str, str]) -> None:

@@ -10,10 +10,14 @@ from ..formats import MOST_DEMAND
 from ..remarks import Remark
 from ..stored import columns_of
 from .bounds import Bounds
+from .overrides import DO_NOT_ORDER, Override
 
-# What an item's record says of its past: enough; too little, so that others say what to expect; or that nothing was asked
-# for.
-USUAL, NEW, NO_DEMAND = "", "new", "no demand"
+# What an item's record says of its past: enough; too little, so that others say what to expect; that nothing was asked
+# for, or is no longer. Its master may say the last, or that its stock is used up.
+USUAL, NEW, NO_DEMAND, STOPPED, PHASE_OUT = "", "new", "no demand", "stopped", "phase out"
+ENDED = STOPPED, PHASE_OUT, DO_NOT_ORDER  # the pasts of items that are ordered no longer, the last by their planner
+UNORDERED = NO_DEMAND, *ENDED  # those of items of which no order is planned
+TEACHING = USUAL, *ENDED  # those of items from which others learn
 # From whom an item may learn its law of demand: from no other, from those of its class, or from all.
 BORROW = ("none", "class", "all")
 
@@ -32,13 +36,16 @@ class Item:
     and `backlog` money an item and period, `unit` money for each item ordered, which only counts over coming periods.
     `fill` is the share of demand that is wanted at once; an item has a `backlog`, a `fill`, or both. `group` is its
     class, `borrow` from whom it learns its law, perhaps empty. `bounds` are those of its orders and levels. `past` is
-    empty, NEW or NO_DEMAND.
+    empty, NEW or one of UNORDERED. `override` is what the planner sets, whatever is chosen.
 
     What follows is no part of the plan: `stock` is today's, `price` the money that an item of stock is worth,
     `supplier_min` the money that an order of all items of the `supplier` comes to at least, `first` the number of the
     first period, `line` and `rows` are the line of the master and the rows of demand. `abc` is the class by the value
     of demand, empty without a price, and `category` the class that is shown: `group`, or `abc` if no item of the
-    catalogue has a class.
+    catalogue has a class. `status` is what the master says of it, perhaps empty, and `predecessor` the item whose demand
+    it takes, if it succeeds one.
+    catalogue has a class. `receipts` are the days that its received orders took, and `stated` those of its master, in the
+    mean, None if it states none.
     """
 
     name: str
@@ -55,6 +62,7 @@ class Item:
     borrow: str = ""
     bounds: Bounds = Bounds()
     past: str = USUAL
+    override: Override | None = None
     stock: Fraction | None = None
     price: Fraction | None = None
     description: str = ""
@@ -62,9 +70,13 @@ class Item:
     supplier_min: Fraction | None = None
     abc: str = ""
     category: str = ""
+    status: str = ""
+    predecessor: str = ""
     first: int = 0
     line: int = 0
     rows: int = 0
+    receipts: tuple[int, ...] = ()
+    stated: Fraction | None = None
     remarks: tuple[Remark, ...] = ()
 
     @cached_property
@@ -99,6 +111,14 @@ class Item:
         """Returns the item as it is known by its last so many periods, or by all if that is None."""
         periods = len(self.counts)
         return self if window is None or window >= periods else self.part(periods - window, periods)
+
+
+def overridden(item: Item, override: Override | None) -> Item:
+    """Returns an item with an override, and what is to be said of it."""
+    if override is None:
+        return item
+    past = item.past if override.levels else DO_NOT_ORDER
+    return replace(item, override=override, past=past, remarks=(*item.remarks, override.remark))
 
 
 # The columns of the facts that a plan depends on.

@@ -7,24 +7,29 @@ from collections.abc import Callable, Iterator, Mapping, Sequence
 from dataclasses import dataclass, field, replace
 from fractions import Fraction
 from functools import cached_property
-from typing import Literal, NamedTuple, TypedDict
+from typing import Any, Literal, NamedTuple, TypedDict
 
 import numpy as np
 
 from ..errors import Refused, argument
 from ..formats import MOST_ITEMS, MOST_LEAD
-from ..remarks import Remark
-from .blocks import Flags
-from .cells import (EVERY, TOTAL, UNPRINTABLE, Cell, CellFault, Numbers, fault, named_lines, on_one_line, period_name,
-                    periods_of_days, text_of)
+from ..remarks import Remark, joined
+from .cells import TOTAL, UNPRINTABLE, Cell, CellFault, Flags, Numbers, fault, named_lines, on_one_line, text_of
+from .choosing import Condition, named_values, places_of, split_items
 from .columns import COLUMNS, ROLES, unit_fault
+from .controls import OPEN, PLACES, REJECTED, Controller, Controls, states_of, together
+from .dates import EVERY, period_name, periods_of_days
 from .defaults import KEEP, LEAVE_OUT, Defaults
 from .filed import Whole
-from .item import NEW, NO_DEMAND, USUAL, Item
+from .item import PHASE_OUT, STOPPED, Item, overridden
+from .leads import LEAD_FROM, RECEIPTS, Receipts, remark_on
 from .masters import Master, Masters
 from .observed import Day, summed, sums_of
+from .quiet import chance_of_quiet, months_of, quiet_periods
+from .repeated import total_rows
 from .rows import Rows, far_above
 from .sources import Rules, Sheet
+from .status import AS_STATED, BY_TEST, check_meanings, past_of
 
 OUTSIDE = ("before start", "far before", "after end", "late date")  # what is wrong with a date outside the record
 
@@ -51,8 +56,13 @@ class Words(Rules):
     ends of the record, how rows are taken, and how files are written. Raises Refused for what can't be meant.
 
     `net` takes amounts below 0 off the sales that they undo, and so does `negate`, by which all quantities have the
-    other sign; `twice` and `far` are keep or leave-out, and an item needs a history of `least` periods. A row in a unit
-    of measure counts so many items as `factors` says. `defaults` hold for items whose masters say nothing.
+    other sign; `twice` and `far` are keep or leave-out (without `twice` rows are kept, but no whole files), and an item needs a history of `least` periods. Lead times are
+    from receipts of `orders`, from `masters`, or from `both` (`lead_from`: see records/leads.py). A row in a unit of
+    measure counts so many items as `factors` says. `defaults` hold for items whose masters say nothing. `statuses`
+    says what texts of a status mean, beside usual ones. Items whose status says nothing are `stopped` by-test of their
+    record, or never: as-stated. `written` says how single files are written: their delimiter, encoding, decimal by role,
+    and day_first by sign. Only rows with the values of `where` are read; with `is_where_needed` at least one table must
+    have each of its columns.
     """
 
     every: str = "week"
@@ -64,16 +74,36 @@ class Words(Rules):
     today: Day = field(default_factory=datetime.date.today)
     net: bool = False
     negate: bool = False
-    twice: str = KEEP
+    twice: str | None = None
     far: str = LEAVE_OUT
     least: int = 13
+    lead_from: str = RECEIPTS
     factors: Mapping[str, int] = field(default_factory=dict)
+    statuses: Mapping[str, str] = field(default_factory=dict)
+    stopped: str = BY_TEST
     defaults: Defaults = field(default_factory=Defaults)
+    written: Mapping[str, Mapping[str, Any]] = field(default_factory=dict)
+    where: tuple[str, ...] = ()
+    is_where_needed: bool = True
+
+    def rules_of(self, kind: str) -> Rules:
+        """Returns how the file of a kind is read: as that one is said to be written, else as all are."""
+        own = self.written.get(kind, {})
+        return Rules(own.get("delimiter", self.delimiter), own.get("encoding", self.encoding), self.decimal,
+                     self.date_formats, every=self.every, decimals=own.get("decimal", {}),
+                     day_first=own.get("day_first", {}))
 
     def __post_init__(self) -> None:
         super().__post_init__()
+        for kind in self.written:
+            self.rules_of(kind)
+        for text in self.where:
+            Condition.of(text)
         kept = (KEEP, LEAVE_OUT)
-        for name, value, known in (("every", self.every, EVERY), ("twice", self.twice, kept), ("far", self.far, kept)):
+        check_meanings(self.statuses)
+        for name, value, known in (("every", self.every, EVERY), ("twice", self.twice or KEEP, kept), ("far", self.far, kept),
+                                   ("lead_from", self.lead_from, LEAD_FROM),
+                                   ("stopped", self.stopped, (BY_TEST, AS_STATED))):
             if value not in known:
                 raise Refused(f"{argument(name, value)} is not one of {', '.join(known)}")
         for name in ("columns", "units", "names"):
@@ -82,6 +112,7 @@ class Words(Rules):
             wrong = next((place for place in places if place not in (*COLUMNS, *ROLES)), None)
             if wrong:
                 raise Refused(f"{argument(name)}: there is no column {wrong}; they are {', '.join(COLUMNS)}")
+        self.defaults.leads(self.every)
         for kind, role, unit in ((kind, *its) for kind, units in self.units.items() for its in units.items()):
             if reason := unit_fault(role, unit):
                 raise Refused(f"{argument('units', f'{kind}.{role}={unit}')}: {reason}")
@@ -96,6 +127,7 @@ class FileCounts(TypedDict):
     used: int
     rejected: int
     with_item: int
+    other: int
 
 
 class Counts(TypedDict):
@@ -118,19 +150,21 @@ class Moves(NamedTuple):
     back: Numbers
 
 
-def joined(remarks: Sequence[Remark]) -> Remark:
-    return remarks[0] if len(remarks) == 1 else Remark("several", {str(place): code for place, code in enumerate(
-        it.code for it in remarks)} | {f"{place} {name}": value for place, it in enumerate(remarks)
-                                       for name, value in it.facts.items()})
-
-
 def reject_of(what: str, sheet: Sheet, line: int, name: str, faults: Sequence[CellFault], rows: int = 0,
               value: Fraction | None = None) -> Reject:
     """Returns what is left out or suspicious, with columns (by their roles if the table has none) and texts."""
     cells = [on_one_line(text_of(cell)) for _, cell, _ in faults]
-    columns = [sheet.columns[role].name if role in sheet.columns else role for role, _, _ in faults]
+    columns = [sheet.column_of(role, line) for role, _, _ in faults]
     return Reject(what, *sheet.where(line), name, ", ".join(columns), ", ".join(cells),
                   joined([remark for _, _, remark in faults]), rows, value)
+
+
+def quiet_remark(item: Item, every: str) -> Remark:
+    """Returns for how long nobody has asked for an item, and how likely that is of an active one."""
+    quiet, months = quiet_periods(item.counts), months_of(item.counts[1:], every)
+    last = period_name(item.first + len(item.counts) - 1 - quiet, every)
+    return Remark("asked for no longer", {"periods": quiet, "every": every, "last": last,
+                                          "chance": chance_of_quiet(months)})
 
 
 class Reader:
@@ -143,16 +177,18 @@ class Reader:
         self.rows, self.words, self.whole, self.add, self.decimals = rows, words, whole, add, 0
         self.counts: Counts = {
             "files": {kind: {"name": its.sheet.file_name, "read": len(its), "blank": len(its.blank), "used": 0,
-                             "rejected": 0, "with_item": 0} for kind, its in rows.items()},
-            "items": dict.fromkeys(("open_orders", "twice", "named", "ready", "left_out", "late", "new", "no_demand"),
-                                   0)}
+                             "rejected": 0, "with_item": 0, "other": int(its.other.sum())}
+                      for kind, its in rows.items()},
+            "items": dict.fromkeys(("open_orders", "twice", "named", "ready", "left_out", "late"), 0)}
         self.names = [str(name) for name in rows["items"].columns["item"].distinct]
+        self.states = {kind: states_of(its) for kind, its in rows.items()}
         for kind in rows:
             for row, wrong in rows[kind].nameless():
                 self._reject_row(kind, row, [wrong], is_named=False)
+        self._leave_totals()
         self.record = whole.record
-        self.masters = Masters(whole.amounts, whole.dates["items"], rows["items"].sheet.columns, words.every,
-                               words.defaults, whole.currencies)
+        self.masters = Masters(whole.amounts, whole.times, whole.dates["items"], rows["items"].sheet.columns,
+                               words.every, words.defaults, whole.currencies, words.statuses, words.lead_from)
         self.sources, self.letters = Counter[tuple[str, str]](), dict[int, str]()
         self.twice, self.master_twins = Counter[int](), rows["items"].twins()
         self.masters_of = rows["items"].by_item(rows["items"].good)
@@ -162,6 +198,14 @@ class Reader:
         known = {code for its in rows.values() for code in np.unique(its.codes["item"][its.good]).tolist()}
         self.items = sorted(known - totals, key=self.names.__getitem__)
 
+    def _leave_totals(self) -> None:
+        """Rejects the rows of masters that are totals."""
+        masters = self.rows["items"]
+        totals = total_rows(self.rows, self.whole.sums, self.whole.amounts)
+        for row in np.flatnonzero(totals).tolist():
+            self._reject_row("items", row, [fault("item", masters.cell("item", row), "total")])
+        masters.good = masters.good & ~totals
+
     def _reject(self, what: str, kind: str, line: int, name: str, faults: Sequence[CellFault], rows: int,
                 value: Fraction | None = None) -> None:
         if self.add:
@@ -170,6 +214,7 @@ class Reader:
     def _reject_row(self, kind: str, row: int, faults: Sequence[CellFault], is_named: bool = True) -> None:
         rows = self.rows[kind]
         self.counts["files"][kind]["rejected"] += 1
+        self.states[kind][row] = PLACES[REJECTED]
         self._reject("row", kind, int(rows.lines[row]), str(rows.cell("item", row)) * is_named, faults,
                      int(kind == "demand"))
 
@@ -199,17 +244,24 @@ class Reader:
         """Returns the cells of the first of these rows of masters, by role; none without a row."""
         return {role: cells[row] for row in masters[:1].tolist() for role, cells in self.cells.items()}
 
+    @cached_property
+    def split(self) -> Counter[tuple[str, str]]:
+        """Returns by table and column of a place how many items have rows of several places."""
+        return Counter({(kind, name): items for kind, rows in self.rows.items()
+                        for name, items in split_items(rows).items()})
+
     def read(self, letters: Sequence[str]) -> Iterator[Item]:
         """Yields all items in order of names, in which their classes by value are given. Those of totals alone are
         none."""
         self.letters = dict(zip(self.items, letters, strict=True))
         leads_of = self._leads()
+        became = np.full(len(self.names), PLACES[OPEN], np.int8)
         for item in self.items:
-            moves, masters, (leads, orders) = self.moves_of(item), self.masters_of(item), leads_of(item)
-            counts = {"demand": len(moves.lines), "items": len(masters), "orders": orders}
+            moves, masters, receipts = self.moves_of(item), self.masters_of(item), leads_of(item)
+            counts = {"demand": len(moves.lines), "items": len(masters), "orders": receipts.orders}
             state: Literal["used", "with_item"] = "with_item"
             try:
-                yield self._item(item, moves, masters, leads)
+                yield self._item(item, moves, masters, receipts)
                 state = "used"
             except Left as left:
                 kind, line, *faults = left.args
@@ -218,6 +270,23 @@ class Reader:
             self.counts["items"]["ready" if state == "used" else "left_out"] += 1
             for kind, file in self.counts["files"].items():
                 file[state] += counts[kind]
+            became[item] = PLACES[state]
+        for kind, states in self.states.items():
+            is_open = states == PLACES[OPEN]
+            states[is_open] = became[self.rows[kind].codes["item"][is_open]]
+
+    def controls(self) -> Controls:
+        """Returns the controls of all rows, after all items were read."""
+        prices = dict[int, Fraction | None]()
+
+        def price_of(item: int) -> Fraction | None:
+            masters = self.masters_of(item)
+            if item not in prices:
+                is_one = len({*self.master_twins[masters].tolist()}) == 1
+                prices[item] = self.masters.price(self._cells(masters)) if is_one else None
+            return prices[item]
+        return together(Controller(kind, rows, self.states[kind], self.whole.amounts, self.whole.dates[kind]).controls(
+            price_of, self.words.factors) for kind, rows in self.rows.items())
 
     def _group(self, item: int, cells: Mapping[str, Cell]) -> str:
         """Returns the class of an item: that of its row, or the one by value if no row has a class."""
@@ -288,13 +357,14 @@ class Reader:
             self._reject("row" if leaves else "suspicious", "demand", lines[0], name, [twin], len(lines) * leaves)
         self.counts["items"]["twice"] += self.twice.total()
         self.counts["files"]["demand"]["rejected"] += self.twice.total() * leaves
+        if leaves:
+            self.states["demand"][again] = PLACES[REJECTED]
         return good & ~again if leaves else good
 
-    def _leads(self) -> Callable[[int], tuple[list[int], int]]:
-        """Returns the function that gives the lead times of an item's orders, and how many orders it has. Orders with
-        faults are rejected."""
+    def _leads(self) -> Callable[[int], Receipts]:
+        """Returns the function that gives what the orders of an item took. Orders with faults are rejected."""
         if "orders" not in self.rows:
-            return lambda item: ([], 0)
+            return lambda item: Receipts((), (), 0)
         rows = self.rows["orders"]
         placed, first, placed_faults = self._dates("orders", "ordered")
         there, last, there_faults = self._dates("orders", "received")
@@ -308,23 +378,26 @@ class Reader:
             self._reject_row("orders", row, rows.faults(row, faults) or [late if there[row] < placed[row] else far])
         self.counts["items"]["open_orders"] += int((rows.good & is_open).sum())
         orders_of, received_of = rows.by_item(rows.good & ~bad), rows.by_item(rows.good & ~bad & ~is_open)
-        return lambda item: (leads[received_of(item)].tolist(), len(orders_of(item)))
 
-    def _item(self, item: int, moves: Moves, masters: Numbers, leads: Sequence[int]) -> Item:
+        def receipts_of(item: int) -> Receipts:
+            received = received_of(item)
+            days = (there - placed)[received].tolist()
+            return Receipts(leads[received].tolist(), days, len(orders_of(item)))
+        return receipts_of
+
+    def _item(self, item: int, moves: Moves, masters: Numbers, receipts: Receipts) -> Item:
         self._check_measures(item)
-        master, decimals, sources, since = self._master(item, masters, leads, moves)
+        master, decimals, sources, since = self._master(item, masters, receipts.leads, moves)
         self._check_far(moves)
         start, first = self.record.periods[0], self._first(since, moves)
         asked, back, netted = self._counts(moves, first)
-        past = NEW if len(asked) < self.words.least else USUAL if any(asked) else NO_DEMAND
+        past = past_of(master.status, asked, self.words.least, self.words.every, self.words.stopped == BY_TEST)
         its = replace(master, counts=tuple(asked), returns=tuple(back) if any(back) else (), past=past, first=first,
-                      rows=len(moves.lines), abc=self.letters.get(item, ""))
+                      rows=len(moves.lines), abc=self.letters.get(item, ""), receipts=tuple(receipts.days))
         box = its.box
         if its.levels and round(its.levels[1] / box) > MOST_ITEMS:
             raise Left("items", its.line, fault("S", its.levels[1], "S too large", most=MOST_ITEMS))
-        for name, holds in (("late", first > start and since is None), ("new", past == NEW),
-                            ("no_demand", past == NO_DEMAND)):
-            self.counts["items"][name] += holds
+        self.counts["items"]["late"] += first > start and since is None
         self.decimals = max(self.decimals, decimals)
         self.sources.update(sources.items())
         remarks: list[tuple[str, bool, Mapping[str, float | str]]] = [
@@ -332,9 +405,12 @@ class Reader:
             ("late" if since is None else "since", first > start, {"period": period_name(first, self.words.every)}),
             ("boxes", box > 1, {"items": box}), ("taken off earlier", netted > 0, {"amounts": netted}),
             ("stock below 0", (its.stock or 0) < 0, {"owed": float(-(its.stock or 0))}),
-            ("rows twice", self.twice[item] > 0, {"rows": self.twice[item]})]
-        said = tuple(Remark(code, facts) for code, holds, facts in remarks if holds)
-        return replace(its, remarks=said) if said else its
+            ("rows twice", self.twice[item] > 0, {"rows": self.twice[item]}),
+            ("stated status", past in (STOPPED, PHASE_OUT) and its.status == past, {"status": past})]
+        said = [Remark(code, facts) for code, holds, facts in remarks if holds]
+        said += [quiet_remark(its, self.words.every)] * (past == STOPPED and not its.status)
+        said += filter(None, [remark_on(its, self.words.lead_from)])
+        return overridden(replace(its, remarks=tuple(said)), its.override)
 
     def _first(self, since: int | None, moves: Moves) -> int:
         """Returns where the history of an item begins: in the period since when its master has it, which may be behind the
@@ -383,8 +459,11 @@ class Reader:
             raise Left(kind, int(moves.lines[0]) if len(moves.lines) else 0, fault("item", name, "no master"))
         lines = self.rows["items"].lines[rows].tolist()
         if len({*self.master_twins[rows].tolist()}) > 1:
-            raise Left("items", lines[1], fault("item", name, "several masters", masters=len(rows),
-                                                lines=named_lines(lines)))
+            column, places = places_of(self.rows["items"], rows)
+            code = "masters of places" if column else "several masters"
+            raise Left("items", lines[1], fault("item", name, code, masters=len(rows), lines=named_lines(lines),
+                                                column=column, first=str(next(iter(places), "")),
+                                                values=named_values(places)))
         cells = self._cells(rows)
         group = self._group(item, cells)
         read, faults = self.masters.read(cells, leads, group)

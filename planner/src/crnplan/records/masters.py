@@ -3,30 +3,31 @@ planner states for all items if a row lacks it."""
 from __future__ import annotations
 
 import math
-import re
 from collections.abc import Callable, Mapping, Sequence
 from fractions import Fraction
 from functools import partial
 from typing import Any, NamedTuple
 
-from ..formats import MOST_LEAD
 from ..money import MOST_DECIMALS
 from ..remarks import Remark
+from .amounts import PERCENT, AmountReader
 from .bounds import Bounds
-from .cells import UNPRINTABLE, AmountReader, Cell, CellFault, DateReader, Unreadable, fault, period_of, shown
-from .columns import DAYS, LEVELS, NEEDED, ROLES, UNITS, conversion, periods_of
-from .defaults import DEFAULT, MASTERS, Defaults, currency_in, distinct
+from .cells import UNPRINTABLE, Cell, CellFault, Unreadable, fault, shown
+from .columns import DAYS, MONEY, NEEDED, ROLES, SHARES, conversion
+from .dates import DateReader, period_of
+from .defaults import DEFAULT, MASTERS, ORDERS, Defaults, currency_in, distinct
 from .item import BORROW, Item, value_of
+from .leads import counts_receipts, leads_from
+from .overrides import Override, level_faults, override_faults, word_of
+from .status import NOTHING, status_of
 from .sources import Column
+from .times import TimeReader
 
-# The roles with money, whose decimals say what the smallest unit is.
-MONEY = ("setup", "holding", "backlog", "price", "supplier_min")
 # The kinds of numbers in the cells of masters. Others are shares, lead times and texts.
 READ_AS = {"setup": "money", "backlog": "cost", "s": "items", "S": "items", "stock": "number", "price": "money",
            "price_for": "cost", "order_min": "money", "pack": "items", "s_min": "items",
-           "supplier_min": "money"}
-SPAN = re.compile(r"([0-9]{1,5}(?:[.,][0-9]{1,2})?) *([^\W\d_]*)")
-LEAD = re.compile(r"([0-9]{1,4}(?:[.,][0-9]{1,2})?) *([^\W\d_]*)[ ;|/]*")
+           "supplier_min": "money", "override_s": "items", "override_S": "items"}
+OVERRIDE = "override_s", "override_S", "override", "override_reason"
 
 
 def borrowed_from(cell: Cell) -> str:
@@ -35,47 +36,6 @@ def borrowed_from(cell: Cell) -> str:
     if source not in BORROW:
         raise Unreadable("no borrow", cell, known=f"{', '.join(BORROW[:-1])} or {BORROW[-1]}")
     return source
-
-
-def leads_of(cell: Cell, unit: str, every: str) -> list[int]:
-    """Returns the lead times of a cell in periods: one, or several that were observed. `unit` is that of the column,
-    empty for periods; a number may have its own behind it, as 14D. Raises Unreadable."""
-    text, leads = str(cell), list[int]()
-    if not LEAD.match(text) or LEAD.sub("", text):
-        raise Unreadable("no lead time", cell)
-    for digits, word in LEAD.findall(text):
-        own = UNITS.get(word.casefold(), word) or unit
-        if own and own not in DAYS:
-            raise Unreadable("unit of lead", cell, word=word)
-        number, is_periods = Fraction(digits.replace(",", ".")), own in ("", every)
-        if is_periods and number.denominator > 1:
-            raise Unreadable("no lead time", cell)
-        is_whole = is_periods or number == 0
-        leads += [int(number)] if is_whole else periods_of(number * conversion("lead", own, every)[0])
-    for lead in leads:
-        if not 1 <= lead <= MOST_LEAD:
-            raise Unreadable("lead range", lead=lead, most=MOST_LEAD)
-    return leads
-
-
-def span_of(cell: Cell, unit: str, every: str) -> Fraction:
-    """Returns a time in periods. `unit` is that of the column, empty for periods; the number may have its own behind
-    it, as 90D. Raises Unreadable."""
-    parts = SPAN.fullmatch(str(cell))
-    if parts is None:
-        raise Unreadable("no span", cell)
-    own = UNITS.get(parts[2].casefold(), parts[2]) or unit or every
-    if own not in DAYS:
-        raise Unreadable("unit of span", cell, word=parts[2])
-    return Fraction(parts[1].replace(",", ".")) * conversion("coverage", own, every)[0]
-
-
-def level_faults(cells: Mapping[str, Cell], s: Fraction | None, S: Fraction | None) -> list[CellFault]:
-    """Returns what is wrong with the levels of a row: one of them alone, or s above S."""
-    if s is None or S is None:
-        missing = "s" if s is None else "S"
-        return [] if s is S else [fault(missing, "", "one level", missing=missing, other=LEVELS[missing])]
-    return [fault("s", cells["s"], "s above S", s=int(s), S=int(S))] if s > S else []
 
 
 class Master(NamedTuple):
@@ -90,39 +50,41 @@ class Master(NamedTuple):
 
 class Masters:
     """Reads the rows of masters, with the unit of each column, and what holds if they say nothing. `currencies` has the
-    first text of each currency in them."""
+    first text of each currency in them, `statuses` what texts of a status mean, if that is stated, and `lead_from` says
+    from where lead times are."""
 
-    def __init__(self, amounts: Mapping[str, AmountReader], dates: DateReader, columns: Mapping[str, Column], every: str,
-                 defaults: Defaults, currencies: Mapping[str, str]) -> None:
+    def __init__(self, amounts: Mapping[str, AmountReader], times: Mapping[str, TimeReader], dates: DateReader,
+                 columns: Mapping[str, Column], every: str, defaults: Defaults, currencies: Mapping[str, str],
+                 statuses: Mapping[str, str], lead_from: str) -> None:
         units = {role: column.unit for role, column in columns.items() if column.unit}
         factors = {role: conversion(role, unit, every)[0] for role, unit in units.items()
                    if role not in ("lead", "fill", "coverage", "shelf_life")}
         self.price_factor, self.factors = factors.pop("price", Fraction(1)), factors
         self.is_money = units.get("order_min") == "money"
-        self.share = units["holding"] if units.get("holding") in ("share", "percent") else ""
-        self.defaults, self.currencies = defaults, distinct(currencies)
+        self.share = units["holding"] if units.get("holding") in SHARES else ""
+        self.defaults, self.currencies, self.usual_leads = defaults, distinct(currencies), defaults.leads(every)
+        self.lead_from, self.days = lead_from, DAYS[every]
         self.a_year = conversion("holding", "share", every)[0]
         self.needed, self.blank = NEEDED["items"] - defaults.roles, dict.fromkeys(ROLES["items"][1:])
         self.known: dict[tuple[str, Cell], Any] = {}  # by role and cell, its value, or what is wrong with it
         self.readers: dict[str, Callable[[Cell], Any]] = {
             **{role: partial(amounts[role].number, kind=kind) for role, kind in READ_AS.items()},
-            **dict.fromkeys(("description", "class", "supplier"), lambda cell: UNPRINTABLE.sub(" ", str(cell))),
+            **dict.fromkeys(("description", "class", "supplier", "override_reason"), lambda cell: UNPRINTABLE.sub(" ", str(cell))),
             "holding": partial(self._holding, amounts["holding"]), "borrow": borrowed_from, "currency": currency_in,
-            "lead": partial(leads_of, unit=units.get("lead", ""), every=every),
-            **{role: partial(span_of, unit=units.get(role, ""), every=every) for role in ("coverage", "shelf_life")},
-            "fill": partial(amounts["fill"].share, in_percent="fill" in units),
+            "lead": partial(times["lead"].leads, unit=units.get("lead", ""), every=every),
+            **{role: partial(times[role].span, unit=units.get(role, ""), every=every) for role in ("coverage", "shelf_life")},
+            "fill": partial(amounts["fill"].share, unit=units.get("fill", ""), role="fill"),
+            "status": partial(status_of, stated=statuses), "override": word_of,
             "since": lambda cell: period_of(dates.read(cell)[0], every)}
 
     def _holding(self, reader: AmountReader, cell: Cell) -> Fraction:
-        """Returns a holding cost: money, or a share of the price."""
-        text = str(cell)
-        is_percent = text.endswith("%")
-        if is_percent and not self.share:
+        """Returns a holding cost: money, or a share of the price, which is in percent if the column is."""
+        if self.share:
+            share = reader.share(cell, self.share, "holding")
+            return share * 100 if self.share == PERCENT else share
+        if cell != "" and reader.amount(cell).unit == PERCENT:
             raise Unreadable("is share", cell)
-        number = reader.number(text.rstrip("% ") if is_percent else cell, "cost")
-        if self.share == "share" and number >= 1 and not is_percent:
-            raise Unreadable("small percent of holding", cell)
-        return number / 100 if is_percent and self.share == "share" else number
+        return reader.number(cell, "cost")
 
     def price(self, cells: Mapping[str, Cell]) -> Fraction | None:
         """Returns the price of one item of a row; None if it has none that can be read."""
@@ -161,10 +123,12 @@ class Masters:
         fill, _ = self.defaults.fill_of(group, read["fill"])
         if not unread & {"backlog", "fill"} and read["backlog"] is None and fill is None:
             faults.append(fault("backlog", "", "no goal"))
-        if "lead" not in unread and read["lead"] is None and not observed:
+        if "lead" not in unread and read["lead"] is None and not observed and not self.usual_leads:
             faults.append(fault("lead", "", "nothing of leads"))
         if not unread & {"s", "S"}:
-            faults += level_faults(cells, read["s"], read["S"])
+            faults += level_faults(cells, ("s", "S"), read["s"], read["S"])
+        if not unread & {"override_s", "override_S", "override"}:
+            faults += override_faults(cells, ("override_s", "override_S"), *(read[role] for role in OVERRIDE[:-1]))
         if "price" not in unread and not read["price"]:
             if self.share or read["holding"] is None and "holding" not in unread:
                 faults.append(fault("holding", cells.get("holding", ""), "no price for share"))
@@ -180,6 +144,9 @@ class Masters:
         defaults, price = self.defaults, self._price(read)
         sources = {role: DEFAULT if read[role] is None else MASTERS for role in ("setup", "holding")}
         fill, sources["fill"] = defaults.fill_of(group, read["fill"])
+        stated = read["lead"] or ()
+        is_seen = counts_receipts(bool(stated), len(observed), self.lead_from)
+        sources["lead"] = ORDERS if is_seen else MASTERS if stated else DEFAULT
         read["setup"] = setup = defaults.setup if read["setup"] is None else read["setup"]
         unit = math.lcm(*(read[role].denominator for role in MONEY if read[role] is not None))
         decimals = next(digits for digits in range(MOST_DECIMALS + 1) if 10**digits % unit == 0)
@@ -187,10 +154,15 @@ class Masters:
         rate = self.a_year * (defaults.holding_rate or 0) if read["holding"] is None else read["holding"]
         holding = rate * (price or 0) if self.share or read["holding"] is None else rate
         levels = None if read["s"] is None else (int(read["s"]), int(read["S"]))
-        item = Item(name, (), tuple(read["lead"] or observed), levels, setup or Fraction(0), holding, read["backlog"],
-                    fill, group=read["class"] or "", borrow=read["borrow"] or "", bounds=self._bounds(read, price),
+        status, predecessor = read["status"] or NOTHING
+        leads = leads_from(stated, observed, self.lead_from) or self.usual_leads
+        item = Item(name, (), leads, levels, setup or Fraction(0), holding, read["backlog"], fill,
+                    group=read["class"] or "", borrow=read["borrow"] or "", bounds=self._bounds(read, price),
                     stock=read["stock"], price=price, description=read["description"] or "",
-                    supplier=read["supplier"] or "", supplier_min=read["supplier_min"], category=group, line=line)
+                    supplier=read["supplier"] or "", supplier_min=read["supplier_min"], category=group, status=status,
+                    predecessor=predecessor, line=line,
+                    stated=Fraction(sum(stated), len(stated)) * self.days if stated else None,
+                    override=Override.of(*(read[role] for role in OVERRIDE)))
         return Master(item, decimals, sources, read["since"])
 
     def _bounds(self, read: Mapping[str, Any], price: Fraction | None) -> Bounds:

@@ -13,7 +13,8 @@ from ..errors import Fault, Refused, argument
 from ..formats import MOST_WEIGHT
 from ..remarks import Remark, Value
 from ..words import message
-from .cells import DateReader, Numbers, Unreadable, first_day, period_name, period_of
+from .cells import Numbers, Unreadable
+from .dates import DateReader, first_day, period_name, period_of
 
 if TYPE_CHECKING:
     import pandas as pd
@@ -97,7 +98,7 @@ class Record:
 def stated_day(name: str, day: Day | str | None) -> Day | None:
     """Returns a day that an argument states. Raises Refused."""
     try:
-        return DateReader([day]).read(day)[0] if isinstance(day, str) else day
+        return DateReader().look([day]).read(day)[0] if isinstance(day, str) else day
     except Unreadable as fault:
         raise Refused(f"{argument(name)}: {fault}") from fault
 
@@ -125,14 +126,17 @@ def _near(days: Sequence[Day], counts: Mapping[Day, int]) -> Day:
 
 def record_of(counts: Mapping[Day, int], every: str, start: Day | None, end: Day | None, today: Day) -> Record:
     """Returns the record of a file whose days have so many rows. Without `start` and `end` it is from the first to the
-    last movement, without rare days that are more than a year away from all others, and without days after `today`.
-    Raises Refused if no day is left, or for too many periods."""
+    last movement, without rare days that are more than a year away from all others, and without days after `today`. If
+    these are half of all movements, none is rare. Raises Refused if no day is left, or for too many periods."""
     latest = end or today
     days = sorted(day for day in counts if day <= latest and (start is None or day >= start))
     if not days:
         ends = {"start": str(start or "the beginning"), "end": str(latest)}
         raise Refused(message(Remark("no demand in the record", ends)))
     first, last = start or _near(days, counts), end or _near(days[::-1], counts)
+    near = sum(counts[day] for day in days if first <= day <= last)
+    if 2 * near <= sum(counts[day] for day in days):
+        first, last = start or days[0], end or days[-1]
     record = Record(every, first, last, "before start" if start else "far before", "after end" if end else "late date")
     if len(record.periods) > MOST_WEIGHT:
         facts: dict[str, Value] = {"count": len(record.periods), "every": every, "most": MOST_WEIGHT}

@@ -12,9 +12,11 @@ from pickle import HIGHEST_PROTOCOL as HIGHEST
 from ..jobs import Workers
 from ..stored import Cell, Columns
 from .classes import abc_of
+from .controls import Controls
 from .filed import FiledTable, Part, Whole
 from .item import Item
 from .items import Counts, Reader, Reject, Words
+from .repeated import Shared, names_apart, shared_in
 
 ITEM, REJECT = Columns(Item), Columns(Reject)
 
@@ -22,12 +24,18 @@ ITEM, REJECT = Columns(Item), Columns(Reject)
 @dataclass(frozen=True)
 class PartRead:
     """A part of the items that was read: the files with the cells of its items, in order of names, and of what is left
-    out or named; what became of its rows, from where its values are, and the decimals of its money."""
+    out or named; what became of its rows and what they come to, from where its values are, over which columns of places its
+    items are summed, how many rows its files share, the names that only masters or only
+    demand has, and the decimals of its money."""
 
     items: Path
     rejects: Path
     counts: Counts
     sources: Counter[tuple[str, str]]
+    split: Counter[tuple[str, str]]
+    controls: Controls
+    shared: Mapping[str, Shared]
+    apart: Mapping[bool, Sequence[str]]
     decimals: int
 
 
@@ -50,7 +58,8 @@ def items_of_part(part: Part, words: Words, whole: Whole, letters: Sequence[str]
         reader = Reader(part.rows(), words, whole, lambda its: pickle.dump(REJECT.cells(its), rejects, HIGHEST))
         for item in reader.read(letters):
             pickle.dump(ITEM.cells(item), items, HIGHEST)
-    return PartRead(*paths, reader.counts, reader.sources, reader.decimals)
+    return PartRead(*paths, reader.counts, reader.sources, reader.split, reader.controls(), shared_in(reader.rows),
+                    names_apart(reader.rows), reader.decimals)
 
 
 def read_parts(tables: Mapping[str, FiledTable], whole: Whole, words: Words, workers: Workers, room: Path,

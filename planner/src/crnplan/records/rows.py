@@ -15,8 +15,11 @@ import numpy as np
 import numpy.typing as npt
 
 from ..remarks import Remark
-from .blocks import DATES, Block, Flags, read_blocks
-from .cells import AmountReader, Cell, CellFault, DateReader, Numbers, Unreadable, fault
+from .amounts import AmountReader
+from .blocks import DATES, Block, read_blocks
+from .cells import Cell, CellFault, Flags, Numbers, Unreadable, fault
+from .columns import counts_items
+from .dates import DateReader
 from .sources import FILE_BITS, Sheet
 
 Value = TypeVar("Value")
@@ -43,13 +46,14 @@ class Codes:
 class Rows:
     """The rows of a table, but for blank ones, whose lines are in `blank`: the line of each and, by role, the code of
     its value. `wide` has how many cells those rows have that have more than the heading, and their texts. `good` says
-    which rows are of use: the others decide nothing."""
+    which rows are of use: the others decide nothing. `other` rows have another value than is wanted."""
 
     def __init__(self, sheet: Sheet, blocks: Iterable[tuple[int, Block]], names: Codes | None = None) -> None:
         """Puts blocks together, each with the lines that stand before it. Tables of one catalogue share the names of
         items."""
-        self.sheet, self.patterns = sheet, sheet.rules.date_formats
-        self.columns = {role: names if role == "item" and names is not None else Codes() for role in sheet.columns}
+        self.sheet = sheet
+        self.columns = {role: names if role == "item" and names is not None else Codes()
+                        for role in (*sheet.columns, *sheet.marks)}
         self.blank, self.wide = list[int](), dict[int, tuple[int, str]]()
         count, parts = 0, list[Block]()
         for before, block in blocks:
@@ -61,7 +65,8 @@ class Rows:
         self.codes = {role: joined([its.codes[role] for its in parts], np.int32) for role in self.columns}
         self.lines = joined([its.lines for its in parts], np.int64)
         self.good = joined([its.good for its in parts], np.bool_)
-        self._hashes = joined([its.hashes for its in parts], np.uint64)
+        self.other = joined([its.other for its in parts], np.bool_)
+        self.hashes = joined([its.hashes for its in parts], np.uint64)
 
     def __len__(self) -> int:
         return len(self.lines)
@@ -69,12 +74,12 @@ class Rows:
     def twins(self) -> Numbers:
         """Returns for each row the first row with the same cells, by hashes of 64 bits: in a million rows, two different
         ones collide once in 37 million files."""
-        _, first, which = np.unique(self._hashes, return_index=True, return_inverse=True)
+        _, first, which = np.unique(self.hashes, return_index=True, return_inverse=True)
         return first[which]
 
     def long(self, row: int) -> Remark:
         """Returns what is wrong with a row that has more cells than the heading."""
-        return Remark("long", {"cells": self.wide[row][0], "columns": len(self.sheet.heading), "sign": self.sheet.sign})
+        return Remark("long", {"cells": self.wide[row][0], "columns": self.sheet.width, "sign": self.sheet.sign})
 
     def faulty(self, faults: Mapping[str, Mapping[int, Remark]]) -> Flags:
         """Returns which rows have a cell that can't be read, by role and the code of the value."""
@@ -109,18 +114,24 @@ class Rows:
     def nameless(self) -> Iterator[tuple[int, CellFault]]:
         """Yields the rows that are not good: those that name no item, and those with too many cells, with what is
         wrong."""
-        for row in np.flatnonzero(~self.good).tolist():
+        for row in np.flatnonzero(~self.good & ~self.other).tolist():
             name = self.cell("item", row)
             yield row, ("", self.wide[row][1], self.long(row)) if row in self.wide else fault(
                 "item", name, "unprintable name" if name else "no item")
 
     def date_reader(self) -> DateReader:
         """Returns what reads the dates of the table, after a look at all of them."""
-        return DateReader([cell for role in DATES for cell, _ in self.counts(role)], self.patterns)
+        rules = self.sheet.rules
+        reader = DateReader(rules.date_formats, rules.every, rules.day_first)
+        for role in DATES:
+            reader.look(cell for cell, _ in self.counts(role))
+        return reader
 
     def amount_reader(self, role: str) -> AmountReader:
         """Returns what reads the amounts of a column, after a look at all of them."""
-        return AmountReader(self.sheet.rules.decimal).look(cell for cell, _ in self.counts(role))
+        reader = AmountReader(self.sheet.rules.decimal_of(role), None, counts_items(role, self.sheet.columns.get(role)))
+        reader.look(cell for cell, _ in self.counts(role))
+        return reader
 
     def values(self, role: str, read: Callable[[Cell], Value], default: Value) -> tuple[list[Value], dict[int, Remark]]:
         """Returns what a function reads in each distinct value of a column, the default in one that can't be read, and

@@ -9,9 +9,11 @@ from pathlib import Path
 from ..errors import Fault, RefusedFaults
 from ..remarks import Remark
 from ..words import message
+from .choosing import faults_of_where, marks_of
 from .columns import find_columns
 from .items import Words
-from .sources import FILE_BITS, Sheet, Table, TextSheet, opened
+from .opening import LOCK, Table, opened
+from .sources import FILE_BITS, Sheet, TextSheet
 
 
 class Files(Sheet):
@@ -25,6 +27,7 @@ class Files(Sheet):
         self._files, self.size = sheets, sum(sheet.size for sheet in sheets)
         self.delimiter, self.sign, self.line, self.heading = first.delimiter, first.sign, first.line, first.heading
         self.titles, self.first_rows, self.columns = first.titles, first.first_rows, first.columns
+        self.marks = first.marks
         for sheet in sheets:
             if isinstance(sheet, TextSheet):
                 sheet.text = ""  # of many files, it would be much
@@ -34,32 +37,48 @@ class Files(Sheet):
         return self._files
 
     def where(self, line: int) -> tuple[str, int]:
-        name = self._files[line >> FILE_BITS].file_name if line else self.file_name
-        return name, line & (1 << FILE_BITS) - 1
+        if not line:
+            return super().where(line)
+        file, place = self._placed(line)
+        return file.where(place)
 
     def called(self, line: int) -> int | str:
-        name, place = self.where(line)
-        return f"{place} of {name}"
+        file, place = self._placed(line)
+        return f"{file.called(place)} of {file.file_name}"
+
+    def column_of(self, role: str, line: int) -> str:
+        file, place = self._placed(line)
+        return file.column_of(role, place)
+
+    def _placed(self, line: int) -> tuple[Sheet, int]:
+        """Returns the file of a row's line, and the line in it."""
+        place, rest = divmod(line, 1 << FILE_BITS)
+        return self._files[place], rest
 
 
-def files_of(table: Table, kind: str) -> Sequence[Table]:
-    """Returns the files that a pattern names, in order; the table itself if it is none, or a file has this very name.
-    Raises RefusedFaults for several files of masters."""
+def files_of(table: Table, kind: str) -> tuple[Sequence[Table], Sequence[str]]:
+    """Returns the files that a pattern names, in order, and the names of locks among them, which are no tables; the table
+    itself if it is no pattern, or a file has this very name. Raises RefusedFaults for several files of masters."""
     if not isinstance(table, (str, Path)) or not glob.has_magic(str(table)) or Path(table).exists():
-        return [table]
-    found: list[Table] = [*sorted(glob.glob(str(table)))]
+        return [table], []
+    names = sorted(glob.glob(str(table)))
+    locks = [Path(name).name for name in names if Path(name).name.startswith(LOCK)]
+    found: list[Table] = [name for name in names if Path(name).name not in locks]
     if kind == "items" and len(found) > 1:
         raise RefusedFaults([Fault(message(Remark("several files", {"count": len(found)})), str(table))])
-    return found or [table]
+    return found or [table], locks
 
 
 def open_table(kind: str, table: Table, words: Words, room: Path | None, stack: contextlib.ExitStack) -> Sheet:
     """Returns a table after a look at the heads of its files, which are there as long as the stack. Raises RefusedFaults
     with all that is wrong with these, as headings that differ."""
     sheets, faults = list[Sheet](), list[Fault]()
-    for file in files_of(table, kind):
+    files, locks = files_of(table, kind)
+    for file in files:
         try:
-            sheets.append(find_columns(kind, stack.enter_context(opened(file, kind, words, room)), words))
+            sheet = find_columns(kind, stack.enter_context(opened(file, kind, words.rules_of(kind), room)), words)
+            sheet.marks = marks_of(kind, sheet, words.where)
+            sheets.append(sheet)
         except RefusedFaults as refused:
             faults += refused.faults
     for its in sheets[1:]:
@@ -69,7 +88,9 @@ def open_table(kind: str, table: Table, words: Words, room: Path | None, stack: 
                 faults.append(Fault(message(Remark(code, {"first": sheets[0].file_name})), its.name, its.line))
     if faults:
         raise RefusedFaults(faults)
-    return sheets[0] if len(sheets) == 1 else Files(str(table), sheets)
+    sheet = sheets[0] if len(sheets) == 1 else Files(str(table), sheets)
+    sheet.locks = locks
+    return sheet
 
 
 @contextlib.contextmanager
@@ -84,6 +105,7 @@ def open_tables(tables: Mapping[str, Table | None], words: Words, room: Path | N
                     sheets[kind] = open_table(kind, table, words, room, stack)
             except RefusedFaults as refused:
                 faults += refused.faults
+        faults = faults or [*faults_of_where(sheets, words)]
         if faults:
             raise RefusedFaults(faults)
         yield sheets

@@ -1,4 +1,4 @@
-"""Opens tables as rows of cells: CSV files, sheets of workbooks and DataFrames; and finds their headings.
+"""Reads tables as rows of cells: CSV files, and what else gives rows; and finds their headings.
 
 Cells of a file are texts. Those of a sheet or a frame are as these store them: texts, numbers, dates, or None. No file
 is ever whole in memory, and no line is longer than MOST_LETTERS.
@@ -8,62 +8,57 @@ from __future__ import annotations
 import codecs
 import contextlib
 import csv
-import datetime
-import gzip
 import io
 import itertools
-import math
 import re
-import shutil
-import sys
-import tempfile
-import zipfile
-import zlib
 from collections import Counter
 from collections.abc import Callable, Iterable, Iterator, Mapping, Sequence, Set
 from dataclasses import dataclass, field
-from decimal import Decimal
 from functools import partial
 from pathlib import Path
-from typing import TYPE_CHECKING, Any, Union
+from typing import Any, NamedTuple
 
 from ..errors import Fault, Refused, RefusedFaults, argument
 from ..remarks import Remark, Value
 from ..words import message
-from .cells import DECIMALS, Cell, check_format, text_of
-
-if TYPE_CHECKING:
-    import pandas as pd
+from .amounts import DECIMALS
+from .cells import Cell, shown, text_of
+from .dates import check_format
+from .encodings import likely_encodings
 
 Row = tuple[int, Sequence[Cell]]
 TextRow = tuple[int, list[str]]
-Table = Union[str, Path, "pd.DataFrame"]
 RoleOf = Callable[[str], str | None]
 HEAD_BYTES, MOST_LETTERS = 1_000_000, 2_000_000
-CELL_BYTES = 8  # of a DataFrame, about, as text
-SAMPLE_ROWS, TITLE_ROWS, SHOWN_ROWS, MOST_LISTED = 1_000, 50, 3, 30
+SAMPLE_ROWS, TITLE_ROWS, SHOWN_ROWS = 1_000, 50, 3
 DELIMITERS = {",": ",", ";": ";", "tab": "\t", "\t": "\t"}
-BOOKS = (".xlsx", ".xlsm")
 FILE_BITS = 40  # of a line; those above say in which file of its table it is
 MARKS = ((codecs.BOM_UTF8, "utf-8-sig"), (codecs.BOM_UTF16_LE, "utf-16"), (codecs.BOM_UTF16_BE, "utf-16"))
 # So bytes are kept in a text that are not of its encoding: as U+DC00 and so on, which no text has.
 ESCAPES, ESCAPED = "crnplan.escapes", re.compile("[\udc00-\udcff]")
-# The bytes of a letter beyond the two-byte ones of GB18030, as the sign of the yuan.
-RARE_CHINESE = re.compile(b"[\x81-\xfe][0-9][\x81-\xfe][0-9]")
-# Bytes beside letters that are letters in cp1250, and signs or rare letters in cp1252; and the reverse.
-CENTRAL = b"\x8c\x8d\x8f\x9c\x9d\x9f\xa3\xa5\xaf\xb3\xb9\xbe\xbf\xe6\xec"
-WESTERN = b"\xe0\xe2\xe5\xe8\xea\xf1\xf2\xf8\xfb"
 
 
 @dataclass(frozen=True)
 class Column:
     """A column of a table: its name in the heading, its place from 0, whether it was found by its name alone, and its
-    unit, empty if that is the one of its role."""
+    unit, empty if that is the one of its role. `counts` is the unit that is stated or named, whichever it is, and
+    `currency` the one that its name says."""
 
     name: str
     place: int
     is_guess: bool = False
     unit: str = ""
+    counts: str = ""
+    currency: str = ""
+
+
+class Mark(NamedTuple):
+    """A column that chooses the rows of a table, which have one of the wanted texts in it, or that is watched for its
+    use: what it says of a row."""
+
+    column: Column
+    use: str = ""
+    wanted: frozenset[str] = frozenset()
 
 
 @dataclass(frozen=True)
@@ -71,6 +66,9 @@ class Rules:
     """How files are read. None and nothing mean that the file says it. Raises Refused for what can't be meant.
 
     `item` has the text of each column in the rows of the item. `leave_out`: go on without rows that have a fault.
+    `every` is the period of dates that are whole weeks or months. `decimals` are the decimal signs of single columns by
+    role, which count before `decimal`. `day_first` says by sign whether the day comes first in a date with slashes or
+    dashes that may have the month first.
     """
 
     delimiter: str | None = None
@@ -79,12 +77,20 @@ class Rules:
     date_formats: tuple[str, ...] = ()
     item: Mapping[str, str] = field(default_factory=dict)
     leave_out: bool = False
+    every: str | None = None
+    decimals: Mapping[str, str] = field(default_factory=dict)
+    day_first: Mapping[str, bool] = field(default_factory=dict)
+
+    def decimal_of(self, role: str) -> str | None:
+        """Returns the stated decimal sign of a column; None if its cells say it."""
+        return self.decimals.get(role, self.decimal)
 
     def __post_init__(self) -> None:
         if self.delimiter is not None and self.delimiter not in DELIMITERS:
             raise Refused(f"{argument('delimiter', self.delimiter)} is not one of , and ; (in quotes) and tab")
-        if self.decimal is not None and self.decimal not in DECIMALS:
-            raise Refused(f"{argument('decimal', self.decimal)} is not one of . and ,")
+        for sign in (self.decimal, *self.decimals.values()):
+            if sign is not None and sign not in DECIMALS:
+                raise Refused(f"{argument('decimal', sign)} is not one of . and ,")
         try:
             b"a".decode(self.encoding or "utf-8", "replace")
         except (LookupError, ValueError) as fault:
@@ -102,21 +108,6 @@ def escape(fault: Any) -> tuple[str, int]:
 codecs.register_error(ESCAPES, escape)
 
 
-def likely_encoding(data: bytes) -> str:
-    """Returns the encoding that bytes which are not UTF-8 are likely in: gb18030, cp1250, cp1252 or latin-1."""
-    runs = re.findall(b"[\x81-\xfe]+", RARE_CHINESE.sub(b"", data))
-    paired = sum(len(run) for run in runs if len(run) % 2 == 0 and min(run) >= 0xA1)
-    within_words = len(re.findall(b"(?<=[a-z])[\x81-\xfe]+|[\x81-\xfe]+(?=[a-z])", data))
-    if paired >= 0.9 * sum(map(len, runs)) and within_words <= 0.1 * len(runs):
-        with contextlib.suppress(UnicodeError):
-            data[:data.rfind(b"\n") + 1 or None].decode("gb18030")
-            return "gb18030"
-    beside = re.findall(b"(?<=[A-Za-z])[\x80-\xff]|[\x80-\xff](?=[A-Za-z])", data)
-    if sum(byte in CENTRAL for byte in beside) > sum(byte in WESTERN for byte in beside):
-        return "cp1250"
-    return "cp1252" if re.search(b"[\x80-\x9f]", data) else "latin-1"
-
-
 def place_behind(before: str, line: int = 1) -> tuple[int, int]:
     """Returns the line and the column behind a text that begins in a line."""
     return line + before.count("\n"), len(before) - before.rfind("\n")
@@ -129,9 +120,10 @@ def byte_fault(name: str, text: str, encoding: str, line: int = 1) -> Fault | No
     if bad is None:
         return None
     facts: dict[str, Value] = {"byte": ord(bad[0]) - 0xDC00, "encoding": encoding}
-    if encoding[:5] == "utf-8":
-        facts["likely"] = likely_encoding(text.encode("utf-8", "surrogateescape"))
-    what = message(Remark("no byte of UTF-8" if "likely" in facts else "no byte of the encoding", facts))
+    likely = likely_encodings(text.encode("utf-8", "surrogateescape")) if encoding[:5] == "utf-8" else {}
+    for place, (its, cell) in enumerate(likely.items(), 1):
+        facts |= {f"encoding {place}": its, f"cell {place}": shown(cell)}
+    what = message(Remark(f"likely encodings {len(likely)}" if likely else "no byte of the encoding", facts))
     return Fault(what, name, *place_behind(text[:bad.start()], line))
 
 
@@ -207,41 +199,29 @@ def delimiter_of(name: str, text: str, wanted: Set[str], role_of: RoleOf) -> str
     return fitting[0]
 
 
-def stored(cell: Any) -> Cell:
-    """Returns a cell as a sheet or a frame stores it: whole numbers as such, dates without a time of day."""
-    if cell is None or isinstance(cell, str):
-        return cell
-    if isinstance(cell, datetime.datetime):
-        return cell.date() if cell == cell else None
-    cell = getattr(cell, "item", lambda: cell)()
-    if isinstance(cell, bool):
-        return str(cell).upper()
-    if isinstance(cell, (float, Decimal)):
-        return None if cell != cell else int(cell) if math.isfinite(cell) and cell == int(cell) else float(cell)
-    # pandas' NA stands for an empty cell.
-    return cell if isinstance(cell, (int, datetime.date)) else None if repr(cell) == "<NA>" else str(cell)
-
-
 class Sheet:
     """A table: its name in messages, how it is written, the rules by which it is read, what is wrong with its bytes,
     and which column has which role. One that has no text of its own has cells with commas between them in messages.
     `find_heading` sets the heading, which is empty if there is no row, its line, the titles above, and the first rows
-    below it."""
+    below it. `marks` are columns that choose rows or are watched."""
 
     delimiter = sign = ","
     fault: Fault | None = None
+    hidden = 0  # rows that a workbook hides, as soon as all are read
+    locks: Sequence[str] = ()  # files that its pattern names and that are none of its files
+    notes: Sequence[Remark] = ()  # what is to be said of how it is read
+    unsent: Sequence[str] = ()
 
-    def __init__(self, name: str, written: str, rules: Rules, path: Path | None = None,
-                 given: Callable[[], Iterable[Sequence[Any]]] = tuple) -> None:
-        """Takes the file, which nobody may change while it is read, and what gives the cells of each row, as a sheet or
-        a frame stores them. A file of text has none."""
-        self.name, self.written, self.rules, self.path, self.given = name, written, rules, path, given
+    def __init__(self, name: str, written: str, rules: Rules, path: Path | None = None) -> None:
+        """Takes the file, which nobody may change while it is read."""
+        self.name, self.written, self.rules, self.path = name, written, rules, path
         self.file_name, self.state, self.columns = Path(name).name, state_of(path), dict[str, Column]()
+        self.marks = dict[str, Mark]()
         self.size = self.state[0]  # about, in bytes
 
     def __getstate__(self) -> dict[str, Any]:
-        """Returns what another process needs: all but rows in memory, and the first lines."""
-        return {**vars(self), "given": tuple, "text": ""}
+        """Returns what another process needs, which reads no rows: all but what is in `unsent`, as rows in memory."""
+        return {name: value for name, value in vars(self).items() if name not in self.unsent}
 
     @property
     def files(self) -> Sequence[Sheet]:
@@ -256,6 +236,15 @@ class Sheet:
         """Returns the line of a row as messages call it."""
         return line
 
+    def column_of(self, role: str, line: int) -> str:
+        """Returns the name of the column that has a role in a row's line; the role if there is none."""
+        return self.columns[role].name if role in self.columns else role
+
+    @property
+    def width(self) -> int:
+        """Returns how many columns the heading has."""
+        return len(self.heading)
+
     @contextlib.contextmanager
     def unchanged(self) -> Iterator[None]:
         """Raises Refused after the block if others have changed the file since it was opened."""
@@ -264,10 +253,8 @@ class Sheet:
             raise refused("changed file", self.name)
 
     def rows(self) -> Iterator[Row]:
-        """Yields the line in which each row begins, and its cells."""
-        with self.unchanged():
-            for line, cells in enumerate(self.given(), 1):
-                yield line, [stored(cell) for cell in cells]
+        """Yields the line in which each row begins, and its cells. A table of several files has them in these."""
+        raise NotImplementedError
 
     def find_heading(self, wanted: Iterable[str] = (), role_of: RoleOf = lambda cell: None) -> None:
         rows = self.head({*wanted}, role_of)
@@ -319,6 +306,8 @@ class TextSheet(Sheet):
     else UTF-8. If nobody has stated it and the bytes are not UTF-8, it is the likely one, with a fault: so the rest of
     the file can be checked too."""
 
+    unsent = ("text",)
+
     def __init__(self, path: Path, name: str, rules: Rules) -> None:
         """Reads the first lines. Raises Refused, and RefusedFaults for other bytes that can't be decoded, and for NUL
         characters, as UTF-16 without a byte order mark has."""
@@ -340,7 +329,7 @@ class TextSheet(Sheet):
         if self.fault and (rules.encoding or self.encoding != "utf-8"):
             raise RefusedFaults([self.fault])
         if self.fault:
-            self.encoding = likely_encoding(data)
+            self.encoding = next(iter(likely_encodings(data)), "latin-1")
             self.text = data.decode(self.encoding, "replace")
         before, zero, _ = self.text.partition("\0")
         if zero:
@@ -393,54 +382,3 @@ class TextSheet(Sheet):
         start = next((cell.start() for cell in itertools.islice(cells, place, None)), len(text))
         start += len(text[start:]) - len(text[start:].lstrip(" "))
         return place_behind(text[:start], line)
-
-
-def sheet_of_book(path: Path, sheet: str | None, rules: Rules) -> Sheet:
-    """Returns a sheet of a workbook, whose lines are the numbers of rows. Raises Refused for a workbook that can't be
-    read, or if it isn't clear which sheet is meant."""
-    import openpyxl
-    try:
-        book = openpyxl.load_workbook(path, read_only=True, data_only=True)
-    except (OSError, zipfile.BadZipFile, KeyError, ValueError) as fault:
-        raise refused("no workbook", str(path), fault=str(fault)) from fault
-    names = book.sheetnames
-    if sheet is None and len(names) > 1 or sheet is not None and sheet not in names:
-        raise refused("no clear sheet", str(path), path=str(path), sheets=", ".join(names[:MOST_LISTED]))
-    table: Any = book[sheet or names[0]]
-    table.reset_dimensions()
-    return Sheet(f"{path}{f'!{sheet}' if sheet else ''}", f"sheet {sheet or names[0]}", rules, path,
-                 partial(table.iter_rows, values_only=True))
-
-
-@contextlib.contextmanager
-def opened(table: Table, kind: str, rules: Rules, folder: Path | None = None) -> Iterator[Sheet]:
-    """Gives a table that can be read several times: a sheet of a workbook is FILE.xlsx!SHEET, the only one FILE.xlsx.
-    What a pipe gives once is copied, and a gzipped file (FILE.csv.gz) unpacked, into a folder, or for the time of the
-    block; `-` is standard input. A DataFrame
-    has the name of its kind, its heading in line 1, and its index as columns if that has names. Raises Refused and
-    RefusedFaults for what can't be read."""
-    if not isinstance(table, (str, Path)):
-        frame = table.reset_index() if any(it is not None for it in table.index.names) else table
-        its = Sheet(kind, "DataFrame", rules, None, lambda: itertools.chain(
-            [[*map(str, frame.columns)]], frame.itertuples(index=False, name=None)))
-        its.size = CELL_BYTES * frame.size
-        yield its
-        return
-    name, path = "standard input" if str(table) == "-" else str(table), Path(table)
-    book, sign, sheet = name.rpartition("!")
-    if sign and Path(book).suffix.lower() in BOOKS:
-        yield sheet_of_book(Path(book), sheet, rules)
-        return
-    with contextlib.ExitStack() as stack:
-        is_packed = path.suffix.lower() == ".gz" and path.is_file()
-        if str(table) == "-" or is_packed or path.exists() and not (path.is_file() or path.is_dir()):
-            room = stack.enter_context(tempfile.TemporaryDirectory(prefix="crnplan-", dir=folder))
-            stream: Any = sys.stdin.buffer if str(table) == "-" else stack.enter_context(
-                gzip.open(path) if is_packed else path.open("rb"))
-            path = Path(room) / (path.stem if is_packed else Path(name).name)
-            with path.open("xb") as copy:
-                try:
-                    shutil.copyfileobj(stream, copy)
-                except (gzip.BadGzipFile, EOFError, zlib.error) as fault:
-                    raise refused("no gzip", name, fault=str(fault)) from fault
-        yield sheet_of_book(path, None, rules) if path.suffix.lower() in BOOKS else TextSheet(path, name, rules)

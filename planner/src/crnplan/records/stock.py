@@ -9,13 +9,16 @@ from typing import Any
 
 import numpy as np
 
-from .cells import Cell, CellFault, DateReader, Unreadable, fault
+from ..remarks import Remark
+from .cells import Cell, CellFault, Unreadable, fault
+from .choosing import said_of_marks, split_items
 from .columns import conversion
+from .dates import DateReader
 from .items import FileCounts, Reject, Words, reject_of
 from .observed import Day
+from .opening import Table
 from .rows import Rows, rows_of
 from .several import open_tables
-from .sources import Table
 
 STOCK, ON_ORDER = "stock", "on_order"  # the kinds of the tables
 NONE = Fraction(0)
@@ -47,13 +50,15 @@ class Arrival:
 @dataclass(frozen=True)
 class Holdings:
     """What tables say of today, by item. `on_hand` is None without a table of stock. `unread` are items with a row that
-    can't be read: what they have is not known. `counts` say what became of the rows of each table."""
+    can't be read: what they have is not known. `counts` say what became of the rows of each table, and `remarks` what is
+    to be said of them."""
 
     on_hand: Mapping[str, OnHand] | None
     arrivals: Mapping[str, Sequence[Arrival]]
     unread: frozenset[str]
     counts: Mapping[str, FileCounts]
     rejects: tuple[Reject, ...]
+    remarks: tuple[Remark, ...] = ()
 
 
 def day_of(reader: DateReader, cell: Cell) -> Day | None:
@@ -68,14 +73,17 @@ class _Reader:
         self.rows, self.known = rows, known
         self.unread, self.rejects = set[str](), list[Reject]()
         self.counts: FileCounts = {"name": rows.sheet.file_name, "read": len(rows), "blank": len(rows.blank), "used": 0,
-                                   "rejected": 0, "with_item": 0}
+                                   "rejected": 0, "with_item": 0, "other": int(rows.other.sum())}
         for row, wrong in rows.nameless():
             self._reject("row", row, "", [wrong])
         self.firsts = rows.twins()
         self.readers: dict[str, Callable[[Cell], Any]] = {
             role: partial(rows.amount_reader(role).number, kind=number) for role, number in AMOUNTS[kind].items()}
         if "due" in rows.columns:
-            self.readers["due"] = partial(day_of, rows.date_reader())
+            reader = rows.date_reader()
+            self.readers["due"] = partial(day_of, reader)
+            self.rejects += [reject_of("suspicious", rows.sheet, 0, "", [("due", "", remark)])
+                             for remark in reader.notes.values()]
         self.factors = {role: conversion(role, column.unit, every)[0] for role, column in rows.sheet.columns.items()
                         if column.unit}
 
@@ -97,6 +105,11 @@ class _Reader:
             faults.append(fault("owed", self.rows.cell("owed", row), "owed twice", stock=f"{float(stock):g}",
                                 least=f"{float(max(-stock, owed)):g}", most=f"{float(owed - stock):g}"))
         return values, faults
+
+    def remarks(self, kind: str) -> Iterator[Remark]:
+        """Yields what is to be said of the rows: over which places items are summed, and states of rows."""
+        counts = {name: dict(self.rows.counts(name)) for name in self.rows.sheet.marks}
+        yield from said_of_marks(kind, self.rows.sheet, counts, split_items(self.rows))
 
     def items(self) -> Iterator[tuple[str, list[dict[str, Any]]]]:
         """Yields the items of the plan with the values of their rows, but for those with a row that can't be read."""
@@ -138,4 +151,5 @@ def read_holdings(tables: Mapping[str, Table | None], words: Words, known: Colle
     return Holdings(on_hand if STOCK in readers else None, arrivals,
                     frozenset[str]().union(*(reader.unread for reader in readers.values())),
                     {kind: reader.counts for kind, reader in readers.items()},
-                    tuple(sorted(rejects, key=lambda reject: (reject.file, reject.line))))
+                    tuple(sorted(rejects, key=lambda reject: (reject.file, reject.line))),
+                    tuple(remark for kind, reader in readers.items() for remark in reader.remarks(kind)))

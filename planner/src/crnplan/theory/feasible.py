@@ -12,17 +12,18 @@ Places = TypeVar("Places", int, Whole)
 
 @dataclass(frozen=True)
 class Feasible:
-    """The pairs (s,S) that may be chosen, in items of a scenario: S - s is at least `least_gap`, s at least
+    """The pairs (s,S) that may be chosen, in items of a scenario: S - s is from `least_gap` to `most_gap`, s at least
     `least_point`, S at most `most_level`, and both are multiples of `multiple`."""
 
     least_gap: int = 0
     least_point: int = 0
     most_level: int = MOST_ITEMS
     multiple: int = 1
+    most_gap: int = MOST_ITEMS
 
     @property
-    def has_all_gaps(self) -> bool:
-        """Returns whether S - s has no bound."""
+    def has_narrow_gaps(self) -> bool:
+        """Returns whether S - s has no bound below."""
         return self.least_gap == 0 and self.multiple == 1
 
     @property
@@ -40,6 +41,15 @@ class Feasible:
         """Returns the greatest S."""
         return min(self.most_level, MOST_ITEMS) // self.multiple * self.multiple
 
+    @property
+    def widest(self) -> int:
+        """Returns the greatest S - s; below 0 if no S is as high as the least s."""
+        return min(self.top - self.least, self.most_gap)
+
+    def top_of(self, point: int) -> int:
+        """Returns the greatest S of an s that may be chosen."""
+        return min(self.top, point + self.most_gap // self.multiple * self.multiple)
+
     def up(self, amount: Places) -> Places:
         """Returns the least multiples that are no less than some amounts."""
         return -(-amount // self.multiple) * self.multiple
@@ -50,13 +60,13 @@ class Feasible:
 
     def gap_in(self, cell: Places, step: int, exact: bool) -> Places:
         """Returns S - s for cells of a lattice: the least in the cell; if the lattice is not exact, one from its middle
-        on if there is one, and room for it below the greatest S. If there is none in the cell, it is beyond."""
+        on if there is one, and room for it up to the greatest gap. If there is none in the cell, it is beyond."""
         low = cell * step
-        if exact and self.has_all_gaps:
+        if exact and self.has_narrow_gaps:
             return low
-        near, most = low + (0 if exact else (step - 1) // 2), self.top - self.least
+        near, most = low + (0 if exact else (step - 1) // 2), self.widest
         near -= (near - most) * (near > most) * (low <= most)
-        if self.has_all_gaps:
+        if self.has_narrow_gaps:
             return near
         least, middle = self.gap(low), self.gap(near)
         return least + (middle - least) * (middle < low + step)
@@ -69,7 +79,7 @@ class Feasible:
 
     def allows(self, point: int, level: int) -> bool:
         """Returns whether a pair may be chosen."""
-        return bool(self.has(point, level)) and level - point >= self.least_gap
+        return bool(self.has(point, level)) and self.least_gap <= level - point <= self.most_gap
 
 
 ALL = Feasible()

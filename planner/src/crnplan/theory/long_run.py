@@ -208,7 +208,7 @@ class LongRun(Walk):
 
     def widest(self, cost: float, lowest: int) -> int:
         """Returns the greatest gap of a policy with s of at least `lowest` that costs no more: see the module."""
-        most = (self.feasible.top - self.feasible.least) // self.step
+        most = self.feasible.widest // self.step
         return int(min(most, max(0, 2 * (self.reach(cost) - lowest) // self.step)))
 
     def items(self, gap: Places) -> Places:
@@ -217,15 +217,16 @@ class LongRun(Walk):
 
     def is_gap(self, gap: Places) -> Any:
         """Returns whether a feasible policy may have a gap."""
-        return self.feasible.has_all_gaps or self.items(gap) < (gap + 1) * self.step
+        items = self.items(gap)
+        return (items < (gap + 1) * self.step) & (items <= self.feasible.most_gap)
 
     def every_gap(self, first: int, most: int) -> Whole:
         """Returns the gaps from the first to the most that feasible policies may have."""
-        most_items = self.feasible.top - self.feasible.least
-        gaps = np.arange(first, min(most, most_items // self.step) + 1)
-        if self.feasible.has_all_gaps:
+        widest = self.feasible.widest
+        gaps = np.arange(first, min(most, widest // self.step) + 1)
+        if self.feasible.has_narrow_gaps:
             return gaps
-        kept: Whole = gaps[self.is_gap(gaps) & (self.items(gaps) <= most_items)]
+        kept: Whole = gaps[self.is_gap(gaps) & (self.items(gaps) <= widest)]
         return kept
 
     def gaps(self, first: int, most: int) -> list[int]:
@@ -273,8 +274,8 @@ class LongRun(Walk):
 
     def fits(self, gap: int, point: int, level: int) -> bool:
         """Returns whether a policy is feasible and has this gap."""
-        is_gap = self.items(gap) <= level - point < (gap + 1) * self.step
-        return bool(is_gap and self.feasible.has(point, level))
+        widest = min((gap + 1) * self.step - 1, self.feasible.most_gap)
+        return bool(self.items(gap) <= level - point <= widest and self.feasible.has(point, level))
 
     def allowed(self, share: float) -> float:
         """Returns how much demand of a period may not be met at once, in items, if this share is to be met."""
@@ -446,8 +447,8 @@ class LongRun(Walk):
         rests = sorted({0, -point % self.step, self.step - 1}) if self.exact else [0]
         most_less = self.feasible.multiple - 1
         found = [self.best_with_rest(point, rest, less) for rest in rests for less in sorted({0, most_less})]
-        top = self.feasible.top
-        if len(rests) > 1 and not self.feasible.has_all_levels:
+        top = self.feasible.top_of(point)
+        if len(rests) > 1 and top < ALL.most_level:
             found.append(self.policy(self.gap_of(point, top), top, point))
         return min(found)
 
@@ -459,7 +460,8 @@ class LongRun(Walk):
             if self.exact:
                 spans = np.maximum(spans, self.feasible.gap(means.gaps * self.step + rest - less))
             levels, costs = self.fixed_levels(means, point + spans)
-            return levels, np.where(spans < (means.gaps + 1) * self.step, costs, math.inf)
+            is_allowed = (spans < (means.gaps + 1) * self.step) & (spans <= self.feasible.most_gap)
+            return levels, np.where(is_allowed, costs, math.inf)
         return self.policy(*self.cheapest(levels_of, point), point)
 
     def best_with_level(self, level: int) -> Candidate:

@@ -77,7 +77,7 @@ class OneLead(LongRun):
     def first_of_gaps(self, share: float) -> Candidate:
         """Returns the best policy of the gap of the economic order quantity, whose cost leaves out most others; the best
         of a grid of gaps if that one has none."""
-        gap = min(self.most, int(self.usual_gap))
+        gap = min(self.most, int(self.usual_gap), max(0, self.feasible.widest // self.step))
         usual = self.every_gap(gap, gap)
         table = self.table_to(max(self.floor(gap), gap + self.after.high) + 1)
         known = self.cheapest_walked(usual, table, share)
@@ -114,13 +114,13 @@ class OneLead(LongRun):
 
     def best_with_rest(self, point: int, rest: int, less: int = 0) -> Candidate:
         """Returns the cheapest of all feasible policies with a reorder point and a rest of S."""
-        if not self.feasible.has_all_gaps:
+        if not self.feasible.has_narrow_gaps:
             return super().best_with_rest(point, rest, less)
         most, cost, gap = self.most, math.inf, 0
         while most:
             levels = point + rest + self.items(np.arange(most + 1))
             sums = convolved(self.lows_of(most), self.figures_from(levels)[0])[:most + 1]
-            cost, gap = self.least_of(sums, levels <= self.feasible.top)
+            cost, gap = self.least_of(sums, levels <= self.feasible.top_of(point))
             widest = self.widest(cost, point) if cost < math.inf else 0
             most = min(widest, 2 * most) if widest > most else 0
         return self.policy(gap, point + self.items(gap) + rest, point)

@@ -78,7 +78,7 @@ def test_first_command_says_all(path: Path, answer: Callable[..., Any]) -> None:
             "correction": "'-1,000' is negative; say --net to take it off its period",
             "total": "the row looks like a total of the rows above (it has 'Summe'); leave it out"}.items():
         assert f":{odd[name]}{places.get(name, MENGE)}: {what}" in errors
-    assert f":{odd['correction']}:26: the byte 0xfc is not UTF-8; say --encoding latin-1" in errors
+    assert f":{odd['correction']}:26: the byte 0xfc is not UTF-8; say --encoding cp125" in errors
     assert "column 'Menge': the decimal sign is the comma in 1.000,000\n" in errors
     assert "crnplan: 6 faults in 5 rows; " in errors
     assert len(errors.splitlines()) == 6 + 1 + 3

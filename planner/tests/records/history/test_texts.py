@@ -15,8 +15,8 @@ from hypothesis import given
 from hypothesis import strategies as st
 
 from crnplan.records import read_history
-from crnplan.records.cells import AmountReader, other_reading, readings
-from crnplan.records.cells import DateReader, first_day, period_name, period_of
+from crnplan.records.amounts import AmountReader, amounts_of, other_reading
+from crnplan.records.dates import DateReader, first_day, period_name, period_of
 from crnplan.records.cells import Unreadable
 
 DAYS = st.dates(datetime.date(1980, 1, 1), datetime.date(2199, 12, 31))
@@ -36,9 +36,9 @@ def test_number_in_any_form(digits: int, places: int, decimal: str | None, data:
         text = data.draw(st.sampled_from([f"-{text}", f"\u2212{text}", f"- {text}", f"{text}-", f"({text})"]))
     elif not group and not zeros:
         text = data.draw(st.sampled_from(["", "+", "00"])) + text
-    bare = f"-{text[1:-1]}" if text[0] == "(" else text
-    assert number in readings(bare).values()
-    if decimal is None and len({*readings(bare).values()}) > 1:
+    numbers = {amount.number for amount in amounts_of(text).values()}
+    assert number in numbers
+    if decimal is None and len(numbers) > 1:
         with pytest.raises(Unreadable, match="may be .* or .*, and no other number decides it; say"):
             AmountReader().number(text)
     else:
@@ -55,7 +55,7 @@ def test_any_text(text: str, decimal: str) -> None:
     for sign in (decimal, "." if decimal == "," else ",", None):
         try:
             number = AmountReader(sign).number(text, "whole")
-            assert sign or number in readings(text).values()
+            assert sign or number in {amount.number for amount in amounts_of(text).values()}
             numbers.add(number)
         except Unreadable as why:
             assert "; " in str(why)
@@ -83,9 +83,9 @@ def test_date_in_any_form(day: datetime.date, form: str, time: str, short: bool)
     text = day.strftime(form)
     if short and "/" in form:
         text = "/".join(it.lstrip("0") if place < 2 else it for place, it in enumerate(text.split("/")))
-    reader = DateReader([text, datetime.date(2026, 3, 31).strftime(form)])
+    reader = DateReader().look([text, datetime.date(2026, 3, 31).strftime(form)])
     assert reader.read(text + time)[0] == day
-    assert DateReader((), [form]).read(day.strftime(form) + time)[0] == day
+    assert DateReader([form]).read(day.strftime(form) + time)[0] == day
 
 
 @given(day=DAYS, every=st.sampled_from(["day", "week", "month"]))

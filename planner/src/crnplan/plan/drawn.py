@@ -1,0 +1,115 @@
+"""Draws the items of a plan from which sums over all of them are estimated: those that cost most are taken for certain,
+and some of the others by chance.
+
+Source: Cochran, Sampling Techniques, 1977, chapters 6 (ratios) and 9A (chances in proportion to size); Ohlsson,
+Sequential Poisson sampling, Journal of Official Statistics 14, 1998, pages 149 to 162.
+"""
+from __future__ import annotations
+
+import hashlib
+import heapq
+import math
+from collections.abc import Mapping
+from typing import Any, NamedTuple, TypeVar
+
+from ..chances import Floats
+
+MOST = 120  # items that are taken and drawn together
+MOST_TAKEN = 80  # of these, since they carry a share of all costs
+SHARE = 0.8
+BITS = 64  # of a random number
+Entry = TypeVar("Entry", bound=tuple[Any, ...])
+
+
+class Drawn(NamedTuple):
+    """The items that are `taken` for certain, and others that are drawn by chance, each with that chance."""
+
+    taken: frozenset[str]
+    chances: Mapping[str, float]
+
+    @property
+    def names(self) -> list[str]:
+        """Returns all of them, in order."""
+        return sorted({*self.taken, *self.chances})
+
+
+class Draws:
+    """Takes items with their sizes, which are what they cost, one by one, and keeps few of them: the greatest, and those
+    that chance draws first. It does not matter in which order they come."""
+
+    def __init__(self) -> None:
+        self._greatest = list[tuple[float, str]]()
+        self._first = list[tuple[float, str, float]]()
+
+    def add(self, name: str, size: float) -> None:
+        """Adds an item. One without a size is never drawn."""
+        if size <= 0:
+            return
+        _keep(self._greatest, (size, name), MOST)
+        # As many may be taken for certain as are drawn.
+        _keep(self._first, (-uniform_of(name) / size, name, size), 2 * MOST)
+
+    def drawn(self, total: float) -> Drawn:
+        """Returns the items that are taken and drawn, of all whose sizes have this sum.
+
+        Greatest first, items are taken for certain until they carry `SHARE` of all, but no more than `MOST_TAKEN` of
+        them; and beyond that while an item would be drawn with a chance of 1.
+        """
+        taken, left = list[str](), total
+        for size, name in sorted(self._greatest, reverse=True):
+            is_carried = left <= (1 - SHARE) * total or len(taken) >= MOST_TAKEN
+            if is_carried and size * (MOST - len(taken)) < left:
+                break
+            taken.append(name)
+            left -= size
+        certain, count = frozenset(taken), MOST - len(taken)
+        others = [(name, size) for _, name, size in sorted(self._first, reverse=True) if name not in certain][:count]
+        if len(others) < count:  # All of the others are there.
+            return Drawn(certain | {name for name, _ in others}, {})
+        return Drawn(certain, {name: min(1.0, count * size / left) for name, size in others})
+
+
+def _keep(heap: list[Entry], entry: Entry, most: int) -> None:
+    """Keeps the greatest entries, so many of them."""
+    if len(heap) < most:
+        heapq.heappush(heap, entry)
+    elif entry > heap[0]:
+        heapq.heapreplace(heap, entry)
+
+
+def uniform_of(name: str) -> float:
+    """Returns a number above 0 and at most 1 that follows from a name, and is as good as at random."""
+    digits = hashlib.sha256(name.encode()).digest()[:BITS // 8]
+    return float(int.from_bytes(digits) + 1) / 2.0**BITS
+
+
+class Estimate(NamedTuple):
+    """A figure of all items with its standard error, which is infinite if too little is known."""
+
+    value: float
+    error: float = 0.0
+
+    def is_known(self, least: float = 0.0) -> bool:
+        """Returns whether its standard error is at most a tenth of it, or `least`."""
+        return self.error <= max(abs(self.value) / 10, least)
+
+    def plus(self, amount: float) -> Estimate:
+        return self._replace(value=self.value + amount)
+
+
+def estimated(parts: Floats, sizes: Floats, chances: Floats, total: float) -> Estimate:
+    """Returns the sum of a figure over items that were not taken for certain, from its parts of those that were drawn.
+
+    It follows the sum of their sizes, which is known for all of these items: `total`. `parts`, `sizes` and `chances` are
+    by drawn item.
+    """
+    count = len(parts)
+    if total <= 0:
+        return Estimate(0.0)
+    known = float((sizes / chances).sum()) if count else 0.0
+    if count < 2 or known <= 0:
+        return Estimate(0.0, math.inf)
+    ratio = float((parts / chances).sum()) / known
+    rest = (parts - ratio * sizes) / chances * (total / known)
+    variance = count / (count - 1) * float(((1 - chances) * rest**2).sum())
+    return Estimate(ratio * total, math.sqrt(variance))

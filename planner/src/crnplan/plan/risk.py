@@ -1,0 +1,128 @@
+"""Says which items are late or at risk on a day, and what to expedite first.
+
+An item is late if an order of it is overdue. It is at risk if its stock is less than mean demand up to the next
+receipt: the first order that is due after the day, else an order of the day itself, after its lead time. Until then
+demand is that of whole periods, by the laws of the plan, if periods are independent.
+"""
+from __future__ import annotations
+
+import math
+from collections.abc import Iterable
+from dataclasses import dataclass
+from fractions import Fraction
+from functools import cached_property
+
+import numpy as np
+
+from ..compiled import left_plain
+from ..records.columns import DAYS
+from ..records.observed import Day
+from ..records.stock import NONE
+from ..remarks import Remark
+from .today import Standing, demands_of
+
+
+@dataclass(frozen=True)
+class Risk:
+    """What an item that is late or at risk may lack before its next receipt. Amounts are in items."""
+
+    standing: Standing
+
+    @property
+    def overdue(self) -> Fraction:
+        """Returns how many items are overdue."""
+        return sum((arrival.items for arrival in self.standing.overdue), NONE)
+
+    @property
+    def days_late(self) -> int:
+        """Returns how many days ago the oldest order was due that is overdue; 0 if none is."""
+        day = self.standing.day
+        return max(((day - arrival.due).days for arrival in self.standing.overdue if arrival.due), default=0)
+
+    @cached_property
+    def receipt(self) -> Day | None:
+        """Returns the day of the next receipt; None if that is of an order of the day."""
+        dates = [arrival.due for arrival in self.standing.arrivals if arrival.due and arrival.due > self.standing.day]
+        return min(dates, default=None)
+
+    @property
+    def days(self) -> float:
+        """Returns the days until the next receipt: of an order of the day its mean lead time."""
+        return float(self.standing.lead_days) if self.receipt is None else (self.receipt - self.standing.day).days
+
+    @property
+    def horizons(self) -> dict[int, float]:
+        """Returns the chances of the whole periods until the next receipt."""
+        if self.receipt is None:
+            return self.standing.horizons
+        return {math.ceil(self.days / DAYS[self.standing.every]): 1.0}
+
+    @cached_property
+    def there(self) -> Fraction:
+        """Returns the stock less what is owed, with what is due on the day."""
+        hand, day = self.standing.hand, self.standing.day
+        return hand.stock - hand.owed + sum((it.items for it in self.standing.arrivals if it.due == day), NONE)
+
+    @property
+    def doubtful(self) -> Fraction:
+        """Returns what is on order and overdue, or has no date."""
+        return self.overdue + sum((it.items for it in self.standing.arrivals if it.due is None), NONE)
+
+    @property
+    def ends_before(self) -> bool:
+        """Returns whether the stock is less than mean demand up to the next receipt."""
+        return float(self.there) < self.standing.mean * self.days / float(DAYS[self.standing.every])
+
+    @cached_property
+    def _figures(self) -> tuple[float, float, float]:
+        """Returns both chances, and what is short."""
+        box, sure = self.standing.laws.box, self.there
+        in_time, without, short = 0.0, 0.0, 0.0
+        with left_plain():
+            for _, chance, demand in demands_of(self.standing.laws, self.horizons):
+                in_time += chance * demand.above(math.floor((sure + self.doubtful) / box))
+                without += chance * demand.above(math.floor(sure / box))
+                lacking = np.maximum(demand.cells * box - float(sure), 0.0)
+                short += chance * float(lacking @ demand.chances)
+        return in_time, without, short
+
+    @property
+    def chance(self) -> float:
+        """Returns the chance of a shortage before the next receipt, if what is overdue or has no date comes in time."""
+        return self._figures[0]
+
+    @property
+    def chance_without(self) -> float:
+        """Returns the chance of one if none of that comes before."""
+        return self._figures[1]
+
+    @property
+    def short(self) -> float:
+        """Returns the items that are expected to lack before the next receipt if none of that comes before."""
+        return self._figures[2]
+
+    @property
+    def value(self) -> float | None:
+        """Returns the money that these are worth; None without a price."""
+        price = self.standing.item.price
+        return None if price is None else self.short * float(price)
+
+    @property
+    def reasons(self) -> list[Remark]:
+        """Returns why the item is late or at risk; nothing if it is not."""
+        late = Remark("overdue", {"orders": len(self.standing.overdue), "items": float(self.overdue),
+                                  "days": self.days_late})
+        code = "nothing is due" if self.receipt is None else "stock ends"
+        ends = Remark(code, {"weeks": self.standing.weeks or 0.0, "days": self.days})
+        return [late] * bool(self.standing.overdue) + [ends] * self.ends_before
+
+    @property
+    def order(self) -> tuple[bool, float, float, str]:
+        """Returns what sorts first what is best expedited: of the greatest value that is short."""
+        return self.value is None, -(self.value or 0.0), -self.short, self.standing.item.name
+
+
+def risks_of(standings: Iterable[Standing]) -> list[Risk]:
+    """Returns the items that are late or at risk, what to expedite first before others."""
+    risks = map(Risk, standings)
+    return sorted((risk for risk in risks if risk.reasons), key=lambda risk: risk.order)

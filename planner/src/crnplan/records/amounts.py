@@ -1,0 +1,314 @@
+"""Reads amounts as people write them: the one parser of numbers, shares, money and times, whatever their role. All cells
+of a column together decide its decimal sign.
+
+A cell that could mean two things is rejected, never guessed: 1,234 is read only if its column has a number such as 0.05
+or 1,234,567, which has one reading alone, or if the sign is stated.
+"""
+from __future__ import annotations
+
+import functools
+import re
+from abc import ABC, abstractmethod
+from collections.abc import Callable, Collection, Hashable, Iterable, Mapping
+from fractions import Fraction
+from typing import Any, Generic, NamedTuple, TypeVar
+
+from ..errors import Refused
+from ..money import MOST_DECIMALS, MOST_DIGITS, exact
+from ..toml import documents
+from .cells import HEADINGS, Cell, Shown, Unreadable, plain_name, shown
+
+DECIMALS = (".", ",")
+# Between groups of three digits: blanks (also no-break, thin and narrow no-break), apostrophes, and the other sign.
+GROUPS = " \u00a0\u2009\u202f'\u2019"
+# Before a number below 0. Japanese accounts have triangles.
+MINUS = "-\u2212\u25b2\u25b3"
+# A text of more letters is no number.
+MOST_LETTERS = 60
+NAMES = {".": "the point", ",": "the comma"}
+# The unit of a word, that of shares in percent, and that of items.
+UNITS: dict[str, str] = {word: unit for unit, words in HEADINGS["units"].items() for word in words}
+PERCENT, ITEM = "percent", "item"
+# Signs and codes of money stand before or behind an amount. A sign may stand for a code.
+SIGNS: dict[str, str] = dict(HEADINGS["money"]["signs"])
+CODES: list[str] = HEADINGS["money"]["codes"]
+CURRENCY = "|".join(map(re.escape, [*SIGNS, *CODES]))
+# An amount: at most one sign, its digits, and a currency or a unit.
+SHELL = re.compile(
+    rf"(?P<first>[{MINUS}+]?)\s*(?P<before>{CURRENCY})?\s*(?P<second>[{MINUS}+]?)\s*(?P<digits>[0-9].*[0-9]|[0-9])"
+    rf"(?P<last>-?)\s*(?:(?P<behind>{CURRENCY})|(?P<unit>%|(?:[^\W\d_]+\.?)?))")
+# An amount below 0 in parentheses, perhaps with its currency outside.
+WRAPPED = re.compile(r"(?P<before>[^()0-9]*)\((?P<inside>[^()]*)\)(?P<behind>[^()0-9]*)")
+# The digits of a number by its decimal sign.
+FORMS = {sign: re.compile(
+    rf"(?P<whole>[0-9]+|[1-9][0-9]{{0,2}}(?P<group>[{other}{GROUPS}])[0-9]{{3}}(?:(?P=group)[0-9]{{3}})*)"
+    rf"(?:{re.escape(sign)}(?P<part>[0-9]+))?") for sign, other in ((".", ","), (",", "."))}
+# What a number must be, by the code of one that is not.
+RULES: dict[str, Callable[[Fraction], Any]] = {
+    "digits": lambda number: abs(number.numerator) < 10**MOST_DIGITS * number.denominator,
+    "not whole": lambda number: number.denominator == 1,
+    "decimals": lambda number: 10**MOST_DECIMALS % number.denominator == 0,
+    "no whole items": lambda number: number >= 0 and number.denominator == 1, "zero": bool,
+    "no share": lambda number: 0 < number < 1,
+    "below 1": lambda number: number >= 1, **dict.fromkeys(
+        ("below 0", "negative", "negative sale", "negative period", "negative movement"), lambda number: number.numerator >= 0)}
+# Kinds of numbers: the code of an empty cell, none if that is 0, and which of RULES a number meets beside the digits.
+KINDS = {
+    "number": ("no amount",), "money": ("no amount", "below 0", "decimals"),
+    "cost": ("no amount", "below 0", "decimals", "zero"), "items": ("no amount", "no whole items"),
+    "whole": ("no quantity", "not whole"), "sales": ("no quantity", "not whole", "negative sale"),
+    "period": ("no quantity", "not whole", "negative period"),
+    "movement": ("no quantity", "not whole", "negative movement"), "returns": ("", "not whole", "negative"),
+    "lead": ("no lead", "not whole", "below 1"), "owed": ("", "below 0"), "on order": ("no amount", "below 0"),
+    "share": ("no amount", "no share")}
+
+
+class Amount(NamedTuple):
+    """What a text says by one reading: a number, the sign between its thousands, its decimal sign, its currency and its
+    unit, each empty if it has none. The unit is one of headings.toml, or the word that stands for none."""
+
+    number: Fraction
+    group: str = ""
+    decimal: str = ""
+    currency: str = ""
+    unit: str = ""
+
+    @property
+    def text(self) -> str:
+        """Returns the number with its unit, for a reader."""
+        number = f"{float(self.number):.15g}"
+        return f"{number}%" if self.unit == PERCENT else f"{number} {self.unit}".rstrip()
+
+
+def unwrapped(text: str) -> tuple[str, bool]:
+    """Returns an amount without parentheses around its number, and whether it had some, which say that it is below 0."""
+    parts = WRAPPED.fullmatch(text)
+    return (text, False) if parts is None else (f"{parts['before']}{parts['inside'].strip()}{parts['behind']}", True)
+
+
+@functools.lru_cache(1 << 14)
+def amounts_of(text: str) -> Mapping[str, Amount]:
+    """Returns the amounts that a text may be, by decimal sign. One that needs no decimal sign is the same by both."""
+    if len(text) > MOST_LETTERS:
+        return {}
+    bare, is_wrapped = unwrapped(text)
+    shell = SHELL.fullmatch(bare)
+    if shell is None or shell["before"] and (shell["behind"] or shell["unit"]):
+        return {}
+    signs = [*filter(None, (shell["first"], shell["second"], shell["last"])), *["-"] * is_wrapped]
+    if len(signs) > 1:
+        return {}
+    currency, word = shell["before"] or shell["behind"] or "", shell["unit"] or ""
+    factor, found = -1 if signs and signs[0] in MINUS else 1, dict[str, Amount]()
+    for sign, form in FORMS.items():
+        digits = form.fullmatch(shell["digits"])
+        if digits:
+            whole, part = re.sub("[^0-9]", "", digits["whole"]), digits["part"] or ""
+            found[sign] = Amount(factor * Fraction(int(whole + part), 10**len(part)), digits["group"] or "",
+                                 sign if part else "", SIGNS.get(currency, currency), UNITS.get(plain_name(word), word) if word else "")
+    return found
+
+
+def other_reading(text: str, decimal: str) -> str | None:
+    """Returns what a readable number would be if its sign between thousands were a decimal sign, or the other way
+    round: `1.000,000`, which is 1000 with the comma as decimal sign, is 1 if the point is one. None if there is no such
+    sign."""
+    shell = SHELL.fullmatch(text)
+    form = shell and FORMS[decimal].fullmatch(shell["digits"])
+    if not form:
+        return None
+    whole, _, part = form["whole"].partition(DECIMALS[decimal == "."])
+    if len(part) == 3:
+        return f"{whole}.{part}".rstrip("0").rstrip(".")
+    could_be_group = len(form["part"] or "") == 3 and re.fullmatch("[1-9][0-9]{0,2}", form["whole"]) is not None
+    return form["whole"] + form["part"] if could_be_group else None
+
+
+Reading = TypeVar("Reading", bound=Hashable)
+
+
+class ColumnReader(ABC, Generic[Reading]):
+    """Decides between the readings of the cells of a column. `sides` has the first text for each decimal sign that has
+    readings by this sign alone."""
+
+    none = "no number"  # the code of a text without a reading
+
+    def __init__(self, stated: str | None = None) -> None:
+        self.stated, self.sides = stated, dict[str, str]()
+        self.is_doubtful = False  # whether a text may be two numbers
+
+    @abstractmethod
+    def readings(self, text: str) -> Mapping[str, Collection[Reading]]:
+        """Returns the readings of a text by each decimal sign."""
+
+    @abstractmethod
+    def named(self, reading: Reading) -> tuple[Fraction, str]:
+        """Returns how large a reading is, and its text for a reader."""
+
+    def look(self, cells: Iterable[Cell]) -> None:
+        """Looks at cells of the column for its decimal sign. A number of a workbook has none."""
+        for text in cells:
+            if isinstance(text, Shown):
+                self.see(str(text), {"": self.stored(text)})
+            if not isinstance(text, str) or text.isdecimal():
+                continue
+            by_sign = self.readings(text)
+            self.see(text, by_sign)
+            if self.stated is None and ("," in text or "." in text):
+                signs = [sign for sign, found in by_sign.items() if found]
+                if len(signs) == 1:
+                    self.sides.setdefault(signs[0], text)
+                self.is_doubtful |= len(joined(by_sign)) > 1
+
+    def see(self, text: str, by_sign: Mapping[str, Collection[Reading]]) -> None:
+        """Keeps what else a text says of the column."""
+
+    @property
+    def sign(self) -> str | None:
+        """Returns the decimal sign: the stated one, or the only one that the column has; None if it is not known."""
+        return self.stated or (next(iter(self.sides)) if len(self.sides) == 1 else None)
+
+    def stored(self, cell: Shown) -> Collection[Reading]:
+        """Returns the readings of a number of a workbook, whatever the decimal sign of texts is."""
+        return self.readings(str(cell))["."]
+
+    def chosen(self, cell: str | Shown) -> Reading:
+        """Returns the one reading of a text, or of a number of a workbook. Raises Unreadable."""
+        text = str(cell)
+        by_sign = {"": self.stored(cell)} if isinstance(cell, Shown) else self.readings(text)
+        every = joined(by_sign)
+        by_column = len(every) > 1 and self.sign
+        sign = "" if isinstance(cell, Shown) else self.stated or by_column
+        found = by_sign[sign] if sign else every
+        if len(found) == 1:
+            return next(iter(found))
+        if not found:
+            other = next((sign for sign, its in by_sign.items() if self.stated and its), "")
+            raise Unreadable("no number by this sign" if other else self.none, text, other=other)
+        raise self.doubt(text, found)
+
+    def doubt(self, text: str, found: Collection[Reading]) -> Unreadable:
+        """Returns what is said of a text with several readings."""
+        signs = " and ".join(repr(shown(its)) for its in self.sides.values())
+        readings = " or ".join(text for _, text in sorted(map(self.named, found), reverse=True))
+        return Unreadable("two signs" if signs else "two readings", text, readings=readings, signs=signs)
+
+
+def joined(by_sign: Mapping[str, Collection[Reading]]) -> list[Reading]:
+    """Returns all readings of a text once."""
+    return [*dict.fromkeys(reading for found in by_sign.values() for reading in found)]
+
+
+class AmountReader(ColumnReader[Amount]):
+    """Reads the amounts of a column: texts, or numbers as a sheet stores them. `currencies` has the first text of each
+    currency, and is shared by all columns of money; columns without it have no currency. A column that counts items may
+    have a word for these behind its numbers, as `45 pcs`."""
+
+    def __init__(self, stated: str | None = None, currencies: dict[str, str] | None = None,
+                 counts_items: bool = False) -> None:
+        super().__init__(stated)
+        self.currencies, self.counts_items = currencies, counts_items
+
+    def readings(self, text: str) -> Mapping[str, Collection[Amount]]:
+        found = amounts_of(text)
+        return {sign: [found[sign]] if sign in found else [] for sign in DECIMALS}
+
+    def named(self, reading: Amount) -> tuple[Fraction, str]:
+        return abs(reading.number), reading.text
+
+    def see(self, text: str, by_sign: Mapping[str, Collection[Amount]]) -> None:
+        for amount in joined(by_sign):
+            if amount.currency and self.currencies is not None:
+                self.currencies.setdefault(amount.currency, text)
+
+    def amount(self, cell: Cell) -> Amount:
+        """Returns the amount of a cell that is not empty. Raises Unreadable."""
+        if isinstance(cell, str) and cell.isascii() and cell.isdecimal() and len(cell) <= MOST_LETTERS:
+            amount = Amount(Fraction(int(cell)))
+        elif isinstance(cell, (str, Shown)):
+            amount = self.chosen(cell)
+        else:
+            number = exact(cell)
+            if number is None:
+                raise Unreadable(self.none, cell)
+            amount = Amount(number)
+        if amount.currency and self.currencies is None:
+            raise Unreadable(self.none, cell)
+        return amount
+
+    def number(self, cell: Cell, kind: str = "number") -> Fraction:
+        """Returns the number of a cell, which is of a kind of KINDS. Raises Unreadable."""
+        if_empty, *_ = KINDS[kind]
+        if cell == "" and if_empty:
+            raise Unreadable(if_empty)
+        amount = Amount(Fraction(0)) if cell == "" else self.amount(cell)
+        if amount.unit and not (self.counts_items and amount.unit == ITEM):
+            raise Unreadable(self.none, cell)
+        return checked(amount.number, kind, cell)
+
+    def share(self, cell: Cell, unit: str, role: str) -> Fraction:
+        """Returns a share above 0, of a column in shares or in percent. Raises Unreadable."""
+        if cell == "":
+            raise Unreadable("no amount")
+        return checked(share_in(self.amount(cell), unit, cell, role), "share" if role == "fill" else "cost", cell)
+
+
+def checked(number: Fraction, kind: str, cell: Cell) -> Fraction:
+    """Returns a number that meets the rules of its kind. Raises Unreadable."""
+    for code in ("digits", *KINDS[kind][1:]):
+        if not RULES[code](number):
+            raise Unreadable(code, cell, digits=MOST_DIGITS, decimals=MOST_DECIMALS)
+    return number
+
+
+def share_in(amount: Amount, unit: str, cell: object, role: str) -> Fraction:
+    """Returns the share that an amount is, in shares or in percent if no % stands behind it. Raises Unreadable for one
+    that may be either, with both."""
+    if amount.unit == PERCENT:
+        return amount.number / 100
+    if amount.unit or amount.currency:
+        raise Unreadable("no share", cell)
+    number = amount.number
+    if unit == PERCENT and 0 < number < 1:
+        raise Unreadable("small percent", cell, number=amount.text, percent=f"{float(100 * number):.15g}", role=role)
+    if unit != PERCENT and number >= 1:
+        raise Unreadable("large share", cell, number=amount.text, role=role)
+    return number / 100 if unit == PERCENT else number
+
+
+def amount_in(value: Any) -> Amount:
+    """Returns the amount that a word, a key or an argument states: a number, or a text such as "12,50". Raises Unreadable,
+    and Refused for a text with two readings."""
+    try:
+        return AmountReader(None, {}).amount(getattr(value, "spelt", value) if isinstance(value, float) else value)
+    except Unreadable as why:
+        if why.remark.code != "two readings":
+            raise
+        raise Refused(f"{documents.shown(value)} may be {why.remark.facts['readings']}",
+                      "write it without a sign between thousands") from why
+
+
+def amount_of(value: Any) -> Fraction:
+    """Returns an amount of money from 0, exactly. Raises Refused for anything else."""
+    try:
+        amount = amount_in(value)
+        if not amount.unit and not amount.currency:
+            return checked(amount.number, "money", value)
+    except Unreadable:
+        pass
+    raise Refused(f"{documents.shown(value)} is no cost", f"write 0 or more, as 12.50, with at most {MOST_DECIMALS} decimals")
+
+
+def share_of(value: Any) -> Fraction:
+    """Returns a share between 0 and 1, such as "20%", "0.2" or 0.2, exactly. Raises Refused for anything else; a number
+    from 1 on, which may be in percent, with both readings."""
+    try:
+        amount = amount_in(value)
+        share = share_in(amount, "share", value, "")
+        if 0 < share < 1:
+            return share
+    except Unreadable as why:
+        if why.remark.code == "large share":
+            raise Refused(f"{documents.shown(value)} may be {amount.text}% or {amount.text} as a share",
+                          f"write {amount.text}% or {float(amount.number / 100):g}") from why
+    raise Refused(f"{documents.shown(value)} is no share", "write 2% or 0.02")

@@ -1,0 +1,160 @@
+"""Chooses the rows of tables by what stands in a column (`where`), and looks at columns that may split what an item's
+rows say: places such as stores, and states such as `Cancelled`."""
+from __future__ import annotations
+
+import re
+from collections import Counter
+from collections.abc import Collection, Iterable, Iterator, Mapping, Sequence
+from typing import TYPE_CHECKING, NamedTuple
+
+import numpy as np
+
+from ..errors import Fault, Refused, argument
+from ..remarks import Remark
+from ..words import message
+from .cells import HEADINGS, Cell, Flags, Numbers, on_one_line, plain_name
+from .columns import ROLES, listed
+from .sources import Column, Mark, Sheet
+
+if TYPE_CHECKING:
+    from .items import Words
+    from .rows import Rows
+
+PLACE, STATE = "place", "state"  # what a watched column says of a row
+WATCHED = {name: use for use in (PLACE, STATE) for name in HEADINGS["watched"][use]}
+# Words that a name may end with, as in `Location Code`.
+ENDINGS = {*HEADINGS["watched"]["endings"]}
+# Masters are not watched for states: these are the items' own.
+STATE_KINDS = {"demand", "orders", "stock", "on_order"}
+MOST_VALUES = 6  # that are named
+CONDITION = re.compile(rf"(?:({'|'.join(ROLES)})\.)?([^=]*[^=\s][^=]*)=(.*)")
+Where = str | Sequence[str] | Mapping[str, object]
+
+
+class Condition(NamedTuple):
+    """What must stand in a column of the rows that are taken: in the table of a kind, or in each that has the column."""
+
+    kind: str
+    column: str
+    value: str
+
+    @classmethod
+    def of(cls, text: str) -> Condition:
+        """Reads a condition, as Location=Main or demand.Location=Main. Raises Refused."""
+        parts = CONDITION.fullmatch(text)
+        if parts is None:
+            raise Refused(f"{argument('where')}: {text!r} is not COLUMN=VALUE or FILE.COLUMN=VALUE",
+                          f"write Location=Main, or demand.Location=Main; the files are {', '.join(ROLES)}")
+        return cls(parts[1] or "", parts[2].strip(), parts[3].strip())
+
+
+def conditions_of(where: Where | None) -> tuple[str, ...]:
+    """Returns conditions as texts: of a text, several, or a table as {"Location": "Main"}, whose values may be lists, and
+    which may be by file, as {"demand": {"Location": "Main"}}."""
+    if where is None or isinstance(where, str):
+        return () if where is None else (where,)
+    if not isinstance(where, Mapping):
+        return tuple(where)
+    texts = list[str]()
+    for name, value in where.items():
+        if isinstance(value, Mapping):
+            texts += (f"{name}.{text}" for text in conditions_of(value))
+        else:
+            texts += (f"{name}={one}" for one in (value if isinstance(value, (list, tuple)) else [value]))
+    return tuple(texts)
+
+
+def wanted_of(kind: str, where: Iterable[str]) -> dict[str, set[str]]:
+    """Returns by column what must stand there in the table of a kind. Several values of a column are alternatives."""
+    wanted: dict[str, set[str]] = {}
+    for condition in map(Condition.of, where):
+        if condition.kind in ("", kind):
+            wanted.setdefault(condition.column, set()).add(condition.value)
+    return wanted
+
+
+def use_of(name: str) -> str:
+    """Returns what a column says of a row, by its name: a place, a state, or nothing that is known."""
+    words = plain_name(name).split()
+    while len(words) > 1 and words[-1] in ENDINGS:
+        words = words[:-1]
+    return WATCHED.get(" ".join(words), "")
+
+
+def marks_of(kind: str, sheet: Sheet, where: Iterable[str]) -> dict[str, Mark]:
+    """Returns the columns of a table that choose its rows or are watched, by what `Rows` calls them. One with a role is
+    not watched."""
+    wanted, used = wanted_of(kind, where), {column.place for column in sheet.columns.values()}
+    marks: dict[str, Mark] = {}
+    for place, name in enumerate(sheet.heading):
+        values = wanted.get(name)
+        use = "" if values or place in used else use_of(name)
+        if values or use == PLACE or use == STATE and kind in STATE_KINDS:
+            marks[f"={name}"] = Mark(Column(name, place), use, frozenset(values or ()))
+    return marks
+
+
+def faults_of_where(sheets: Mapping[str, Sheet], words: Words) -> Iterator[Fault]:
+    """Yields a fault for each column of `where` that no table has, or not the one that is named."""
+    needed = words.where if words.is_where_needed and sheets else ()
+    for condition in dict.fromkeys(map(Condition.of, needed)):
+        kinds = [condition.kind] if condition.kind else [*sheets]
+        tables = [sheets[kind] for kind in kinds if kind in sheets]
+        counts = [sheet.heading.count(condition.column) for sheet in tables]
+        for sheet, count in zip(tables, counts):
+            if count > 1:
+                yield Fault(message(Remark("same column of where", {"name": condition.column})), sheet.name, sheet.line)
+        if not any(counts):
+            first = tables[0] if tables else next(iter(sheets.values()))
+            facts = {"name": condition.column, "columns": listed(first.heading)}
+            yield Fault(message(Remark("no column of where", facts)), first.name, first.line)
+
+
+def is_other(mark: Mark, values: Collection[object]) -> Flags:
+    """Returns which values of a column are not wanted in it."""
+    return np.array([bool(mark.wanted) and value not in mark.wanted for value in values], bool)
+
+
+def split_items(rows: Rows) -> dict[str, int]:
+    """Returns by column of a place how many items have rows of use with several values of it."""
+    return {name: len(items_with_several(rows, name)) for name, mark in rows.sheet.marks.items() if mark.use == PLACE}
+
+
+def items_with_several(rows: Rows, name: str) -> list[int]:
+    """Returns the items whose rows of use have several values in a column, as codes."""
+    values = np.int64(len(rows.columns[name].distinct) + 1)
+    pairs = np.unique(rows.codes["item"][rows.good] * values + rows.codes[name][rows.good])
+    items, counts = np.unique(pairs // values, return_counts=True)
+    several: list[int] = items[counts > 1].tolist()
+    return several
+
+
+def places_of(rows: Rows, some: Numbers) -> tuple[str, dict[Cell, int]]:
+    """Returns the column of a place in which some rows have several values, and how many have each; nothing if there is
+    none."""
+    for name, mark in rows.sheet.marks.items():
+        values = Counter(rows.cell(name, row) for row in some.tolist())
+        if mark.use == PLACE and len(values) > 1:
+            return mark.column.name, dict(values)
+    return "", {}
+
+
+def named_values(counts: Mapping[Cell, int]) -> str:
+    """Returns values with how many rows have each, the most frequent first."""
+    ranked = sorted(counts.items(), key=lambda pair: (-pair[1], str(pair[0])))
+    texts = [f"{on_one_line(str(value)) or 'nothing'}: {count:,}" for value, count in ranked[:MOST_VALUES]]
+    return ", ".join([*texts, *[".."] * (len(ranked) > MOST_VALUES)])
+
+
+def said_of_marks(kind: str, sheet: Sheet, counts: Mapping[str, Mapping[Cell, int]],
+                  split: Mapping[str, int]) -> Iterator[Remark]:
+    """Yields what is to be said of watched columns: places over which items are summed, and several states. `counts` has
+    by column how many rows have each value."""
+    for name, mark in sheet.marks.items():
+        values = {value: count for value, count in counts.get(name, {}).items() if count}
+        facts = {"file": sheet.file_name, "column": mark.column.name, "kind": kind, "values": named_values(values)}
+        first = max(values, key=lambda value: values[value], default="")
+        if mark.use == PLACE and split.get(name):
+            yield Remark("summed places", {**facts, "items": split[name], "first": str(first)})
+        if mark.use == STATE and len(values) > 1:
+            yield Remark("several states", {**facts, "count": len(values), "first": str(first)})

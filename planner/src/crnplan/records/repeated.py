@@ -1,0 +1,110 @@
+"""Finds what tables say twice: files whose rows are all in another file, and rows of masters that are the sum of others."""
+from __future__ import annotations
+
+from collections.abc import Iterable, Iterator, Mapping, Sequence
+from fractions import Fraction
+from typing import TYPE_CHECKING
+
+import numpy as np
+
+from ..errors import Fault
+from ..remarks import Remark
+from ..words import message
+from .cells import TOTAL, Cell, Flags, Numbers, Unreadable
+from .sources import FILE_BITS, Sheet
+
+if TYPE_CHECKING:
+    from .amounts import AmountReader
+    from .rows import Rows
+
+# The columns of masters of which a total has the sum.
+ADDED = ("stock", "s", "S", "price", "setup", "holding", "backlog", "pack", "order_min")
+Shared = Numbers  # how many different rows two files of a table share, a row and a column for each file
+
+
+def shared_rows(rows: Rows) -> Shared:
+    """Returns how many different rows each two files of a table share."""
+    from scipy import sparse
+    count = len(rows.sheet.files)
+    _, which = np.unique(rows.hashes, return_inverse=True)
+    pairs = np.unique(np.stack([which, rows.lines >> FILE_BITS]), axis=1)
+    ones = np.ones(pairs.shape[1], np.int64)
+    has = sparse.csr_matrix((ones, pairs), (int(pairs[0].max(initial=-1)) + 1, count))
+    shared: Shared = (has.T @ has).toarray()
+    return shared
+
+
+def shared_in(tables: Mapping[str, Rows]) -> dict[str, Shared]:
+    """Returns how many rows the files of each table share that is in several."""
+    return {kind: shared_rows(rows) for kind, rows in tables.items() if len(rows.sheet.files) > 1}
+
+
+def files_within(sheets: Mapping[str, Sheet], parts: Iterable[Mapping[str, Shared]]) -> Iterator[Fault]:
+    """Yields a fault for each file whose rows are all in another file of its table too; of two that are the same for one."""
+    sums: dict[str, Shared] = {}
+    for part in parts:
+        for kind, shared in part.items():
+            sums[kind] = sums.get(kind, np.zeros_like(shared)) + shared
+    for kind, shared in sums.items():
+        files, sizes = sheets[kind].files, np.diagonal(shared)
+        is_within = (shared == sizes[:, None]) & (sizes[:, None] > 0) & ~np.eye(len(files), dtype=bool)
+        found = set[int]()
+        for file, other in np.argwhere(is_within).tolist():
+            if other not in found and file not in found:
+                found.add(file)
+                facts = {"rows": int(sizes[file]), "other": files[other].file_name}
+                yield Fault(message(Remark("file within another", facts)), files[file].file_name)
+
+
+def names_apart(tables: Mapping[str, Rows]) -> dict[bool, list[str]]:
+    """Returns the names of items that begin with a digit and have rows in the masters alone (True), or in the demand
+    alone."""
+    demand, masters = (np.unique(tables[kind].codes["item"][tables[kind].good]) for kind in ("demand", "items"))
+    names = tables["items"].columns["item"].distinct
+    apart = {True: np.setdiff1d(masters, demand), False: np.setdiff1d(demand, masters)}
+    return {is_master: [str(names[code]) for code in codes.tolist() if str(names[code])[:1].isdecimal()]
+            for is_master, codes in apart.items()}
+
+
+def zeros_apart(parts: Iterable[Mapping[bool, Sequence[str]]]) -> Iterator[Remark]:
+    """Yields what is to be said of items of the demand that would have a master but for zeros before their names."""
+    found = [*parts]
+    masters = {name.lstrip("0"): name for part in found for name in part[True]}
+    pairs = sorted((name, masters[name.lstrip("0")]) for part in found for name in part[False]
+                   if name.lstrip("0") in masters)
+    if pairs:
+        yield Remark("zeros apart", {"items": len(pairs), "name": pairs[0][0], "master": pairs[0][1]})
+
+
+def sums_of_columns(counts: Mapping[str, Mapping[Cell, int]], readers: Mapping[str, AmountReader]) -> dict[str, Fraction]:
+    """Returns the sums of columns of masters, by how many rows have each value."""
+    sums = dict[str, Fraction]()
+    for role in ADDED:
+        for cell, count in counts.get(role, {}).items():
+            sums[role] = sums.get(role, Fraction(0)) + count * (number_of(readers[role], cell) or Fraction(0))
+    return sums
+
+
+def number_of(reader: AmountReader, cell: Cell) -> Fraction | None:
+    """Returns the number of a cell; None if it is none."""
+    try:
+        return None if cell == "" else reader.number(cell)
+    except Unreadable:
+        return None
+
+
+def total_rows(tables: Mapping[str, Rows], sums: Mapping[str, Fraction],
+               readers: Mapping[str, AmountReader]) -> Flags:
+    """Returns which rows of masters are totals: those of items without other rows that are called so, and have the sum of
+    all others in a column, or nothing beside their name."""
+    rows = tables["items"]
+    totals: Flags = np.zeros(len(rows), bool)
+    moved = [its.codes["item"][its.good] for kind, its in tables.items() if kind != "items"]
+    called = [code for code, name in enumerate(rows.columns["item"].distinct) if TOTAL.match(str(name))]
+    own = np.setdiff1d(called, np.concatenate(moved))
+    for row in np.flatnonzero(rows.good & np.isin(rows.codes["item"], own)).tolist():
+        cells = {role: rows.cell(role, row) for role in rows.sheet.columns if role != "item"}
+        numbers = {role: number_of(readers[role], cells[role]) for role in sums}
+        is_sum = any(number and 2 * number == sums[role] for role, number in numbers.items())
+        totals[row] = is_sum or not any(cell != "" for cell in cells.values())
+    return totals

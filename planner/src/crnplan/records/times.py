@@ -1,0 +1,140 @@
+"""Reads times as people write them: lead times, of which a cell may list several, and other times. A number has the unit
+behind it, else that of its column; `2 weeks 3 days` is one time of 17 days."""
+from __future__ import annotations
+
+import itertools
+import re
+from collections.abc import Collection, Iterator, Mapping, Sequence
+from fractions import Fraction
+
+from ..formats import MOST_LEAD
+from ..money import exact
+from .amounts import DECIMALS, Amount, ColumnReader, amounts_of
+from .cells import Cell, Shown, Unreadable
+from .columns import DAYS, conversion, periods_of
+
+# A time is a sum of numbers, each with its unit, empty for that of the column. A cell is read as some times.
+Part = tuple[Fraction, str]
+Time = tuple[Part, ...]
+Times = tuple[Time, ...]
+PERIOD = "period"  # the unit of numbers that count periods of the plan
+# What stands between the lead times of a list, and the commas that may do so by the decimal sign.
+SEPARATOR, COMMA_AND_BLANK, COMMA = (re.compile(sign) for sign in (r"\s*[;/|]\s*", r",\s+", r"\s*,\s*"))
+COMMAS = {".": (COMMA_AND_BLANK, COMMA), ",": (COMMA_AND_BLANK,)}
+# Between two amounts without a separator: behind a unit, or a blank between digits.
+BETWEEN = re.compile(r"(?<=[^\W\d_])\s*(?=[0-9])|(?<=[0-9])\s+(?=[0-9])")
+
+
+def part_of(text: str, decimal: str, is_listed: bool) -> Part | None:
+    """Returns the number and the unit of a text by a decimal sign; None if it has none. A number of a list neither is 0
+    nor begins with one, as 5 in 12,05."""
+    amount = amounts_of(text).get(decimal)
+    if amount is None or amount.currency or is_listed and (not amount.number or re.match("0[0-9]", text)):
+        return None
+    return amount.number, amount.unit
+
+
+def listed(text: str, texts: Sequence[str], decimal: str, sign: str) -> Iterator[Times]:
+    """Yields the lists of single numbers that the texts within a text say, with a sign between: also those in which the
+    sign stands between the thousands of a number, as 1 1 100 may be 1 and 1100. Between blanks alone all have one unit."""
+    parts = [part for its in texts if (part := part_of(its, decimal, True)) is not None]
+    if len(parts) < len(texts):
+        return
+    lists = [parts]
+    for place in range(1, len(texts)):
+        joined = f"{texts[place - 1]}{sign}{texts[place]}"
+        both = part_of(joined, decimal, True)
+        if both is not None and joined in text:
+            lists.append([*parts[:place - 1], both, *parts[place + 1:]])
+    for its in lists:
+        if sign == "," or len({unit for _, unit in its}) == 1:
+            yield tuple((part,) for part in its)
+
+
+def times_within(text: str, decimal: str, is_listed: bool) -> set[Times]:
+    """Returns the readings of a text without separators, which may be listed with others: one number, numbers of one
+    unit, each of which is a time, or one time whose units become smaller."""
+    whole = part_of(text, decimal, is_listed)
+    found: set[Times] = set() if whole is None else {((whole,),)}
+    texts = BETWEEN.split(text)
+    if len(texts) == 1:
+        return found
+    found.update(listed(text, texts, decimal, " "))
+    parts = [part for its in texts if (part := part_of(its, decimal, True)) is not None and part[1] in DAYS]
+    lengths = [DAYS[unit] for _, unit in parts]
+    if len(parts) == len(texts) and all(first > second for first, second in zip(lengths, lengths[1:])):
+        found.add((tuple(parts),))
+    return found
+
+
+def in_order(parts: Sequence[Collection[Times]]) -> Iterator[Times]:
+    """Yields the readings of parts that stand behind each other, each of which has some."""
+    for times in itertools.product(*parts):
+        yield tuple(itertools.chain(*times))
+
+
+class TimeReader(ColumnReader[Times]):
+    """Reads the times of a column: texts, or numbers as a sheet stores them."""
+
+    none = "no time"
+
+    def readings(self, text: str) -> Mapping[str, Collection[Times]]:
+        """Returns the readings of a text by each decimal sign. With the point, a comma stands between lead times."""
+        found: dict[str, Collection[Times]] = {}
+        for decimal in DECIMALS:
+            texts, parts = SEPARATOR.split(text), list[Collection[Times]]()
+            for part in texts:
+                times = times_within(part, decimal, len(texts) > 1)
+                for pieces in (comma.split(part) for comma in COMMAS[decimal] if comma.search(part)):
+                    times.update(in_order([times_within(its, decimal, True) for its in pieces]))
+                    times.update(listed(part, pieces, decimal, ","))
+                parts.append(times)
+            found[decimal] = [*in_order(parts)]
+        return found
+
+    def named(self, reading: Times) -> tuple[Fraction, str]:
+        texts = [" ".join(Amount(number, unit=f"{unit}{'s' * (unit in DAYS and number != 1)}").text
+                          for number, unit in time) for time in reading]
+        return sum((number for time in reading for number, _ in time), Fraction(0)), " and ".join(texts)
+
+    def times(self, cell: Cell) -> Times:
+        """Returns the times of a cell. Raises Unreadable."""
+        if isinstance(cell, (str, Shown)):
+            return self.chosen(cell)
+        number = exact(cell)
+        if number is None:
+            raise Unreadable(self.none, cell)
+        return (((number, ""),),)
+
+    def periods(self, time: Time, unit: str, every: str, cell: Cell) -> Fraction:
+        """Returns a time in periods. `unit` is that of the column, empty if it is not known. Raises Unreadable."""
+        total = Fraction(0)
+        for number, own in time:
+            known = own or unit
+            if not known and number:
+                raise Unreadable("no unit of time", cell)
+            if known not in ("", PERIOD, *DAYS):
+                raise Unreadable("unit of time", cell, word=known)
+            total += number * (conversion("lead", known, every)[0] if known in DAYS else 1)
+        return total
+
+    def leads(self, cell: Cell, unit: str, every: str) -> list[int]:
+        """Returns the lead times of a cell in whole periods: one, or several that were observed. Raises Unreadable."""
+        leads = list[int]()
+        for time in self.times(cell):
+            periods = self.periods(time, unit, every, cell)
+            if unit == PERIOD and periods.denominator > 1:
+                raise Unreadable("no whole lead time", cell)
+            leads += periods_of(periods) if periods > 0 else [int(periods)]
+        for lead in leads:
+            if not 1 <= lead <= MOST_LEAD:
+                raise Unreadable("lead range", lead=lead, most=MOST_LEAD)
+        return leads
+
+    def span(self, cell: Cell, unit: str, every: str) -> Fraction:
+        """Returns the one time of a cell, in periods. Raises Unreadable."""
+        times = self.times(cell)
+        periods = self.periods(times[0], unit, every, cell)
+        if len(times) > 1 or periods < 0:
+            raise Unreadable(self.none, cell)
+        return periods

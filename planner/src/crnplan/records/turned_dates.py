@@ -1,0 +1,89 @@
+"""Looks for dates of which a spreadsheet may have interchanged day and month.
+
+A spreadsheet of another country reads the dates of a text file that it can, with the month for the day, and leaves the
+others as texts: those with a day above 12. So a column has dates with a day of at most 12 beside texts with days above
+12 alone. The order of the rows may show which of both is right.
+"""
+from __future__ import annotations
+
+import datetime
+from collections.abc import Mapping, Sequence
+from typing import NamedTuple
+
+from .cells import Cell
+from .date_forms import DATE_FORMS, DOTTED, ISO, SPLIT, Written, written
+
+Day = datetime.date
+SIGNED = (DATE_FORMS[SPLIT], DATE_FORMS[DOTTED])
+# So many dates are in order by no chance.
+LEAST_ORDERED = 6
+
+
+class Turned(NamedTuple):
+    """Whether day and month are interchanged in each date of a column that a spreadsheet has read as one: None if that is
+    not known; and the first text that made it likely, empty if nothing did, with its pattern."""
+
+    by_cell: Mapping[Cell, bool | None]
+    text: str = ""
+    pattern: str = ""
+
+
+def interchanged(day: Day) -> Day:
+    """Returns a date with its day, of at most 12, and its month interchanged."""
+    return day.replace(month=day.day, day=day.month)
+
+
+def pattern_of(parts: Written) -> str:
+    """Returns the pattern of a text that shows whether the day or the month is first."""
+    first = ["%d", "%m"] if parts.is_day_first else ["%m", "%d"]
+    return (parts.sign or ".").join([*first, "%Y" if len(parts.year) == 4 else "%y"])
+
+
+def is_ordered(days: Sequence[Day | None]) -> bool:
+    """Returns whether days are in order, forwards or backwards."""
+    known = [day for day in days if day]
+    return known in (sorted(known), sorted(known, reverse=True))
+
+
+def day_of_sheet(cell: Cell, parts: Written | None) -> Day | None:
+    """Returns the day of a date that a spreadsheet knows as one, or writes as 2026-03-31; None for another cell."""
+    if isinstance(cell, Day):
+        return cell
+    if parts is None or parts.form != DATE_FORMS[ISO]:
+        return None
+    try:
+        return Day(int(parts.year), int(parts.month or 0), int(parts.day or 0))
+    except ValueError:
+        return None
+
+
+def day_of_text(parts: Written | None) -> Day | None:
+    """Returns the day of a text of which one of day and month is above 12; None for another one."""
+    if parts is None or parts.is_day_first is None:
+        return None
+    day, month = int(parts.day or 0), int(parts.month or 0)
+    if not parts.is_day_first:
+        day, month = month, day
+    try:
+        return Day(parts.whole_year, month, day)
+    except ValueError:
+        return None
+
+
+def turned(column: Sequence[Cell]) -> Turned:
+    """Returns which dates of a column, whose cells are in the order of their rows, have day and month interchanged."""
+    parts: dict[Cell, Written | None] = {cell: written(cell) for cell in column if isinstance(cell, str)}
+    read = {cell: day for cell in column if (day := day_of_sheet(cell, parts.get(cell)))}
+    texts = {str(cell): its for cell, its in parts.items() if its and its.form in SIGNED}
+    days: dict[Cell, Day | None] = {cell: day_of_text(its) for cell, its in texts.items()}
+    sides = {its.is_day_first for its in texts.values()}
+    is_like_it = len(sides) == 1 and None not in days.values() and bool(read)
+    if not is_like_it or max(day.day for day in read.values()) > 12:
+        return Turned(dict.fromkeys(read, False))
+    as_it_is = {**days, **read}
+    otherwise = {**as_it_is, **{cell: interchanged(day) for cell, day in read.items()}}
+    order = [cell for cell in column if cell in as_it_is]
+    is_sound, is_turned = is_ordered([as_it_is[cell] for cell in order]), is_ordered([otherwise[cell] for cell in order])
+    decides = is_sound != is_turned and len(order) >= LEAST_ORDERED
+    text, its = next(iter(texts.items()))
+    return Turned(dict.fromkeys(read, is_turned if decides else None), text, pattern_of(its))

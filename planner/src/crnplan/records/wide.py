@@ -1,0 +1,155 @@
+"""Reads wide tables of demand, with a row for each item and a column for each day, week or month, as rows with a date and
+a quantity.
+
+An empty cell is no demand, as a period without a row is. A column that lacks between others is refused, and so are
+columns for other periods than those of the record. Columns and rows of totals are left out.
+"""
+from __future__ import annotations
+
+import re
+from collections.abc import Iterator, Mapping, Sequence
+
+from ..errors import Fault, RefusedFaults
+from ..remarks import Remark, Value
+from ..words import message
+from .cells import TOTAL, Cell, Unreadable, text_of
+from .date_forms import written
+from .dates import Day, DateReader, period_name, period_of
+from .sources import Column, Row, Sheet
+
+# The names by which the headings of the periods, and the cells below them, are columns.
+HEADINGS_NAME, CELLS_NAME = "(headings)", "(cells)"
+# The roles that these have, and one that a wide table has no column for.
+WIDE_ROLES = {"date": HEADINGS_NAME, "quantity": CELLS_NAME}
+NO_WIDE_ROLE = "returned"
+LEAST_PERIODS = 2
+# The line of a cell has the place of its column, from 1, above so many bits.
+LINE_BITS = 23
+# An item whose name only begins like a total is an item.
+WHOLE_TOTAL = re.compile(rf"(?:{TOTAL.pattern})\W*", re.IGNORECASE)
+# Days without a column in between are no gap: a shop is closed on them.
+MOST_CLOSED = 6
+
+
+def refused(sheet: Sheet, code: str, **facts: Value) -> RefusedFaults:
+    """Returns the error of the heading of a table."""
+    return RefusedFaults([Fault(message(Remark(code, facts)), sheet.name, sheet.line)])
+
+
+def reader_of(sheet: Sheet) -> DateReader:
+    """Returns what reads the headings of a table as dates. Patterns of dates may be those of other tables."""
+    rules, heading = sheet.rules, sheet.heading
+    reader = DateReader(rules.date_formats, rules.every, rules.day_first).look(heading)
+    if sum(map(reader.is_date, heading)) >= LEAST_PERIODS:
+        return reader
+    return DateReader((), rules.every, rules.day_first).look(heading)
+
+
+def period_of_days(days: Sequence[Day]) -> str:
+    """Returns for which periods days in order stand, by the least distance between two of them."""
+    least = min((later - day).days for day, later in zip(days, days[1:]))
+    if least < 7:
+        return "day"
+    return "week" if least < 28 else "month"
+
+
+class WideSheet(Sheet):
+    """A wide table as rows: the columns that are no periods, the day of a period, the cell below it, and the text of the
+    row, so that rows are the same if all of their cells are."""
+
+    def __init__(self, sheet: Sheet, days: Mapping[int, Day], totals: Sequence[int]) -> None:
+        """Takes the table, the first day of the period of each column by its place, and the places of totals."""
+        super().__init__(sheet.name, f"{sheet.written}, with a column for each period", sheet.rules, sheet.path)
+        self.sheet, self.days = sheet, days
+        self.fixed = [place for place in range(len(sheet.heading)) if place not in days and place not in totals]
+        self.size, self.sign, self.delimiter, self.line = sheet.size, sheet.sign, sheet.delimiter, sheet.line
+        self.heading = [*(sheet.heading[place] for place in self.fixed), HEADINGS_NAME, CELLS_NAME, ""]
+        self.titles, self.first_rows = sheet.titles, sheet.first_rows
+        names = [sheet.heading[place] for place in sorted(days, key=days.__getitem__)]
+        self.notes: list[Remark] = [Remark("wide", {"count": len(names), "first": names[0], "last": names[-1]})]
+        if totals:
+            left_out = ", ".join(repr(sheet.heading[place]) for place in totals)
+            self.notes.append(Remark("wide totals", {"count": len(totals), "names": left_out}))
+
+    @property
+    def width(self) -> int:
+        return self.sheet.width
+
+    def where(self, line: int) -> tuple[str, int]:
+        return self.file_name, line & (1 << LINE_BITS) - 1
+
+    def called(self, line: int) -> int | str:
+        place, line = divmod(line, 1 << LINE_BITS)
+        return f"{line} ({self.sheet.heading[place - 1]})" if place else line
+
+    def column_of(self, role: str, line: int) -> str:
+        place = line >> LINE_BITS
+        return self.sheet.heading[place - 1] if place and role in WIDE_ROLES else super().column_of(role, line)
+
+    def rows(self) -> Iterator[Row]:
+        for line, cells in self.sheet.rows():
+            if line > self.line:
+                yield from self._rows_of(line, cells)
+        self.hidden = self.sheet.hidden
+
+    def _rows_of(self, line: int, cells: Sequence[Cell]) -> Iterator[Row]:
+        """Yields a row for each filled cell below a period; one without a quantity for a total, and for a blank row; and
+        one with 0 for an item that has no filled cell."""
+        if any(map(text_of, cells[self.width:])):
+            yield line, [*cells, *[""] * (len(self.heading) + 1 - len(cells))]
+            return
+        fixed = [cells[place] if place < len(cells) else "" for place in self.fixed]
+        text, item = self.text_of(cells), text_of(fixed[self.columns["item"].place])
+        filled = [place for place in self.days if place < len(cells) and text_of(cells[place])]
+        if WHOLE_TOTAL.fullmatch(item) or not (filled or item):
+            yield line, [*fixed, "", "", text if item else ""]
+        elif not filled:
+            yield line, [*fixed, min(self.days.values()), 0, text]
+        else:
+            for place in filled:
+                yield line | place + 1 << LINE_BITS, [*fixed, self.days[place], cells[place], text]
+
+    def mark_used(self) -> None:
+        """Marks which columns of the table are used, as soon as those with roles are known: their formulas must have been
+        computed."""
+        fixed = [self.fixed[column.place] for column in self.columns.values() if column.place < len(self.fixed)]
+        self.sheet.columns = {str(place): Column(self.sheet.heading[place], place) for place in (*fixed, *self.days)}
+
+    def check(self) -> None:
+        """Raises RefusedFaults if the columns are not for the periods of the record, if two are for the same one, or if one
+        lacks between them."""
+        every, order = str(self.rules.every), sorted(self.days, key=self.days.__getitem__)
+        names, days = [self.sheet.heading[place] for place in order], [self.days[place] for place in order]
+        form = written(names[0])
+        unit = every if form and form.period == every else period_of_days(days)
+        if unit not in ("day", every):
+            raise refused(self.sheet, "other columns", first=names[0], last=names[-1], period=unit, every=every)
+        closed = 0
+        for place, (day, later) in enumerate(zip(days, days[1:])):
+            number, gap = period_of(day, unit), period_of(later, unit) - period_of(day, unit) - 1
+            facts: dict[str, Value] = {"first": names[place], "second": names[place + 1], "every": unit}
+            if gap < 0:
+                raise refused(self.sheet, "same column", **facts)
+            if gap > (MOST_CLOSED if unit == "day" else 0):
+                raise refused(self.sheet, "no column between", count=gap, name=period_name(number + 1, unit), **facts)
+            closed += gap
+        if closed:
+            self.notes.append(Remark("days without a column", {"count": closed}))
+
+
+def wide_sheet(sheet: Sheet) -> WideSheet | None:
+    """Returns a table of demand as rows if it is a wide one: if several of its headings are dates or whole periods; else
+    None. Raises RefusedFaults if these can't be read, or are not for the periods of the record."""
+    reader, days = reader_of(sheet), dict[int, Day]()
+    places = [place for place, name in enumerate(sheet.heading) if reader.is_date(name)]
+    if len(places) < LEAST_PERIODS:
+        return None
+    for place in places:
+        try:
+            days[place] = reader.read(sheet.heading[place])[0]
+        except Unreadable as why:
+            raise RefusedFaults([Fault(message(why.remark), sheet.name, sheet.line)]) from why
+    totals = [place for place, name in enumerate(sheet.heading) if place not in days and TOTAL.match(name)]
+    wide = WideSheet(sheet, days, totals)
+    wide.check()
+    return wide

@@ -1,0 +1,131 @@
+"""Tests a program that never ends: it is ended itself, in a bounded time or when crnplan is interrupted."""
+from __future__ import annotations
+
+import os
+import signal
+import subprocess
+import sys
+import time
+from collections.abc import Sequence
+from pathlib import Path
+from unittest.mock import Mock
+
+import pytest
+
+from crnplan.crnsim import program as module
+from crnplan.crnsim.program import interrupted_later, run_all, run_program
+from crnplan.errors import ProgramFailed
+from planner.tests.conftest import Command, heed_interrupts, script
+
+TOP = Path(__file__).resolve().parents[3]
+SCENARIO = str(TOP / "examples/two_policies.toml")
+# Programs that never answer: one that waits, one that is busy; neither heeds an interrupt. Each says its number.
+WAYS = {"waits": "exec sleep 1000", "is busy": "while :; do :; done"}
+HANGING = 'trap "" INT TERM\necho $$ >> "{taken}"\n{way}'
+# A command waits for its end at most so many seconds here, and the system's own work for any.
+SHORT, LONG = 0.5, 60
+COMMANDS = {"run": ["run", SCENARIO], "trajectory": ["trajectory", SCENARIO, "A", "B"], "where": ["where"],
+            "check": ["check", SCENARIO, "A", "--replications", "2", "--out", "kept"],
+            "sweep": ["sweep", SCENARIO, "--s", "18", "24", "1", "--S", "40", "44", "1", "--jobs", "2"],
+            "catalogue": ["catalogue", "demand.csv", "items.csv", "--jobs", "2", "--out", "plan"]}
+
+
+@pytest.fixture(autouse=True)
+def room(tmp_path: Path, monkeypatch: pytest.MonkeyPatch) -> Path:
+    """Returns a folder with inputs of all commands, in which the test runs."""
+    days = [f"{item},2026-{month:02}-{day:02},{day % 4}\n" for item in "AB" for month in range(1, 7) for day in (2, 9, 16, 23)]
+    (tmp_path / "demand.csv").write_text("item,date,quantity\n" + "".join(days), "utf-8")
+    (tmp_path / "items.csv").write_text("item,setup,holding,backlog,lead (weeks),s,S\nA,20,1,9,1,5,20\nB,20,1,9,1,5,20\n",
+                                        "utf-8")
+    monkeypatch.chdir(tmp_path)
+    return tmp_path
+
+
+def hanging(room: Path, way: str) -> Path:
+    """Makes a program that never ends."""
+    return script(room / "hanging", HANGING.format(taken=room / "taken", way=WAYS[way]))
+
+
+def begun(room: Path) -> list[int]:
+    """Returns the numbers of the programs that were begun."""
+    return [*map(int, (room / "taken").read_text("utf-8").split())] if (room / "taken").exists() else []
+
+
+def living(room: Path) -> list[int]:
+    """Returns those that go on, once the system has had the time to end all."""
+    latest = time.monotonic() + LONG
+    while (left := [it for it in begun(room) if os.path.exists(f"/proc/{it}")]) and time.monotonic() < latest:
+        time.sleep(0.05)
+    return left
+
+
+@pytest.mark.parametrize("way", WAYS)
+def test_a_run_that_hangs(room: Path, monkeypatch: pytest.MonkeyPatch, way: str) -> None:
+    """A run that has not ended in time is ended, and named; so are several at once."""
+    monkeypatch.setattr(module, "RUN_SECONDS", SHORT)
+    path = hanging(room, way)
+    for run in (lambda: run_program(path, ""), lambda: run_all(path, [("",)] * 9)):
+        with pytest.raises(ProgramFailed, match="hanging: a run has not ended in 0.5 seconds, and was ended; look for"):
+            run()
+        assert living(room) == []
+    assert 2 <= len(begun(room)) < 10
+
+
+@pytest.mark.parametrize("name", COMMANDS)
+def test_commands_whose_program_hangs(room: Path, crnplan: Command, monkeypatch: pytest.MonkeyPatch, name: str) -> None:
+    """Each command ends with status 3, and leaves no program behind."""
+    monkeypatch.setattr(module, "RUN_SECONDS", SHORT)
+    told = crnplan(*COMMANDS[name], "--program", hanging(room, "waits"))
+    assert told.status == 3 and "a run has not ended in 0.5 seconds" in told.errors and "Traceback" not in told.errors, told
+    assert begun(room) and living(room) == []
+
+
+@pytest.mark.parametrize("name", ["run", "check", "sweep", "catalogue"])
+def test_interrupted_while_a_program_hangs(room: Path, name: str) -> None:
+    """An interrupt that only crnplan gets ends it at once, and the programs with it."""
+    words: Sequence[str] = [*COMMANDS[name], "--program", str(hanging(room, "waits"))]
+    with subprocess.Popen([sys.executable, "-m", "crnplan", *words], stdout=subprocess.DEVNULL, stderr=subprocess.PIPE,
+                          stdin=subprocess.DEVNULL, preexec_fn=heed_interrupts) as command:
+        latest = time.monotonic() + LONG
+        while not begun(room) and time.monotonic() < latest and command.poll() is None:
+            time.sleep(0.05)
+        assert begun(room)
+        command.send_signal(signal.SIGINT)
+        _, errors = command.communicate(timeout=LONG)
+    assert command.returncode == 130 and b"crnplan: interrupted" in errors and b"Traceback" not in errors, errors
+    assert living(room) == []
+
+
+def test_a_worker_whose_command_was_killed(room: Path) -> None:
+    """Workers end with the process that they work for, and so do the programs that they run."""
+    words: Sequence[str] = [*COMMANDS["sweep"], "--program", str(hanging(room, "waits"))]
+    with subprocess.Popen([sys.executable, "-m", "crnplan", *words], stdout=subprocess.DEVNULL, stderr=subprocess.DEVNULL,
+                          stdin=subprocess.DEVNULL) as command:
+        latest = time.monotonic() + LONG
+        while len(begun(room)) < 2 and time.monotonic() < latest:
+            time.sleep(0.05)
+        assert len(begun(room)) == 2
+        command.kill()
+    assert living(room) == []
+
+
+def test_an_old_kernel(room: Path, monkeypatch: pytest.MonkeyPatch) -> None:
+    """Where the system can't tell of an end by itself, runs are looked at from time to time, with the same outcome."""
+    monkeypatch.setattr(os, "pidfd_open", Mock(side_effect=OSError(38, "Function not implemented")))
+    monkeypatch.setattr(module, "RUN_SECONDS", SHORT)
+    assert run_program(script(room / "answers", "cat"), "text") == "text"
+    with pytest.raises(ProgramFailed, match="a run has not ended in 0.5 seconds"):
+        run_program(hanging(room, "waits"), "")
+    assert living(room) == []
+
+
+def test_interrupted_while_a_run_begins() -> None:
+    """The error comes when what was begun is known."""
+    usual, begun = signal.signal(signal.SIGINT, signal.default_int_handler), list[str]()
+    try:
+        with pytest.raises(KeyboardInterrupt), interrupted_later():
+            signal.raise_signal(signal.SIGINT)
+            begun.append("a run")
+    finally:
+        signal.signal(signal.SIGINT, usual)
+    assert begun == ["a run"]
