@@ -209,8 +209,10 @@ def end_programs(process: int) -> None:
 def end_with_programs(worker: multiprocessing.process.BaseProcess) -> None:
     """Ends a worker process, which begins no more, and the programs that it runs."""
     if worker.pid is not None and worker.is_alive():
-        with contextlib.suppress(ProcessLookupError):  # it has ended meanwhile
+        with contextlib.suppress(ProcessLookupError, ChildProcessError):  # it has ended meanwhile
             os.kill(worker.pid, signal.SIGSTOP)
+            # Until it has stopped, it may begin a program that the search below would not find.
+            os.waitid(os.P_PID, worker.pid, os.WSTOPPED | os.WEXITED | os.WNOWAIT)
             end_programs(worker.pid)
         worker.kill()
 

@@ -1,10 +1,12 @@
 """Tests a program that never ends: it is ended itself, in a bounded time or when crnplan is interrupted."""
 from __future__ import annotations
 
+import multiprocessing
 import os
 import signal
 import subprocess
 import sys
+import threading
 import time
 from collections.abc import Sequence
 from pathlib import Path
@@ -15,6 +17,7 @@ import pytest
 from crnplan.crnsim import program as module
 from crnplan.crnsim.program import interrupted_later, run_all, run_program
 from crnplan.errors import ProgramFailed
+from crnplan.jobs import end_with_programs
 from planner.tests.conftest import Command, heed_interrupts, script
 
 TOP = Path(__file__).resolve().parents[3]
@@ -106,6 +109,31 @@ def test_a_worker_whose_command_was_killed(room: Path) -> None:
             time.sleep(0.05)
         assert len(begun(room)) == 2
         command.kill()
+    assert living(room) == []
+
+
+def begin_programs(program: Path) -> None:
+    """Begins programs as fast as it can."""
+    while True:
+        subprocess.Popen([program], stdin=subprocess.DEVNULL)
+
+
+def test_a_worker_that_begins_programs(room: Path, monkeypatch: pytest.MonkeyPatch) -> None:
+    """A worker goes on until the signal to stop has reached it; what it has begun meanwhile is ended too."""
+    worker = multiprocessing.get_context("fork").Process(target=begin_programs, args=(hanging(room, "waits"),))
+    worker.start()
+    while not begun(room):
+        time.sleep(0.01)
+    kill = os.kill
+
+    def kill_later(process: int, number: int) -> None:
+        if number == signal.SIGSTOP:
+            threading.Timer(SHORT, kill, (process, number)).start()
+        else:
+            kill(process, number)
+    monkeypatch.setattr(os, "kill", kill_later)
+    end_with_programs(worker)
+    worker.join()
     assert living(room) == []
 
 
