@@ -14,11 +14,10 @@ from crnplan.files import MARKER
 from crnplan.records.catalogue_reading import read_catalogue
 from crnplan.scenario import Costs
 from crnplan.theory.lattice import theories_of
-from planner.bench import page, whole
+from planner.bench import page, usage, whole
 from planner.bench.compared import all_figures, compare
 from planner.bench.made import Made, make
 from planner.bench.stored import keep, stored
-from planner.bench.usage import usage_of
 from planner.bench.zheng_federgruen import Floats, Search, best_policy, optimum, stock_cost
 from planner.studies.page import PLACE, page_with
 from planner.tests.theory.scenarios import PUBLISHED, scenario_of
@@ -57,12 +56,22 @@ def test_both_searches(tmp_path: Path) -> None:
         its["items"] for name, its in figures.items() if name.startswith("counted"))
 
 
-def test_usage(tmp_path: Path) -> None:
+def test_usage(tmp_path: Path, monkeypatch: pytest.MonkeyPatch) -> None:
     """Memory and processor time of a process and those that it starts are seen, and the size of a part."""
-    held = "held = bytearray(b'1') * {} * 1_000_000; import time; time.sleep(1)"
-    code = f"import subprocess, sys; child = subprocess.Popen([sys.executable, '-c', \"{held.format(90)}\"]); " \
-        f"{held.format(50)}; sum(range(10**7)); child.wait()"
-    its = usage_of([sys.executable, "-c", code])
+    seen, with_children = tmp_path / "seen", usage.with_children
+
+    def watched(process: int) -> float:
+        """Lets the processes end once the memory of both was seen."""
+        memory = with_children(process)
+        if memory > 140:
+            seen.touch()
+        return memory
+    monkeypatch.setattr(usage, "with_children", watched)
+    held = "held = bytearray(b'1') * {} * 1_000_000; import os, time"
+    child = f"{held.format(90)}; [time.sleep(0.01) for _ in range(6_000) if not os.path.exists('{seen}')]"
+    code = f"import subprocess, sys; child = subprocess.Popen([sys.executable, '-c', {child!r}]); " \
+        f"{held.format(50)}; sum(range(10**7)); time.sleep(1); child.wait()"
+    its = usage.usage_of([sys.executable, "-c", code])
     assert 50 < its.own < 90 < 140 < its.all < 220
     assert its.wall > 1 and 0 < its.processor < 10
     row, = whole.measured_parts(tmp_path, ITEMS, 1, ["read"])
