@@ -39,10 +39,10 @@ def learn(folder: Path, jobs: int) -> None:
 def plan(folder: Path, jobs: int) -> None:
     """Plans all items, and writes the tables."""
     from crnplan.pages.catalogue_page import CATALOGUE_FILES
-    from crnplan.plan.catalogue import plan_into
+    from crnplan.catalogues import plan_catalogue
     from crnplan.plan.question import Settings
     with own_folder(folder / PLAN, CATALOGUE, CATALOGUE_FILES) as own:
-        plan_into(own, Settings(), jobs=jobs)
+        plan_catalogue(own, Settings(), jobs=jobs)
 
 
 def curve(folder: Path, jobs: int) -> None:

@@ -20,8 +20,8 @@ import pytest
 from matplotlib.figure import Figure
 
 import crnplan as crn
+from crnplan import catalogues
 from crnplan.commands import COMMANDS, as_option, group
-from crnplan.plan import catalogue
 from crnplan.table import Result
 from planner.tests.conftest import Command
 
@@ -240,8 +240,8 @@ def test_rows_that_were_read_and_not_planned(few: list[pd.DataFrame], tmp_path: 
         crn.plan(sales.assign(quantity=4), masters, **{**words, "fit": "auto", "borrow": "all"})
     with pytest.raises(crn.Refused, match="'A': it is not planned as its rows are now"):
         planned.item("A")
-    monkeypatch.setattr(catalogue, "missing_of", lambda *_: ["items: 1 of 40 is lost"])
-    with pytest.raises(catalogue.Lost, match="1 of 40 is lost"):
+    monkeypatch.setattr(catalogues, "missing_of", lambda *_: ["items: 1 of 40 is lost"])
+    with pytest.raises(catalogues.Lost, match="1 of 40 is lost"):
         crn.plan(*few, out=tmp_path / "plan", program=program, **SETTINGS)
     assert (tmp_path / "plan/summary.txt").read_text().endswith(".\n\nLOST: items: 1 of 40 is lost\n")
 

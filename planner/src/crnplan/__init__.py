@@ -35,7 +35,7 @@ if TYPE_CHECKING:
     from .api import (Plan as Plan, PlannedItem as PlannedItem, open_plan as open_plan, plan as plan,
                       plan_item as plan_item)
     from .backtesting import Backtests as Backtests, backtest as backtest
-    from .records.catalogue_reading import Catalogue as Catalogue, read_catalogue as read_catalogue
+    from .catalogues import Catalogue as Catalogue, read_catalogue as read_catalogue
     from .curve.exchange_curve import exchange_curve as exchange_curve
     from .pages.catalogue_page import report as report
     from .pages.today_tables import OrdersToday as OrdersToday

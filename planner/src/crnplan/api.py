@@ -10,23 +10,25 @@ from functools import cached_property
 from pathlib import Path
 from typing import TYPE_CHECKING
 
+from .catalogues import Catalogue, Lost, plan_catalogue, write_found
 from .crnsim.program import find_program
 from .decide.sensitivity import Moves
 from .errors import Refused, argument
 from .files import Folder, own_folder
+from .items import plan_item as plan_one_item
 from .money import Amount, Number
-from .pages.catalogue_page import CATALOGUE_FILES, report, write_found
+from .pages.catalogue_page import CATALOGUE_FILES, report
 from .pages.catalogue_tables import catalogue_summary, decisions_of, rejects_of
 from .pages.change_tables import change_lines, changes_of
 from .pages.lateness import lateness_of
 from .pages.today_tables import OrdersToday, orders_today
-from .pages.item_page import ItemWords, item_page, item_summary, plan_item as plan_one_item, policies_of
-from .plan.catalogue import Lost, check_earlier, plan_into, planned_folder
+from .pages.item_page import ItemWords, item_page, item_summary, policies_of
+from .plan.catalogue import check_earlier, planned_folder
 from .plan.totals import Totals
 from .plan.item import Depth
 from .plan.question import Settings
 from .plan.survey import Survey
-from .records.catalogue_reading import CATALOGUE, READ, Catalogue, read_into
+from .records.catalogue_reading import CATALOGUE, READ, read_into
 from .records.choosing import Where, conditions_of
 from .records.defaults import LEAVE_OUT, Defaults
 from .records.items import Words
@@ -330,8 +332,8 @@ def plan(sales: str | Path | pd.DataFrame | Catalogue, masters: str | Path | pd.
         take_tables(folder, sales, masters, orders, words, jobs)
         set_overrides(folder, overrides, words, earlier)
         write_found(folder, Catalogue(folder.path / READ), settings)
-        done = plan_into(folder, settings, after=earlier, jobs=jobs, address=cluster, program=program,
-                         again=learn_again, shown=progress)
+        done = plan_catalogue(folder, settings, after=earlier, jobs=jobs, address=cluster, program=program,
+                              again=learn_again, shown=progress)
     if done.missing:
         raise Lost("; ".join(done.missing))
     return Plan(path, done.learned, program, room)

@@ -9,6 +9,7 @@ from pathlib import Path
 from typing import TYPE_CHECKING
 
 from .api import Roles, check_masters, take_tables
+from .catalogues import Catalogue
 from .files import Folder, own_folder
 from .pages.backtest_page import backtest_page
 from .pages.backtest_tables import (BACKTEST, PAGE, SUMMARY, SUMS, VERDICTS, backtest_of, backtest_summary, first_line,
@@ -16,7 +17,7 @@ from .pages.backtest_tables import (BACKTEST, PAGE, SUMMARY, SUMS, VERDICTS, bac
 from .plan.backtest.catalogue import Tested, backtest_into
 from .plan.backtest.one import Walk
 from .plan.question import Settings
-from .records.catalogue_reading import CATALOGUE, Catalogue
+from .records.catalogue_reading import CATALOGUE
 from .records.items import Words
 from .table import DataTable, TextResult
 

@@ -10,8 +10,8 @@ import numpy as np
 import pytest
 from hypothesis import given, settings, strategies as st
 
+from crnplan.catalogues import read_catalogue
 from crnplan.files import MARKER
-from crnplan.records.catalogue_reading import read_catalogue
 from crnplan.scenario import Costs
 from crnplan.theory.lattice import theories_of
 from planner.bench import page, usage, whole

@@ -12,7 +12,7 @@ import pytest
 
 from crnplan import Plan, plan
 from crnplan.pages.catalogue_page import ROWS_A_GROUP, file_of, report
-from crnplan.pages.item_page import plan_item
+from crnplan.items import plan_item
 from planner.tests.browser.browser import Browser
 from planner.tests.catalogue.conftest import SETTINGS
 from planner.tests.conftest import shared

@@ -10,7 +10,7 @@ from typing import Any
 import pytest
 
 from crnplan import plan
-from crnplan.records.catalogue_reading import Catalogue, read_catalogue
+from crnplan.catalogues import Catalogue, read_catalogue
 from planner.tests.catalogue.made import NO_PLAN, TODAY, Made, made
 from planner.tests.conftest import shared
 

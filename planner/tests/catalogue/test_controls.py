@@ -13,9 +13,10 @@ import pytest
 import crnplan as crn
 from crnplan.pages.control_tables import controls_of
 from crnplan.records.blocks import Sizes
-from crnplan.records.catalogue_reading import Catalogue, read_alone, read_catalogue
+from crnplan.records.catalogue_reading import read_alone
 from crnplan.records.controls import Control, Controls, controls_in, together, tree_of
 from crnplan.records.items import Words
+from crnplan.catalogues import Catalogue, read_catalogue
 from planner.tests.conftest import Command, rows_of
 
 TODAY = datetime.date(2026, 11, 26)

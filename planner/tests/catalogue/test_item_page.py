@@ -15,7 +15,7 @@ import crnplan
 from crnplan import plan
 from crnplan.errors import CrnplanError, Refused
 from crnplan.pages.catalogue_page import file_name, file_of, report
-from crnplan.records.catalogue_reading import read_catalogue
+from crnplan.catalogues import read_catalogue
 from planner.tests.catalogue.conftest import FILES
 from planner.tests.catalogue.made import IDLE, NO_PLAN, TODAY, made, teaching
 from planner.tests.conftest import rows_of, script, shared

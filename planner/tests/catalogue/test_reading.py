@@ -17,12 +17,13 @@ import pytest
 from crnplan.errors import Refused, RefusedFaults
 from crnplan.files import MARKER
 from crnplan.records.blocks import Sizes
-from crnplan.records.catalogue_reading import Catalogue, read_alone, read_catalogue
+from crnplan.records.catalogue_reading import read_alone
 from crnplan.records.dates import period_of
 from crnplan.records.item import Item
 from crnplan.records.items import Reader, Words
 from crnplan.records.observed import Record, record_of
 from crnplan.records.rows import far_above
+from crnplan.catalogues import Catalogue, read_catalogue
 from crnplan.words import sentence
 from planner.tests.catalogue.audit import Audit, audit
 from planner.tests.catalogue.conftest import FILES, REFUSED

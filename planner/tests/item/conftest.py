@@ -7,7 +7,7 @@ from pathlib import Path
 
 import pytest
 
-from crnplan.pages.item_page import plan_item
+from crnplan.items import plan_item
 from planner.tests.conftest import Answer, Command, script, shared
 
 HERE = Path(__file__).parent

@@ -7,9 +7,9 @@ from typing import Any
 import pytest
 
 from crnplan.errors import RefusedFaults
-from crnplan.records.catalogue_reading import read_catalogue
 from crnplan.records.items import Words
 from crnplan.records.stock import read_holdings
+from crnplan.catalogues import read_catalogue
 from planner.tests.records.alike import FORMS, TODAY, Tables
 
 # Each case has five tables.

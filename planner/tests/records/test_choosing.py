@@ -10,10 +10,10 @@ import pandas as pd
 import pytest
 
 import crnplan as crn
-from crnplan.records.catalogue_reading import Catalogue, read_catalogue
 from crnplan.records.choosing import Condition, conditions_of, use_of
 from crnplan.records.items import Words
 from crnplan.records.stock import Holdings, read_holdings
+from crnplan.catalogues import Catalogue, read_catalogue
 from crnplan.words import advised, sentence
 
 TODAY = datetime.date(2026, 11, 26)

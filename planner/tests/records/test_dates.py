@@ -12,12 +12,12 @@ from babel.dates import format_date
 import crnplan as crn
 from crnplan.errors import RefusedFaults
 from crnplan.records import read_history
-from crnplan.records.catalogue_reading import read_catalogue
 from crnplan.records.cells import Unreadable
 from crnplan.records.date_forms import day_of_serial
 from crnplan.records.dates import DateReader
 from crnplan.records.items import Words
 from crnplan.records.stock import read_holdings
+from crnplan.catalogues import read_catalogue
 
 Day = datetime.date
 # 6 January 2025 as systems and people write it.

@@ -17,8 +17,8 @@ import pytest
 
 from crnplan.commands import catalogues
 from crnplan.records.bounds import Bounds
-from crnplan.records.catalogue_reading import Catalogue
 from crnplan.records.item import Item
+from crnplan.catalogues import Catalogue
 
 Answers = Callable[..., Any]
 WEEKS = 26

@@ -14,9 +14,9 @@ import pytest
 
 import crnplan as crn
 from crnplan.pages.lateness import lateness_of
-from crnplan.records.catalogue_reading import Catalogue, read_catalogue
 from crnplan.records.item import Item
 from crnplan.records.leads import leads_from
+from crnplan.catalogues import Catalogue, read_catalogue
 from crnplan.words import sentence
 from planner.tests.conftest import Command
 

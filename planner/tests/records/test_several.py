@@ -13,9 +13,10 @@ import pytest
 from crnplan.errors import RefusedFaults
 from crnplan.records import opening
 from crnplan.records.blocks import Sizes
-from crnplan.records.catalogue_reading import Catalogue, read_alone, read_catalogue
+from crnplan.records.catalogue_reading import read_alone
 from crnplan.records.items import Words
 from crnplan.records.several import open_tables
+from crnplan.catalogues import Catalogue, read_catalogue
 
 TODAY = datetime.date(2027, 1, 1)
 HEADING = "item,date,quantity\n"

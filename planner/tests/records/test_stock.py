@@ -11,9 +11,9 @@ import pandas as pd
 import pytest
 
 from crnplan.errors import RefusedFaults
-from crnplan.records.catalogue_reading import read_catalogue
 from crnplan.records.items import Words
 from crnplan.records.stock import Arrival, Holdings, OnHand, read_holdings
+from crnplan.catalogues import read_catalogue
 from crnplan.words import sentence
 
 DUE = datetime.date(2026, 12, 1)

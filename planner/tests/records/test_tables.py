@@ -16,7 +16,6 @@ import pytest
 
 from crnplan.errors import Refused, RefusedFaults
 from crnplan.records import read_history, read_lead_times, sources
-from crnplan.records.catalogue_reading import Catalogue, read_catalogue
 from crnplan.records.columns import find_columns
 from crnplan.records.cells import Unreadable
 from crnplan.records.item import Item
@@ -25,6 +24,7 @@ from crnplan.records.observed import sums_of
 from crnplan.records.opening import opened
 from crnplan.records.times import TimeReader
 from crnplan.remarks import Remark
+from crnplan.catalogues import Catalogue, read_catalogue
 
 Day = datetime.date
 MONDAY = Day(2026, 3, 2)

@@ -11,8 +11,9 @@ import pytest
 
 import crnplan as crn
 from crnplan.records.blocks import Sizes
-from crnplan.records.catalogue_reading import Catalogue, read_alone, read_catalogue
+from crnplan.records.catalogue_reading import read_alone
 from crnplan.records.items import Words
+from crnplan.catalogues import Catalogue, read_catalogue
 
 TODAY = datetime.date(2026, 11, 26)
 HEADING = "item,setup,holding (per week),backlog (per week),lead (weeks),price,stock\n"

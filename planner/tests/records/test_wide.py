@@ -14,8 +14,8 @@ import pytest
 
 import crnplan as crn
 from crnplan.errors import RefusedFaults
-from crnplan.records.catalogue_reading import Catalogue, read_catalogue
 from crnplan.records.item import Item
+from crnplan.catalogues import Catalogue, read_catalogue
 
 Day = datetime.date
 TODAY = Day(2026, 6, 1)

@@ -17,12 +17,12 @@ import xlsxwriter
 
 from crnplan.errors import Refused, RefusedFaults
 from crnplan.records import read_history, workbooks
-from crnplan.records.catalogue_reading import Catalogue, read_catalogue
 from crnplan.records.cells import Shown
 from crnplan.records.item import Item
 from crnplan.records.number_formats import Format
 from crnplan.records.opening import opened
 from crnplan.records.sources import Rules
+from crnplan.catalogues import Catalogue, read_catalogue
 
 Day = datetime.date
 MONDAY, WEEKS, TODAY = Day(2026, 3, 2), 26, Day(2026, 11, 26)

@@ -10,14 +10,15 @@ from typing import Any
 import click
 
 import crnplan as crn
+from ..catalogues import Catalogue, Lost, plan_catalogue, write_found
 from ..demand import METHODS
 from ..files import Folder, named_text, own_folder
-from ..pages.catalogue_page import CATALOGUE_FILES, write_found
+from ..pages.catalogue_page import CATALOGUE_FILES
 from ..pages.catalogue_tables import counted_rows, hardly_read, reasons_of, rejects_of
-from ..plan.catalogue import Lost, check_earlier, plan_into
+from ..plan.catalogue import check_earlier
 from ..plan.question import Settings
 from ..plan.settings import CONFIG, read_config
-from ..records.catalogue_reading import CATALOGUE, Catalogue, read_into
+from ..records.catalogue_reading import CATALOGUE, read_into
 from ..records.amounts import DECIMALS
 from ..records.dates import EVERY
 from ..records.defaults import KEEP, LEAVE_OUT, Defaults
@@ -186,8 +187,8 @@ def only_read(read: Catalogue, rejects: Path | None) -> list[str]:
 
 def planned(folder: Folder, settings: Settings, asked: Mapping[str, Any]) -> list[str]:
     """Plans a catalogue that was read into a folder, and says what comes of it. Returns what is lost or broken."""
-    done = plan_into(folder, settings, after=asked["after"], jobs=asked["jobs"], address=asked["cluster"],
-                     program=asked["program"], again=asked["again"], shown=True)
+    done = plan_catalogue(folder, settings, after=asked["after"], jobs=asked["jobs"], address=asked["cluster"],
+                          program=asked["program"], again=asked["again"], shown=True)
     click.echo(f"{folder.path}: {done.planned:,} items planned, {done.kept:,} kept from before"
                + "; laws of demand were learned in an earlier run" * done.has_learned, err=True)
     click.echo(done.summary, nl=False)

@@ -19,7 +19,8 @@ from .words import command, csv_style_option, folder_argument, picture, program_
 @program_option
 def item(history: str, settings: str, out: str, program: str | None) -> None:
     from ..compiled import left_plain
-    from ..pages.item_page import item_summary, plan_item
+    from ..items import plan_item
+    from ..pages.item_page import item_summary
 
     def told(part: str) -> None:
         if sys.stderr.isatty():

@@ -29,7 +29,7 @@ from .. import formats
 from ..toml.documents import shown
 from ..toml.scenarios import checked_tree, name_faults, plain_text
 from ..errors import Fault, ProgramError, Refused, argument
-from ..scenario import Costs, Policy, Scenario
+from ..scenario import Costs, Scenario
 from ..table import DataTable, Json, Result, fraction, name, whole
 from .program import find_program, run_all
 

@@ -21,14 +21,12 @@ from ..plan.answer import (BOUNDED, CHEAPER, CHOSEN, DEARER, SAME, SERVICE, TODA
 from ..plan.backtest.catalogue import past_of
 from ..plan.catalogue import PlannedFolder, planned_folder
 from ..plan.item import Depth
-from ..plan.question import Settings
 from ..plan.survey import Decided, Survey, saving_of
 from ..plan.swings import keep_swings
 from ..plan.totals import Totals
-from ..records.catalogue_reading import CATALOGUE, Catalogue, missing_of, stated_of
+from ..records.catalogue_reading import CATALOGUE, missing_of
 from ..records.item import NEW, NO_DEMAND, PHASE_OUT, STOPPED, Item
 from ..records.overrides import DO_NOT_ORDER
-from ..records.told import told_of
 from ..remarks import Remark
 from ..table import DataTable
 from .backtest_tables import past_line
@@ -233,13 +231,6 @@ def tabled(folder: Folder, planned: PlannedFolder, answers: Iterable[Decided]) -
 def write_tables(folder: Folder, planned: PlannedFolder, answers: Iterable[Decided]) -> Survey:
     """Writes the tables of all items of a catalogue as they are planned, and returns what they come to."""
     return Survey.of(planned, MOST_ROWS, tabled(folder, planned, answers))
-
-
-def write_found(folder: Folder, read: Catalogue, settings: Settings) -> str:
-    """Writes what was stated of the tables of a catalogue and of its planning, and what was found, and returns it."""
-    found = stated_of(read, told_of(settings))
-    folder.write(FOUND, found)
-    return found
 
 
 def write_catalogue(folder: Folder, planned: PlannedFolder, survey: Survey, learned: Sequence[Remark],

@@ -8,9 +8,11 @@ from typing import TYPE_CHECKING
 
 from ..plan.aims import CLASSES
 from ..plan.answer import RUN, THEORY, Answer, Figures
+from ..records.catalogue_reading import defaulted
 from ..records.classes import xyz_of
 from ..records.item import NO_DEMAND, UNORDERED, Item
 from ..records.items import OUTSIDE
+from ..records.lateness import receipt_remarks
 from ..remarks import Remark
 from ..table import MONEY, Cell, Column, DataTable, exact, number, text, whole
 from ..words import advice, counted, pattern, sentence
@@ -296,8 +298,6 @@ def catalogue_summary(folder: PlannedFolder, totals: Totals, learned: Sequence[R
                       missing: Iterable[str] = ()) -> str:
     """Returns as a text what became of all rows and items, what was learned, the totals, lines on what has changed
     since an earlier plan, and what is lost."""
-    from ..records.catalogue_reading import defaulted
-    from .lateness import receipt_remarks
     return rendered("summary.txt", {
         "settings": folder.settings, "every": folder.every, "items": folder.counts["items"], "totals": totals,
         "files": counted_rows(folder.counts["files"]), "rejects": REJECTS, "learned": learned, "changes": changes,

@@ -1,28 +1,26 @@
-"""Says in sentences and tables what was decided for an item, draws its page, and writes all of it into a folder: the
-same for its page, its files and a notebook, for `crnplan item` and for a catalogue. Amounts are items and money."""
+"""Says in sentences and tables what was decided for an item, and draws its page: the same for its page, its files and a
+notebook, for `crnplan item` and for a catalogue. Amounts are items and money."""
 from __future__ import annotations
 
 import itertools
 import textwrap
 from collections import Counter
-from collections.abc import Callable, Iterable, Mapping, Sequence
+from collections.abc import Iterable, Sequence
 from dataclasses import astuple, replace
 from functools import cached_property
 from pathlib import Path
 from typing import Any
 
-from ..crnsim.program import find_program
 from ..crnsim.trajectory import COLUMNS as PERIOD_COLUMNS
 from ..decide.doubt import WITHIN
 from ..decide.verdicts import POLICY
 from ..demand import EMPIRICAL
-from ..demand.checks import check_history, largest_periods
+from ..demand.checks import largest_periods
 from ..demand.fitted import QUANTILES, FittedLaw, fit_words
 from ..errors import Fault, spelt, worded
-from ..files import own_folder
 from ..money import Currency
 from ..plan.answer import BOUNDED, CHEAPER, CHOSEN, DEARER, SAME, SERVICE, THEORY, UNCOMPARED, UNDECIDED, Figures
-from ..plan.item import Coming, Depth, Facts, planned, read_item
+from ..plan.item import Coming, Depth
 from ..plan.question import Question
 from ..plan.settings import as_setting
 from ..records.dates import EVERY, period_name
@@ -30,7 +28,7 @@ from ..records.item import NEW
 from ..remarks import Remark
 from ..table import MONEY, Cell, DataTable, number as numbers, text, whole
 from ..words import PREMISE, advised, exactness, sentence
-from .catalogue_tables import DECISION_COLUMNS, EXACT, decision_row, exact_of
+from .catalogue_tables import DECISION_COLUMNS, decision_row, exact_of
 from .law_words import law_said, law_words
 from .page import (OF_CHOSEN, OF_TODAY, UNITS, Line, Plot, Scale, capital, marks_of, number, percent, rendered,
                    tick)
@@ -39,8 +37,6 @@ VERDICTS = {CHEAPER: "cheaper than today's policy ({})", DEARER: "dearer than to
             UNDECIDED: "not told apart from today's policy ({})", SAME: "keep today's policy",
             SERVICE: "for the fill rate that today's policy ({}) misses", UNCOMPARED: UNCOMPARED,
             BOUNDED: "as near to the wanted fill rate as its bounds allow", NEW: "a new item"}
-COMING = 64  # replications of the coming periods
-MOST_DECIMALS = 6
 ALONE = "the law of this item alone"
 VERDICT = text("verdict", "beside today's policy, or else the chosen one: base, better, worse or undecided")
 POLICY_COLUMNS = (
@@ -100,19 +96,6 @@ class ItemWords:
         self.level, self.near = f"{100 * self.settings.level:g}%", f"within {100 * WITHIN:g}%"
         self.law, step = law_words(self.question.demand), self.answer.step * self.item.box
         self.exactness = exactness(None if self.answer.source == THEORY else step)
-
-    @classmethod
-    def of(cls, facts: Facts, program: str | Path | None = None) -> ItemWords:
-        """Plans an item alone. Money has as many decimals as its costs need, at least 2. Raises Refused, Disagreement
-        and ProgramError."""
-        item, run, depth = facts.item, facts.settings["run"], planned(facts, program)
-        costs = [cost for cost in (item.setup, item.holding, item.backlog, item.unit) if cost is not None]
-        decimals = next((digits for digits in range(2, MOST_DECIMALS)
-                         if all((cost * 10**digits).denominator == 1 for cost in costs)), MOST_DECIMALS)
-        coming = depth.coming(run["horizon"], run["replications"] or COMING) if run["horizon"] else None
-        heard: list[Fault | Remark] = [*facts.history.notes, *(facts.leads.notes if facts.leads else ())]
-        heard += check_history(facts.history, season=facts.settings["history"]["season"]).unknown
-        return cls(depth, facts.settings["history"]["every"] or "period", Currency("", decimals), coming, heard)
 
     @cached_property
     def figures(self) -> dict[str, Figures]:
@@ -454,38 +437,3 @@ def scenario_text(words: ItemWords) -> str:
     boxes = f" Items are counted in boxes of {item.box}." if item.box > 1 else ""
     return (f"# {item.name}: the run of its plan. Costs count {scale} for one unit of money.{boxes}\n"
             f"{words.depth.scenario.toml()}")
-
-
-LEAD_TIME = whole("lead time", "periods", "a lead time")
-FILES: Mapping[str, Callable[[ItemWords], DataTable | str | None]] = {
-    "demand.csv": demand_of,
-    "lead_times.csv": lambda words: DataTable([LEAD_TIME], [[lead] for lead in words.item.leads]),
-    "laws.csv": lambda words: laws_of(words.question, words.depth.single), "policies.csv": policies_of,
-    EXACT: lambda words: exact_of([(words.item, words.answer)]), "doubt.csv": lambda words: words.doubt,
-    "sensitivity.csv": lambda words: words.depth.moves.table, "trajectory.csv": periods_of, "coming.csv": coming_of,
-    "scenario.toml": scenario_text, "notes.txt": lambda words: "".join(f"{note}\n" for note in words.notes),
-    "summary.txt": item_summary, "summary.html": item_page}
-
-
-def plan_item(history: str | Path, settings: str | Path, out: str | Path | None = None, *,
-              program: str | Path | None = None, told: Callable[[str], None] = lambda name: None) -> ItemWords:
-    """Plans an item, writes all of it into a folder if `out` names one, and returns the words on it.
-
-    `history` is a CSV file, `settings` a TOML file. All of it is computed each time; nothing that is in the folder is
-    read. `told` is called with the name of each part before it is computed. Raises RefusedFaults with all faults of the
-    settings or of the history, Refused for a folder that has other files, Disagreement and ProgramError.
-    """
-    find_program(program)
-    facts = read_item(history, settings)
-    if out is None:
-        return ItemWords.of(facts, program)
-    with own_folder(Path(out), "item") as folder:
-        told("plan")
-        words = ItemWords.of(facts, program)
-        folder.remove(*FILES)
-        for name, part_of in FILES.items():
-            told(name)
-            part = part_of(words)
-            if part is not None:
-                folder.write(name, part.lines if isinstance(part, DataTable) else part)
-        return words

@@ -21,10 +21,7 @@ from ..money import Currency
 from ..plan.answer import CHOSEN, TODAY
 from ..plan.catalogue import PlannedFolder, planned_folder
 from ..plan.survey import Survey
-from ..plan.today import today_of
 from ..plan.totals import Totals
-from ..records.dates import first_day
-from ..records.items import Words
 from ..table import MONEY, Cell, Column, DataTable, is_missing, number, text, whole
 from .board import ALL_PARTS, NO_CLASS, PARTS
 from .catalogue_tables import DECISIONS, catalogue_summary, decisions_of, money, rejects_of

@@ -13,11 +13,11 @@ from pathlib import Path
 from ..chunks import Answering, Chunk, Chunked, Made, finishing, sum_of_digests
 from ..crnsim.program import program_for
 from ..demand.learning import Prior
-from ..errors import Failed, Refused, argument
+from ..errors import Refused, argument
 from ..files import Folder, faults_of, read_folder
 from ..jobs import program_digest, workers_of
 from ..money import Currency
-from ..records.catalogue_reading import CATALOGUE, READ, Catalogued, missing_of
+from ..records.catalogue_reading import CATALOGUE, READ, Catalogued
 from ..records.item import Item
 from ..remarks import Remark
 from ..stored import Damaged, Facts, Store, digest_of
@@ -254,30 +254,29 @@ def sums_of(answered: Iterable[tuple[tuple[Item, Levels | None], Answer | Remark
     return Totals.of((item, answer) for (item, _), answer in answered).tree
 
 
-class Lost(Failed):
-    """Rows or items whose counts do not add up. This is a fault of crnplan."""
-
-
 @dataclass(frozen=True)
-class Done:
-    """What a run has done: how many items were planned now, and kept from before, whether laws were learned before, the
-    totals, remarks on what was learned, what is lost, and the summary."""
+class Run:
+    """A run that plans a catalogue: its folder, the items with their answers, which come once and in order, what was
+    learned, now or in an earlier run, and the earlier plan."""
 
-    planned: int
-    kept: int
-    has_learned: bool
-    totals: Totals
+    planned: PlannedFolder
+    answers: Iterator[tuple[Item, Answer | Remark]]
     learned: tuple[Remark, ...]
-    missing: Sequence[str]
-    summary: str
+    has_learned: bool
+    earlier: PlannedFolder | None
+
+    def keep_changes(self, folder: Folder) -> None:
+        """Keeps what has changed since the earlier plan, once all answers have come."""
+        if self.earlier:
+            keep_changes(folder, self.planned.digest, changes_since(self.earlier, self.planned))
 
 
-def plan_into(folder: Folder, settings: Settings, *, after: Path | None = None, jobs: int | None = None,
-              address: str | None = None, program: str | Path | None = None, again: bool = False,
-              shown: bool = False) -> Done:
-    """Plans the catalogue that was read into a folder, and writes its tables and pages: see `plan`."""
-    from ..pages.catalogue_page import write_catalogue, write_tables
-    from ..pages.catalogue_tables import REJECTS, rejects_of
+@contextlib.contextmanager
+def planning(folder: Folder, settings: Settings, *, after: Path | None = None, jobs: int | None = None,
+             address: str | None = None, program: str | Path | None = None, again: bool = False,
+             shown: bool = False) -> Iterator[Run]:
+    """Plans the catalogue that was read into a folder: see `plan`. An item that is not planned yet is planned when its
+    answer is asked for."""
     path = program_for(program, address)
     with (faults_of(folder.path), earlier_folder(after, folder) as earlier,
           contextlib.closing(Catalogued(folder.path / READ, settings.window)) as read,
@@ -285,27 +284,20 @@ def plan_into(folder: Folder, settings: Settings, *, after: Path | None = None, 
         if earlier:
             check_records(earlier, read)
             take_prior(answers, earlier, again)
-        prior, usual, remarks, has_learned = learned_of(answers, read, settings, again)
+        prior, usual, learned, has_learned = learned_of(answers, read, settings, again)
         if settings.window is not None:
-            remarks += (Remark("window", {"periods": settings.window}),)
+            learned += (Remark("window", {"periods": settings.window}),)
         settings = dataclasses.replace(settings, borrow=usual, every=read.fact("every"))
         if settings.correct:
             settings = dataclasses.replace(settings, aims=aims_of(
                 folder, answers, read, settings, prior, again=again, workers=workers_of(jobs, address), shown=shown))
         planned = Planned(settings, prior, settings.common(program_digest(path, address), prior),
                           earlier.digest if earlier else "")
-        folder.write(REJECTS, rejects_of(read.rejects()).lines)
         asking = PlanAsking(read.path.resolve(), planned,
                             (earlier.path.resolve(), earlier.store.path.resolve()) if earlier else None)
         making = Answering(answers.folder.resolve(), folder.room().resolve(), Answer, asking, plan_batch,
                            (settings, prior, path), sums_of)
-        catalogue = PlannedFolder(folder.path, read, answers, planned)
+        opened = PlannedFolder(folder.path, read, answers, planned)
         with contextlib.closing(finishing(answers, making, read.names, workers_of(jobs, address, path), planned.facts,
                                           shown=shown)) as files:
-            survey = write_tables(folder, catalogue, catalogue.answers(files=files))
-        if earlier:
-            keep_changes(folder, catalogue.digest, changes_since(earlier, catalogue))
-        totals, kept = survey.totals, sum(one.kept for one in answers.made)
-        missing = missing_of(catalogue.counts, totals.answered)
-        summary = write_catalogue(folder, catalogue, survey, remarks, missing)
-        return Done(sum(one.items for one in answers.made) - kept, kept, has_learned, totals, remarks, missing, summary)
+            yield Run(opened, opened.answers(files=files), learned, has_learned, earlier)

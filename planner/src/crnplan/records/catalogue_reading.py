@@ -3,49 +3,39 @@ read is kept in a SQLite file of a folder, which is there whole or not at all.""
 from __future__ import annotations
 
 import contextlib
-import datetime
 import heapq
 import json
 import sqlite3
-import tempfile
 from collections import Counter
 from collections.abc import Iterable, Iterator, Mapping, Sequence
-from dataclasses import dataclass, field
 from operator import itemgetter
 from pathlib import Path
-from typing import TYPE_CHECKING, Any, cast
+from typing import Any, cast
 
-from ..errors import Refused, RefusedFaults, argument, worded
+from ..errors import Refused, RefusedFaults
 from ..files import Folder, faults_of, own_folder
 from ..jobs import workers_of
-from ..money import Amount, Currency, Number
+from ..money import Currency
 from ..remarks import Remark
 from ..stored import Cell, check_whole, digest_of, quoted, reading
-from ..table import Json
-from ..words import advised, message
+from ..words import message
 from .blocks import Sizes
-from .choosing import Where, conditions_of, said_of_marks
+from .choosing import said_of_marks
 from .columns import converted, is_converted
 from .controls import Controls, controls_in, no_rows, together, tree_of
-from .defaults import CLASS, DEFAULT, LEAVE_OUT, ORDERS, SOURCES, Defaults, distinct
+from .defaults import CLASS, DEFAULT, ORDERS, SOURCES, distinct
 from .filed import FiledTable, Whole, read_tables
 from .found import found_of
 from .item import NEW, NO_DEMAND, PHASE_OUT, PLANNED, STOPPED, Item
 from .items import Counts, FileCounts, Reject, Words
-from .leads import RECEIPTS
-from .observed import Day
 from .opening import Table
 from .parts import ITEM, REJECT, PartRead, read_parts, rows_in
 from .repeated import files_within, zeros_apart
 from .settled import settle_times
 from .several import open_tables
 from .sources import Sheet
-from .status import BY_TEST
 from .successors import succeeded
-from .told import merged, told_of
-
-if TYPE_CHECKING:
-    import pandas as pd
+from .told import told_of
 
 CATALOGUE = "catalogue"  # the kind of the folder
 READ = "catalogue.sqlite"
@@ -208,78 +198,6 @@ class Writer:
         return self.path
 
 
-@dataclass(frozen=True)
-class Catalogue:
-    """A catalogue that was read: its items, what was left out, and the counts that say that nothing is lost."""
-
-    path: Path
-    # A folder for the time that the catalogue is used, if it was not read into a named one.
-    room: tempfile.TemporaryDirectory[str] | None = field(default=None, repr=False, compare=False)
-
-    def opened(self) -> contextlib.closing[Catalogued]:
-        """Returns what was read, to be closed after use."""
-        return contextlib.closing(Catalogued(self.path))
-
-    def fact(self, name: str) -> Json:
-        """Returns a fact: `counts`, `found`, `said`, `sources`, `every`, `currency`, `decimals` or `periods`."""
-        with self.opened() as read:
-            return cast(Json, read.fact(name))
-
-    @property
-    def counts(self) -> Counts:
-        """Returns how many rows of each file there are, by what became of them, and how many items."""
-        return cast(Counts, self.fact("counts"))
-
-    @property
-    def found(self) -> str:
-        """Returns what was stated of the files and what was found in them, as TOML that gives the same reading."""
-        return stated_of(self, {})
-
-    @property
-    def said(self) -> list[str]:
-        """Returns what is to be said of the files, as units that were converted, where defaults hold, and which receipts
-        are not used or late."""
-        from ..pages.lateness import receipt_remarks
-        with self.opened() as read:
-            remarks = [*read.remarks(), *defaulted(read.fact("sources")), *receipt_remarks(read)]
-            return [*read.fact("said"), *map(advised, remarks)]
-
-    @property
-    def missing(self) -> list[str]:
-        """Returns what is lost: one line for each file, and for the items, whose counts do not add up."""
-        counts = self.counts
-        return missing_of(counts, counts["items"]["ready"])
-
-    @property
-    def controls(self) -> pd.DataFrame:
-        """Returns rows, sums, value and dates of each file and of what is used, to tick off against the source:
-        docs/TABLES.md has all columns."""
-        from ..pages.control_tables import controls_of
-        with self.opened() as read:
-            return controls_of(read.controls(), read.fact("decimals"), read.fact("currency")).frame
-
-    @property
-    def rejects(self) -> pd.DataFrame:
-        """Returns what was left out or is suspicious: kind (row, item, suspicious), file, line, item, column, text,
-        reason, advice, and rows (of demand that are left out)."""
-        from ..pages.catalogue_tables import rejects_of
-        with self.opened() as read:
-            return rejects_of(read.rejects()).frame
-
-
-def stated_of(catalogue: Catalogue, more: Mapping[str, Any]) -> str:
-    """Returns what was stated of the files of a catalogue and found in them, with more words, as those of planning."""
-    from ..pages.page import rendered
-    with catalogue.opened() as read:
-        facts, told = read.fact("found"), read.fact("told") | more
-    named = {table["kind"] for table in facts["tables"]}
-    words = {name: value for name, value in told.items() if name not in ("every", *named)}
-    return rendered("found.toml", {
-        **facts, "formats": worded(argument("date_formats")),
-        "words": {name: value for name, value in words.items() if not isinstance(value, dict)},
-        "groups": {name: value for name, value in merged(words, facts["stated"]).items() if isinstance(value, dict)}})
-
-
 def defaulted(sources: Any) -> Iterator[Remark]:
     """Yields of each value that may have a default, if it is not from the masters alone, of how many items it is from
     where."""
@@ -300,59 +218,6 @@ def missing_of(counts: Counts, answered: int) -> list[str]:
     if rest:
         lines.append(message(Remark("lost items", {**items, "answered": answered, "rest": rest})))
     return lines
-
-
-def read_catalogue(demand: Table, items: Table, orders: Table | None = None, *,
-                   every: str = "week", columns: Mapping[str, Mapping[str, str]] | None = None,
-                   units: Mapping[str, Mapping[str, str]] | None = None,
-                   names: Mapping[str, Mapping[str, Sequence[str]]] | None = None,
-                   start: Day | str | None = None, end: Day | str | None = None, net: bool = False,
-                   negate: bool = False, twice: str | None = None, far: str = LEAVE_OUT, least: int = 13,
-                   lead_from: str = RECEIPTS, factors: Mapping[str, int] | None = None,
-                   statuses: Mapping[str, str] | None = None, stopped: str = BY_TEST,
-                   setup: Amount | None = None, holding_rate: Amount | None = None, fill: Amount | None = None,
-                   lead: str | None = None,
-                   service: Mapping[str, Amount] | None = None, currency: str | None = None,
-                   abc: str | Sequence[Number] | None = None, today: Day | None = None,
-                   where: Where | None = None,
-                   delimiter: str | None = None, encoding: str | None = None, decimal: str | None = None,
-                   date_formats: Sequence[str] = (), jobs: int | None = None) -> Catalogue:
-    """Reads a catalogue from CSV files of any size, also gzipped, sheets of workbooks (FILE.xlsx!SHEET) or DataFrames. Of
-    demand and orders there may be several files with one heading, as "demand-2026-*.csv".
-
-    `demand` has a row for each movement (item, date, quantity, perhaps returned), or for each item, with a column for
-    each period, in which an empty cell is no demand. `items` has one for each item (item, setup, holding, backlog or
-    fill, lead, perhaps s, S, description, stock, price, class, and bounds), `orders` the dates of orders (item, ordered,
-    received). `columns` names columns by file and role, as {"demand": {"quantity":
-    "Menge"}}; others are found by usual names, to which `names` adds. `units` states what a column counts, as {"items":
-    {"lead": "day"}}; else its heading does. Periods are `every` day, week (ISO) or month. The record is that of the
-    whole file, or from `start` to `end`; rows after `today` are rejected. With `net` quantities below 0 are taken off
-    their period, and with `negate` too, by which all have the other sign. A file whose rows are all in another file of its
-    table is refused, unless `twice` is said. Rows that stand `twice` (by default they are kept) and items with
-    amounts `far` above all others are kept or left out ("keep", "leave-out"). An item needs a history of `least`
-    periods. Its lead times are those of its receipts if it has at least 5, else that of its master (`lead_from`
-    "orders"); or as its master says, if it does ("masters"); or those of its receipts and the stated one, which counts as
-    one receipt more, rounded up to whole periods ("both"). `factors` says how many items one of a unit of measure is.
-    Masters may have a status: active, phase out, stopped, or successor of another item, whose demand is then taken;
-    `statuses` says what other texts mean, as {"Z3": "stopped"}. Items whose status says nothing are `stopped` "by-test"
-    of their record, or never: "as-stated". `setup` to `abc` are what masters need not say: see `plan`. Only rows with the
-    values of `where` are read, as "Location=Main", several, or {"Location": "Main"}, and for one table {"demand":
-    {"Location": "Main"}}; the others are counted. `delimiter`, `encoding`, `decimal` sign and `date_formats` are found if
-    they can be. `jobs` processes
-    read large files, by default one for each processor.
-
-    Raises Refused and RefusedFaults for files that can't be read. Rows and items with faults are in `rejects`.
-    """
-    words = Words(every=every, columns=columns or {}, units=units or {}, names=names or {}, start=start, end=end,
-                  today=today or datetime.date.today(), net=net, negate=negate, twice=twice, far=far, least=least,
-                  lead_from=lead_from, factors=factors or {}, statuses=statuses or {}, stopped=stopped,
-                  delimiter=delimiter, encoding=encoding, decimal=decimal,
-                  date_formats=tuple(date_formats), where=conditions_of(where), defaults=Defaults.of(
-                      setup=setup, holding_rate=holding_rate, fill=fill, lead=lead, service=service, currency=currency,
-                      abc=abc))
-    room = tempfile.TemporaryDirectory(prefix="crnplan-")
-    path = read_alone(Path(room.name), {"demand": demand, "items": items, "orders": orders}, words, jobs)
-    return Catalogue(path, room)
 
 
 def read_alone(path: Path, tables: Mapping[str, Table | None], words: Words, jobs: int | None = 1,

@@ -19,7 +19,7 @@ import numpy as np
 from ..errors import Refused, argument
 from ..remarks import Remark, Value
 from .cells import Cell, Numbers, Unreadable, bare_cell, shown
-from .date_forms import DATE_FORMS, ISO, NUMBERED, SHORT, SPLIT, Written, day_of_serial, without_time, written
+from .date_forms import DATE_FORMS, ISO, NUMBERED, SHORT, Written, day_of_serial, without_time, written
 from .month_names import months_of, plain_month
 from .turned_dates import interchanged, turned
 

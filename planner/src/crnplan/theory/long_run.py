@@ -26,7 +26,6 @@ from typing import Any, NamedTuple
 import numpy as np
 
 from ..chances import Floats, Whole
-from ..formats import MOST_ITEMS
 from ..scenario import Costs, Scenario
 from .feasible import ALL, Feasible, Places
 from .grid import CLOSE, gap_grid, search

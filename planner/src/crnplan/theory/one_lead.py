@@ -26,7 +26,6 @@ import numpy as np
 import numpy.typing as npt
 
 from ..chances import Floats, Whole
-from ..formats import MOST_ITEMS
 from .grid import CLOSE
 from .least import gaps_walked
 from .long_run import NO_POLICY, Candidate, LongRun, place_of_least

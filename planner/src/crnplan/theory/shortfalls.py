@@ -29,7 +29,7 @@ while the shortfall beside them is R(0) .. R(m - 1). So of a cycle, the shortfal
 from __future__ import annotations
 
 import functools
-from collections.abc import Iterator, Mapping, Sequence
+from collections.abc import Mapping, Sequence
 
 import numpy as np
 import numpy.typing as npt
