@@ -29,13 +29,14 @@ from .plan.item import Depth
 from .plan.question import Settings
 from .plan.survey import Survey
 from .records.catalogue_reading import CATALOGUE, READ, read_into
-from .records.choosing import Where, conditions_of
-from .records.defaults import LEAVE_OUT, Defaults
+from .records.choosing import Where
+from .records.defaults import LEAVE_OUT
 from .records.items import Words
 from .records.leads import RECEIPTS
 from .records.opening import Table
 from .records.overriding import set_overrides
 from .records.status import BY_TEST
+from .records.told import made_from, words_of
 from .remarks import Remark
 from .table import DataTable, Result, TextResult
 
@@ -208,10 +209,7 @@ class Plan(TextResult):
         read as those of the plan were, unless a word says otherwise. Raises Refused for what can't be read or meant, and if the plan is not as the rows that were
         read last.
         """
-        words = Words(columns=columns or {}, units=units or {}, delimiter=delimiter, encoding=encoding, decimal=decimal,
-                      date_formats=tuple(date_formats), where=conditions_of(where),
-                      defaults=Defaults.of(supplier_min=supplier_min))
-        return orders_today(self.path, {"stock": stock, "on_order": on_order}, words, date)
+        return orders_today(self.path, {"stock": stock, "on_order": on_order}, words_of(locals()), date)
 
     def to_excel(self, path: str | Path, orders: OrdersToday | None = None) -> None:
         """Writes the plan as a workbook: its summary, decisions, the `orders` that `orders_today` gave, what is left
@@ -313,16 +311,7 @@ def plan(sales: str | Path | pd.DataFrame | Catalogue, masters: str | Path | pd.
 
     Raises Refused (a ValueError) for what can't be read or meant, ProgramError, and Lost if counts do not add up.
     """
-    settings = Settings(str(seed), fit, borrow, confidence, level, periods, replications, window=window,
-                        least_gain=least_gain, correct=correct, order_min=order_min, max_coverage=max_coverage,
-                        s_min=s_min)
-    words = Words(every=every, columns=columns or {}, units=units or {}, start=start, end=end,
-                  today=today or datetime.date.today(), net=net, negate=negate, twice=twice, far=far, least=least,
-                  lead_from=lead_from, factors=factors or {}, statuses=statuses or {}, stopped=stopped,
-                  delimiter=delimiter, encoding=encoding, decimal=decimal,
-                  date_formats=tuple(date_formats), where=conditions_of(where), defaults=Defaults.of(
-                      setup=setup, holding_rate=holding_rate, fill=fill, lead=lead, service=service, currency=currency,
-                      abc=abc))
+    words, settings = words_of(locals()), made_from(Settings, {**locals(), "seed": str(seed), "every": None})
     earlier = None if after is None else Path(after)
     check_masters(sales, masters)
     check_earlier(earlier, None if out is None else Path(out), settings)

@@ -18,7 +18,7 @@ from .plan.backtest.catalogue import Tested, backtest_into
 from .plan.backtest.one import Walk
 from .plan.question import Settings
 from .records.catalogue_reading import CATALOGUE
-from .records.items import Words
+from .records.told import words_of
 from .table import DataTable, TextResult
 
 if TYPE_CHECKING:
@@ -99,8 +99,8 @@ def backtest(sales: str | Path | pd.DataFrame | Catalogue, masters: str | Path |
     Raises Refused (a ValueError) for what can't be read or meant.
     """
     settings, walk = Settings(str(seed), fit, borrow, confidence), Walk(record, every, window, least_gain)
-    words = Words(every=period, columns=columns or {}, units=units or {}, start=start, end=end,
-                  today=datetime.date.today(), date_formats=tuple(date_formats))
+    words = words_of({"every": period, "columns": columns, "units": units, "start": start, "end": end,
+                      "date_formats": date_formats})
     check_masters(sales, masters)
     with tempfile.TemporaryDirectory(prefix="crnplan-") as room, own_folder(Path(out or room), CATALOGUE) as folder:
         take_tables(folder, sales, masters, orders, words, jobs)

@@ -2,7 +2,6 @@
 from __future__ import annotations
 
 import contextlib
-import datetime
 import tempfile
 from collections.abc import Mapping, Sequence
 from dataclasses import dataclass, field
@@ -20,15 +19,15 @@ from .plan.catalogue import planning
 from .plan.question import Settings
 from .plan.totals import Totals
 from .records.catalogue_reading import Catalogued, defaulted, missing_of, read_alone
-from .records.choosing import Where, conditions_of
-from .records.defaults import LEAVE_OUT, Defaults
-from .records.items import Counts, Words
+from .records.choosing import Where
+from .records.defaults import LEAVE_OUT
+from .records.items import Counts
 from .records.lateness import receipt_remarks
 from .records.leads import RECEIPTS
 from .records.observed import Day
 from .records.opening import Table
 from .records.status import BY_TEST
-from .records.told import merged, told_of
+from .records.told import merged, told_of, words_of
 from .remarks import Remark
 from .table import Json
 from .words import advised
@@ -150,14 +149,7 @@ def read_catalogue(demand: Table, items: Table, orders: Table | None = None, *,
 
     Raises Refused and RefusedFaults for files that can't be read. Rows and items with faults are in `rejects`.
     """
-    words = Words(every=every, columns=columns or {}, units=units or {}, names=names or {}, start=start, end=end,
-                  today=today or datetime.date.today(), net=net, negate=negate, twice=twice, far=far, least=least,
-                  lead_from=lead_from, factors=factors or {}, statuses=statuses or {}, stopped=stopped,
-                  delimiter=delimiter, encoding=encoding, decimal=decimal,
-                  date_formats=tuple(date_formats), where=conditions_of(where), defaults=Defaults.of(
-                      setup=setup, holding_rate=holding_rate, fill=fill, lead=lead, service=service, currency=currency,
-                      abc=abc))
-    room = tempfile.TemporaryDirectory(prefix="crnplan-")
+    words, room = words_of(locals()), tempfile.TemporaryDirectory(prefix="crnplan-")
     path = read_alone(Path(room.name), {"demand": demand, "items": items, "orders": orders}, words, jobs)
     return Catalogue(path, room)
 

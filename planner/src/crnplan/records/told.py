@@ -10,6 +10,7 @@ from dataclasses import MISSING, Field, fields, is_dataclass
 from fractions import Fraction
 from typing import Any, TypeVar
 
+from .choosing import conditions_of
 from .columns import ROLES
 from .defaults import Defaults
 from .items import Words
@@ -110,6 +111,16 @@ def _given(kind: type, tree: Mapping[str, Any]) -> Iterator[tuple[str, Any]]:
 def made_from(kind: type[Made], tree: Mapping[str, Any]) -> Made:
     """Returns a value of a class with the words of a table that it has. Raises Refused for what can't be meant."""
     return kind(**dict(_given(kind, tree)))
+
+
+def words_of(arguments: Mapping[str, Any]) -> Words:
+    """Returns how tables are read by the arguments of a call, of which those count that are words of reading. None is as
+    by default. Raises Refused for what can't be meant."""
+    stated = {name: value for name, value in arguments.items() if value is not None}
+    own = {field.name: stated[field.name] for field in fields(Words) if field.name in stated}
+    own["date_formats"] = tuple(stated.get("date_formats", ()))
+    own["where"] = conditions_of(stated.get("where"))
+    return Words(**own, defaults=Defaults.of(**dict(_given(Defaults, stated))))
 
 
 def words_from(tree: Mapping[str, Any]) -> Words:
