@@ -31,7 +31,7 @@ def more(columns: Sequence[Column]) -> list[Column]:
 TABLES: Mapping[str, tuple[str, Sequence[Column]]] = {
     "decisions.csv": ("A planned catalogue: a row for each item, by name.", catalogue_tables.DECISION_COLUMNS),
     "exact.csv": ("The run of each item, exactly: fractions stand as `3/4`.", catalogue_tables.EXACT_COLUMNS),
-    "controls, summary.txt": ("Control totals: what the files come to, by what became of their rows.",
+    "controls, summary.txt, today_controls.csv": ("Control totals: what the files come to, by what became of their rows.",
                               control_tables.CONTROL_COLUMNS),
     "rejects.csv, today_left_out.csv": ("What was left out of tables, or only named.", catalogue_tables.REJECT_COLUMNS),
     "changes.csv": ("What has changed since an earlier plan: a row for each item of either plan.",

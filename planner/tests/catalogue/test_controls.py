@@ -16,6 +16,7 @@ from crnplan.records.blocks import Sizes
 from crnplan.records.catalogue_reading import read_alone
 from crnplan.records.controls import Control, Controls, controls_in, together, tree_of
 from crnplan.records.items import Words
+from crnplan.records.stock import read_holdings
 from crnplan.catalogues import Catalogue, read_catalogue
 from planner.tests.conftest import Command, rows_of
 
@@ -145,3 +146,27 @@ def test_controls_are_said(tmp_path: Path, crnplan: Command, program: Path, monk
     controls = crn.open_plan(tmp_path / "plan").controls
     assert controls.units.tolist()[2] == units.sum() and controls.attrs["units"]["value"] == "EUR"
     assert rows_of(tmp_path / "plan/decisions.csv").keys() == {"A", "B"}
+
+
+def test_controls_of_today(tmp_path: Path) -> None:
+    """Tables of today come to what pandas sums in them, by what became of their rows."""
+    used, left_out, rejected = "used", "left out with their item", "rejected"
+    stock = pd.DataFrame([("A", "12", "0", used), ("B", "7.5", "2", left_out), ("A", "3", "1", used), ("Z", "9", "0", left_out),
+                          ("B", "n/a", "0", rejected), ("C", "4", "0", used)], columns=["item", "stock", "owed", "rows_are"])
+    due = pd.DataFrame([("A", "20", "2026-12-07", used), ("A", "5", "2026-12-01", used), ("B", "6", "soon", rejected)],
+                       columns=["item", "quantity", "due", "rows_are"])
+    tables = {"stock": tmp_path / "stock.csv", "on_order": tmp_path / "due.csv"}
+    stock.drop(columns="rows_are").to_csv(tables["stock"], index=False)
+    due.drop(columns="rows_are").to_csv(tables["on_order"], index=False)
+    controls = controls_of(read_holdings(tables, Words(), {**PRICES, "C": None}).controls, 2, "EUR").frame
+    for file, source, role in (("stock.csv", stock, "stock"), ("due.csv", due, "quantity")):
+        amounts = source.assign(units=pd.to_numeric(source[role], errors="coerce").fillna(0))
+        amounts["value"] = amounts.units * amounts["item"].map({name: float(price) for name, price in PRICES.items()})
+        days = pd.to_datetime(source.get("due"), errors="coerce").dt.strftime("%Y-%m-%d") if role == "quantity" else None
+        parts = {"read": amounts.index, **amounts.groupby("rows_are").groups}
+        wanted = {name: [len(rows), amounts.units[rows].sum(), pytest.approx(amounts.value[rows].sum()),
+                         *([None, None] if days is None else [days[rows].dropna().min(), days[rows].dropna().max()])]
+                  for name, rows in parts.items()}
+        assert rows_in(controls, file) == {name: [None if cell != cell else cell for cell in row]
+                                           for name, row in wanted.items()}
+    assert controls.owed[controls.file == "stock.csv"].tolist() == [3, 1, 0, 2]

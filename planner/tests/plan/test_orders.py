@@ -14,8 +14,11 @@ import pytest
 import crnplan as crn
 from crnplan.files import own_folder
 from crnplan.law import Law
+from crnplan.pages.catalogue_page import MOST_ROWS, catalogue_page
 from crnplan.pages.today_tables import TODAY, OrdersToday
+from crnplan.plan.catalogue import planned_folder
 from crnplan.plan.risk import Risk
+from crnplan.plan.survey import Survey
 from crnplan.plan.today import Standing, Today
 from crnplan.records.stock import Arrival
 from planner.tests.conftest import Command
@@ -163,3 +166,8 @@ def test_orders_of_files_by_supplier(tmp_path: Path, crnplan: Command, monkeypat
     assert {*pd.read_csv("out/today_at_risk.csv").item} >= {*decisions.item[:9]}
     table = crnplan("today", folder, *words, "--csv", "at_risk").output
     assert table == Path("out/today_at_risk.csv").read_text("utf-8")
+    with planned_folder(folder) as planned:
+        page = catalogue_page(planned, Survey.of(planned, MOST_ROWS),
+                              crn.open_plan(folder).orders_today("stock.csv", "open.csv", "2026-11-27"))
+    orders_shown, controls_shown = page.index("Orders of 2026-11-27"), page.index("Control totals")
+    assert orders_shown < controls_shown < page.index('data">stock.csv</td>')

@@ -4,6 +4,7 @@ from __future__ import annotations
 import contextlib
 import datetime
 import random
+import re
 import sqlite3
 from collections.abc import Sequence
 from dataclasses import replace
@@ -268,6 +269,10 @@ def test_command(folder: Path, stock: pd.DataFrame, tmp_path: Path, monkeypatch:
     assert answer.status == 0, answer.errors
     assert "stock.csv: 8 rows = 5 used + 2 rejected + 1 left out with their item" in answer.output
     assert "1 left out: stock.csv:8, item X-1: no item of the plan has this name; add it to" in answer.output
+    controls = pd.read_csv("today/today_controls.csv").set_index(["file", "rows_are"])
+    assert controls.loc["stock.csv"].units.to_dict() == {
+        "read": 1.5 + 2 + 3 - 2 + 4, "used": 1.5 + 2 - 2, "rejected": 3, "left out with their item": 4}
+    assert re.search("stock.csv +read +8 +8.5 ", answer.output) and re.search("open.csv +used +1 +1 ", answer.output)
     left = pd.read_csv("today/today_left_out.csv")
     assert [*left.line] == [3, 4, 6, 8] and [*left.kind] == ["row", "row", "row", "item"]
     orders = pd.read_csv("today/today_orders.csv").set_index("item")

@@ -35,7 +35,7 @@ def of_catalogue(given: dict[str, Any], words: dict[str, Any]) -> Any:
 def of_today(given: dict[str, Any], known: list[str], words: dict[str, Any]) -> Any:
     """Returns what is read of tables of today."""
     try:
-        read = read_holdings({kind: given[kind] for kind in ("stock", "on_order")}, Words(**words), known)
+        read = read_holdings({kind: given[kind] for kind in ("stock", "on_order")}, Words(**words), dict.fromkeys(known))
     except RefusedFaults as why:
         return [(fault.line, fault.column, fault.what) for fault in why.faults]
     rejects = [(reject.kind, reject.line, reject.item, reject.column, reject.remark.code)

@@ -138,7 +138,7 @@ def test_watched_names(name: str, use: str) -> None:
 def holdings(folder: Path, text: str, **words: Any) -> Holdings:
     """Reads a table of stock of the items A and B."""
     (folder / "stock.csv").write_text(text, "utf-8")
-    return read_holdings({"stock": folder / "stock.csv", "on_order": None}, Words(**words), {"A", "B"})
+    return read_holdings({"stock": folder / "stock.csv", "on_order": None}, Words(**words), dict.fromkeys("AB"))
 
 
 def on_hand(read: Holdings) -> Mapping[str, int]:

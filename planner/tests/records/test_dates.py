@@ -270,6 +270,6 @@ def test_due_dates_are_read_as_others(tmp_path: Path) -> None:
     """The dates of what is on order may have names of months, and dates that a spreadsheet turned are said."""
     path = tmp_path / "on_order.csv"
     path.write_text("item,quantity,due\nA,5,6-Jan-2025\n" + "".join(f"A,1,{cell}\n" for cell in half_read(TRUE_DAYS)))
-    holdings = read_holdings({"on_order": path}, Words(), {"A"})
+    holdings = read_holdings({"on_order": path}, Words(), {"A": None})
     assert [its.due for its in holdings.arrivals["A"]] == [Day(2025, 1, 6), *TRUE_DAYS]
     assert [(its.column, its.remark.code, its.line) for its in holdings.rejects] == [("due", "turned", 0)]

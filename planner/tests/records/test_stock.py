@@ -26,7 +26,7 @@ def read(folder: Path, stock: str = "", on_order: str = "", **words: Any) -> Hol
         tables[kind] = folder / f"{kind}.csv" if lines else None
         if lines:
             (folder / f"{kind}.csv").write_text(f"{lines}\n", "utf-8")
-    return read_holdings(tables, Words(**words), {"A", "B"})
+    return read_holdings(tables, Words(**words), dict.fromkeys("AB"))
 
 
 @pytest.mark.parametrize("heading", [
@@ -95,7 +95,7 @@ def test_rows_that_are_named(tmp_path: Path) -> None:
 def test_frames_and_tables_that_cannot_be_read(tmp_path: Path) -> None:
     """A frame is read as a file. A missing column is refused, and two are never chosen between."""
     frame = pd.DataFrame({"sku": ["A", "B"], "on hand": [2.0, float("nan")]})
-    holdings = read_holdings({"stock": frame, "on_order": None}, Words(), {"A", "B"})
+    holdings = read_holdings({"stock": frame, "on_order": None}, Words(), dict.fromkeys("AB"))
     assert holdings.on_hand == {"A": OnHand(Fraction(2))} and holdings.unread == {"B"}
     with pytest.raises(RefusedFaults, match="no column looks like the stock; .* item, place"):
         read(tmp_path, "item,place\nA,1")

@@ -30,6 +30,7 @@ from ..remarks import Remark
 from ..table import MONEY, Cell, Column, DataTable, TextResult, names_of, number, text, whole
 from ..words import counted, sentence
 from .catalogue_tables import REJECT_COLUMNS, counted_rows, reasons_of, rejects_of
+from .control_tables import CONTROL_COLUMNS, controls_of
 from .page import rendered
 
 if TYPE_CHECKING:
@@ -127,7 +128,7 @@ RISK_COLUMNS = (
 # The tables by name, with their columns.
 TABLES = {"orders": ORDER_COLUMNS, "above": ABOVE_COLUMNS, "dead": DEAD_COLUMNS, "stopped": STOPPED_COLUMNS,
           "owed": OWED_COLUMNS, "classes": CLASS_COLUMNS, "suppliers": SUPPLIER_COLUMNS, "added": ADDED_COLUMNS, "lines": LINE_COLUMNS,
-          "at_risk": RISK_COLUMNS, "left_out": REJECT_COLUMNS}
+          "at_risk": RISK_COLUMNS, "controls": CONTROL_COLUMNS, "left_out": REJECT_COLUMNS}
 SUPPLIER_FILE = re.compile("today_supplier_[0-9]{3,}[.]csv")
 
 
@@ -294,7 +295,9 @@ class OrdersToday(TextResult):
                 "classes": self._table("classes", map(sum_row, today.classes)),
                 "suppliers": self._table("suppliers", (supplier_row(today, group) for group in today.suppliers)),
                 "added": self._table("added", map(added_row, additions)), "lines": self._lines(today.suppliers),
-                "at_risk": self._table("at_risk", map(risk_row, self.risks)), "left_out": rejects_of(today.rejects)}
+                "at_risk": self._table("at_risk", map(risk_row, self.risks)),
+                "controls": controls_of(today.controls, self.currency.decimals, self.currency.code),
+                "left_out": rejects_of(today.rejects)}
 
     def write(self, folder: Folder) -> None:
         """Writes all tables, the order of each supplier, and the text into a folder. The order of a supplier without
@@ -352,6 +355,11 @@ class OrdersToday(TextResult):
         """Returns the items with overdue orders, or with less stock than mean demand up to the next receipt: what to
         expedite first stands first."""
         return self.tables["at_risk"].frame
+
+    @property
+    def controls(self) -> pd.DataFrame:
+        """Returns rows, sums, value and dates of the tables of today, to tick off against the source."""
+        return self.tables["controls"].frame
 
     @property
     def left_out(self) -> pd.DataFrame:

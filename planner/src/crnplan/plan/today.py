@@ -13,7 +13,7 @@ import math
 from bisect import bisect_left
 from collections import defaultdict
 from collections.abc import Iterable, Iterator, Mapping, Sequence
-from dataclasses import dataclass, replace
+from dataclasses import dataclass, field, replace
 from difflib import get_close_matches
 from fractions import Fraction
 from functools import cached_property
@@ -22,6 +22,7 @@ from operator import attrgetter
 from ..compiled import left_plain
 from ..errors import Refused, argument
 from ..records.columns import DAYS
+from ..records.controls import Controls
 from ..records.dates import first_day
 from ..records.item import ENDED, NO_DEMAND, PHASE_OUT, Item
 from ..records.items import FileCounts, Reject, Words
@@ -299,8 +300,8 @@ def sum_of_money(parts: Iterable[Money]) -> Fraction:
 class Today:
     """What a plan says on a day: the items whose stock is known, the most urgent order first, those that are `unknown`,
     with the reason, those that lie too long, and those that have `ended`. `end` is the last day of the record. `counts`
-    and `rejects` say what became of the rows of tables, and `said` what is to be said of them. `sellers` are all suppliers
-    of the plan in order, with an empty name of items without one."""
+    and `rejects` say what became of the rows of tables, `controls` what they come to, and `said` what is to be said of
+    them. `sellers` are all suppliers of the plan in order, with an empty name of items without one."""
 
     day: Day
     end: Day
@@ -314,6 +315,7 @@ class Today:
     sellers: Sequence[str] = ("",)
     ended: Sequence[Ended] = ()
     said: Sequence[Remark] = ()
+    controls: Controls = field(default_factory=dict)
 
     @cached_property
     def whole(self) -> Group:
@@ -433,7 +435,7 @@ def today_of(folder: PlannedFolder, answers: Iterable[Decided], tables: Mapping[
     """Returns what a planned folder, whose items have answers, says on a day, with tables of stock and of what is on
     order by kind. Items are by all their periods. Without a table of stock, that of the masters counts. Raises Refused
     if no stock is known, and as `read_holdings` does."""
-    holdings = read_holdings(tables, words, {*folder.read.names()})
+    holdings = read_holdings(tables, words, dict(folder.read.values("name", "price")))
     standings, unknown, dead, ended = list[Standing](), list[tuple[Item, Remark]](), list[Lying](), list[Ended]()
     known = [(item, answer, hand_of(item, holdings)) for item, answer in answers]
     if holdings.on_hand is None and all(hand is None for _, _, hand in known):
@@ -456,4 +458,4 @@ def today_of(folder: PlannedFolder, answers: Iterable[Decided], tables: Mapping[
     minimums = minimums_of((item for item, _, _ in known), stated)
     sellers = sorted({item.supplier for item, _, _ in known})
     return Today(day, end, [*by_urgency(standings)], unknown, dead, minimums, tables.get(ON_ORDER) is not None, holdings.counts,
-                 holdings.rejects, sellers, ended, holdings.remarks)
+                 holdings.rejects, sellers, ended, holdings.remarks, holdings.controls)
