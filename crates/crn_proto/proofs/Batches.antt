@@ -1,30 +1,19 @@
 -- Actors that go on with batches: what always holds of them, how far their moves lead, and that they can always go on.
 use Rattle.std.proofs.Common.{◌≡◌, ℕ, suc, ◌+◌, ◌-◌, ◌*◌, ◌/◌, ◌<◌, ◌≤◌, ◌≢◌, ◌⊎◌, Bool, true, false, List, [], ◌∷◌, length, set, Some, inl, inr, refl, sym, ap, subst, ◌∙◌, arith, get_or-set_same, get_or-set_other}
 use Rattle.std.specs.Prelude.{slice_get, slice_index, slice_index_or, if◌then◌else◌, ◌==◌, nat_lt}
-use Rattle.std.proofs.lemmas.Bool.{cases_eq, true≢false, cond_both, eqb-true, eq-eqb, ne_eqb, lt-ltb, ltb-true, or_cases}
+use Rattle.std.proofs.lemmas.Bool.{cases_Bool, cases_eq, true≢false, cond_both, eqb-true, eq-eqb, ne_eqb, lt-ltb, ltb-true, or_cases, or_left, or_right}
 use Rattle.std.proofs.lemmas.List.{length-set, length-replicate, get_or-replicate, length_push}
 use Rattle.std.proofs.lemmas.Option.{slice_get-get_or, get_or_from_slice_get, slice_get_within}
 use Rattle.crn_cipher.specs.declared.TheConstants.{BLOCK_WORDS}
 use Rattle.crn_proto.specs.declared.spec.RingSpec.{RingSpec}
 use Rattle.crn_proto.specs.Ring.{left_mark, IsRing, Reader, ProducerMove, ReaderMove, Ring, Move, ByProducer, ByReader, LoadGate, StoreWord, Publish, Finish, LoadCursor, LoadWord, Take, Leave, LeadsTo, ProducerMay, ReaderMay, producer_word, producer_leaves, producer_after, reader_word, reader_leaves, reader_after, open_ring, open_reader, bit}
 use Rattle.crn_proto.specs.Traces.{kind_of, reader_at}
-use Rattle.crn_proto.specs.Progress.{is_store}
+use Rattle.crn_proto.specs.Progress.{Mark, has_finished, is_store}
 use Rattle.crn_proto.specs.Lawful.{ReaderLaw, Lawful, parts_of}
-use Rattle.crn_proto.specs.Batches.{Watch, open_watch, looks, lets_in, watch_after, GoingOn, GoesOnTo, is_finished, moves_by, stores_by}
+use Rattle.crn_proto.specs.Batches.{Watch, open_watch, looks, lets_in, watch_after, GoingOn, GoesOnTo, mover, ring_mark, moves_by, stores_by}
 use Rattle.crn_proto.proofs.Opening.{open_lawful}
-use Rattle.crn_proto.proofs.Runs.{step_lawful, ring_at, producer_law, reader_law, half_is}
-use Rattle.crn_proto.proofs.Standing.{bit_small}
-use Rattle.crn_proto.proofs.Pace.{Mark, MarkStands, Onward, HasRoom, either, or_of}
-
--- how far each actor of a ring is
-abbrev pub mark_of : Ring → Mark
-mark_of s = record {
-  published = s.producer.published;
-  ended = s.producer.ended;
-  taken = λ r. (reader_at s r).taken;
-  left = λ r. (reader_at s r).left;
-  seen_end = λ r. (reader_at s r).seen_end;
-}
+use Rattle.crn_proto.proofs.Runs.{bit_small, step_lawful, ring_at, producer_law, reader_law, half_is}
+use Rattle.crn_proto.proofs.Pace.{MarkStands, Onward, HasRoom}
 
 -- what holds of a ring whose actors go on
 pub record Fits (spec : RingSpec) (b : ℕ) (s : Ring) (w : Watch) : Type 0 where
@@ -42,7 +31,7 @@ module _ (spec : RingSpec) (b : ℕ) (s : Ring) (w : Watch) (fits : Fits spec b 
   pub law_of : (r : ℕ) → r < spec.readers → ReaderLaw s.spec s.words r (reader_at s r)
   law_of r h = let n = fits.reader_count in reader_law s fits.law r (reader_at s r) (slice_get-get_or s.readers r (open_reader s.spec) (omega arith))
 
-  pub marks_stand : MarkStands spec (mark_of s)
+  pub marks_stand : MarkStands spec (ring_mark s)
   marks_stand =
       let first : s.spec.id.first ≡ spec.id.first = ap (λ x. x.id.first) fits.same in
       let total : s.spec.id.total ≡ spec.id.total = ap (λ x. x.id.total) fits.same in
@@ -54,7 +43,7 @@ module _ (spec : RingSpec) (b : ℕ) (s : Ring) (w : Watch) (fits : Fits spec b 
         in_total = omega arith;
         from_first = λ r h. let own = (law_of r h).from_first in omega arith;
         in_published = λ r h stays. let a = ((law_of r h).here stays).taken_seen in let c = ((law_of r h).here stays).seen_published in omega arith;
-        at_end = λ r h seen. let odd = (law_of r h).at_end seen in let cursor = (producer_law s fits.law).cursor in elim (either s.producer.ended) [
+        at_end = λ r h seen. let odd = (law_of r h).at_end seen in let cursor = (producer_law s fits.law).cursor in elim (cases_Bool s.producer.ended) [
           | inl end ↦ end
           | inr going ↦ let none : bit s.producer.ended ≡ 0 = rw going refl in absurd (omega arith)
         ];
@@ -64,22 +53,22 @@ module _ (spec : RingSpec) (b : ℕ) (s : Ring) (w : Watch) (fits : Fits spec b 
   pub room_lets_in : (r : ℕ) → r < spec.readers → ((reader_at s r).left ≡ true) ⊎ (s.producer.published < (reader_at s r).taken + spec.size) → lets_in s (slice_index s.words (1 + r)) ≡ true
   room_lets_in r h room =
       let slots : s.spec.size ≡ spec.size = ap (λ x. x.size) fits.same in
-      elim (either (reader_at s r).left) [
-        | inl left ↦ or_of _ _ (inl (eq-eqb _ _ ((law_of r h).gone left)))
+      elim (cases_Bool (reader_at s r).left) [
+        | inl left ↦ or_left _ _ (eq-eqb _ _ ((law_of r h).gone left))
         | inr stays ↦ elim room [
           | inl left ↦ absurd (true≢false (sym left ∙ stays))
           | inr near ↦ let cursor = ((law_of r h).here stays).cursor in
               let reaches : s.producer.published < slice_index s.words (1 + r) + s.spec.size = omega arith in
-              or_of _ _ (inr (lt-ltb _ _ reaches))
+              or_right _ _ (lt-ltb _ _ reaches)
         ]
       ]
 
 -- ---- one move
 
--- where a move of actors that go on leads to
-pub record Leads (spec : RingSpec) (b : ℕ) (s : Ring) (w : Watch) (move : Move) (t : Ring) : Type 0 where
-  pub fits : Fits spec b t (watch_after s w move)
-  pub onward : Onward spec (mark_of s) (mark_of t)
+-- where moves of actors that go on lead to
+pub record Comes (spec : RingSpec) (b : ℕ) (s t : Ring) (v : Watch) : Type 0 where
+  pub fits : Fits spec b t v
+  pub onward : Onward spec (ring_mark s) (ring_mark t)
 
 pub onward_self : (spec : RingSpec) (x : Mark) → Onward spec x x
 onward_self spec x = record { published = omega arith; ended = λ e. (e, refl); taken = λ r h. omega arith; left = λ r h e. e; seen_end = λ r h e. e }
@@ -111,15 +100,23 @@ module _ (spec : RingSpec) (ring : IsRing spec) (b : ℕ) (s : Ring) (w : Watch)
   here : IsRing s.spec
   here = ring_at spec ring s.spec fits.same
 
-  producer_onward : (m : ProducerMove) → s.producer.published ≤ (after_producer s m).producer.published
-      → (s.producer.ended ≡ true → ((after_producer s m).producer.ended ≡ true) × ((after_producer s m).producer.published ≡ s.producer.published))
-      → Onward spec (mark_of s) (mark_of (after_producer s m))
-  producer_onward m rises stays = record { published = rises; ended = stays; taken = λ r h. omega arith; left = λ r h e. e; seen_end = λ r h e. e }
+  producer_comes : (m : ProducerMove) → ProducerMay s.spec s.producer m → (v : Watch) → let p = (after_producer s m).producer in
+      p.stored ≤ BLOCK_WORDS * b → v.passed ≤ spec.readers → ((k : ℕ) → k < v.passed → slice_index p.gates k ≢ left_mark → p.published < slice_index p.gates k + spec.size)
+      → s.producer.published ≤ p.published → (s.producer.ended ≡ true → (p.ended ≡ true) × (p.published ≡ s.producer.published)) → Comes spec b s (after_producer s m) v
+  producer_comes m may v few passed passes rises stays = record {
+    fits = record {
+      same = fits.same;
+      law = (step_lawful s (after_producer s m) (ByProducer m) here fits.law (may, refl)).1;
+      reader_count = fits.reader_count;
+      stored_few = few;
+      passed_few = passed;
+      passes = passes;
+      read_few = fits.read_few;
+    };
+    onward = record { published = rises; ended = stays; taken = λ r h. omega arith; left = λ r h e. e; seen_end = λ r h e. e };
+  }
 
-  law_after : (m : ProducerMove) → ProducerMay s.spec s.producer m → Lawful s.spec (after_producer s m).words (parts_of (after_producer s m))
-  law_after m may = (step_lawful s (after_producer s m) (ByProducer m) here fits.law (may, refl)).1
-
-  producer_leads : (m : ProducerMove) → ProducerMay s.spec s.producer m → GoingOn b s w (ByProducer m) → Leads spec b s w (ByProducer m) (after_producer s m)
+  pub producer_leads : (m : ProducerMove) → ProducerMay s.spec s.producer m → GoingOn b s w (ByProducer m) → Comes spec b s (after_producer s m) (watch_after s w (ByProducer m))
   producer_leads (LoadGate r) may going =
       let count = slice_index s.words (1 + r) in
       let readers : s.spec.readers ≡ spec.readers = ap (λ x. x.readers) fits.same in
@@ -128,68 +125,26 @@ module _ (spec : RingSpec) (ring : IsRing spec) (b : ℕ) (s : Ring) (w : Watch)
       let at = going.2 in
       let below = may.1 in
       let same_gate = get_or-set_same s.producer.gates r count 0 known in
-      record {
-        fits = record {
-          same = fits.same;
-          law = law_after (LoadGate r) may;
-          reader_count = fits.reader_count;
-          stored_few = fits.stored_few;
-          passed_few = cond_both (lets_in s count) (w.passed + 1) 0 (λ n. n ≤ spec.readers) (λ e. omega arith) (λ e. omega arith);
-          passes = cond_both (lets_in s count) (w.passed + 1) 0
-              (λ n. (k : ℕ) → k < n → slice_index (set s.producer.gates r count) k ≢ left_mark → s.producer.published < slice_index (set s.producer.gates r count) k + spec.size)
-              (λ lets k h ne. elim (cases_eq k r) [
-                | inl e ↦
-                    let is : slice_index (set s.producer.gates r count) k ≡ count = rw e same_gate in
-                    elim (or_cases (count == left_mark) (nat_lt s.producer.published (count + s.spec.size)) lets) [
-                      | inl left ↦ absurd (ne (is ∙ eqb-true _ _ left))
-                      | inr room ↦ let near = ltb-true _ _ room in omega arith
-                    ]
-                | inr other ↦
-                    let is = get_or-set_other s.producer.gates r k count 0 other in
-                    let old = fits.passes k (omega arith) (λ e. ne (is ∙ e)) in
-                    omega arith
-              ])
-              (λ full k h ne. absurd (omega arith));
-          read_few = fits.read_few;
-        };
-        onward = producer_onward (LoadGate r) (omega arith) (λ e. (e, refl));
-      }
-  producer_leads StoreWord may going = let few = going.0 in record {
-    fits = record {
-      same = fits.same;
-      law = law_after StoreWord may;
-      reader_count = fits.reader_count;
-      stored_few = omega arith;
-      passed_few = fits.passed_few;
-      passes = fits.passes;
-      read_few = fits.read_few;
-    };
-    onward = producer_onward StoreWord (omega arith) (λ e. (e, refl));
-  }
-  producer_leads (Publish c) may going = record {
-    fits = record {
-      same = fits.same;
-      law = law_after (Publish c) may;
-      reader_count = fits.reader_count;
-      stored_few = omega arith;
-      passed_few = omega arith;
-      passes = λ r h ne. absurd (omega arith);
-      read_few = fits.read_few;
-    };
-    onward = producer_onward (Publish c) (omega arith) (λ e. absurd (true≢false (sym e ∙ may.0)));
-  }
-  producer_leads Finish may going = record {
-    fits = record {
-      same = fits.same;
-      law = law_after Finish may;
-      reader_count = fits.reader_count;
-      stored_few = fits.stored_few;
-      passed_few = fits.passed_few;
-      passes = fits.passes;
-      read_few = fits.read_few;
-    };
-    onward = producer_onward Finish (omega arith) (λ e. (refl, refl));
-  }
+      producer_comes (LoadGate r) may _ fits.stored_few (cond_both (lets_in s count) (w.passed + 1) 0 (λ n. n ≤ spec.readers) (λ e. omega arith) (λ e. omega arith))
+      (cond_both (lets_in s count) (w.passed + 1) 0
+      (λ n. (k : ℕ) → k < n → slice_index (set s.producer.gates r count) k ≢ left_mark → s.producer.published < slice_index (set s.producer.gates r count) k + spec.size)
+      (λ lets k h ne. elim (cases_eq k r) [
+        | inl e ↦
+            let is : slice_index (set s.producer.gates r count) k ≡ count = rw e same_gate in
+            elim (or_cases (count == left_mark) (nat_lt s.producer.published (count + s.spec.size)) lets) [
+              | inl left ↦ absurd (ne (is ∙ eqb-true _ _ left))
+              | inr room ↦ let near = ltb-true _ _ room in omega arith
+            ]
+        | inr other ↦
+            let is = get_or-set_other s.producer.gates r k count 0 other in
+            let old = fits.passes k (omega arith) (λ e. ne (is ∙ e)) in
+            omega arith
+      ])
+      (λ full k h ne. absurd (omega arith))) (omega arith) (λ e. (e, refl))
+  producer_leads StoreWord may going = let few = going.0 in producer_comes StoreWord may _ (omega arith) fits.passed_few fits.passes (omega arith) (λ e. (e, refl))
+  producer_leads (Publish c) may going =
+      producer_comes (Publish c) may _ (omega arith) (omega arith) (λ r h ne. absurd (omega arith)) (omega arith) (λ e. absurd (true≢false (sym e ∙ may.0)))
+  producer_leads Finish may going = producer_comes Finish may _ fits.stored_few fits.passed_few fits.passes (omega arith) (λ e. (refl, refl))
 
   module _ (r : ℕ) (q : Reader) (at : slice_get s.readers r ≡ Some q) where
     within : r < spec.readers
@@ -217,7 +172,7 @@ module _ (spec : RingSpec) (ring : IsRing spec) (b : ℕ) (s : Ring) (w : Watch)
     moved m = reader_after q m (slice_index s.words (reader_word s.spec r q m))
 
     reader_onward : (m : ReaderMove) → q.taken ≤ (moved m).taken → (q.left ≡ true → (moved m).left ≡ true) → (q.seen_end ≡ true → (moved m).seen_end ≡ true)
-        → Onward spec (mark_of s) (mark_of (after_reader s r q m))
+        → Onward spec (ring_mark s) (ring_mark (after_reader s r q m))
     reader_onward m took left seen = record {
       published = omega arith;
       ended = λ e. (e, refl);
@@ -238,7 +193,7 @@ module _ (spec : RingSpec) (ring : IsRing spec) (b : ℕ) (s : Ring) (w : Watch)
       read_few = each_part (λ a c. length c.read ≤ BLOCK_WORDS * b) (moved m) few fits.read_few;
     }
 
-    reader_leads : (m : ReaderMove) → ReaderMay q m → GoingOn b s w (ByReader r m) → Leads spec b s w (ByReader r m) (after_reader s r q m)
+    pub reader_leads : (m : ReaderMove) → ReaderMay q m → GoingOn b s w (ByReader r m) → Comes spec b s (after_reader s r q m) (watch_after s w (ByReader r m))
     reader_leads LoadCursor may going = record {
       fits = reader_fits (looks w r true) LoadCursor may refl (let none = may.2 in omega arith);
       onward = reader_onward LoadCursor (omega arith) (λ e. e) (λ e. absurd (true≢false (sym e ∙ may.1)));
@@ -256,23 +211,18 @@ module _ (spec : RingSpec) (ring : IsRing spec) (b : ℕ) (s : Ring) (w : Watch)
       onward = reader_onward Leave (omega arith) (λ e. refl) (λ e. e);
     }
 
-  pub step_leads : (move : Move) (t : Ring) → LeadsTo s move t → GoingOn b s w move → Leads spec b s w move t
+  pub step_leads : (move : Move) (t : Ring) → LeadsTo s move t → GoingOn b s w move → Comes spec b s t (watch_after s w move)
   step_leads (ByProducer m) t (may, is) going = rw is (producer_leads m may going)
   step_leads (ByReader r m) t (q, at, may, is) going = rw is (reader_leads r q at m may going)
 
 -- ---- moves one after another
 
--- where they lead to
-pub record Comes (spec : RingSpec) (b : ℕ) (s t : Ring) (v : Watch) : Type 0 where
-  pub fits : Fits spec b t v
-  pub onward : Onward spec (mark_of s) (mark_of t)
-
 pub comes : (spec : RingSpec) → IsRing spec → (b : ℕ) (moves : List Move) (s t : Ring) (w v : Watch) → Fits spec b s w → GoesOnTo b s w moves t v → Comes spec b s t v
-comes spec ring b [] s t w v fits (is, kept) = rw (is, kept) (record { fits = fits; onward = onward_self spec (mark_of s) })
+comes spec ring b [] s t w v fits (is, kept) = rw (is, kept) (record { fits = fits; onward = onward_self spec (ring_mark s) })
 comes spec ring b (move ∷ moves) s t w v fits (mid, step, going, more) =
     let one = step_leads spec ring b s w fits move mid step going in
     let rest = comes spec ring b moves mid t (watch_after s w move) v one.fits more in
-    record { fits = rest.fits; onward = onward_trans spec (mark_of s) (mark_of mid) (mark_of t) one.onward rest.onward }
+    record { fits = rest.fits; onward = onward_trans spec (ring_mark s) (ring_mark mid) (ring_mark t) one.onward rest.onward }
 
 pub open_fits : (spec : RingSpec) → IsRing spec → (b : ℕ) → Fits spec b (open_ring spec) open_watch
 open_fits spec ring b = record {
@@ -288,76 +238,90 @@ open_fits spec ring b = record {
 -- ---- the producer goes on
 
 -- a reader's move does not touch what the producer has passed
-passed_by_reader : (s : Ring) (w : Watch) (r : ℕ) (m : ReaderMove) → (watch_after s w (ByReader r m)).passed ≡ w.passed
-passed_by_reader s w r LoadCursor = refl
-passed_by_reader s w r LoadWord = refl
-passed_by_reader s w r (Take c) = refl
-passed_by_reader s w r Leave = refl
+pub watch_by_reader : (s : Ring) (w : Watch) (r : ℕ) (m : ReaderMove) → record w { looked = (watch_after s w (ByReader r m)).looked } ≡ watch_after s w (ByReader r m)
+watch_by_reader s w r LoadCursor = refl
+watch_by_reader s w r m = refl
 
-not_mine : (r : ℕ) → bit (suc r == 0) ≡ 0
-not_mine r = rw (ne_eqb (suc r) 0 (λ e. omega arith)) refl
+-- whether a move is counted
+pub uncounted : (a : ℕ) (move : Move) (moves : List Move) → mover move ≢ a → moves_by a (move ∷ moves) ≡ moves_by a moves
+uncounted a move moves ne = rw (ne_eqb (mover move) a ne) (omega arith)
+
+counted : (a : ℕ) (move : Move) (moves : List Move) → mover move ≡ a → moves_by a (move ∷ moves) ≡ suc (moves_by a moves)
+counted a move moves e = rw (eq-eqb (mover move) a e) (omega arith)
 
 room_on : (spec : RingSpec) (x y : Mark) → Onward spec x y → y.published ≡ x.published → HasRoom spec x → HasRoom spec y
 room_on spec x y onward same room r h = elim (room r h) [ inl left ↦ inl (onward.left r h left) | inr near ↦ let up = onward.taken r h in inr (omega arith) ]
 
-module _ (spec : RingSpec) (ring : IsRing spec) (b : ℕ) where
-  -- With room the producer publishes a block, or ends the stream.
-  pub producer_publishes : (moves : List Move) (s t : Ring) (w v : Watch) → Fits spec b s w → GoesOnTo b s w moves t v → s.producer.ended ≡ false → s.producer.published < spec.id.total
-      → HasRoom spec (mark_of s) → (s.producer.stored ≡ 0 → spec.readers - w.passed + BLOCK_WORDS * b + 1 ≤ moves_by 0 moves)
+-- what follows on a move, from the very state that the move leads to
+after_first : (b : ℕ) (s t : Ring) (w v : Watch) (m : ProducerMove) (moves : List Move) → GoesOnTo b s w (ByProducer m ∷ moves) t v
+    → ProducerMay s.spec s.producer m × GoingOn b s w (ByProducer m) × GoesOnTo b (after_producer s m) (watch_after s w (ByProducer m)) moves t v
+after_first b s t w v m moves (mid, (may, is), on, run) = (may, on, subst (λ x. GoesOnTo b x (watch_after s w (ByProducer m)) moves t v) is run)
+
+-- what the producer's next moves do, where there is room
+pub record ProducerDoes (spec : RingSpec) (b : ℕ) (s t : Ring) (w : Watch) (moves : List Move) : Type 0 where
+  pub stores : (s.producer.stored ≡ 0 → spec.readers - w.passed + 1 ≤ moves_by 0 moves) → 0 < moves_by 0 moves → 0 < stores_by 0 moves
+  pub publishes : s.producer.published < spec.id.total → (s.producer.stored ≡ 0 → spec.readers - w.passed + BLOCK_WORDS * b + 1 ≤ moves_by 0 moves)
       → (0 < s.producer.stored → BLOCK_WORDS * b - s.producer.stored + 1 ≤ moves_by 0 moves)
       → (t.producer.ended ≡ true) ⊎ (s.producer.published < t.producer.published)
-  producer_publishes [] s t w v fits run going more room empty some = elim (cases_eq s.producer.stored 0) [
-    | inl e ↦ let n = empty e in absurd (omega arith)
-    | inr ne ↦ let n = some (omega arith) in absurd (omega arith)
-  ]
-  producer_publishes (ByProducer (LoadGate r) ∷ moves) s t w v fits (mid, step, on, run) going more room empty some =
-      let one = step_leads spec ring b s w fits (ByProducer (LoadGate r)) mid step on in
-      let (may, is) = step in
+
+module _ (spec : RingSpec) (ring : IsRing spec) (b : ℕ) where
+  pub producer_does : (moves : List Move) (s t : Ring) (w v : Watch) → Fits spec b s w → GoesOnTo b s w moves t v → s.producer.ended ≡ false → HasRoom spec (ring_mark s)
+      → ProducerDoes spec b s t w moves
+  producer_does [] s t w v fits run going room = record {
+    stores = λ empty some. absurd (omega arith);
+    publishes = λ more empty some. elim (cases_eq s.producer.stored 0) [ inl e ↦ let n = empty e in absurd (omega arith) | inr ne ↦ let n = some (omega arith) in absurd (omega arith) ];
+  }
+  producer_does (ByProducer (LoadGate r) ∷ moves) s t w v fits goes going room =
+      let (may, on, run) = after_first b s t w v (LoadGate r) moves goes in
+      let one = producer_leads spec ring b s w fits (LoadGate r) may on in
       let readers : s.spec.readers ≡ spec.readers = ap (λ x. x.readers) fits.same in
-      let below = may.1 in
-      let turn = on.2 in
-      let n = empty on.0 in
-      let lets = room_lets_in spec b s w fits r (omega arith) (let h = room r (omega arith) in let slots : s.spec.size ≡ spec.size = ap (λ x. x.size) fits.same in h) in
+      let known : r < spec.readers = let below = may.1 in omega arith in
+      let lets = room_lets_in spec b s w fits r known (room r known) in
       let passed : (watch_after s w (ByProducer (LoadGate r))).passed ≡ w.passed + 1 = rw lets refl in
-      let published : mid.producer.published ≡ s.producer.published = rw is refl in
-      let stored : mid.producer.stored ≡ s.producer.stored = rw is refl in
-      let ended : mid.producer.ended ≡ s.producer.ended = rw is refl in
       let none = on.0 in
-      elim (producer_publishes moves mid t (watch_after s w (ByProducer (LoadGate r))) v one.fits run (ended ∙ going) (omega arith) (room_on spec (mark_of s) (mark_of mid) one.onward published room)
-      (λ e. omega arith) (λ h. absurd (omega arith))) [ inl end ↦ inl end | inr up ↦ inr (omega arith) ]
-  producer_publishes (ByProducer StoreWord ∷ moves) s t w v fits (mid, step, on, run) going more room empty some =
-      let one = step_leads spec ring b s w fits (ByProducer StoreWord) mid step on in
-      let (may, is) = step in
-      let published : mid.producer.published ≡ s.producer.published = rw is refl in
-      let stored : mid.producer.stored ≡ s.producer.stored + 1 = rw is refl in
-      let ended : mid.producer.ended ≡ s.producer.ended = rw is refl in
+      let turn = on.2 in
+      let below : w.passed < spec.readers = omega arith in
+      let does = producer_does moves _ t (watch_after s w (ByProducer (LoadGate r))) v one.fits run going (room_on spec (ring_mark s) _ one.onward refl room) in
+      record {
+        stores = λ empty some. let n = empty none in let more = does.stores (λ e. omega arith) (omega arith) in omega arith;
+        publishes = λ more empty some. let n = empty none in does.publishes more (λ e. omega arith) (λ h. absurd (omega arith));
+      }
+  producer_does (ByProducer StoreWord ∷ moves) s t w v fits goes going room =
+      let (may, on, run) = after_first b s t w v StoreWord moves goes in
+      let one = producer_leads spec ring b s w fits StoreWord may on in
+      let does = producer_does moves _ t (watch_after s w (ByProducer StoreWord)) v one.fits run going (room_on spec (ring_mark s) _ one.onward refl room) in
       let few = on.0 in
-      let n : BLOCK_WORDS * b - s.producer.stored + 1 ≤ 1 + moves_by 0 moves = elim (cases_eq s.producer.stored 0) [ inl e ↦ let l = empty e in omega arith | inr ne ↦ some (omega arith) ] in
-      elim (producer_publishes moves mid t (watch_after s w (ByProducer StoreWord)) v one.fits run (ended ∙ going) (omega arith) (room_on spec (mark_of s) (mark_of mid) one.onward published room)
-      (λ e. absurd (omega arith)) (λ h. omega arith)) [ inl end ↦ inl end | inr up ↦ inr (omega arith) ]
-  producer_publishes (ByProducer (Publish c) ∷ moves) s t w v fits (mid, step, on, run) going more room empty some =
-      let one = step_leads spec ring b s w fits (ByProducer (Publish c)) mid step on in
-      let (may, is) = step in
-      let published : mid.producer.published ≡ s.producer.published + c = rw is refl in
+      record {
+        stores = λ empty some. omega arith;
+        publishes = λ more empty some.
+            let n : BLOCK_WORDS * b - s.producer.stored + 1 ≤ 1 + moves_by 0 moves = elim (cases_eq s.producer.stored 0) [ inl e ↦ let l = empty e in omega arith | inr ne ↦ some (omega arith) ] in
+            does.publishes more (λ e. absurd (omega arith)) (λ h. omega arith);
+      }
+  producer_does (ByProducer (Publish c) ∷ moves) s t w v fits goes going room =
+      let (may, on, run) = after_first b s t w v (Publish c) moves goes in
+      let rises = (comes spec ring b moves _ t _ v (producer_leads spec ring b s w fits (Publish c) may on).fits run).onward.published in
       let some_blocks = may.2 in
-      let rises = (comes spec ring b moves mid t (watch_after s w (ByProducer (Publish c))) v one.fits run).onward.published in
-      inr (omega arith)
-  producer_publishes (ByProducer Finish ∷ moves) s t w v fits (mid, step, on, run) going more room empty some =
-      let one = step_leads spec ring b s w fits (ByProducer Finish) mid step on in
-      let (may, is) = step in
-      let ended : mid.producer.ended ≡ true = rw is refl in
-      inl ((comes spec ring b moves mid t (watch_after s w (ByProducer Finish)) v one.fits run).onward.ended ended).0
-  producer_publishes (ByReader r m ∷ moves) s t w v fits (mid, step, on, run) going more room empty some =
+      record { stores = λ empty some. omega arith; publishes = λ more empty some. inr (omega arith) }
+  producer_does (ByProducer Finish ∷ moves) s t w v fits goes going room =
+      let (may, on, run) = after_first b s t w v Finish moves goes in
+      let after = comes spec ring b moves _ t _ v (producer_leads spec ring b s w fits Finish may on).fits run in
+      record { stores = λ empty some. omega arith; publishes = λ more empty some. inl (after.onward.ended refl).0 }
+  producer_does (ByReader r m ∷ moves) s t w v fits (mid, step, on, run) going room =
       let one = step_leads spec ring b s w fits (ByReader r m) mid step on in
       let (q, at, may, is) = step in
       let same : mid.producer ≡ s.producer = rw is refl in
       let published : mid.producer.published ≡ s.producer.published = ap (λ p. p.published) same in
       let stored : mid.producer.stored ≡ s.producer.stored = ap (λ p. p.stored) same in
-      let ended : mid.producer.ended ≡ s.producer.ended = ap (λ p. p.ended) same in
-      let passed = passed_by_reader s w r m in
-      let other = not_mine r in
-      elim (producer_publishes moves mid t (watch_after s w (ByReader r m)) v one.fits run (ended ∙ going) (omega arith) (room_on spec (mark_of s) (mark_of mid) one.onward published room)
-      (λ e. let n = empty (sym stored ∙ e) in omega arith) (λ h. let n = some (omega arith) in omega arith)) [ inl end ↦ inl end | inr up ↦ inr (omega arith) ]
+      let passed : w.passed ≡ (watch_after s w (ByReader r m)).passed = ap (λ v. v.passed) (watch_by_reader s w r m) in
+      let count = uncounted 0 (ByReader r m) moves (λ e. omega arith) in
+      let does = producer_does moves mid t (watch_after s w (ByReader r m)) v one.fits run (ap (λ p. p.ended) same ∙ going) (room_on spec (ring_mark s) (ring_mark mid) one.onward published room) in
+      record {
+        stores = λ empty some. let more = does.stores (λ e. let n = empty (sym stored ∙ e) in omega arith) (omega arith) in omega arith;
+        publishes = λ more empty some. elim (does.publishes (omega arith) (λ e. let n = empty (sym stored ∙ e) in omega arith) (λ h. let n = some (omega arith) in omega arith)) [
+          | inl end ↦ inl end
+          | inr up ↦ inr (omega arith)
+        ];
+      }
 
   -- At the total its next move ends the stream.
   pub producer_ends : (moves : List Move) (s t : Ring) (w v : Watch) → Fits spec b s w → GoesOnTo b s w moves t v → s.producer.ended ≡ false → s.producer.published ≡ spec.id.total
@@ -378,70 +342,27 @@ module _ (spec : RingSpec) (ring : IsRing spec) (b : ℕ) where
       let one = step_leads spec ring b s w fits (ByReader r m) mid step on in
       let (q, at, may, is) = step in
       let same : mid.producer ≡ s.producer = rw is refl in
-      let other = not_mine r in
+      let count = uncounted 0 (ByReader r m) moves (λ e. omega arith) in
       producer_ends moves mid t (watch_after s w (ByReader r m)) v one.fits run (ap (λ p. p.ended) same ∙ going) (ap (λ p. p.published) same ∙ full) (omega arith)
-
-  -- With room the producer stores a word.
-  pub producer_stores : (moves : List Move) (s t : Ring) (w v : Watch) → Fits spec b s w → GoesOnTo b s w moves t v → HasRoom spec (mark_of s)
-      → (s.producer.stored ≡ 0 → spec.readers - w.passed + 1 ≤ moves_by 0 moves) → 1 ≤ moves_by 0 moves → 0 < stores_by 0 moves
-  producer_stores [] s t w v fits run room empty some = absurd (omega arith)
-  producer_stores (ByProducer (LoadGate r) ∷ moves) s t w v fits (mid, step, on, run) room empty some =
-      let one = step_leads spec ring b s w fits (ByProducer (LoadGate r)) mid step on in
-      let (may, is) = step in
-      let readers : s.spec.readers ≡ spec.readers = ap (λ x. x.readers) fits.same in
-      let below = may.1 in
-      let turn = on.2 in
-      let n = empty on.0 in
-      let lets = room_lets_in spec b s w fits r (omega arith) (room r (omega arith)) in
-      let passed : (watch_after s w (ByProducer (LoadGate r))).passed ≡ w.passed + 1 = rw lets refl in
-      let published : mid.producer.published ≡ s.producer.published = rw is refl in
-      let more = producer_stores moves mid t (watch_after s w (ByProducer (LoadGate r))) v one.fits run (room_on spec (mark_of s) (mark_of mid) one.onward published room) (λ e. omega arith) (omega arith) in
-      omega arith
-  producer_stores (ByProducer StoreWord ∷ moves) s t w v fits run room empty some = omega arith
-  producer_stores (ByProducer (Publish c) ∷ moves) s t w v fits run room empty some = omega arith
-  producer_stores (ByProducer Finish ∷ moves) s t w v fits run room empty some = omega arith
-  producer_stores (ByReader r m ∷ moves) s t w v fits (mid, step, on, run) room empty some =
-      let one = step_leads spec ring b s w fits (ByReader r m) mid step on in
-      let (q, at, may, is) = step in
-      let same : mid.producer ≡ s.producer = rw is refl in
-      let published : mid.producer.published ≡ s.producer.published = ap (λ p. p.published) same in
-      let stored : mid.producer.stored ≡ s.producer.stored = ap (λ p. p.stored) same in
-      let passed = passed_by_reader s w r m in
-      let other = not_mine r in
-      let more = producer_stores moves mid t (watch_after s w (ByReader r m)) v one.fits run (room_on spec (mark_of s) (mark_of mid) one.onward published room) (λ e. let n = empty (sym stored ∙ e) in omega arith) (omega arith) in
-      omega arith
 
 -- ---- a reader goes on
 
-looked_by_producer : (s : Ring) (w : Watch) (m : ProducerMove) (r : ℕ) → (watch_after s w (ByProducer m)).looked r ≡ w.looked r
-looked_by_producer s w (LoadGate k) r = refl
-looked_by_producer s w StoreWord r = refl
-looked_by_producer s w (Publish c) r = refl
-looked_by_producer s w Finish r = refl
+-- another's move does not touch what is known of reader r
+pub looked_by_others : (s : Ring) (w : Watch) (move : Move) (r : ℕ) → mover move ≢ suc r → (watch_after s w move).looked r ≡ w.looked r
+looked_by_others s w (ByReader k LoadCursor) r ne = rw (ne_eqb r k (λ e. ne (ap suc (sym e)))) refl
+looked_by_others s w (ByReader k (Take c)) r ne = rw (ne_eqb r k (λ e. ne (ap suc (sym e)))) refl
+looked_by_others s w (ByProducer StoreWord) r ne = refl
+looked_by_others s w move r ne = refl
 
-looked_by_other : (s : Ring) (w : Watch) (k r : ℕ) (m : ReaderMove) → k ≢ r → (watch_after s w (ByReader k m)).looked r ≡ w.looked r
-looked_by_other s w k r LoadCursor ne = rw (ne_eqb r k (λ e. ne (sym e))) refl
-looked_by_other s w k r LoadWord ne = refl
-looked_by_other s w k r (Take c) ne = rw (ne_eqb r k (λ e. ne (sym e))) refl
-looked_by_other s w k r Leave ne = refl
+pub part_by_others : (s mid : Ring) (move : Move) (r : ℕ) → mover move ≢ suc r → LeadsTo s move mid → reader_at mid r ≡ reader_at s r
+part_by_others s mid (ByProducer m) r ne (may, is) = rw is refl
+part_by_others s mid (ByReader k m) r ne (q, at, may, is) =
+    rw is (get_or-set_other s.readers k r (reader_after q m (slice_index s.words (reader_word s.spec k q m))) (open_reader s.spec) (λ e. ne (ap suc (sym e))))
 
-part_by_other : (s mid : Ring) (k r : ℕ) (m : ReaderMove) → k ≢ r → LeadsTo s (ByReader k m) mid → reader_at mid r ≡ reader_at s r
-part_by_other s mid k r m ne (q, at, may, is) = rw is (get_or-set_other s.readers k r (reader_after q m (slice_index s.words (reader_word s.spec k q m))) (open_reader s.spec) (λ e. ne (sym e)))
-
-part_by_producer : (s mid : Ring) (r : ℕ) (m : ProducerMove) → LeadsTo s (ByProducer m) mid → reader_at mid r ≡ reader_at s r
-part_by_producer s mid r m (may, is) = rw is refl
-
-not_producers : (r : ℕ) → bit (0 == suc r) ≡ 0
-not_producers r = rw (ne_eqb 0 (suc r) (λ e. omega arith)) refl
-
-others_count : (k r : ℕ) → k ≢ r → bit (suc k == suc r) ≡ 0
-others_count k r ne = rw (ne_eqb (suc k) (suc r) (λ e. ne (omega arith))) refl
-
-own_counts : (k r : ℕ) → k ≡ r → bit (suc k == suc r) ≡ 1
-own_counts k r e = rw (eq-eqb (suc k) (suc r) (omega arith)) refl
-
-store_counts : (k r : ℕ) (m : ReaderMove) → k ≡ r → is_store (kind_of (ByReader r m)) ≡ true → (if suc k == suc r then bit (is_store (kind_of (ByReader k m))) else 0) ≡ 1
-store_counts k r m e does = rw (e, eq-eqb (suc r) (suc r) refl, does) refl
+-- a move of reader r is one of its kinds
+own_is : (P : Move → Type 0) (r : ℕ) (move : Move) → mover move ≡ suc r → ((m : ReaderMove) → P (ByReader r m)) → P move
+own_is P r (ByProducer m) e each = absurd (omega arith)
+own_is P r (ByReader k m) e each = let is : r ≡ k = omega arith in subst (λ x. P (ByReader x m)) is (each m)
 
 -- n moves are enough for reader r, whose part is q, to take
 abbrev pub Enough : ℕ → Reader → Bool → ℕ → Type 0
@@ -454,17 +375,20 @@ module _ (spec : RingSpec) (ring : IsRing spec) (b : ℕ) (s : Ring) (w : Watch)
   abbrev now : Reader
   now = reader_at mid r
 
-  part_now : (m : ReaderMove) → LeadsTo s (ByReader r m) mid → (ReaderMay before m) × (now ≡ reader_after before m (slice_index s.words (reader_word s.spec r before m)))
+  pub part_now : (m : ReaderMove) → LeadsTo s (ByReader r m) mid → (ReaderMay before m) × (now ≡ reader_after before m (slice_index s.words (reader_word s.spec r before m)))
   part_now m (q, at, may, is) =
       let e : before ≡ q = get_or_from_slice_get s.readers r q (open_reader s.spec) at in
       rw (is, e) (may, get_or-set_same s.readers r (reader_after q m (slice_index s.words (reader_word s.spec r q m))) (open_reader s.spec) (slice_get_within s.readers r q at))
 
   -- With a block to take, a move of the reader takes, or leaves, or fewer moves are enough.
-  own_move : r < spec.readers → (m : ReaderMove) → LeadsTo s (ByReader r m) mid → GoingOn b s w (ByReader r m) → before.left ≡ false → before.seen_end ≡ false → before.taken < s.producer.published
-      → (n : ℕ) → Enough b before (w.looked r) (suc n)
-      → ((is_store (kind_of (ByReader r m)) ≡ true) × ((now.left ≡ true) ⊎ (before.taken < now.taken)))
-      ⊎ ((now.left ≡ false) × (now.seen_end ≡ false) × (now.taken ≡ before.taken) × Enough b now ((watch_after s w (ByReader r m)).looked r) n)
-  own_move known LoadCursor step on stays going below n enough =
+  abbrev OwnMove : ℕ → Move → Type 0
+  OwnMove n move =
+      LeadsTo s move mid → GoingOn b s w move → before.left ≡ false → before.seen_end ≡ false → before.taken < s.producer.published → Enough b before (w.looked r) (suc n)
+      → ((is_store (kind_of move) ≡ true) × ((now.left ≡ true) ⊎ (before.taken < now.taken)))
+      ⊎ ((now.left ≡ false) × (now.seen_end ≡ false) × (now.taken ≡ before.taken) × Enough b now ((watch_after s w move).looked r) n)
+
+  pub own_move : (n : ℕ) (m : ReaderMove) → OwnMove n (ByReader r m)
+  own_move n LoadCursor step on stays going below enough =
       let (may, is) = part_now LoadCursor step in
       let none = may.2 in
       let cursor = (producer_law s fits.law).cursor in
@@ -482,17 +406,20 @@ module _ (spec : RingSpec) (ring : IsRing spec) (b : ℕ) (s : Ring) (w : Watch)
         ]
       ] in
       inr (rw is (stays, no_end, refl, inr (inr (looked, more), rw none left)))
-  own_move known LoadWord step on stays going below n enough =
+  own_move n LoadWord step on stays going below enough =
       let (may, is) = part_now LoadWord step in
       let few : length before.read < BLOCK_WORDS * b = on in
       let longer = length_push before.read (slice_index s.words (reader_word s.spec r before LoadWord)) in
       let left : BLOCK_WORDS * b - (length before.read + 1) + 1 ≤ n = elim enough [ inl many ↦ omega arith | inr (some, less) ↦ omega arith ] in
       inr (rw is (stays, going, refl, inr (inl (omega arith), omega arith)))
-  own_move known (Take c) step on stays going below n enough = let (may, is) = part_now (Take c) step in let some = may.2 in inl (refl, inr (rw is (omega arith)))
-  own_move known Leave step on stays going below n enough = let (may, is) = part_now Leave step in inl (refl, inl (rw is refl))
+  own_move n (Take c) step on stays going below enough = let (may, is) = part_now (Take c) step in let some = may.2 in inl (refl, inr (rw is (omega arith)))
+  own_move n Leave step on stays going below enough = let (may, is) = part_now Leave step in inl (refl, inl (rw is refl))
 
   -- With the end marked and all blocks taken, a move of the reader shows it the end, or it leaves.
-  own_end : r < spec.readers → (m : ReaderMove) → LeadsTo s (ByReader r m) mid → before.left ≡ false → s.producer.ended ≡ true → before.taken ≡ s.producer.published → (now.left ≡ true) ⊎ (now.seen_end ≡ true)
+  abbrev OwnEnd : Move → Type 0
+  OwnEnd move = LeadsTo s move mid → before.left ≡ false → s.producer.ended ≡ true → before.taken ≡ s.producer.published → (now.left ≡ true) ⊎ (now.seen_end ≡ true)
+
+  pub own_end : r < spec.readers → (m : ReaderMove) → OwnEnd (ByReader r m)
   own_end known LoadCursor step stays end whole =
       let (may, is) = part_now LoadCursor step in
       let cursor = (producer_law s fits.law).cursor in
@@ -520,68 +447,47 @@ module _ (spec : RingSpec) (ring : IsRing spec) (b r : ℕ) (known : r < spec.re
       → (reader_at s r).taken < s.producer.published → Enough b (reader_at s r) (w.looked r) (moves_by (suc r) moves)
       → (0 < stores_by (suc r) moves) × (((reader_at t r).left ≡ true) ⊎ ((reader_at s r).taken < (reader_at t r).taken))
   reader_takes [] s t w v fits run stays going below enough = absurd (elim enough [ inl many ↦ omega arith | inr (some, few) ↦ omega arith ])
-  reader_takes (ByProducer m ∷ moves) s t w v fits (mid, step, on, run) stays going below enough =
-      let one = step_leads spec ring b s w fits (ByProducer m) mid step on in
-      let part = part_by_producer s mid r m step in
-      let looked = looked_by_producer s w m r in
+  reader_takes (move ∷ moves) s t w v fits (mid, step, on, run) stays going below enough =
+      let one = step_leads spec ring b s w fits move mid step on in
       let rises = one.onward.published in
-      let same : (reader_at mid r).taken ≡ (reader_at s r).taken = ap (λ q. q.taken) part in
-      let count : moves_by (suc r) (ByProducer m ∷ moves) ≡ moves_by (suc r) moves = let c = not_producers r in omega arith in
-      let (does, up) = reader_takes moves mid t (watch_after s w (ByProducer m)) v one.fits run (rw part stays) (rw part going) (omega arith) (rw (part, looked) (subst (λ n. Enough b (reader_at s r) (w.looked r) n) count enough)) in
-      (omega arith, elim up [ inl left ↦ inl left | inr took ↦ inr (omega arith) ])
-  reader_takes (ByReader k m ∷ moves) s t w v fits (mid, step, on, run) stays going below enough = elim (cases_eq k r) [
-    | inr ne ↦
-        let one = step_leads spec ring b s w fits (ByReader k m) mid step on in
-        let part = part_by_other s mid k r m ne step in
-        let looked = looked_by_other s w k r m ne in
-        let rises = one.onward.published in
-        let same : (reader_at mid r).taken ≡ (reader_at s r).taken = ap (λ q. q.taken) part in
-        let count : moves_by (suc r) (ByReader k m ∷ moves) ≡ moves_by (suc r) moves = let c = others_count k r ne in omega arith in
-        let (does, up) = reader_takes moves mid t (watch_after s w (ByReader k m)) v one.fits run (rw part stays) (rw part going) (omega arith) (rw (part, looked) (subst (λ n. Enough b (reader_at s r) (w.looked r) n) count enough)) in
-        (omega arith, elim up [ inl left ↦ inl left | inr took ↦ inr (omega arith) ])
-    | inl e ↦
-        let step' : LeadsTo s (ByReader r m) mid = subst (λ x. LeadsTo s (ByReader x m) mid) e step in
-        let on' : GoingOn b s w (ByReader r m) = subst (λ x. GoingOn b s w (ByReader x m)) e on in
-        let run' : GoesOnTo b mid (watch_after s w (ByReader r m)) moves t v = subst (λ x. GoesOnTo b mid (watch_after s w (ByReader x m)) moves t v) e run in
-        let one = step_leads spec ring b s w fits (ByReader r m) mid step' on' in
-        let after = comes spec ring b moves mid t (watch_after s w (ByReader r m)) v one.fits run' in
-        let rises = one.onward.published in
-        let count : moves_by (suc r) (ByReader k m ∷ moves) ≡ suc (moves_by (suc r) moves) = let c = own_counts k r e in omega arith in
-        elim (own_move spec ring b s w fits r mid known m step' on' stays going below (moves_by (suc r) moves) (subst (λ n. Enough b (reader_at s r) (w.looked r) n) count enough)) [
-          | inl (does, up) ↦
-              let c = store_counts k r m e does in
-              (omega arith, elim up [ inl left ↦ inl (after.onward.left r known left) | inr took ↦ let more = after.onward.taken r known in inr (omega arith) ])
-          | inr (remains, no_end, same, fewer) ↦
-              let (does, up) = reader_takes moves mid t (watch_after s w (ByReader r m)) v one.fits run' remains no_end (omega arith) fewer in
-              (omega arith, elim up [ inl left ↦ inl left | inr took ↦ inr (omega arith) ])
-        ]
-  ]
+      elim (cases_eq (mover move) (suc r)) [
+        | inr ne ↦
+            let part = part_by_others s mid move r ne step in
+            let looked = looked_by_others s w move r ne in
+            let same : (reader_at mid r).taken ≡ (reader_at s r).taken = ap (λ q. q.taken) part in
+            let left : Enough b (reader_at s r) (w.looked r) (moves_by (suc r) moves) = subst (λ n. Enough b (reader_at s r) (w.looked r) n) (uncounted (suc r) move moves ne) enough in
+            let (does, up) = reader_takes moves mid t (watch_after s w move) v one.fits run (rw part stays) (rw part going) (omega arith) (rw (part, looked) left) in
+            (omega arith, elim up [ inl left ↦ inl left | inr took ↦ inr (omega arith) ])
+        | inl mine ↦
+            let after = comes spec ring b moves mid t (watch_after s w move) v one.fits run in
+            let left = subst (λ n. Enough b (reader_at s r) (w.looked r) n) (counted (suc r) move moves mine) enough in
+            let n = moves_by (suc r) moves in
+            elim (own_is (OwnMove spec ring b s w fits r mid n) r move mine (own_move spec ring b s w fits r mid n) step on stays going below left) [
+              | inl (does, up) ↦
+                  let c : stores_by (suc r) (move ∷ moves) ≡ 1 + stores_by (suc r) moves = rw (eq-eqb (mover move) (suc r) mine, does) refl in
+                  (omega arith, elim up [ inl left ↦ inl (after.onward.left r known left) | inr took ↦ let more = after.onward.taken r known in inr (omega arith) ])
+              | inr (remains, no_end, same, fewer) ↦
+                  let (does, up) = reader_takes moves mid t (watch_after s w move) v one.fits run remains no_end (omega arith) fewer in
+                  (omega arith, elim up [ inl left ↦ inl left | inr took ↦ inr (omega arith) ])
+            ]
+      ]
 
   -- With the end marked and all blocks taken, its next move shows the reader the end, or it leaves.
   pub reader_sees_end : (moves : List Move) (s t : Ring) (w v : Watch) → Fits spec b s w → GoesOnTo b s w moves t v → (reader_at s r).left ≡ false
-      → s.producer.ended ≡ true → (reader_at s r).taken ≡ s.producer.published → 0 < moves_by (suc r) moves → is_finished t (suc r) ≡ true
+      → s.producer.ended ≡ true → (reader_at s r).taken ≡ s.producer.published → 0 < moves_by (suc r) moves → has_finished (ring_mark t) (suc r) ≡ true
   reader_sees_end [] s t w v fits run stays end whole turns = absurd (omega arith)
-  reader_sees_end (ByProducer m ∷ moves) s t w v fits (mid, step, on, run) stays end whole turns =
-      let one = step_leads spec ring b s w fits (ByProducer m) mid step on in
-      let part = part_by_producer s mid r m step in
-      let (still, same) = one.onward.ended end in
-      let count : moves_by (suc r) (ByProducer m ∷ moves) ≡ moves_by (suc r) moves = let c = not_producers r in omega arith in
-      reader_sees_end moves mid t (watch_after s w (ByProducer m)) v one.fits run (rw part stays) still (ap (λ q. q.taken) part ∙ whole ∙ sym same) (omega arith)
-  reader_sees_end (ByReader k m ∷ moves) s t w v fits (mid, step, on, run) stays end whole turns = elim (cases_eq k r) [
-    | inr ne ↦
-        let one = step_leads spec ring b s w fits (ByReader k m) mid step on in
-        let part = part_by_other s mid k r m ne step in
-        let (still, same) = one.onward.ended end in
-        let count : moves_by (suc r) (ByReader k m ∷ moves) ≡ moves_by (suc r) moves = let c = others_count k r ne in omega arith in
-        reader_sees_end moves mid t (watch_after s w (ByReader k m)) v one.fits run (rw part stays) still (ap (λ q. q.taken) part ∙ whole ∙ sym same) (omega arith)
-    | inl e ↦
-        let step' : LeadsTo s (ByReader r m) mid = subst (λ x. LeadsTo s (ByReader x m) mid) e step in
-        let on' : GoingOn b s w (ByReader r m) = subst (λ x. GoingOn b s w (ByReader x m)) e on in
-        let run' : GoesOnTo b mid (watch_after s w (ByReader r m)) moves t v = subst (λ x. GoesOnTo b mid (watch_after s w (ByReader x m)) moves t v) e run in
-        let one = step_leads spec ring b s w fits (ByReader r m) mid step' on' in
-        let after = comes spec ring b moves mid t (watch_after s w (ByReader r m)) v one.fits run' in
-        elim (own_end spec ring b s w fits r mid known m step' stays end whole) [
-          | inl left ↦ or_of _ _ (inl (after.onward.left r known left))
-          | inr seen ↦ or_of _ _ (inr (after.onward.seen_end r known seen))
-        ]
-  ]
+  reader_sees_end (move ∷ moves) s t w v fits (mid, step, on, run) stays end whole turns =
+      let one = step_leads spec ring b s w fits move mid step on in
+      elim (cases_eq (mover move) (suc r)) [
+        | inr ne ↦
+            let part = part_by_others s mid move r ne step in
+            let (still, same) = one.onward.ended end in
+            let count = uncounted (suc r) move moves ne in
+            reader_sees_end moves mid t (watch_after s w move) v one.fits run (rw part stays) still (ap (λ q. q.taken) part ∙ whole ∙ sym same) (omega arith)
+        | inl mine ↦
+            let after = comes spec ring b moves mid t (watch_after s w move) v one.fits run in
+            elim (own_is (OwnEnd spec ring b s w fits r mid) r move mine (own_end spec ring b s w fits r mid known) step stays end whole) [
+              | inl left ↦ or_left _ _ (after.onward.left r known left)
+              | inr seen ↦ or_right _ _ (after.onward.seen_end r known seen)
+            ]
+      ]

@@ -1,39 +1,26 @@
--- Rounds of a ring, told from nothing but how far each actor is before and after them: in a round a block is published
--- if there is room, and each reader takes one if there is one. Both rings use it: the machine, which takes one block at a
--- time, and the runs with batches.
-use Rattle.std.proofs.Common.{◌≡◌, ℕ, ◌+◌, ◌-◌, ◌<◌, ◌≤◌, ◌||◌, ◌⊎◌, Bool, true, false, List, [], ◌∷◌, length, inl, inr, refl, sym, ◌∙◌, arith}
+-- Rounds of a ring, by nothing but how far each actor is before and after them: in a round a block is published if there is
+-- room, and each reader takes one if there is one.
+use Rattle.std.proofs.Common.{◌≡◌, ℕ, zero, suc, ◌+◌, ◌-◌, ◌<◌, ◌≤◌, ◌⊎◌, Bool, true, false, List, [], ◌∷◌, length, inl, inr, refl, sym, ◌∙◌, arith}
 use Rattle.std.specs.Prelude.{cond, ◌==◌}
-use Rattle.std.proofs.lemmas.Bool.{cases_lt, true≢false, eqb-false, or_cases}
+use Rattle.std.proofs.lemmas.Bool.{cases_Bool, cases_lt, true≢false, eqb-false, or_cases, or_left, or_right, or_parts}
 use Rattle.crn_proto.specs.declared.spec.RingSpec.{RingSpec}
 use Rattle.crn_proto.specs.Ring.{IsRing}
-use Rattle.crn_proto.specs.Progress.{blocks_of, rounds_of}
+use Rattle.crn_proto.specs.Progress.{Mark, has_finished, AllFinished, blocks_of, rounds_of}
 
-pub either : (b : Bool) → (b ≡ true) ⊎ (b ≡ false)
-either true = inl refl
-either false = inr refl
+-- a test holds of all numbers below n, or of one of them it does not
+pub all_or_one : (f : ℕ → Bool) (n : ℕ) → ((r : ℕ) → r < n → f r ≡ true) ⊎ ((r : ℕ) × (r < n) × (f r ≡ false))
+all_or_one f zero = inl (λ r h. absurd (omega arith))
+all_or_one f (suc n) = elim (all_or_one f n) [
+  | inr (r, h, e) ↦ inr (r, omega arith, e)
+  | inl all ↦ elim (cases_Bool (f n)) [
+    | inr e ↦ inr (n, omega arith, e)
+    | inl last ↦ inl (λ r h. elim (cases_lt r n) [ inl below ↦ all r below | inr above ↦ let e : n ≡ r = omega arith in rw e at last ])
+  ]
+]
 
-pub or_of : (a b : Bool) → (a ≡ true) ⊎ (b ≡ true) → (a || b) ≡ true
-or_of true b h = refl
-or_of false b h = elim h [ inl e ↦ absurd (true≢false (sym e)) | inr e ↦ e ]
-
--- how far each actor is
-pub record Mark : Type 0 where
-  pub published : ℕ
-  pub ended : Bool
-  pub taken : ℕ → ℕ
-  pub left : ℕ → Bool
-  pub seen_end : ℕ → Bool
-
--- reader r has left, or has seen the end
-abbrev pub is_done : Mark → ℕ → Bool
-is_done x r = x.left r || x.seen_end r
-
-abbrev pub AllDone : RingSpec → Mark → Type 0
-AllDone spec x = (x.ended ≡ true) × ((r : ℕ) → r < spec.readers → is_done x r ≡ true)
-
--- reader r is in the ring
-abbrev pub InRing : Mark → ℕ → Type 0
-InRing x r = (x.left r ≡ false) × (x.seen_end r ≡ false)
+pub all_finished : (spec : RingSpec) (x : Mark) → x.ended ≡ true → ((r : ℕ) → r < spec.readers → has_finished x (suc r) ≡ true) → AllFinished spec x
+all_finished spec x end all zero h = end
+all_finished spec x end all (suc r) h = all r (omega arith)
 
 -- each reader that has not left leaves room for the next block
 abbrev pub HasRoom : RingSpec → Mark → Type 0
@@ -55,14 +42,22 @@ pub record Onward (spec : RingSpec) (x y : Mark) : Type 0 where
   pub left : (r : ℕ) → r < spec.readers → x.left r ≡ true → y.left r ≡ true
   pub seen_end : (r : ℕ) → r < spec.readers → x.seen_end r ≡ true → y.seen_end r ≡ true
 
+-- who has finished, stays so
+pub finished_on : (spec : RingSpec) (x y : Mark) → Onward spec x y → (a : ℕ) → a ≤ spec.readers → has_finished x a ≡ true → has_finished y a ≡ true
+finished_on spec x y onward zero h e = (onward.ended e).0
+finished_on spec x y onward (suc r) h e = elim (or_cases (x.left r) (x.seen_end r) e) [
+  | inl left ↦ or_left _ _ (onward.left r (omega arith) left)
+  | inr seen ↦ or_right _ _ (onward.seen_end r (omega arith) seen)
+]
+
 -- what a round does
 pub record Rounds (spec : RingSpec) (x y : Mark) : Type 0 where
   pub stands : MarkStands spec x
   pub onward : Onward spec x y
   pub publishes : x.ended ≡ false → x.published < spec.id.total → HasRoom spec x → (y.ended ≡ true) ⊎ (x.published < y.published)
   pub ends : x.ended ≡ false → x.published ≡ spec.id.total → y.ended ≡ true
-  pub takes : (r : ℕ) → r < spec.readers → InRing x r → x.taken r < x.published → (is_done y r ≡ true) ⊎ (x.taken r < y.taken r)
-  pub sees_end : (r : ℕ) → r < spec.readers → InRing x r → x.ended ≡ true → x.taken r ≡ x.published → is_done y r ≡ true
+  pub takes : (r : ℕ) → r < spec.readers → has_finished x (suc r) ≡ false → x.taken r < x.published → (has_finished y (suc r) ≡ true) ⊎ (x.taken r < y.taken r)
+  pub sees_end : (r : ℕ) → r < spec.readers → has_finished x (suc r) ≡ false → x.ended ≡ true → x.taken r ≡ x.published → has_finished y (suc r) ≡ true
 
 -- rounds one after another, from mark to mark
 abbrev pub Paced : RingSpec → Mark → List Mark → Type 0
@@ -79,15 +74,15 @@ last_mark x (y ∷ marks) = last_mark y marks
 -- all blocks below f are published, or the end is marked; a reader is done, or has taken all blocks below g or all that there are
 record Reached (spec : RingSpec) (x : Mark) (f g : ℕ) : Type 0 where
   produced : (x.ended ≡ true) ⊎ (f ≤ x.published)
-  took : (r : ℕ) → r < spec.readers → (is_done x r ≡ true) ⊎ ((g ≤ x.taken r) ⊎ ((x.ended ≡ true) × (x.published ≤ x.taken r)))
+  took : (r : ℕ) → r < spec.readers → (has_finished x (suc r) ≡ true) ⊎ ((g ≤ x.taken r) ⊎ ((x.ended ≡ true) × (x.published ≤ x.taken r)))
 
 -- one block more, or none
 abbrev OrMore : ℕ → ℕ → Type 0 → Type 0
 OrMore n n' may = (n' ≡ n) ⊎ ((n' ≡ n + 1) × may)
 
 module _ (spec : RingSpec) (x y : Mark) (go : Rounds spec x y) (f g : ℕ) (re : Reached spec x f g) where
-  done_later : (r : ℕ) → r < spec.readers → is_done x r ≡ true → is_done y r ≡ true
-  done_later r h e = or_of _ _ (elim (or_cases _ _ e) [ inl left ↦ inl (go.onward.left r h left) | inr seen ↦ inr (go.onward.seen_end r h seen) ])
+  done_later : (r : ℕ) → r < spec.readers → has_finished x (suc r) ≡ true → has_finished y (suc r) ≡ true
+  done_later r h e = finished_on spec x y go.onward (suc r) (omega arith) e
 
   room_here : x.ended ≡ false → x.published ≡ f → f < g + spec.size → HasRoom spec x
   room_here going at near r h = elim (re.took r h) [
@@ -102,7 +97,7 @@ module _ (spec : RingSpec) (x y : Mark) (go : Rounds spec x y) (f g : ℕ) (re :
   produces_one : f < spec.id.total → f < g + spec.size → (y.ended ≡ true) ⊎ (f + 1 ≤ y.published)
   produces_one more near =
       let rises = go.onward.published in
-      elim (either x.ended) [
+      elim (cases_Bool x.ended) [
         | inl end ↦ inl (go.onward.ended end).0
         | inr going ↦ elim re.produced [
           | inl end ↦ inl (go.onward.ended end).0
@@ -120,7 +115,7 @@ module _ (spec : RingSpec) (x y : Mark) (go : Rounds spec x y) (f g : ℕ) (re :
   ]
 
   abbrev Took : ℕ → ℕ → Type 0
-  Took g' r = (is_done y r ≡ true) ⊎ ((g' ≤ y.taken r) ⊎ ((y.ended ≡ true) × (y.published ≤ y.taken r)))
+  Took g' r = (has_finished y (suc r) ≡ true) ⊎ ((g' ≤ y.taken r) ⊎ ((y.ended ≡ true) × (y.published ≤ y.taken r)))
 
   ended_took : (g' r : ℕ) → r < spec.readers → x.ended ≡ true → x.published ≤ x.taken r → Took g' r
   ended_took g' r h end whole =
@@ -128,7 +123,7 @@ module _ (spec : RingSpec) (x y : Mark) (go : Rounds spec x y) (f g : ℕ) (re :
       let rises = go.onward.taken r h in
       inr (inr (still, omega arith))
 
-  takes_one : (r : ℕ) → r < spec.readers → InRing x r → x.taken r ≡ g → g < f → Took (g + 1) r
+  takes_one : (r : ℕ) → r < spec.readers → has_finished x (suc r) ≡ false → x.taken r ≡ g → g < f → Took (g + 1) r
   takes_one r h there at behind = elim (cases_lt (x.taken r) x.published) [
     | inl more ↦ elim (go.takes r h there more) [ inl fin ↦ inl fin | inr up ↦ inr (inl (omega arith)) ]
     | inr none ↦ elim re.produced [ inl end ↦ ended_took (g + 1) r h end none | inr low ↦ absurd (omega arith) ]
@@ -144,15 +139,12 @@ module _ (spec : RingSpec) (x y : Mark) (go : Rounds spec x y) (f g : ℕ) (re :
           | inl same ↦ inr (inl (omega arith))
           | inr (one, behind) ↦ elim (cases_lt g (x.taken r)) [
             | inl above ↦ inr (inl (omega arith))
-            | inr at ↦ elim (either (x.left r)) [
-              | inl left ↦ inl (or_of _ _ (inl (go.onward.left r h left)))
-              | inr stays ↦ elim (either (x.seen_end r)) [
-                | inl seen ↦ inl (or_of _ _ (inr (go.onward.seen_end r h seen)))
-                | inr no_end ↦ elim (takes_one r h (stays, no_end) (omega arith) behind) [
-                  | inl fin ↦ inl fin
-                  | inr (inl up) ↦ inr (inl (omega arith))
-                  | inr (inr whole) ↦ inr (inr whole)
-                ]
+            | inr at ↦ elim (cases_Bool (has_finished x (suc r))) [
+              | inl fin ↦ inl (done_later r h fin)
+              | inr there ↦ elim (takes_one r h there (omega arith) behind) [
+                | inl fin ↦ inl fin
+                | inr (inl up) ↦ inr (inl (omega arith))
+                | inr (inr whole) ↦ inr (inr whole)
               ]
             ]
           ]
@@ -165,7 +157,7 @@ module _ (spec : RingSpec) (x y : Mark) (go : Rounds spec x y) (f g : ℕ) (re :
 
   -- with all blocks published the end is marked
   end_round : spec.id.total ≤ f → y.ended ≡ true
-  end_round full = elim (either x.ended) [
+  end_round full = elim (cases_Bool x.ended) [
     | inl end ↦ (go.onward.ended end).0
     | inr going ↦ elim re.produced [
       | inl end ↦ (go.onward.ended end).0
@@ -174,39 +166,29 @@ module _ (spec : RingSpec) (x y : Mark) (go : Rounds spec x y) (f g : ℕ) (re :
   ]
 
   -- with the end marked and all blocks taken, each reader sees the end
-  last_round : x.ended ≡ true → spec.id.total ≤ g → AllDone spec y
-  last_round end full = (
-    (go.onward.ended end).0,
-    λ r h. elim (either (x.left r)) [
-      | inl left ↦ or_of _ _ (inl (go.onward.left r h left))
-      | inr stays ↦ elim (either (x.seen_end r)) [
-        | inl seen ↦ or_of _ _ (inr (go.onward.seen_end r h seen))
-        | inr no_end ↦
-            let most = go.stands.in_total in
-            let own = go.stands.in_published r h stays in
-            elim (re.took r h) [
-              | inl fin ↦ done_later r h fin
-              | inr (inl low) ↦ go.sees_end r h (stays, no_end) end (omega arith)
-              | inr (inr (also, whole)) ↦ go.sees_end r h (stays, no_end) end (omega arith)
-            ]
-      ]
-    ],
-  )
-
-  all_later : AllDone spec x → AllDone spec y
-  all_later (end, all) = ((go.onward.ended end).0, λ r h. done_later r h (all r h))
+  last_round : x.ended ≡ true → spec.id.total ≤ g → AllFinished spec y
+  last_round end full = all_finished spec y (go.onward.ended end).0 (λ r h. elim (cases_Bool (has_finished x (suc r))) [
+    | inl fin ↦ done_later r h fin
+    | inr there ↦
+        let most = go.stands.in_total in
+        let own = go.stands.in_published r h (or_parts (x.left r) (x.seen_end r) there).0 in
+        elim (re.took r h) [
+          | inl fin ↦ done_later r h fin
+          | inr (inl low) ↦ go.sees_end r h there end (omega arith)
+          | inr (inr (also, whole)) ↦ go.sees_end r h there end (omega arith)
+        ]
+  ])
 
 -- ---- all rounds
 
 -- what is done stays so
-done_stays : (spec : RingSpec) (marks : List Mark) (x : Mark) → Paced spec x marks → AllDone spec x → AllDone spec (last_mark x marks)
+done_stays : (spec : RingSpec) (marks : List Mark) (x : Mark) → Paced spec x marks → AllFinished spec x → AllFinished spec (last_mark x marks)
 done_stays spec [] x paced fin = fin
-done_stays spec (y ∷ marks) x (go, more) fin =
-    done_stays spec marks y more (all_later spec x y go 0 0 (record { produced = inl fin.0; took = λ r h. inl (fin.1 r h) }) fin)
+done_stays spec (y ∷ marks) x (go, more) fin = done_stays spec marks y more (λ a h. finished_on spec x y go.onward a h (fin a h))
 
 -- Once all blocks are published, and all but one taken, two rounds are enough.
 two_more : (spec : RingSpec) (x y z : Mark) (marks : List Mark) (f g : ℕ) → Reached spec x f g → spec.id.total ≡ f → g ≤ f → f ≤ g + 1 → Paced spec x (y ∷ z ∷ marks)
-    → AllDone spec (last_mark x (y ∷ z ∷ marks))
+    → AllFinished spec (last_mark x (y ∷ z ∷ marks))
 two_more spec x y z marks f g re full low high (first, (second, more)) =
     let back : OrMore g f (g < f) = elim (cases_lt g f) [ inl behind ↦ inr (omega arith, behind) | inr level ↦ inl (omega arith) ] in
     let then = round_on spec x y first f g re f f (inl refl) back in
@@ -215,7 +197,7 @@ two_more spec x y z marks f g re full low high (first, (second, more)) =
 
 -- With two slots or more a block is published in each round, and taken in the next.
 on_many_slots : (spec : RingSpec) (marks : List Mark) (x : Mark) (f g : ℕ) → Reached spec x f g → 2 ≤ spec.size → f ≤ spec.id.total → g ≤ f → f ≤ g + 1 → Paced spec x marks
-    → spec.id.total - f + 2 ≤ length marks → AllDone spec (last_mark x marks)
+    → spec.id.total - f + 2 ≤ length marks → AllFinished spec (last_mark x marks)
 on_many_slots spec [] x f g re size most low high paced long = absurd (omega arith)
 on_many_slots spec (y ∷ []) x f g re size most low high paced long = absurd (omega arith)
 on_many_slots spec (y ∷ z ∷ marks) x f g re size most low high paced long = elim (cases_lt f spec.id.total) [
@@ -228,7 +210,7 @@ on_many_slots spec (y ∷ z ∷ marks) x f g re size most low high paced long = 
 
 -- On any ring a block is published in a round, and taken in the next one.
 on_one_slot : (spec : RingSpec) (marks : List Mark) (x : Mark) (f g : ℕ) → 0 < spec.size → Reached spec x f g → f ≤ spec.id.total → g ≤ f → f ≤ g + 1 → Paced spec x marks
-    → spec.id.total - f + (spec.id.total - g) + 1 ≤ length marks → 2 ≤ length marks → AllDone spec (last_mark x marks)
+    → spec.id.total - f + (spec.id.total - g) + 1 ≤ length marks → 2 ≤ length marks → AllFinished spec (last_mark x marks)
 on_one_slot spec [] x f g slots re most low high paced long two = absurd (omega arith)
 on_one_slot spec (y ∷ []) x f g slots re most low high paced long two = absurd (omega arith)
 on_one_slot spec (y ∷ z ∷ marks) x f g slots re most low high paced long two = elim (cases_lt f spec.id.total) [
@@ -244,12 +226,12 @@ on_one_slot spec (y ∷ z ∷ marks) x f g slots re most low high paced long two
 ]
 
 -- After so many rounds all are done.
-pub paced_ends : (spec : RingSpec) → IsRing spec → (x : Mark) (marks : List Mark) → MarkStands spec x → Paced spec x marks → rounds_of spec ≤ length marks → AllDone spec (last_mark x marks)
+pub paced_ends : (spec : RingSpec) → IsRing spec → (x : Mark) (marks : List Mark) → MarkStands spec x → Paced spec x marks → rounds_of spec ≤ length marks → AllFinished spec (last_mark x marks)
 paced_ends spec ring x marks stands paced long =
     let re : Reached spec x spec.id.first spec.id.first = record { produced = inr stands.first_published; took = λ r h. inr (inl (stands.from_first r h)) } in
     let ordered = ring.in_order in
     let slots = ring.has_slots in
-    elim (either (spec.size == 1)) [
+    elim (cases_Bool (spec.size == 1)) [
       | inl one ↦
           let more : cond (spec.size == 1) (blocks_of spec - 1) 0 ≡ blocks_of spec - 1 = rw one refl in
           on_one_slot spec marks x spec.id.first spec.id.first slots re ordered (omega arith) (omega arith) paced (omega arith) (omega arith)

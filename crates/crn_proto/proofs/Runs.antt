@@ -1,8 +1,8 @@
 -- Every run keeps the ring lawful, and its events are a run of the broadcast list.
-use Rattle.std.proofs.Common.{◌≡◌, ℕ, suc, zero, ◌+◌, ◌-◌, ◌/◌, ◌≤◌, Bool, true, false, List, [], ◌∷◌, ◌++◌, map, set, Some, None, refl, sym, ap, ◌∙◌, arith, zero-add}
+use Rattle.std.proofs.Common.{◌≡◌, ℕ, suc, zero, ◌+◌, ◌-◌, ◌/◌, ◌≤◌, Bool, true, false, List, [], ◌∷◌, ◌++◌, map, set, Some, None, refl, ap, subst, ◌∙◌, arith, zero-add}
 use Rattle.std.specs.Prelude.{slice_get, slice_index, if◌then◌else◌}
-use Rattle.std.proofs.lemmas.List.{map-set}
-use Rattle.std.proofs.lemmas.Option.{slice_get-map}
+use Rattle.std.proofs.lemmas.List.{map-set, set-get_or}
+use Rattle.std.proofs.lemmas.Option.{slice_get-map, get_or_from_slice_get}
 use Rattle.crn_proto.specs.declared.spec.RingSpec.{RingSpec}
 use Rattle.crn_proto.specs.Stream.{front}
 use Rattle.crn_proto.specs.Broadcast.{Broadcast, Event, Published, Happens, Unfolds, top}
@@ -34,9 +34,7 @@ step_lawful s t (ByReader r m) ring law (q, at, may, is) =
 -- ---- what is shown
 
 set_itself : {A : Type 0} (xs : List A) (i : ℕ) (x : A) → slice_get xs i ≡ Some x → set xs i x ≡ xs
-set_itself [] i x h = refl
-set_itself (y ∷ ys) zero x h = let e : y ≡ x = cc in ap (λ z. z ∷ ys) (sym e)
-set_itself (y ∷ ys) (suc i) x h = ap (λ zs. y ∷ zs) (set_itself ys i x h)
+set_itself xs i x h = subst (λ y. set xs i y ≡ xs) (get_or_from_slice_get xs i x x h) (set-get_or xs i x)
 
 -- a reader whose count stays shows what it did
 counts_stay : (readers : List Reader) (r : ℕ) (q after : Reader) → slice_get readers r ≡ Some q → count_of after ≡ count_of q → map count_of (set readers r after) ≡ map count_of readers
@@ -84,7 +82,7 @@ publish_shows s c ring law may =
       ap (λ xs. record (shows s) { items = xs }) (rw (longer, front_append, last) refl),
     )
 
-bit_small : (b : Bool) → bit b ≤ 1
+pub bit_small : (b : Bool) → bit b ≤ 1
 bit_small true = omega arith
 bit_small false = omega arith
 
@@ -133,14 +131,9 @@ Unfolds_append a b c [] fs first second = rw first at second
 Unfolds_append a b c (e ∷ es) fs (mid, one, more) second = (mid, one, Unfolds_append mid b c es fs more second)
 
 events_cons : (move : Move) (moves : List Move) → events (move ∷ moves) ≡ events (move ∷ []) ++ events moves
-events_cons (ByProducer (LoadGate r)) moves = refl
 events_cons (ByProducer StoreWord) moves = refl
-events_cons (ByProducer (Publish c)) moves = refl
-events_cons (ByProducer Finish) moves = refl
 events_cons (ByReader r LoadCursor) moves = refl
-events_cons (ByReader r LoadWord) moves = refl
-events_cons (ByReader r (Take c)) moves = refl
-events_cons (ByReader r Leave) moves = refl
+events_cons move moves = refl
 
 runs_from : (spec : RingSpec) → IsRing spec → (moves : List Move) (s t : Ring) → s.spec ≡ spec → Lawful s.spec s.words (parts_of s) → Runs s moves t
     → (t.spec ≡ spec) × Lawful t.spec t.words (parts_of t) × Unfolds (shows s) (events moves) (shows t)

@@ -5,7 +5,7 @@ use Rattle.std.specs.List.{concat}
 use Rattle.std.proofs.lemmas.Bool.{true≢false}
 use Rattle.std.proofs.lemmas.Option.{slice_get-get_or}
 use Rattle.crn_proto.specs.Stream.{front, first_words}
-use Rattle.crn_proto.specs.Ring.{IsRing, Reader, Ring, Move, ByProducer, ByReader, LoadGate, StoreWord, Publish, Finish, Take, LeadsTo, Runs, ProducerMay, ReaderMay, open_ring, storing}
+use Rattle.crn_proto.specs.Ring.{IsRing, Reader, Ring, Move, ByProducer, ByReader, StoreWord, Finish, Take, LeadsTo, Runs, ProducerMay, ReaderMay, open_ring, storing}
 use Rattle.crn_proto.specs.Lawful.{Lawful, parts_of}
 use Rattle.crn_proto.specs.Laws.{EveryRunShowsABroadcast, EveryRunIsLawful, IsUnread, NoUnreadSlotIsWritten, WhatIsTakenWasRead, NothingFollowsTheEnd}
 use Rattle.crn_proto.proofs.Fronts.{front_part, concat_front}
@@ -63,10 +63,8 @@ what_is_taken_was_read spec moves s t r c q ring run (p, there, may, is) at =
 -- ---- the end
 
 ended_stays : (s t : Ring) (move : Move) → LeadsTo s move t → s.producer.ended ≡ true → t.producer.ended ≡ true
-ended_stays s t (ByProducer (LoadGate r)) (may, is) e = rw is e
-ended_stays s t (ByProducer StoreWord) (may, is) e = rw is e
-ended_stays s t (ByProducer (Publish c)) (may, is) e = rw is e
 ended_stays s t (ByProducer Finish) (may, is) e = rw is refl
+ended_stays s t (ByProducer m) (may, is) e = rw is e
 ended_stays s t (ByReader r m) (q, at, may, is) e = rw is e
 
 ended_on : (moves : List Move) (s t : Ring) → Runs s moves t → s.producer.ended ≡ true → t.producer.ended ≡ true

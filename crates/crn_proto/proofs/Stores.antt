@@ -11,8 +11,7 @@ use Rattle.crn_proto.specs.Traces.{kind_of}
 use Rattle.crn_proto.specs.Progress.{blocks_of, is_store, stores_in, store_limit, StoresAreBounded}
 use Rattle.crn_proto.proofs.Parts.{get_set_cases}
 use Rattle.crn_proto.proofs.Opening.{open_lawful, at_replicate}
-use Rattle.crn_proto.proofs.Runs.{step_lawful, producer_law, reader_law, taken_published, ring_at}
-use Rattle.crn_proto.proofs.Standing.{bit_small}
+use Rattle.crn_proto.proofs.Runs.{bit_small, step_lawful, producer_law, reader_law, taken_published, ring_at}
 
 -- ---- what is stored: each store adds one to it, or more for a batch of several blocks
 

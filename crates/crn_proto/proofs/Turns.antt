@@ -1,412 +1,336 @@
--- What the next turns of an actor lead to, whatever turns others take meanwhile.
-use Rattle.std.proofs.Common.{◌≡◌, ℕ, suc, ◌+◌, ◌-◌, ◌*◌, ◌/◌, ◌<◌, ◌≤◌, ◌≢◌, ◌||◌, ◌&&◌, ◌⊎◌, not, Bool, true, false, List, [], ◌∷◌, set, inl, inr, refl, sym, ap, subst, ◌∙◌, arith, get_or-set_same, get_or-set_other, ne_eqb}
+-- A machine's progress, from that of the run that its steps are: with batches of one block.
+use Rattle.std.proofs.Common.{◌≡◌, ℕ, zero, suc, ◌+◌, ◌<◌, ◌≤◌, ◌≢◌, ◌||◌, ◌&&◌, ◌⊎◌, not, Bool, true, false, List, [], ◌∷◌, ◌++◌, length, Option, Some, None, inl, inr, refl, sym, ap, subst, ◌∙◌, arith, ne_eqb}
 use Rattle.crn_cipher.specs.declared.TheConstants.{BLOCK_WORDS}
 use Rattle.std.specs.List.{All}
-use Rattle.std.specs.Prelude.{cond, slice_index, slice_index_or, ◌==◌, nat_lt}
-use Rattle.std.proofs.lemmas.Bool.{cases_eq, true≢false, cond_both, eq-eqb, eqb-true, eqb-false, ltb-true, lt-ltb, or_cases, not-true, not-false}
+use Rattle.std.specs.Prelude.{if◌then◌else◌, ◌==◌, nat_lt}
+use Rattle.std.proofs.lemmas.Bool.{cases_Bool, cases_eq, cond_both, eq-eqb, true≢false}
 use Rattle.std.proofs.lemmas.List.Elements.{All-head, All-tail}
+use Rattle.crn_proto.specs.declared.spec.RingSpec.{RingSpec}
 use Rattle.crn_proto.specs.declared.schedule.Actor.{Actor}
 use Rattle.crn_proto.specs.declared.schedule.Actor.TheVariants.{Producer, Finish, Reader, Leave}
-use Rattle.crn_proto.specs.declared.machine.Taker.{Taker}
-use Rattle.crn_proto.specs.Ring.{left_mark, bit}
-use Rattle.crn_proto.specs.Machine.{MachineState, Outcome, IsActor, machine_steps, machine_after, open_taker, taker_at, producer_steps, finish_steps, reader_steps, leave_steps, loads_gate, loads_cursor, loads_word, takes}
-use Rattle.crn_proto.specs.Progress.{owner, has_finished, is_progress, makes_progress, progress_of, turns_of, goes_on}
-use Rattle.crn_proto.proofs.Standing.{StandsAt, Later, turn_goes, bit_small}
-use Rattle.crn_proto.proofs.Bounds.{comes, actors_later, slots_later}
+use Rattle.crn_proto.specs.declared.schedule.Step.{Step as Answer}
+use Rattle.crn_proto.specs.Ring.{IsRing, Ring, Move, ByProducer, ByReader, LoadGate, Publish, Finish as FinishMove, LoadCursor, LoadWord, Take, LeadsTo, bit}
+use Rattle.crn_proto.specs.Machine.{MachineState, Outcome, IsActor, machine_steps, machine_after, open_machine, taker_at, producer_steps, reader_steps}
+use Rattle.crn_proto.specs.Traces.{kind_of, reader_at, IsMoveOf, IsAnswer}
+use Rattle.crn_proto.specs.Progress.{owner, machine_mark, has_finished, is_store, has_stored, makes_progress, progress, progress_of, is_turn_of, turns_of, stores_in, turns_to_progress, turns_a_round, ProgressIsBounded, NeverStuck, IsRound, AreRounds, after_rounds, EndsByRounds}
+use Rattle.crn_proto.specs.Batches.{Watch, mover, ring_mark, moves_by, stores_by, RoundsLead}
+use Rattle.crn_proto.proofs.Runs.{bit_small}
+use Rattle.crn_proto.proofs.Pace.{Onward, finished_on}
+use Rattle.crn_proto.proofs.Batches.{Fits, comes, part_now, part_by_others}
+use Rattle.crn_proto.proofs.BatchRounds.{batches_never_stick, batches_end_by_rounds}
+use Rattle.crn_proto.proofs.Stores.{stores_are_bounded}
+use Rattle.crn_proto.proofs.Tracing.{Beside, Advances, Replayed, ring_by, watch_by, steps_advance, replay_from, open_beside, runs_of}
 
--- ---- the producer
+-- ---- one move
 
--- reader r leaves room for the next block
-abbrev pub Room : MachineState → ℕ → Type 0
-Room m r = ((taker_at m r).left ≡ true) ⊎ (m.published < (taker_at m r).taken + m.spec.size)
+mover_is : (who : Actor) (move : Move) → IsMoveOf who move → mover move ≡ owner who
+mover_is who (ByProducer (Publish c)) h = sym (ap owner h.0)
+mover_is who (ByProducer FinishMove) h = elim h [ inl e ↦ sym (ap owner e) | inr e ↦ sym (ap owner e) ]
+mover_is who (ByReader r (Take c)) h = sym (ap owner h.0)
+mover_is who move h = sym (ap owner h)
 
-abbrev pub HasRoom : MachineState → Type 0
-HasRoom m = (r : ℕ) → r < m.spec.readers → Room m r
+-- by another's move an actor does not finish
+finished_by_others : (s t : Ring) (move : Move) (a : ℕ) → mover move ≢ a → LeadsTo s move t → has_finished (ring_mark t) a ≡ has_finished (ring_mark s) a
+finished_by_others s t (ByProducer p) zero ne step = absurd (ne refl)
+finished_by_others s t (ByReader k p) zero ne (q, at, may, is) = rw is refl
+finished_by_others s t move (suc r) ne step = let e = part_by_others s t move r ne step in rw e refl
 
--- the turns that the producer needs at most to store, and to publish
-abbrev pub to_store : MachineState → ℕ
-to_store m = m.spec.readers - m.passed + 1
+-- the readers below n that have seen the end
+abbrev count : (ℕ → Bool) → ℕ → ℕ
+count f zero = 0
+count f (suc n) = bit (f n) + count f n
 
-abbrev pub to_publish : MachineState → ℕ
-to_publish m = m.spec.readers - m.passed + (BLOCK_WORDS - m.stored) + 1
+count_few : (f : ℕ → Bool) (n : ℕ) → count f n ≤ n
+count_few f zero = omega arith
+count_few f (suc n) = let b = bit_small (f n) in let more = count_few f n in omega arith
 
-record ProducerGoes (m : MachineState) (out : Outcome) : Type 0 where
-  stores : (is_progress m 0 out ≡ true) ⊎ ((out.0.published ≡ m.published) × (out.0.ended ≡ false) × (to_store out.0 < to_store m))
-  publishes : m.published < m.spec.id.total → (m.published < out.0.published) ⊎ ((out.0.published ≡ m.published) × (out.0.ended ≡ false) × (to_publish out.0 < to_publish m))
-  ends : m.published ≡ m.spec.id.total → out.0.ended ≡ true
+bit_rises : (a b : Bool) → (a ≡ true → b ≡ true) → bit a ≤ bit b
+bit_rises true b h = rw (h refl) (omega arith)
+bit_rises false b h = omega arith
 
-record ProducerRests (m next : MachineState) : Type 0 where
-  published : next.published ≡ m.published
-  ended : next.ended ≡ m.ended
-  passed : next.passed ≡ m.passed
-  stored : next.stored ≡ m.stored
+count_rises : (f g : ℕ → Bool) (n : ℕ) → ((k : ℕ) → k < n → f k ≡ true → g k ≡ true) → count f n ≤ count g n
+count_rises f g zero on = omega arith
+count_rises f g (suc n) on = let b = bit_rises (f n) (g n) (on n (omega arith)) in let more = count_rises f g n (λ k h. on k (omega arith)) in omega arith
 
-true_or : (a b : Bool) → a ≡ true → (a || b) ≡ true
-true_or true b h = refl
-true_or false b h = absurd (true≢false (sym h))
+count_more : (f g : ℕ → Bool) (n r : ℕ) → r < n → ((k : ℕ) → k < n → f k ≡ true → g k ≡ true) → f r ≡ false → bit (g r) + count f n ≤ count g n
+count_more f g zero r h on none = absurd (omega arith)
+count_more f g (suc n) r h on none = elim (cases_eq r n) [
+  | inl e ↦
+      let before : bit (f n) ≡ 0 = rw (← e, none) refl in
+      let after : bit (g r) ≡ bit (g n) = ap (λ k. bit (g k)) e in
+      let more = count_rises f g n (λ k l. on k (omega arith)) in
+      omega arith
+  | inr ne ↦ let b = bit_rises (f n) (g n) (on n (omega arith)) in let more = count_more f g n r (omega arith) (λ k l. on k (omega arith)) none in omega arith
+]
 
-or_true : (a b : Bool) → b ≡ true → (a || b) ≡ true
-or_true true b h = refl
-or_true false b h = h
+nothing_new : (b : Bool) → not b && b ≡ false
+nothing_new true = refl
+nothing_new false = refl
 
-module _ (m : MachineState) (st : StandsAt m) where
-  abbrev lets_in : Bool
-  lets_in = (slice_index m.words (1 + m.passed) == left_mark) || nat_lt m.published (slice_index m.words (1 + m.passed) + m.spec.size)
+-- the readers of a ring that have seen the end
+abbrev seen : RingSpec → Ring → ℕ
+seen spec s = count (ring_mark s).seen_end spec.readers
 
-  near_passes : m.passed < m.spec.readers → m.published < (taker_at m m.passed).taken + m.spec.size → (b : Bool) → (taker_at m m.passed).left ≡ b → lets_in ≡ true
-  near_passes more near true e = let own = st.each m.passed more in true_or _ _ (eq-eqb _ _ (own.gone e))
-  near_passes more near false e =
-      let own = st.each m.passed more in
-      let c = own.here e in
-      let below : m.published < slice_index m.words (1 + m.passed) + m.spec.size = omega arith in
-      or_true _ _ (lt-ltb _ _ below)
+-- whether a turn of actor a is progress that leads from s to t
+abbrev shows : Ring → Ring → ℕ → Option Answer → Bool
+shows s t a answer = has_stored answer || (not (has_finished (ring_mark s) a) && has_finished (ring_mark t) a)
 
-  gate_passes : m.passed < m.spec.readers → Room m m.passed → lets_in ≡ true
-  gate_passes more room =
-      let own = st.each m.passed more in
-      elim room [
-        | inl left ↦ true_or _ _ (eq-eqb _ _ (own.gone left))
-        | inr near ↦ near_passes more near (taker_at m m.passed).left refl
-      ]
+module _ (spec : RingSpec) (ring : IsRing spec) (s : Ring) (w : Watch) (fits : Fits spec 1 s w) (t : Ring) (onward : Onward spec (ring_mark s) (ring_mark t)) where
+  rises : seen spec s ≤ seen spec t
+  rises = count_rises (ring_mark s).seen_end (ring_mark t).seen_end spec.readers onward.seen_end
 
-  gate_turn : m.ended ≡ false → m.published ≢ m.spec.id.total → m.passed < m.spec.readers → Room m m.passed → ProducerGoes m (loads_gate m)
-  gate_turn going more few room =
-      let passes = gate_passes few room in
-      let e : (loads_gate m).0.passed ≡ m.passed + 1 = rw passes refl in
-      record {
-        stores = inr (refl, going, omega arith);
-        publishes = λ h. inr (refl, going, omega arith);
-        ends = λ h. absurd (more h);
-      }
+  -- by a move that is no store a reader may see the end
+  abbrev sees : Move → Type 0
+  sees move = bit (is_store (kind_of move) || (not (has_finished (ring_mark s) (mover move)) && has_finished (ring_mark t) (mover move))) + seen spec s ≤ bit (is_store (kind_of move)) + seen spec t
 
-  producer_turn : m.ended ≡ false → HasRoom m → ProducerGoes m (producer_steps m)
-  unfolding producer_steps
-  producer_turn going room =
-      cond_both m.ended _ _ (ProducerGoes m) (λ e. absurd (true≢false (sym e ∙ going)))
-      (λ _. cond_both (m.published == m.spec.id.total) _ _ (ProducerGoes m)
-      (λ e. let all = eqb-true _ _ e in record { stores = inl refl; publishes = λ h. absurd (omega arith); ends = λ h. refl })
-      (λ e. let more : m.published ≢ m.spec.id.total = eqb-false _ _ e in
-      cond_both (nat_lt m.passed m.spec.readers) _ _ (ProducerGoes m)
-      (λ l. let few = ltb-true _ _ l in gate_turn going more few (room m.passed few))
-      (λ g. cond_both (nat_lt m.stored BLOCK_WORDS) _ _ (ProducerGoes m)
-      (λ l. let few = ltb-true _ _ l in record { stores = inl refl; publishes = λ h. inr (refl, going, omega arith); ends = λ h. absurd (more h) })
-      (λ l. record { stores = inl refl; publishes = λ h. inl (omega arith); ends = λ h. absurd (more h) }))))
+  same_sees : (a : ℕ) → has_finished (ring_mark t) a ≡ has_finished (ring_mark s) a → bit (not (has_finished (ring_mark s) a) && has_finished (ring_mark t) a) + seen spec s ≤ 0 + seen spec t
+  same_sees a same = let up = rises in rw (same, nothing_new (has_finished (ring_mark s) a)) (omega arith)
 
-abbrev Rests : MachineState → Outcome → Type 0
-Rests m out = ProducerRests m out.0
+  move_sees : (move : Move) → LeadsTo s move t → mover move ≤ spec.readers → sees move
+  move_sees (ByProducer (LoadGate r)) (may, is) h = same_sees 0 (rw is refl)
+  move_sees (ByReader r LoadCursor) step h =
+      let ((stays, no_end, none), is) = part_now spec ring 1 s w fits r t LoadCursor step in
+      let left : (reader_at t r).left ≡ false = rw is stays in
+      let more = count_more (ring_mark s).seen_end (ring_mark t).seen_end spec.readers r (omega arith) onward.seen_end no_end in
+      rw (stays, no_end, left) (omega arith)
+  move_sees (ByReader r LoadWord) step h = let (may, is) = part_now spec ring 1 s w fits r t LoadWord step in same_sees (suc r) (rw is refl)
+  move_sees move step h = let up = rises in omega arith
 
-rests_self : (m : MachineState) → ProducerRests m m
-rests_self m = record { published = refl; ended = refl; passed = refl; stored = refl }
+  -- so may a turn
+  answer_sees : (who : Actor) (made : List Move) (answer : Option Answer) → IsAnswer who s made answer t → owner who ≤ spec.readers
+      → bit (shows s t (owner who) answer) + seen spec s ≤ stores_in made + seen spec t
+  answer_sees who made None (none, same) h = let few = same_sees (owner who) (ap (λ u. has_finished (ring_mark u) (owner who)) same) in rw none (omega arith)
+  answer_sees who made (Some answer) (move, one, makes, step, is) h =
+      let e = mover_is who move makes in
+      let sees = move_sees move step (rw e h) in
+      rw (one, is, ← e) (omega arith)
 
-reader_rests : (m : MachineState) (r : ℕ) → Rests m (reader_steps m r)
-unfolding reader_steps
-reader_rests m r =
-    cond_both ((taker_at m r).left || (taker_at m r).seen_end) _ _ (Rests m) (λ e. rests_self m)
-    (λ e. cond_both (not (taker_at m r).reading) _ _ (Rests m) (λ e. record { published = refl; ended = refl; passed = refl; stored = refl })
-    (λ e. cond_both (nat_lt (taker_at m r).read BLOCK_WORDS) _ _ (Rests m) (λ e. record { published = refl; ended = refl; passed = refl; stored = refl }) (λ e. record { published = refl; ended = refl; passed = refl; stored = refl })))
+-- ---- one turn
 
-leaver_rests : (m : MachineState) (r : ℕ) → Rests m (leave_steps m r)
-unfolding leave_steps
-leaver_rests m r = cond_both ((taker_at m r).left || (taker_at m r).reading) _ _ (Rests m) (λ e. rests_self m) (λ e. record { published = refl; ended = refl; passed = refl; stored = refl })
+abbrev IdleOnly : Bool → Outcome → Type 0
+IdleOnly b out = out.1 ≡ None → b ≡ true
 
--- the end is marked, or nothing has happened to the producer
-abbrev EndsOrRests : MachineState → Outcome → Type 0
-EndsOrRests m out = ((is_progress m 0 out ≡ true) × (out.0.ended ≡ true)) ⊎ ProducerRests m out.0
-
-finish_turn : (m : MachineState) → EndsOrRests m (finish_steps m)
-unfolding finish_steps
-finish_turn m = cond_both (m.ended || (not (m.passed == 0)) || (not (m.stored == 0))) _ _ (EndsOrRests m) (λ e. inr (rests_self m)) (λ e. inl (refl, refl))
-
-room_later : (m next : MachineState) → Later m next → next.published ≡ m.published → HasRoom m → HasRoom next
-room_later m next later same room r h =
-    let known : r < m.spec.readers = rw later.spec at h in
-    elim (room r known) [
-      | inl left ↦ inl (later.left r known left)
-      | inr near ↦ let more = later.taken r known in let size : next.spec.size ≡ m.spec.size = ap (λ s. s.size) later.spec in inr (omega arith)
-    ]
-
--- A turn ends the stream early, is the producer's, or leaves the producer as it is.
-abbrev ProducerMay : MachineState → Actor → Type 0
-ProducerMay m who =
-    (((machine_steps m who).0.ended ≡ true) × (is_progress m (owner who) (machine_steps m who) ≡ true) × (owner who ≡ 0))
-    ⊎ (((bit (goes_on 0 who) ≡ 1) × ProducerGoes m (machine_steps m who) × (who ≡ Producer))
-    ⊎ ((bit (goes_on 0 who) ≡ 0) × ProducerRests m (machine_steps m who).0))
-
-producer_may : (m : MachineState) → StandsAt m → (who : Actor) → m.ended ≡ false → HasRoom m → ProducerMay m who
-producer_may m st Producer going room = inr (inl (refl, producer_turn m st going room, refl))
-producer_may m st Finish going room = elim (finish_turn m) [ inl (does, end) ↦ inl (end, does, refl) | inr rests ↦ inr (inr (refl, rests)) ]
-producer_may m st (Reader r) going room = inr (inr (rw (ne_eqb 0 (suc r) (λ e. omega arith)) refl, reader_rests m r))
-producer_may m st (Leave r) going room = inr (inr (refl, leaver_rests m r))
-
--- At the total the producer's turn marks the end.
-abbrev EndingMay : MachineState → Actor → Type 0
-EndingMay m who = ((machine_steps m who).0.ended ≡ true) ⊎ ((bit (goes_on 0 who) ≡ 0) × ProducerRests m (machine_steps m who).0)
-
-ending_turn : (m : MachineState) → m.published ≡ m.spec.id.total → (producer_steps m).0.ended ≡ true
+idle_producer : (m : MachineState) → IdleOnly m.ended (producer_steps m)
 unfolding producer_steps
-ending_turn m full =
-    cond_both m.ended _ _ (λ (out : Outcome). out.0.ended ≡ true) (λ e. e)
-    (λ going. cond_both (m.published == m.spec.id.total) _ _ (λ (out : Outcome). out.0.ended ≡ true) (λ e. refl) (λ e. absurd (eqb-false _ _ e full)))
+idle_producer m =
+    cond_both m.ended _ _ (IdleOnly m.ended) (λ e none. e)
+    (λ _. cond_both (m.published == m.spec.id.total) _ _ (IdleOnly m.ended) (λ _ none. cc)
+    (λ _. cond_both (nat_lt m.passed m.spec.readers) _ _ (IdleOnly m.ended) (λ _ none. cc)
+    (λ _. cond_both (nat_lt m.stored BLOCK_WORDS) _ _ (IdleOnly m.ended) (λ _ none. cc) (λ _ none. cc))))
 
-ending_may : (m : MachineState) (who : Actor) → m.published ≡ m.spec.id.total → EndingMay m who
-ending_may m Producer full = inl (ending_turn m full)
-ending_may m Finish full = elim (finish_turn m) [ inl turn ↦ inl turn.1 | inr rests ↦ inr (refl, rests) ]
-ending_may m (Reader r) full = inr (rw (ne_eqb 0 (suc r) (λ e. omega arith)) refl, reader_rests m r)
-ending_may m (Leave r) full = inr (refl, leaver_rests m r)
+idle_reader : (m : MachineState) (r : ℕ) → IdleOnly (has_finished (machine_mark m) (suc r)) (reader_steps m r)
+unfolding reader_steps
+idle_reader m r =
+    let fin = (taker_at m r).left || (taker_at m r).seen_end in
+    cond_both fin _ _ (IdleOnly fin) (λ e none. e)
+    (λ _. cond_both (not (taker_at m r).reading) _ _ (IdleOnly fin) (λ _ none. cc)
+    (λ _. cond_both (nat_lt (taker_at m r).read BLOCK_WORDS) _ _ (IdleOnly fin) (λ _ none. cc) (λ _ none. cc)))
 
--- In so many turns of the producer it publishes, unless the end is marked.
-pub producer_publishes : (actors : List Actor) (m : MachineState) → StandsAt m → 0 < m.spec.size → All (IsActor m.spec) actors
-    → m.ended ≡ false → m.published < m.spec.id.total → HasRoom m → to_publish m ≤ turns_of 0 actors
-    → ((machine_after m actors).ended ≡ true) ⊎ (m.published < (machine_after m actors).published)
-producer_publishes [] m st slots all going more room enough = absurd (omega arith)
-producer_publishes (who ∷ actors) m st slots all going more room enough =
+-- an actor whose turn has no step has finished
+idle : (m : MachineState) (who : Actor) (a : ℕ) → (machine_steps m who).1 ≡ None → (has_finished (machine_mark m) a ≡ true) ⊎ (is_turn_of a who ≡ false)
+idle m Producer a none = elim (cases_eq 0 a) [ inl e ↦ inl (subst (λ x. has_finished (machine_mark m) x ≡ true) e (idle_producer m none)) | inr ne ↦ inr (ne_eqb 0 a ne) ]
+idle m Finish a none = inr refl
+idle m (Reader r) a none = elim (cases_eq (suc r) a) [ inl e ↦ inl (subst (λ x. has_finished (machine_mark m) x ≡ true) e (idle_reader m r none)) | inr ne ↦ inr (ne_eqb (suc r) a ne) ]
+idle m (Leave r) a none = inr refl
+
+own_turn : (a : ℕ) (who : Actor) → bit (is_turn_of a who) ≤ bit (owner who == a)
+own_turn a Producer = omega arith
+own_turn a who = omega arith
+
+store_is : (mine stores more : Bool) → (if mine then bit stores else 0) ≤ bit (mine && (stores || more))
+store_is true true more = omega arith
+store_is mine stores more = omega arith
+
+all_one : (b : Bool) → bit (b || true) ≡ 1
+all_one true = refl
+all_one false = refl
+
+-- what a turn counts for actor a
+abbrev Counted : Actor → Ring → List Move → Option Answer → Ring → ℕ → Type 0
+Counted who s made answer t a =
+    ((answer ≡ None) ⊎ (moves_by a made ≡ bit (owner who == a)))
+    × (stores_by a made ≤ bit ((owner who == a) && shows s t (owner who) answer))
+    × (has_finished (ring_mark s) a ≡ false → has_finished (ring_mark t) a ≡ true → bit ((owner who == a) && shows s t (owner who) answer) ≡ 1)
+
+counted : (who : Actor) (s : Ring) (made : List Move) (answer : Option Answer) (t : Ring) (a : ℕ) → IsAnswer who s made answer t → Counted who s made answer t a
+counted who s made None t a (none, same) = (
+  inl refl,
+  rw none (omega arith),
+  λ going fin. absurd (true≢false (sym fin ∙ ap (λ u. has_finished (ring_mark u) a) same ∙ going)),
+)
+counted who s made (Some answer) t a (move, one, makes, step, is) =
+    let mine = mover_is who move makes in (
+      inr (rw (one, mine) (omega arith)),
+      rw (one, is, mine) (let few = store_is (owner who == a) (is_store (kind_of move)) (not (has_finished (ring_mark s) (owner who)) && has_finished (ring_mark t) (owner who)) in omega arith),
+      λ going fin. elim (cases_eq (owner who) a) [
+        | inl e ↦ rw (eq-eqb (owner who) a e, e, going, fin) (all_one (has_stored (Some answer)))
+        | inr ne ↦ absurd (true≢false (sym fin ∙ finished_by_others s t move a (λ e. ne (sym mine ∙ e)) step ∙ going))
+      ],
+    )
+
+finished_alike : (m : MachineState) (at : Beside m) (a : ℕ) → a ≤ m.spec.readers → has_finished (machine_mark m) a ≡ has_finished (ring_mark (ring_by m at)) a
+finished_alike m at zero h = refl
+finished_alike m at (suc r) h = let e = at.each r (omega arith) in rw (e.left, e.seen_end) refl
+
+owner_few : (spec : RingSpec) (who : Actor) → IsActor spec who → owner who ≤ spec.readers
+owner_few spec Producer h = omega arith
+owner_few spec who h = omega arith
+
+-- whether the turn is progress, by the ring's states
+progress_shown : (m : MachineState) (at : Beside m) (who : Actor) → IsActor m.spec who → (adv : Advances m at who (machine_steps m who))
+    → makes_progress m who ≡ shows (ring_by m at) (ring_by (machine_steps m who).0 adv.next) (owner who) (machine_steps m who).1
+progress_shown m at who known adv =
+    let few = owner_few m.spec who known in
+    let before = finished_alike m at (owner who) few in
+    let after = finished_alike (machine_steps m who).0 adv.next (owner who) (rw adv.same_spec few) in
+    rw (before, after) refl
+
+-- ---- a schedule
+
+moves_append : (a : ℕ) (made moves : List Move) → moves_by a (made ++ moves) ≡ moves_by a made + moves_by a moves
+moves_append a [] moves = omega arith
+moves_append a (move ∷ made) moves = let e = moves_append a made moves in omega arith
+
+stores_append : (a : ℕ) (made moves : List Move) → stores_by a (made ++ moves) ≡ stores_by a made + stores_by a moves
+stores_append a [] moves = omega arith
+stores_append a (move ∷ made) moves = let e = stores_append a made moves in omega arith
+
+all_append : (made moves : List Move) → stores_in (made ++ moves) ≡ stores_in made + stores_in moves
+all_append [] moves = omega arith
+all_append (move ∷ made) moves = let e = all_append made moves in omega arith
+
+-- what a schedule counts for actor a, and its run for the actor's moves
+record Counts (a : ℕ) (m : MachineState) (actors : List Actor) (s : Ring) (moves : List Move) (t : Ring) : Type 0 where
+  turns : (has_finished (ring_mark t) a ≡ true) ⊎ (turns_of a actors ≤ moves_by a moves)
+  stores : stores_by a moves ≤ progress_of a m actors
+  finishes : has_finished (ring_mark s) a ≡ false → has_finished (ring_mark t) a ≡ true → 0 < progress_of a m actors
+
+abbrev end_of : {m : MachineState} {at : Beside m} {actors : List Actor} → Replayed m at actors → Ring
+end_of {m} {at} {actors} run = ring_by (machine_after m actors) run.end
+
+onward_of : (m : MachineState) → IsRing m.spec → (at : Beside m) (actors : List Actor) (run : Replayed m at actors) → Onward m.spec (ring_mark (ring_by m at)) (ring_mark (end_of run))
+onward_of m ring at actors run = (comes m.spec ring 1 run.moves (ring_by m at) (end_of run) (watch_by m at) _ at.fits run.goes).onward
+
+counts : (actors : List Actor) (m : MachineState) (ring : IsRing m.spec) (at : Beside m) (all : All (IsActor m.spec) actors) (a : ℕ) → a ≤ m.spec.readers
+    → Counts a m actors (ring_by m at) (replay_from actors m ring at all).moves (end_of (replay_from actors m ring at all))
+unfolding replay_from
+counts [] m ring at all a few = record { turns = inr (omega arith); stores = omega arith; finishes = λ going fin. absurd (true≢false (sym fin ∙ going)) }
+counts (who ∷ actors) m ring at all a few =
     let known = All-head (IsActor m.spec) who actors all in
-    let one = turn_goes m st slots who known in
+    let adv = steps_advance m ring at who known in
     let next = (machine_steps m who).0 in
-    let rest = actors_later m next actors one.later (All-tail (IsActor m.spec) who actors all) in
-    let after = comes actors next one.stands (slots_later m next one.later slots) rest in
-    let spec = one.later.spec in
-    let total : next.spec.id.total ≡ m.spec.id.total = ap (λ s. s.id.total) spec in
-    let readers : next.spec.readers ≡ m.spec.readers = ap (λ s. s.readers) spec in
-    let rises = after.later.published in
-    let on = λ (same : next.published ≡ m.published) (goes : next.ended ≡ false) (left : to_publish next ≤ turns_of 0 actors).
-    producer_publishes actors next one.stands (slots_later m next one.later slots) rest goes (omega arith) (room_later m next one.later same room) left in
-    elim (producer_may m st who going room) [
-      | inl turn ↦ inl (after.later.ended turn.0).0
-      | inr (inl turn) ↦ elim (turn.1.publishes more) [
-        | inl up ↦ inr (omega arith)
-        | inr (same, goes, fewer) ↦ let own = turn.0 in elim (on same goes (omega arith)) [ inl e ↦ inl e | inr up ↦ inr (omega arith) ]
-      ]
-      | inr (inr rests) ↦ let same = rests.1.published in let p = rests.1.passed in let w = rests.1.stored in let none = rests.0 in elim (on same (rests.1.ended ∙ going) (omega arith)) [ inl e ↦ inl e | inr up ↦ inr (omega arith) ]
-    ]
+    let few' : a ≤ next.spec.readers = rw adv.same_spec few in
+    let later : All (IsActor next.spec) actors = rw adv.same_spec (All-tail (IsActor m.spec) who actors all) in
+    let ring' : IsRing next.spec = rw adv.same_spec ring in
+    let rest = replay_from actors next ring' adv.next later in
+    let more = counts actors next ring' adv.next later a few' in
+    let (moves, stores, finishes) = counted who (ring_by m at) adv.made (machine_steps m who).1 (ring_by next adv.next) a adv.took in
+    let shown = progress_shown m at who known adv in
+    let sum = moves_append a adv.made rest.moves in
+    let all_stores = stores_append a adv.made rest.moves in
+    let more_stores = more.stores in
+    let own = own_turn a who in
+    let here : stores_by a adv.made ≤ bit ((owner who == a) && makes_progress m who) = rw shown stores in
+    record {
+      turns = elim more.turns [
+        | inl fin ↦ inl fin
+        | inr turns ↦ elim moves [
+          | inl none ↦ elim (idle m who a none) [
+            | inl fin ↦
+                let before : has_finished (ring_mark (ring_by m at)) a ≡ true = sym (finished_alike m at a few) ∙ fin in
+                inl (finished_on m.spec _ _ (onward_of m ring at (who ∷ actors) (replay_from (who ∷ actors) m ring at all)) a few before)
+            | inr other ↦ let zero_turns : bit (is_turn_of a who) ≡ 0 = rw other refl in inr (omega arith)
+          ]
+          | inr mine ↦ inr (omega arith)
+        ]
+      ];
+      stores = omega arith;
+      finishes = λ going fin. elim (cases_Bool (has_finished (ring_mark (ring_by next adv.next)) a)) [
+        | inl now ↦ let one : bit ((owner who == a) && makes_progress m who) ≡ 1 = rw shown (finishes going now) in omega arith
+        | inr still ↦ let some = more.finishes still fin in omega arith
+      ];
+    }
 
--- At the total its next turn marks the end.
-pub producer_ends : (actors : List Actor) (m : MachineState) → StandsAt m → 0 < m.spec.size → All (IsActor m.spec) actors
-    → m.ended ≡ false → m.published ≡ m.spec.id.total → 0 < turns_of 0 actors → (machine_after m actors).ended ≡ true
-producer_ends [] m st slots all going full enough = absurd (omega arith)
-producer_ends (who ∷ actors) m st slots all going full enough =
+-- a schedule's progress are its stores, and the readers that see the end
+progress_most : (spec : RingSpec) (actors : List Actor) (m : MachineState) (ring : IsRing m.spec) (at : Beside m) (all : All (IsActor m.spec) actors) → m.spec ≡ spec
+    → progress m actors + seen spec (ring_by m at) ≤ stores_in (replay_from actors m ring at all).moves + seen spec (end_of (replay_from actors m ring at all))
+unfolding replay_from
+progress_most spec [] m ring at all same = omega arith
+progress_most spec (who ∷ actors) m ring at all same =
     let known = All-head (IsActor m.spec) who actors all in
-    let one = turn_goes m st slots who known in
+    let adv = steps_advance m ring at who known in
     let next = (machine_steps m who).0 in
-    let rest = actors_later m next actors one.later (All-tail (IsActor m.spec) who actors all) in
-    let after = comes actors next one.stands (slots_later m next one.later slots) rest in
-    let total : next.spec.id.total ≡ m.spec.id.total = ap (λ s. s.id.total) one.later.spec in
-    elim (ending_may m who full) [
-      | inl end ↦ (after.later.ended end).0
-      | inr rests ↦ let same = rests.1.published in let none = rests.0 in producer_ends actors next one.stands (slots_later m next one.later slots) rest (rests.1.ended ∙ going) (omega arith) (omega arith)
-    ]
+    let later : All (IsActor next.spec) actors = rw adv.same_spec (All-tail (IsActor m.spec) who actors all) in
+    let ring' : IsRing next.spec = rw adv.same_spec ring in
+    let rest = replay_from actors next ring' adv.next later in
+    let more = progress_most spec actors next ring' adv.next later (adv.same_spec ∙ same) in
+    let t = ring_by next adv.next in
+    let one = answer_sees m.spec ring (ring_by m at) (watch_by m at) at.fits t adv.onward who adv.made (machine_steps m who).1 adv.took (owner_few m.spec who known) in
+    let shown = progress_shown m at who known adv in
+    let here : bit (makes_progress m who) + seen spec (ring_by m at) ≤ stores_in adv.made + seen spec t = rw (shown, ← same) one in
+    let sum = all_append adv.made rest.moves in
+    omega arith
 
-both_counted : (a b : Bool) → a ≡ true → b ≡ true → bit (a && b) ≡ 1
-both_counted true true h k = refl
-both_counted true false h k = absurd (true≢false (sym k))
-both_counted false b h k = absurd (true≢false (sym h))
+-- ---- the laws
 
--- a turn of the actor that is progress is counted
-counted : (m : MachineState) (who : Actor) (a : ℕ) → owner who ≡ a → is_progress m a (machine_steps m who) ≡ true → bit ((owner who == a) && makes_progress m who) ≡ 1
-counted m who a own does = both_counted (owner who == a) (makes_progress m who) (eq-eqb _ _ own) (subst (λ x. is_progress m x (machine_steps m who) ≡ true) (sym own) does)
+pub progress_is_bounded : ProgressIsBounded
+progress_is_bounded spec actors ring all =
+    let at = open_beside spec ring in
+    let run = replay_from actors (open_machine spec) ring at all in
+    let most = progress_most spec actors (open_machine spec) ring at all refl in
+    let few = count_few (ring_mark (end_of run)).seen_end spec.readers in
+    let stores = stores_are_bounded spec run.moves (end_of run) ring (runs_of run.moves _ _ _ _ run.goes) in
+    omega arith
 
--- In so many turns of the producer it makes progress.
-pub producer_progresses : (actors : List Actor) (m : MachineState) → StandsAt m → 0 < m.spec.size → All (IsActor m.spec) actors
-    → m.ended ≡ false → HasRoom m → to_store m ≤ turns_of 0 actors → 0 < progress_of 0 m actors
-producer_progresses [] m st slots all going room enough = absurd (omega arith)
-producer_progresses (who ∷ actors) m st slots all going room enough =
-    let known = All-head (IsActor m.spec) who actors all in
-    let one = turn_goes m st slots who known in
-    let next = (machine_steps m who).0 in
-    let rest = actors_later m next actors one.later (All-tail (IsActor m.spec) who actors all) in
-    let readers : next.spec.readers ≡ m.spec.readers = ap (λ s. s.readers) one.later.spec in
-    let on = λ (same : next.published ≡ m.published) (goes : next.ended ≡ false) (left : to_store next ≤ turns_of 0 actors).
-    producer_progresses actors next one.stands (slots_later m next one.later slots) rest goes (room_later m next one.later same room) left in
-    elim (producer_may m st who going room) [
-      | inl turn ↦ let e = counted m who 0 turn.2 (subst (λ x. is_progress m x (machine_steps m who) ≡ true) turn.2 turn.1) in omega arith
-      | inr (inl turn) ↦ elim turn.1.stores [
-        | inl does ↦ let e = counted m who 0 (ap owner turn.2) does in omega arith
-        | inr (same, goes, fewer) ↦ let own = turn.0 in let more = on same goes (omega arith) in omega arith
-      ]
-      | inr (inr rests) ↦ let same = rests.1.published in let p = rests.1.passed in let none = rests.0 in let more = on same (rests.1.ended ∙ going) (omega arith) in omega arith
-    ]
+pub never_stuck : NeverStuck
+never_stuck spec actors ring all unfinished =
+    let run = replay_from actors (open_machine spec) ring (open_beside spec ring) all in
+    let m = machine_after (open_machine spec) actors in
+    let same = run.same_spec in
+    let here : IsRing m.spec = rw same ring in
+    let readers : m.spec.readers ≡ spec.readers = ap (λ x. x.readers) same in
+    let (a, few, going, makes) = batches_never_stick spec 1 run.moves (end_of run) (watch_by m run.end) ring (omega arith) run.goes
+    (λ fin. unfinished (λ k h. finished_alike m run.end k (omega arith) ∙ fin k h)) in
+    let few' : a ≤ m.spec.readers = omega arith in
+    let need : turns_to_progress 1 m.spec a ≡ turns_to_progress 1 spec a = ap (λ x. turns_to_progress 1 x a) same in (
+      a,
+      few,
+      finished_alike m run.end a few' ∙ going,
+      λ later mine enough.
+          let known : All (IsActor m.spec) later = rw same mine in
+          let next = replay_from later m here run.end known in
+          let has = counts later m here run.end known a few' in
+          let more = has.stores in
+          elim has.turns [
+            | inl fin ↦ has.finishes going fin
+            | inr turns ↦ elim (makes next.moves (end_of next) _ next.goes (omega arith)) [ inl some ↦ omega arith | inr fin ↦ has.finishes going fin ]
+          ],
+    )
 
--- ---- a reader
+-- rounds of turns are rounds of moves
+rounds_lead : (spec : RingSpec) → IsRing spec → (rounds : List (List Actor)) (m : MachineState) → m.spec ≡ spec → (at : Beside m) → All (All (IsActor spec)) rounds → AreRounds spec m rounds
+    → (moves : List (List Move)) × (length moves ≡ length rounds) × ((after_rounds m rounds).spec ≡ spec) × (end : Beside (after_rounds m rounds))
+    × RoundsLead 1 (ring_by m at) (watch_by m at) moves (ring_by (after_rounds m rounds) end) (watch_by (after_rounds m rounds) end)
+rounds_lead spec ring [] m same at all are = ([], refl, same, at, (refl, refl))
+rounds_lead spec ring (round ∷ rounds) m same at all are =
+    let mine : All (IsActor m.spec) round = rw same (All-head (All (IsActor spec)) round rounds all) in
+    let here : IsRing m.spec = rw same ring in
+    let run = replay_from round m here at mine in
+    let next = machine_after m round in
+    let kept : next.spec ≡ spec = run.same_spec ∙ same in
+    let (moves, long, final, end, lead) = rounds_lead spec ring rounds next kept run.end (All-tail (All (IsActor spec)) round rounds all) are.1 in
+    let turns : IsRound 1 next.spec (λ a. moves_by a run.moves) (ring_mark (end_of run)) = λ a h.
+    let need : turns_a_round 1 next.spec a ≡ turns_a_round 1 spec a = ap (λ x. turns_a_round 1 x a) kept in
+    let few : a ≤ spec.readers = rw (← kept) h in
+    elim (are.0 a few) [
+      | inl fin ↦ inl (sym (finished_alike next run.end a h) ∙ fin)
+      | inr turns ↦ elim (counts round m here at mine a (rw same few)).turns [ inl fin ↦ inl fin | inr many ↦ inr (omega arith) ]
+    ] in
+    (run.moves ∷ moves, ap suc long, final, end, (end_of run, watch_by next run.end, run.goes, turns, lead))
 
--- the turns that a reader needs at most to take a block that is published
-abbrev pub to_take : Taker → ℕ
-to_take t = cond t.reading (BLOCK_WORDS - t.read + 1) (BLOCK_WORDS + 2)
-
-to_take_some : (t : Taker) → 0 < to_take t
-to_take_some t = cond_both t.reading (BLOCK_WORDS - t.read + 1) (BLOCK_WORDS + 2) (λ n. 0 < n) (λ e. omega arith) (λ e. omega arith)
-
-pub to_take_most : (t : Taker) → to_take t ≤ BLOCK_WORDS + 2
-to_take_most t = cond_both t.reading (BLOCK_WORDS - t.read + 1) (BLOCK_WORDS + 2) (λ n. n ≤ BLOCK_WORDS + 2) (λ e. omega arith) (λ e. omega arith)
-
-abbrev pub InRing : Taker → Type 0
-InRing t = (t.left ≡ false) × (t.seen_end ≡ false)
-
-module _ (m : MachineState) (st : StandsAt m) (r : ℕ) (known : r < m.spec.readers) where
-  abbrev t_at : Taker
-  t_at = taker_at m r
-
-  set_here : (t : Taker) → slice_index_or (set m.takers r t) r (open_taker m.spec) ≡ t
-  set_here t = get_or-set_same m.takers r t (open_taker m.spec) (let n = st.taker_count in omega arith)
-
-  -- With a block to take, the reader takes it or needs fewer turns.
-  abbrev Taking : Outcome → Type 0
-  Taking out = ((is_progress m (suc r) out ≡ true) × (t_at.taken < (taker_at out.0 r).taken))
-      ⊎ (((taker_at out.0 r).taken ≡ t_at.taken) × InRing (taker_at out.0 r) × (to_take (taker_at out.0 r) < to_take t_at))
-
-  look_turn : t_at.left ≡ false → t_at.reading ≡ false → t_at.taken < m.published → Taking (loads_cursor m r)
-  look_turn stays_in rests below =
-      let v = slice_index m.words 0 in
-      let c = st.cursor in
-      let b = bit_small m.ended in
-      let more : nat_lt t_at.taken (v / 2) ≡ true = lt-ltb _ _ (omega arith) in
-      let no_end : (v == 2 * t_at.taken + 1) ≡ false = ne_eqb _ _ (λ e. omega arith) in
-      let before : to_take t_at ≡ BLOCK_WORDS + 2 = rw rests refl in
-      inr (rw set_here (refl, (stays_in, no_end), rw (more, before) (omega arith)))
-
-  word_turn : InRing t_at → t_at.reading ≡ true → t_at.read < BLOCK_WORDS → Taking (loads_word m r)
-  word_turn there reads few = inr (rw set_here (refl, there, rw reads (omega arith)))
-
-  take_turn : Taking (takes m r)
-  take_turn = inl (refl, rw set_here (omega arith))
-
-  reader_turn : InRing t_at → t_at.taken < m.published → Taking (reader_steps m r)
-  unfolding reader_steps
-  reader_turn there below =
-      cond_both (t_at.left || t_at.seen_end) _ _ Taking (λ e. elim (or_cases t_at.left t_at.seen_end e) [ inl left ↦ absurd (true≢false (sym left ∙ there.0)) | inr seen ↦ absurd (true≢false (sym seen ∙ there.1)) ])
-      (λ going. cond_both (not t_at.reading) _ _ Taking (λ e. look_turn there.0 (not-true _ e) below)
-      (λ reads. cond_both (nat_lt t_at.read BLOCK_WORDS) _ _ Taking (λ l. word_turn there (not-false _ reads) (ltb-true _ _ l))
-      (λ l. take_turn)))
-
-  -- With the end marked and all blocks taken, the reader sees the end.
-  abbrev Seeing : Outcome → Type 0
-  Seeing out = ((taker_at out.0 r).seen_end ≡ true) × (is_progress m (suc r) out ≡ true)
-
-  end_look : InRing t_at → m.ended ≡ true → t_at.taken ≡ m.published → Seeing (loads_cursor m r)
-  end_look there end all =
-      let v = slice_index m.words 0 in
-      let c = st.cursor in
-      let b : bit m.ended ≡ 1 = rw end refl in
-      let seen : (v == 2 * t_at.taken + 1) ≡ true = eq-eqb _ _ (omega arith) in
-      (rw (set_here, seen) refl, rw (set_here, there.0, there.1, seen) refl)
-
-  end_turn : InRing t_at → m.ended ≡ true → t_at.taken ≡ m.published → Seeing (reader_steps m r)
-  unfolding reader_steps
-  end_turn there end all =
-      let own = st.each r known in
-      let none : t_at.reading ≡ true → ⊥ = λ e. let h = own.reads e in omega arith in
-      cond_both (t_at.left || t_at.seen_end) _ _ Seeing (λ e. elim (or_cases t_at.left t_at.seen_end e) [ inl left ↦ absurd (true≢false (sym left ∙ there.0)) | inr seen ↦ absurd (true≢false (sym seen ∙ there.1)) ])
-      (λ going. cond_both (not t_at.reading) _ _ Seeing (λ e. end_look there end all) (λ reads. absurd (none (not-false _ reads))))
-
-  -- the taker is as it was
-  abbrev TakerRests : Outcome → Type 0
-  TakerRests out = taker_at out.0 r ≡ t_at
-
-  set_there : (k : ℕ) (t : Taker) → k ≢ r → slice_index_or (set m.takers k t) r (open_taker m.spec) ≡ t_at
-  set_there k t ne = get_or-set_other m.takers k r t (open_taker m.spec) (λ e. ne (sym e))
-
-  rests_by_producer : TakerRests (producer_steps m)
-  unfolding producer_steps
-  rests_by_producer =
-      cond_both m.ended _ _ TakerRests (λ e. refl)
-      (λ e. cond_both (m.published == m.spec.id.total) _ _ TakerRests (λ e. refl)
-      (λ e. cond_both (nat_lt m.passed m.spec.readers) _ _ TakerRests (λ e. refl)
-      (λ e. cond_both (nat_lt m.stored BLOCK_WORDS) _ _ TakerRests (λ e. refl) (λ e. refl))))
-
-  rests_by_finish : TakerRests (finish_steps m)
-  unfolding finish_steps
-  rests_by_finish = cond_both (m.ended || (not (m.passed == 0)) || (not (m.stored == 0))) _ _ TakerRests (λ e. refl) (λ e. refl)
-
-  rests_by_reader : (k : ℕ) → k ≢ r → TakerRests (reader_steps m k)
-  unfolding reader_steps
-  rests_by_reader k ne =
-      cond_both ((taker_at m k).left || (taker_at m k).seen_end) _ _ TakerRests (λ e. refl)
-      (λ e. cond_both (not (taker_at m k).reading) _ _ TakerRests (λ e. set_there k _ ne)
-      (λ e. cond_both (nat_lt (taker_at m k).read BLOCK_WORDS) _ _ TakerRests (λ e. set_there k _ ne) (λ e. set_there k _ ne)))
-
-  rests_by_leaver : (k : ℕ) → k ≢ r → TakerRests (leave_steps m k)
-  unfolding leave_steps
-  rests_by_leaver k ne = cond_both ((taker_at m k).left || (taker_at m k).reading) _ _ TakerRests (λ e. refl) (λ e. set_there k _ ne)
-
-  -- the reader has left, or nothing has happened to it
-  abbrev LeavesOrRests : Outcome → Type 0
-  LeavesOrRests out = (((taker_at out.0 r).left ≡ true) × (is_progress m (suc r) out ≡ true)) ⊎ TakerRests out
-
-  leave_turn : LeavesOrRests (leave_steps m r)
-  unfolding leave_steps
-  leave_turn = cond_both (t_at.left || t_at.reading) _ _ LeavesOrRests (λ e. inr refl) (λ e. inl (rw set_here refl, refl))
-
-  -- A turn is the reader's, lets it leave, or leaves it as it is.
-  abbrev ReaderMay : Actor → Type 0
-  ReaderMay who =
-      ((bit (goes_on (suc r) who) ≡ 1) × (who ≡ Reader r))
-      ⊎ ((((taker_at (machine_steps m who).0 r).left ≡ true) × (is_progress m (suc r) (machine_steps m who) ≡ true) × (owner who ≡ suc r))
-      ⊎ ((bit (goes_on (suc r) who) ≡ 0) × TakerRests (machine_steps m who)))
-
-  reader_may : (who : Actor) → ReaderMay who
-  reader_may Producer = inr (inr (rw (ne_eqb (suc r) 0 (λ e. omega arith)) refl, rests_by_producer))
-  reader_may Finish = inr (inr (refl, rests_by_finish))
-  reader_may (Reader k) = elim (cases_eq k r) [
-    | inl e ↦ inl (rw (eq-eqb (suc r) (suc k) (omega arith)) refl, ap Reader e)
-    | inr ne ↦ inr (inr (rw (ne_eqb (suc r) (suc k) (λ e. ne (omega arith))) refl, rests_by_reader k ne))
-  ]
-  reader_may (Leave k) = elim (cases_eq k r) [
-    | inl e ↦ elim leave_turn [
-      | inl (left, does) ↦ inr (inl (rw e left, rw e does, ap suc e))
-      | inr rests ↦ inr (inr (refl, rw e rests))
-    ]
-    | inr ne ↦ inr (inr (refl, rests_by_leaver k ne))
-  ]
-
--- In so many turns of a reader that has a block to take it makes progress, and has taken it unless it has left.
-pub reader_takes : (actors : List Actor) (m : MachineState) → StandsAt m → 0 < m.spec.size → All (IsActor m.spec) actors → (r : ℕ) → r < m.spec.readers
-    → InRing (taker_at m r) → (taker_at m r).taken < m.published → to_take (taker_at m r) ≤ turns_of (suc r) actors
-    → (0 < progress_of (suc r) m actors) × (((taker_at (machine_after m actors) r).left ≡ true) ⊎ ((taker_at m r).taken < (taker_at (machine_after m actors) r).taken))
-reader_takes [] m st slots all r below there more enough = let some = to_take_some (taker_at m r) in absurd (omega arith)
-reader_takes (who ∷ actors) m st slots all r below there more enough =
-    let known = All-head (IsActor m.spec) who actors all in
-    let one = turn_goes m st slots who known in
-    let next = (machine_steps m who).0 in
-    let rest = actors_later m next actors one.later (All-tail (IsActor m.spec) who actors all) in
-    let after = comes actors next one.stands (slots_later m next one.later slots) rest in
-    let below' : r < next.spec.readers = rw one.later.spec below in
-    let rises = after.later.taken r below' in
-    let risen = one.later.published in
-    let on = λ (here : InRing (taker_at next r)) (same : (taker_at next r).taken ≡ (taker_at m r).taken) (left : to_take (taker_at next r) ≤ turns_of (suc r) actors).
-    reader_takes actors next one.stands (slots_later m next one.later slots) rest r below' here (omega arith) left in
-    elim (reader_may m st r below who) [
-      | inl (own, is) ↦ elim (subst (λ x. Taking m st r below (machine_steps m x)) (sym is) (reader_turn m st r below there more)) [
-        | inl (does, up) ↦ let e = counted m who (suc r) (ap owner is) does in (omega arith, inr (omega arith))
-        | inr (same, here, fewer) ↦ let (does, up) = on here same (omega arith) in (omega arith, elim up [ inl left ↦ inl left | inr took ↦ inr (omega arith) ])
-      ]
-      | inr (inl (left, does, own)) ↦ let e = counted m who (suc r) own does in (omega arith, inl (after.later.left r below' left))
-      | inr (inr (none, rests)) ↦
-          let same : (taker_at next r).taken ≡ (taker_at m r).taken = ap (λ t. t.taken) rests in
-          let turns : to_take (taker_at next r) ≡ to_take (taker_at m r) = ap to_take rests in
-          let (does, up) = on (subst InRing (sym rests) there) same (omega arith) in
-          (omega arith, elim up [ inl left ↦ inl left | inr took ↦ inr (omega arith) ])
-    ]
-
--- The next turn of a reader that has taken all blocks shows it the end, unless it has left.
-pub reader_sees_end : (actors : List Actor) (m : MachineState) → StandsAt m → 0 < m.spec.size → All (IsActor m.spec) actors → (r : ℕ) → r < m.spec.readers
-    → InRing (taker_at m r) → m.ended ≡ true → (taker_at m r).taken ≡ m.published → 0 < turns_of (suc r) actors
-    → (0 < progress_of (suc r) m actors) × (has_finished (machine_after m actors) (suc r) ≡ true)
-reader_sees_end [] m st slots all r below there end whole enough = absurd (omega arith)
-reader_sees_end (who ∷ actors) m st slots all r below there end whole enough =
-    let known = All-head (IsActor m.spec) who actors all in
-    let one = turn_goes m st slots who known in
-    let next = (machine_steps m who).0 in
-    let rest = actors_later m next actors one.later (All-tail (IsActor m.spec) who actors all) in
-    let after = comes actors next one.stands (slots_later m next one.later slots) rest in
-    let below' : r < next.spec.readers = rw one.later.spec below in
-    let (still, stays) = one.later.ended end in
-    elim (reader_may m st r below who) [
-      | inl (own, is) ↦
-          let (seen, does) = subst (λ x. Seeing m st r below (machine_steps m x)) (sym is) (end_turn m st r below there end whole) in
-          let e = counted m who (suc r) (ap owner is) does in
-          (omega arith, or_true _ _ (after.later.seen_end r below' seen))
-      | inr (inl (left, does, own)) ↦ let e = counted m who (suc r) own does in (omega arith, true_or _ _ (after.later.left r below' left))
-      | inr (inr (none, rests)) ↦
-          let same : (taker_at next r).taken ≡ (taker_at m r).taken = ap (λ t. t.taken) rests in
-          let (does, fin) = reader_sees_end actors next one.stands (slots_later m next one.later slots) rest r below' (subst InRing (sym rests) there) still (omega arith) (omega arith) in
-          (omega arith, fin)
-    ]
+pub ends_by_rounds : EndsByRounds
+ends_by_rounds spec rounds ring all are long =
+    let (moves, many, final, end, lead) = rounds_lead spec ring rounds (open_machine spec) refl (open_beside spec ring) all are in
+    let m = after_rounds (open_machine spec) rounds in
+    let fin = batches_end_by_rounds spec 1 moves (ring_by m end) (watch_by m end) ring (omega arith) lead (omega arith) in
+    λ a h. finished_alike m end a (rw final h) ∙ fin a h

@@ -1,11 +1,11 @@
 -- Progress of the ring with batches of every length, as a law of its runs: which moves an actor makes that goes on, and when
 -- all have finished. Actors are numbered by the cursors that they own: actor 0 is the producer, actor 1 + r is reader r.
-use Rattle.std.specs.Prelude.{◌≡◌, ℕ, zero, suc, ◌+◌, ◌*◌, ◌<◌, ◌≤◌, ◌==◌, ◌||◌, ◌⊎◌, nat_lt, Bool, true, false, if◌then◌else◌, List, [], ◌∷◌, length, slice_index}
+use Rattle.std.specs.Prelude.{◌≡◌, ℕ, suc, ◌+◌, ◌*◌, ◌<◌, ◌≤◌, ◌==◌, ◌||◌, ◌⊎◌, nat_lt, Bool, true, false, if◌then◌else◌, List, [], ◌∷◌, length, slice_index}
 use Rattle.crn_cipher.specs.declared.TheConstants.{BLOCK_WORDS}
 use Rattle.crn_proto.specs.declared.spec.RingSpec.{RingSpec}
 use Rattle.crn_proto.specs.Ring.{IsRing, Ring, Move, ByProducer, ByReader, LoadGate, StoreWord, Publish, Finish, LoadCursor, LoadWord, Take, Leave, LeadsTo, left_mark, open_ring, bit}
 use Rattle.crn_proto.specs.Traces.{kind_of, reader_at}
-use Rattle.crn_proto.specs.Progress.{is_store, rounds_of}
+use Rattle.crn_proto.specs.Progress.{Mark, has_finished, AllFinished, is_store, turns_to_progress, IsRound, rounds_of}
 
 -- ---- actors that go on
 
@@ -66,14 +66,15 @@ abbrev pub mover : Move → ℕ
 mover (ByProducer m) = 0
 mover (ByReader r m) = suc r
 
--- whether an actor has finished: the producer has marked the end, and a reader has left or has seen the end mark
-abbrev pub is_finished : Ring → ℕ → Bool
-is_finished s zero = s.producer.ended
-is_finished s (suc r) = (reader_at s r).left || (reader_at s r).seen_end
-
--- the end is marked, and each reader has left or has seen it
-abbrev pub AllFinish : Ring → Type 0
-AllFinish s = (a : ℕ) → a ≤ s.spec.readers → is_finished s a ≡ true
+-- how far the actors of a ring are
+abbrev pub ring_mark : Ring → Mark
+ring_mark s = record {
+  published = s.producer.published;
+  ended = s.producer.ended;
+  taken = λ r. (reader_at s r).taken;
+  left = λ r. (reader_at s r).left;
+  seen_end = λ r. (reader_at s r).seen_end;
+}
 
 -- the number of moves of actor a
 abbrev pub moves_by : ℕ → List Move → ℕ
@@ -85,52 +86,35 @@ abbrev pub stores_by : ℕ → List Move → ℕ
 stores_by a [] = 0
 stores_by a (move ∷ moves) = (if mover move == a then bit (is_store (kind_of move)) else 0) + stores_by a moves
 
--- ---- the law's numbers
-
--- the moves in which an actor stores a word or finishes: the producer loads each reader's cursor before it stores; a reader
--- loads the ring cursor and the words of b blocks before it stores its count
-abbrev pub moves_to_progress : ℕ → RingSpec → ℕ → ℕ
-moves_to_progress b spec zero = spec.readers + 1
-moves_to_progress b spec (suc r) = BLOCK_WORDS * b + 2
-
--- the moves of an actor in a round: enough to publish a batch, and to take one
-abbrev pub moves_a_round : ℕ → RingSpec → ℕ → ℕ
-moves_a_round b spec zero = spec.readers + BLOCK_WORDS * b + 1
-moves_a_round b spec (suc r) = BLOCK_WORDS * b + 2
-
 -- ---- the laws
 
 -- In each state that actors going on lead to, each that has not finished can go on.
 abbrev pub CanGoOn : Type 0
 CanGoOn =
     (spec : RingSpec) (b : ℕ) (moves : List Move) (s : Ring) (w : Watch) → IsRing spec → 0 < b → GoesOnTo b (open_ring spec) open_watch moves s w
-    → (a : ℕ) → a ≤ spec.readers → is_finished s a ≡ false → (move : Move) × (mover move ≡ a) × (t : Ring) × LeadsTo s move t × GoingOn b s w move
+    → (a : ℕ) → a ≤ spec.readers → has_finished (ring_mark s) a ≡ false → (move : Move) × (mover move ≡ a) × (t : Ring) × LeadsTo s move t × GoingOn b s w move
 
 -- In so many moves of its own actor a stores a word or finishes, whatever moves others make meanwhile.
 abbrev pub MakesProgress : ℕ → Ring → Watch → ℕ → Type 0
 MakesProgress b s w a =
-    (later : List Move) (t : Ring) (v : Watch) → GoesOnTo b s w later t v → moves_to_progress b s.spec a ≤ moves_by a later
-    → (0 < stores_by a later) ⊎ (is_finished t a ≡ true)
+    (later : List Move) (t : Ring) (v : Watch) → GoesOnTo b s w later t v → turns_to_progress b s.spec a ≤ moves_by a later
+    → (0 < stores_by a later) ⊎ (has_finished (ring_mark t) a ≡ true)
 
 -- As long as not all have finished, one that has not makes progress.
 abbrev pub BatchesNeverStick : Type 0
 BatchesNeverStick =
     (spec : RingSpec) (b : ℕ) (moves : List Move) (s : Ring) (w : Watch) → IsRing spec → 0 < b → GoesOnTo b (open_ring spec) open_watch moves s w
-    → ¬ (AllFinish s) → (a : ℕ) × (a ≤ spec.readers) × (is_finished s a ≡ false) × MakesProgress b s w a
-
--- Each actor makes its moves of a round, unless it has finished by the end of the round.
-abbrev pub IsRoundTo : ℕ → List Move → Ring → Type 0
-IsRoundTo b moves t = (a : ℕ) → a ≤ t.spec.readers → (is_finished t a ≡ true) ⊎ (moves_a_round b t.spec a ≤ moves_by a moves)
+    → ¬ (AllFinished spec (ring_mark s)) → (a : ℕ) × (a ≤ spec.readers) × (has_finished (ring_mark s) a ≡ false) × MakesProgress b s w a
 
 -- Rounds, one after another, lead from old to new.
 abbrev pub RoundsLead : ℕ → Ring → Watch → List (List Move) → Ring → Watch → Type 0
 RoundsLead b old w [] new v = (new ≡ old) × (v ≡ w)
 RoundsLead b old w (round ∷ rounds) new v =
-    (mid : Ring) × (u : Watch) × GoesOnTo b old w round mid u × IsRoundTo b round mid × RoundsLead b mid u rounds new v
+    (mid : Ring) × (u : Watch) × GoesOnTo b old w round mid u × IsRound b mid.spec (λ a. moves_by a round) (ring_mark mid) × RoundsLead b mid u rounds new v
 
 -- After so many rounds, with the moves of each round in any order and with batches of every length up to b, all have
 -- finished.
 abbrev pub BatchesEndByRounds : Type 0
 BatchesEndByRounds =
     (spec : RingSpec) (b : ℕ) (rounds : List (List Move)) (s : Ring) (w : Watch) → IsRing spec → 0 < b → RoundsLead b (open_ring spec) open_watch rounds s w
-    → rounds_of spec ≤ length rounds → AllFinish s
+    → rounds_of spec ≤ length rounds → AllFinished spec (ring_mark s)

@@ -1,6 +1,5 @@
-use Rattle.crn_proto.proofs.Bounds.{progress_is_bounded}
-use Rattle.crn_proto.proofs.Rounds.{never_stuck, ends_by_rounds}
 use Rattle.crn_proto.proofs.Stores.{stores_are_bounded}
+use Rattle.crn_proto.proofs.Turns.{progress_is_bounded, never_stuck, ends_by_rounds}
 use Rattle.crn_proto.proofs.laws.progress.Goals as goal
 
 pub returns-clause-never_stuck : goal.returns-clause-never_stuck
