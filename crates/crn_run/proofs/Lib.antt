@@ -2,5 +2,6 @@ mod Advancing
 mod Asking
 mod Opening
 mod Ending
+mod Batches
 mod OneResult
 mod Publishing

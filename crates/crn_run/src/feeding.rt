@@ -5,6 +5,7 @@ ghost use Rattle.crn_cipher.specs.Following.{FollowOn};
 ghost use Rattle.crn_ring.specs.Calls.{AfterPublishMany, IsProducerOf, producer_part, spec_of};
 ghost use Rattle.crn_ring.specs.Gates.{HaveRoom};
 ghost use Rattle.crn_ring.specs.Parts.{PublishesOnce};
+ghost use Rattle.crn_run.specs.Feeding.{Feeds, PublishesBatch};
 
 use crate::batch::{BATCH, room};
 use crate::waiting::Waiting;
@@ -22,12 +23,14 @@ use std::sync::Wait;
 /// # Asks
 ///
 /// `producer` is the ring's, and the end is not marked.
+#[tactic(auto, using(crate::proofs::Batches::none_yet, crate::proofs::Batches::one_more, crate::proofs::Batches::all_fed))]
 pub fn feed<R: Wait>(rt: &R, ring: &Ring, producer: &mut Producer)
     requires of { IsProducerOf ring.now producer.old }
     requires running { (producer_part producer.old).ended ≡ false }
     ensures of { IsProducerOf ring.now producer.new }
     ensures published { (producer_part producer.new).published ≡ (spec_of ring.now).id.total }
     ensures ended { (producer_part producer.new).ended ≡ true }
+    ensures batches { Feeds (spec_of ring.now) (producer_part producer.old) (producer_part producer.new) }
 {
     let total = ring.spec().id.total;
     let mut room = room();
@@ -56,10 +59,8 @@ fn publish_batch<R: Wait>(
     requires left { (producer_part producer.old).published < (spec_of ring.now).id.total }
     requires room { length room.old ≡ BATCH }
     ensures of { IsProducerOf ring.now producer.new }
-    ensures running { (producer_part producer.new).ended ≡ false }
     ensures room { length room.new ≡ BATCH }
-    ensures published { (producer_part producer.new).published ≡ (producer_part producer.old).published + min 16 ((spec_of ring.now).id.total - (producer_part producer.old).published) }
-    ensures once { let count = min 16 ((spec_of ring.now).id.total - (producer_part producer.old).published) in HaveRoom (spec_of ring.now) (producer_part producer.old) count → PublishesOnce (spec_of ring.now) (producer_part producer.old) (producer_part producer.new) count }
+    ensures batch { PublishesBatch (spec_of ring.now) (producer_part producer.old) (producer_part producer.new) }
 {
     let id = ring.spec().id;
     let n = producer.published();

@@ -1,7 +1,13 @@
 use Rattle.std.proofs.Common.{◌≡◌, length, false}
-use Rattle.crn_ring.specs.Calls.{IsProducerOf, producer_part}
+use Rattle.crn_ring.specs.Calls.{IsProducerOf, producer_part, spec_of}
 use Rattle.crn_run.specs.declared.batch.TheConstants.{BATCH}
+use Rattle.crn_run.proofs.Batches.{AfterBatches}
 use Rattle.crn_run.proofs.feeding.feed.Given as goal
 
 abbrev pub invariant-loop : goal.invariant-loop
-invariant-loop g l = IsProducerOf l.ring l.producer × ((producer_part l.producer).ended ≡ false) × (length l.room ≡ BATCH)
+invariant-loop g l = record {
+  of : IsProducerOf l.ring l.producer;
+  running : (producer_part l.producer).ended ≡ false;
+  room : length l.room ≡ BATCH;
+  batches : AfterBatches (spec_of l.ring) (producer_part l.initial.producer) (producer_part l.producer);
+}
