@@ -70,12 +70,11 @@ moved_by_reader {spec} {words} {new} {r} q keeps = record {
 pub get_set_cases : {A : Type 0} (xs : List A) (i k : ℕ) (v x : A) → slice_get (set xs i v) k ≡ Some x → ((k ≡ i) × (x ≡ v)) ⊎ ((k ≢ i) × (slice_get xs k ≡ Some x))
 get_set_cases [] i k v x h = cc
 get_set_cases (y ∷ ys) zero zero v x h = inl (refl, cc)
-get_set_cases (y ∷ ys) zero (suc k) v x h = inr ((λ e. omega arith), h)
-get_set_cases (y ∷ ys) (suc i) zero v x h = inr ((λ e. omega arith), h)
 get_set_cases (y ∷ ys) (suc i) (suc k) v x h = elim (get_set_cases ys i k v x h) [
   | inl same ↦ inl (ap suc same.0, same.1)
   | inr other ↦ inr ((λ e. other.0 (omega arith)), other.1)
 ]
+get_set_cases (y ∷ ys) i k v x h = inr ((λ e. omega arith), h)
 
 pub lawful_moved : {spec : RingSpec} {words new : List ℕ} {parts : List Part} {before after : Part} (k : ℕ)
     → Lawful spec words parts → Apart parts → slice_get parts k ≡ Some before → Moved spec words new before after

@@ -28,6 +28,26 @@ pub record ProducerKeeps (spec : RingSpec) (words new : List ℕ) (after : Produ
   pub of_part : ProducerLaw spec new after
   pub of_readers : (r : ℕ) (q : Reader) → ReaderLaw spec words r q → ReaderLaw spec new r q
 
+-- A reader keeps its law if its cursor is as it was, no fewer blocks are published, and each published block that it has
+-- not taken stands whole.
+pub reader_kept : (spec : RingSpec) (words new : List ℕ) (r : ℕ) (q : Reader) → ReaderLaw spec words r q → get_or new (1 + r) 0 ≡ get_or words (1 + r) 0 → get_or words 0 0 / 2 ≤ get_or new 0 0 / 2
+    → (ReaderHere spec words r q → (n i : ℕ) → q.taken ≤ n → n < get_or new 0 0 / 2 → i < BLOCK_WORDS → get_or new (place spec n i) 0 ≡ block_word spec.id.key n i)
+    → (q.seen_end ≡ true → get_or new 0 0 ≡ 2 * q.taken + 1) → ReaderLaw spec new r q
+reader_kept spec words new r q law same no_fewer whole at_end = record {
+  known = law.known;
+  from_first = law.from_first;
+  gone = λ e. same ∙ law.gone e;
+  here = λ e. let here = law.here e in record {
+    cursor = same ∙ here.cursor;
+    taken_seen = here.taken_seen;
+    seen_published = let s = here.seen_published in omega arith;
+    whole = whole here;
+    read_seen = here.read_seen;
+    read_words = here.read_words;
+  };
+  at_end = at_end;
+}
+
 module _ (spec : RingSpec) (ring : IsRing spec) (words : List ℕ) (p : Producer) (laws : WordsLaw spec words) (own : ProducerLaw spec words p) where
   -- the gate of a reader that has not left is a count
   gate_counts : (r : ℕ) → r < spec.readers → get_or words (1 + r) 0 ≢ left_mark
@@ -63,26 +83,6 @@ module _ (spec : RingSpec) (ring : IsRing spec) (words : List ℕ) (p : Producer
       omega arith
 
   module _ (new : List ℕ) where
-    -- A reader keeps its law if its cursor is as it was, no fewer blocks are published, and each published block that it has
-    -- not taken stands whole.
-    reader_keeps : (r : ℕ) (q : Reader) → ReaderLaw spec words r q → get_or new (1 + r) 0 ≡ get_or words (1 + r) 0 → get_or words 0 0 / 2 ≤ get_or new 0 0 / 2
-        → (ReaderHere spec words r q → (n i : ℕ) → q.taken ≤ n → n < get_or new 0 0 / 2 → i < BLOCK_WORDS → get_or new (place spec n i) 0 ≡ block_word spec.id.key n i)
-        → (q.seen_end ≡ true → get_or new 0 0 ≡ 2 * q.taken + 1) → ReaderLaw spec new r q
-    reader_keeps r q law same no_fewer whole at_end = record {
-      known = law.known;
-      from_first = law.from_first;
-      gone = λ e. same ∙ law.gone e;
-      here = λ e. let here = law.here e in record {
-        cursor = same ∙ here.cursor;
-        taken_seen = here.taken_seen;
-        seen_published = let s = here.seen_published in omega arith;
-        whole = whole here;
-        read_seen = here.read_seen;
-        read_words = here.read_words;
-      };
-      at_end = at_end;
-    }
-
     module _ (may : ProducerMay spec p StoreWord) (ch : Changes words new (producer_word spec p StoreWord) (block_word spec.id.key (storing p) (p.stored % BLOCK_WORDS))) where
       -- no cursor changes
       cursor_same : (r : ℕ) → r < spec.readers → get_or new (1 + r) 0 ≡ get_or words (1 + r) 0
@@ -142,7 +142,7 @@ module _ (spec : RingSpec) (ring : IsRing spec) (words : List ℕ) (p : Producer
           none_stored = λ e. absurd (true≢false (sym e ∙ may.0));
           as_opened = λ e none. absurd (omega arith);
         };
-        of_readers = λ r q law. reader_keeps r q law (cursor_same r law.known) (let f = first_same in omega arith)
+        of_readers = λ r q law. reader_kept spec words new r q law (cursor_same r law.known) (let f = first_same in omega arith)
             (λ here n i low high l. store_whole r q law.known here n i low (rw first_same at high) l) (λ e. first_same ∙ law.at_end e);
       }
 
@@ -194,7 +194,7 @@ module _ (spec : RingSpec) (ring : IsRing spec) (words : List ℕ) (p : Producer
           none_stored = λ e. refl;
           as_opened = λ e none. let low = own.from_first in let some = may.2 in absurd (omega arith);
         };
-        of_readers = λ r q law. reader_keeps r q law (ch.others (1 + r) (λ e. omega arith)) (let f = front_moves in let g = published_is may.0 in omega arith)
+        of_readers = λ r q law. reader_kept spec words new r q law (ch.others (1 + r) (λ e. omega arith)) (let f = front_moves in let g = published_is may.0 in omega arith)
             (λ here n i low high l. publish_whole r q law.known here n i low (rw front_moves at high) l)
             -- a reader that saw the end saw an odd word, and the word is even
             (λ e. let odd = law.at_end e in let even = published_is may.0 in absurd (omega arith));
@@ -223,7 +223,7 @@ module _ (spec : RingSpec) (ring : IsRing spec) (words : List ℕ) (p : Producer
           none_stored = λ e. may.1;
           as_opened = λ e none i l. ch.others i (λ z. omega arith) ∙ own.as_opened e none i l;
         };
-        of_readers = λ r q law. reader_keeps r q law (ch.others (1 + r) (λ e. omega arith)) (let f = front_stays in omega arith)
+        of_readers = λ r q law. reader_kept spec words new r q law (ch.others (1 + r) (λ e. omega arith)) (let f = front_stays in omega arith)
             (λ here n i low high l. ch.others (place spec n i) (place_not_first spec n i) ∙ here.whole n i low (rw front_stays at high) l)
             (λ e. let odd = law.at_end e in let even = published_is may.0 in absurd (omega arith));
       }

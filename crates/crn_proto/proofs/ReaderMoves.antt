@@ -9,7 +9,7 @@ use Rattle.crn_proto.specs.Stream.{first_words}
 use Rattle.crn_proto.specs.Ring.{left_mark, place, IsRing, Producer, Reader, LoadCursor, LoadWord, Take, Leave, ReaderMay, reader_word, reader_after, reading}
 use Rattle.crn_proto.specs.Lawful.{WordsLaw, ProducerLaw, ReaderLaw}
 use Rattle.crn_proto.proofs.Places.{place_above}
-use Rattle.crn_proto.proofs.ProducerMoves.{Changes}
+use Rattle.crn_proto.proofs.ProducerMoves.{Changes, reader_kept}
 
 -- the laws after a move of reader r
 pub record ReaderKeeps (spec : RingSpec) (words new : List ℕ) (r : ℕ) (after : Reader) : Type 0 where
@@ -127,21 +127,8 @@ module _ (spec : RingSpec) (ring : IsRing spec) (words : List ℕ) (r : ℕ) (q 
 
     cursor_others : (s : ℕ) (other : Reader) → s ≢ r → ReaderLaw spec words s other → ReaderLaw spec new s other
     cursor_others s other ne law =
-        let same : get_or new (1 + s) 0 ≡ get_or words (1 + s) 0 = ch.others (1 + s) (λ e. ne (omega arith)) in
-        record {
-          known = law.known;
-          from_first = law.from_first;
-          gone = λ e. same ∙ law.gone e;
-          here = λ e. let here = law.here e in record {
-            cursor = same ∙ here.cursor;
-            taken_seen = here.taken_seen;
-            seen_published = rw first_same here.seen_published;
-            whole = λ n i low high l. slots_same n i ∙ here.whole n i low (rw first_same at high) l;
-            read_seen = here.read_seen;
-            read_words = here.read_words;
-          };
-          at_end = λ e. first_same ∙ law.at_end e;
-        }
+        reader_kept spec words new s other law (ch.others (1 + s) (λ e. ne (omega arith))) (let same = first_same in omega arith)
+        (λ here n i low high l. slots_same n i ∙ here.whole n i low (rw first_same at high) l) (λ e. first_same ∙ law.at_end e)
 
     cursor_words : (v ≡ left_mark) ⊎ (v ≤ get_or words 0 0 / 2) → WordsLaw spec new
     cursor_words fits = record {

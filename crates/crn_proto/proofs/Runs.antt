@@ -111,18 +111,15 @@ pub ring_at : (spec : RingSpec) → IsRing spec → (other : RingSpec) → other
 ring_at spec ring other e = rw e ring
 
 step_shows : (s t : Ring) (move : Move) → IsRing s.spec → Lawful s.spec s.words (parts_of s) → LeadsTo s move t → Unfolds (shows s) (events (move ∷ [])) (shows t)
-step_shows s t (ByProducer (LoadGate r)) ring law (may, is) = rw is refl
-step_shows s t (ByProducer StoreWord) ring law (may, is) = rw is refl
 step_shows s t (ByProducer (Publish c)) ring law (may, is) = (_, publish_shows s c ring law may, rw is refl)
 step_shows s t (ByProducer Finish) ring law (may, is) = (_, (may.0, refl), rw is refl)
-step_shows s t (ByReader r LoadCursor) ring law (q, at, may, is) =
-    rw is (ap (λ xs. record (shows s) { counts = xs }) (counts_stay s.readers r q _ at refl))
-step_shows s t (ByReader r LoadWord) ring law (q, at, may, is) =
-    rw is (ap (λ xs. record (shows s) { counts = xs }) (counts_stay s.readers r q _ at refl))
+step_shows s t (ByProducer m) ring law (may, is) = rw is refl
 step_shows s t (ByReader r (Take c)) ring law (q, at, may, is) =
     (_, (q.taken, count_here s r q at may.0, may.2, taken_shown s r q c law at may, refl), rw is (ap (λ xs. record (shows s) { counts = xs }) (rw (map-set, may.0) refl)))
 step_shows s t (ByReader r Leave) ring law (q, at, may, is) =
     (_, (q.taken, count_here s r q at may.0, refl), rw is (ap (λ xs. record (shows s) { counts = xs }) (map-set count_of s.readers r _)))
+step_shows s t (ByReader r m) ring law (q, at, may, is) =
+    rw is (ap (λ xs. record (shows s) { counts = xs }) (counts_stay s.readers r q _ at refl))
 
 -- ---- runs
 

@@ -42,22 +42,13 @@ gains : (first : ℕ) (readers : List Reader) (r : ℕ) (q p : Reader) (n : ℕ)
 gains first readers r q p n at more = let sum = readers_stored_set first readers r q p at in omega arith
 
 step_stores : (s t : Ring) (move : Move) → IsRing s.spec → Lawful s.spec s.words (parts_of s) → TakenFew s → LeadsTo s move t → TakenFew t × (stored_by s + bit (is_store (kind_of move)) ≤ stored_by t)
-step_stores s t (ByProducer (LoadGate r)) ring law few (may, is) = rw is (few, omega arith)
-step_stores s t (ByProducer StoreWord) ring law few (may, is) = rw is (few, omega arith)
 step_stores s t (ByProducer (Publish c)) ring law few (may, is) =
     let whole = may.1 in
     let some = may.2 in
     let low = (producer_law s law).from_first in
     rw is (few, omega arith)
 step_stores s t (ByProducer Finish) ring law few (may, is) = let going = may.0 in rw (is, going) (few, omega arith)
-step_stores s t (ByReader r LoadCursor) ring law few (q, at, may, is) =
-    let p = reader_after q LoadCursor (slice_index s.words 0) in
-    let sum = gains s.spec.id.first s.readers r q p 0 at (omega arith) in
-    rw is (few_after s r p few (few r q at), omega arith)
-step_stores s t (ByReader r LoadWord) ring law few (q, at, may, is) =
-    let p = reader_after q LoadWord (slice_index s.words (reader_word s.spec r q LoadWord)) in
-    let sum = gains s.spec.id.first s.readers r q p 0 at (omega arith) in
-    rw is (few_after s r p few (few r q at), omega arith)
+step_stores s t (ByProducer m) ring law few (may, is) = rw is (few, omega arith)
 step_stores s t (ByReader r (Take c)) ring law few (q, at, may, is) =
     let most = taken_published s r q c law at may in
     let total = (producer_law s law).in_total in
@@ -70,6 +61,10 @@ step_stores s t (ByReader r Leave) ring law few (q, at, may, is) =
     let p = reader_after q Leave (slice_index s.words (1 + r)) in
     let here : bit q.left ≡ 0 = rw may.0 refl in
     let sum = gains s.spec.id.first s.readers r q p 1 at (omega arith) in
+    rw is (few_after s r p few (few r q at), omega arith)
+step_stores s t (ByReader r m) ring law few (q, at, may, is) =
+    let p = reader_after q m (slice_index s.words (reader_word s.spec r q m)) in
+    let sum = gains s.spec.id.first s.readers r q p 0 at (omega arith) in
     rw is (few_after s r p few (few r q at), omega arith)
 
 -- where a run leads to

@@ -204,6 +204,8 @@ record Counts (a : ℕ) (m : MachineState) (actors : List Actor) (s : Ring) (mov
   turns : (has_finished (ring_mark t) a ≡ true) ⊎ (turns_of a actors ≤ moves_by a moves)
   stores : stores_by a moves ≤ progress_of a m actors
   finishes : has_finished (ring_mark s) a ≡ false → has_finished (ring_mark t) a ≡ true → 0 < progress_of a m actors
+  -- all progress are stores, and readers that see the end
+  sees : progress m actors + seen m.spec s ≤ stores_in moves + seen m.spec t
 
 abbrev end_of : {m : MachineState} {at : Beside m} {actors : List Actor} → Replayed m at actors → Ring
 end_of {m} {at} {actors} run = ring_by (machine_after m actors) run.end
@@ -214,7 +216,7 @@ onward_of m ring at actors run = (comes m.spec ring 1 run.moves (ring_by m at) (
 counts : (actors : List Actor) (m : MachineState) (ring : IsRing m.spec) (at : Beside m) (all : All (IsActor m.spec) actors) (a : ℕ) → a ≤ m.spec.readers
     → Counts a m actors (ring_by m at) (replay_from actors m ring at all).moves (end_of (replay_from actors m ring at all))
 unfolding replay_from
-counts [] m ring at all a few = record { turns = inr (omega arith); stores = omega arith; finishes = λ going fin. absurd (true≢false (sym fin ∙ going)) }
+counts [] m ring at all a few = record { turns = inr (omega arith); stores = omega arith; finishes = λ going fin. absurd (true≢false (sym fin ∙ going)); sees = omega arith }
 counts (who ∷ actors) m ring at all a few =
     let known = All-head (IsActor m.spec) who actors all in
     let adv = steps_advance m ring at who known in
@@ -231,6 +233,11 @@ counts (who ∷ actors) m ring at all a few =
     let more_stores = more.stores in
     let own = own_turn a who in
     let here : stores_by a adv.made ≤ bit ((owner who == a) && makes_progress m who) = rw shown stores in
+    let t = ring_by next adv.next in
+    let one = answer_sees m.spec ring (ring_by m at) (watch_by m at) at.fits t adv.onward who adv.made (machine_steps m who).1 adv.took (owner_few m.spec who known) in
+    let sees_here : bit (makes_progress m who) + seen m.spec (ring_by m at) ≤ stores_in adv.made + seen m.spec t = rw shown one in
+    let sees_later = subst (λ x. progress next actors + seen x t ≤ stores_in rest.moves + seen x (end_of rest)) adv.same_spec more.sees in
+    let all_sum = all_append adv.made rest.moves in
     record {
       turns = elim more.turns [
         | inl fin ↦ inl fin
@@ -245,31 +252,12 @@ counts (who ∷ actors) m ring at all a few =
         ]
       ];
       stores = omega arith;
-      finishes = λ going fin. elim (cases_Bool (has_finished (ring_mark (ring_by next adv.next)) a)) [
+      sees = omega arith;
+      finishes = λ going fin. elim (cases_Bool (has_finished (ring_mark t) a)) [
         | inl now ↦ let one : bit ((owner who == a) && makes_progress m who) ≡ 1 = rw shown (finishes going now) in omega arith
         | inr still ↦ let some = more.finishes still fin in omega arith
       ];
     }
-
--- a schedule's progress are its stores, and the readers that see the end
-progress_most : (spec : RingSpec) (actors : List Actor) (m : MachineState) (ring : IsRing m.spec) (at : Beside m) (all : All (IsActor m.spec) actors) → m.spec ≡ spec
-    → progress m actors + seen spec (ring_by m at) ≤ stores_in (replay_from actors m ring at all).moves + seen spec (end_of (replay_from actors m ring at all))
-unfolding replay_from
-progress_most spec [] m ring at all same = omega arith
-progress_most spec (who ∷ actors) m ring at all same =
-    let known = All-head (IsActor m.spec) who actors all in
-    let adv = steps_advance m ring at who known in
-    let next = (machine_steps m who).0 in
-    let later : All (IsActor next.spec) actors = rw adv.same_spec (All-tail (IsActor m.spec) who actors all) in
-    let ring' : IsRing next.spec = rw adv.same_spec ring in
-    let rest = replay_from actors next ring' adv.next later in
-    let more = progress_most spec actors next ring' adv.next later (adv.same_spec ∙ same) in
-    let t = ring_by next adv.next in
-    let one = answer_sees m.spec ring (ring_by m at) (watch_by m at) at.fits t adv.onward who adv.made (machine_steps m who).1 adv.took (owner_few m.spec who known) in
-    let shown = progress_shown m at who known adv in
-    let here : bit (makes_progress m who) + seen spec (ring_by m at) ≤ stores_in adv.made + seen spec t = rw (shown, ← same) one in
-    let sum = all_append adv.made rest.moves in
-    omega arith
 
 -- ---- the laws
 
@@ -277,7 +265,7 @@ pub progress_is_bounded : ProgressIsBounded
 progress_is_bounded spec actors ring all =
     let at = open_beside spec ring in
     let run = replay_from actors (open_machine spec) ring at all in
-    let most = progress_most spec actors (open_machine spec) ring at all refl in
+    let most = (counts actors (open_machine spec) ring at all 0 (omega arith)).sees in
     let few = count_few (ring_mark (end_of run)).seen_end spec.readers in
     let stores = stores_are_bounded spec run.moves (end_of run) ring (runs_of run.moves _ _ _ _ run.goes) in
     omega arith

@@ -29,11 +29,10 @@ counted (x ∷ xs) (suc k) a part h e = let more = counted xs k a part h e in rw
 
 counted_twice : (parts : List Part) (j k a : ℕ) (p q : Part) → slice_get parts j ≡ Some p → slice_get parts k ≡ Some q → own_cursor p ≡ a → own_cursor q ≡ a → j < k → 2 ≤ parts_named a parts
 counted_twice [] j k a p q h l e f less = cc
-counted_twice (x ∷ xs) zero zero a p q h l e f less = absurd (omega arith)
 counted_twice (x ∷ xs) zero (suc k) a p q h l e f less =
     let same : x ≡ p = cc in let one = is_one a x (ap own_cursor same ∙ e) in let more = counted xs k a q l f in rw parts_cons (omega arith)
-counted_twice (x ∷ xs) (suc j) zero a p q h l e f less = absurd (omega arith)
 counted_twice (x ∷ xs) (suc j) (suc k) a p q h l e f less = let more = counted_twice xs j k a p q h l e f (omega arith) in rw parts_cons (omega arith)
+counted_twice (x ∷ xs) j k a p q h l e f less = absurd (omega arith)
 
 -- parts of which no actor has two are apart
 pub apart_from_counts : (parts : List Part) → ((a : ℕ) → parts_named a parts ≤ 1) → Apart parts
