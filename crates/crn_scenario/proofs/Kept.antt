@@ -210,16 +210,11 @@ pub record IsNumber (low high : ℕ) (o : Option ℤ) : Type 0 where
 
 pub number_kept : (low high : ℕ) (o : Option Data) → KeptAt (number low high) o → IsNumber low high (option_and_then as_integer o)
 number_kept low high None h = absurd (false≢true h.present)
-number_kept low high (Some (string s)) h = absurd (false≢true h.kinds)
 number_kept low high (Some (integer (pos n))) h =
     let parts = (within low high n).0 h.ranges in
     record { value = n; is = refl; at_least = parts.0; at_most = parts.1 }
 number_kept low high (Some (integer (negsuc n))) h = absurd (false≢true h.ranges)
-number_kept low high (Some (float x)) h = absurd (false≢true h.kinds)
-number_kept low high (Some (boolean b)) h = absurd (false≢true h.kinds)
-number_kept low high (Some (datetime t)) h = absurd (false≢true h.kinds)
-number_kept low high (Some (array ds)) h = absurd (false≢true h.kinds)
-number_kept low high (Some (table ms)) h = absurd (false≢true h.kinds)
+number_kept low high (Some d) h = absurd (false≢true h.kinds)
 
 pub record IsInteger (o : Option ℤ) : Type 0 where
   pub value : ℤ
@@ -227,13 +222,8 @@ pub record IsInteger (o : Option ℤ) : Type 0 where
 
 pub integer_kept : (o : Option Data) → KeptAt kind.Integer o → IsInteger (option_and_then as_integer o)
 integer_kept None h = absurd (false≢true h.present)
-integer_kept (Some (string s)) h = absurd (false≢true h.kinds)
 integer_kept (Some (integer z)) h = record { value = z; is = refl }
-integer_kept (Some (float x)) h = absurd (false≢true h.kinds)
-integer_kept (Some (boolean b)) h = absurd (false≢true h.kinds)
-integer_kept (Some (datetime t)) h = absurd (false≢true h.kinds)
-integer_kept (Some (array ds)) h = absurd (false≢true h.kinds)
-integer_kept (Some (table ms)) h = absurd (false≢true h.kinds)
+integer_kept (Some d) h = absurd (false≢true h.kinds)
 
 -- a list of numbers within a range
 pub record IsList (low high : ℕ) (o : Option Items) : Type 0 where
@@ -245,15 +235,10 @@ pub record IsList (low high : ℕ) (o : Option Items) : Type 0 where
 
 pub list_kept : (low high : ℕ) (o : Option Data) → KeptAt (numbers_within low high) o → IsList low high (option_and_then as_array o)
 list_kept low high None h = absurd (false≢true h.present)
-list_kept low high (Some (string s)) h = absurd (false≢true h.kinds)
-list_kept low high (Some (integer z)) h = absurd (false≢true h.kinds)
-list_kept low high (Some (float x)) h = absurd (false≢true h.kinds)
-list_kept low high (Some (boolean b)) h = absurd (false≢true h.kinds)
-list_kept low high (Some (datetime t)) h = absurd (false≢true h.kinds)
 list_kept low high (Some (array ds)) h =
     let parts = and_parts (not (count_items ds == 0)) _ h.ranges in
     record { items = ds; is = refl; integers = h.kinds; some = failed (count_items ds == 0) parts.0; within = parts.1 }
-list_kept low high (Some (table ms)) h = absurd (false≢true h.kinds)
+list_kept low high (Some d) h = absurd (false≢true h.kinds)
 
 pub record IsText (o : Option (List ℕ)) : Type 0 where
   pub value : List ℕ
@@ -262,12 +247,7 @@ pub record IsText (o : Option (List ℕ)) : Type 0 where
 pub text_kept : (o : Option Data) → KeptAt kind.Text o → IsText (option_and_then as_str o)
 text_kept None h = absurd (false≢true h.present)
 text_kept (Some (string s)) h = record { value = s; is = refl }
-text_kept (Some (integer z)) h = absurd (false≢true h.kinds)
-text_kept (Some (float x)) h = absurd (false≢true h.kinds)
-text_kept (Some (boolean b)) h = absurd (false≢true h.kinds)
-text_kept (Some (datetime t)) h = absurd (false≢true h.kinds)
-text_kept (Some (array ds)) h = absurd (false≢true h.kinds)
-text_kept (Some (table ms)) h = absurd (false≢true h.kinds)
+text_kept (Some d) h = absurd (false≢true h.kinds)
 
 pub record IsTable (o : Option Members) : Type 0 where
   pub members : Members
@@ -275,13 +255,8 @@ pub record IsTable (o : Option Members) : Type 0 where
 
 pub table_kept : (o : Option Data) → KeptAt kind.Table o → IsTable (option_and_then as_table o)
 table_kept None h = absurd (false≢true h.present)
-table_kept (Some (string s)) h = absurd (false≢true h.kinds)
-table_kept (Some (integer z)) h = absurd (false≢true h.kinds)
-table_kept (Some (float x)) h = absurd (false≢true h.kinds)
-table_kept (Some (boolean b)) h = absurd (false≢true h.kinds)
-table_kept (Some (datetime t)) h = absurd (false≢true h.kinds)
-table_kept (Some (array ds)) h = absurd (false≢true h.kinds)
 table_kept (Some (table ms)) h = record { members = ms; is = refl }
+table_kept (Some d) h = absurd (false≢true h.kinds)
 
 -- a list of tables
 pub record IsTables (o : Option Items) : Type 0 where
@@ -291,13 +266,8 @@ pub record IsTables (o : Option Items) : Type 0 where
 
 pub tables_kept : (o : Option Data) → KeptAt kind.Tables o → IsTables (option_and_then as_array o)
 tables_kept None h = absurd (false≢true h.present)
-tables_kept (Some (string s)) h = absurd (false≢true h.kinds)
-tables_kept (Some (integer z)) h = absurd (false≢true h.kinds)
-tables_kept (Some (float x)) h = absurd (false≢true h.kinds)
-tables_kept (Some (boolean b)) h = absurd (false≢true h.kinds)
-tables_kept (Some (datetime t)) h = absurd (false≢true h.kinds)
 tables_kept (Some (array ds)) h = record { items = ds; is = refl; tables = h.kinds }
-tables_kept (Some (table ms)) h = absurd (false≢true h.kinds)
+tables_kept (Some d) h = absurd (false≢true h.kinds)
 
 -- ---- the inner tables
 
