@@ -147,24 +147,15 @@ module _ (spec : RingSpec) (ring : IsRing spec) (b : ℕ) (s : Ring) (w : Watch)
   producer_leads Finish may going = producer_comes Finish may _ fits.stored_few fits.passed_few fits.passes (omega arith) (λ e. (refl, refl))
 
   module _ (r : ℕ) (q : Reader) (at : slice_get s.readers r ≡ Some q) where
-    within : r < spec.readers
-    within = let l = slice_get_within s.readers r q at in let n = fits.reader_count in omega arith
-
     is_at : reader_at s r ≡ q
     is_at = get_or_from_slice_get s.readers r q (open_reader s.spec) at
-
-    set_here : (q' : Reader) → slice_index_or (set s.readers r q') r (open_reader s.spec) ≡ q'
-    set_here q' = get_or-set_same s.readers r q' (open_reader s.spec) (slice_get_within s.readers r q at)
-
-    set_there : (k : ℕ) (q' : Reader) → k ≢ r → slice_index_or (set s.readers r q') k (open_reader s.spec) ≡ reader_at s k
-    set_there k q' ne = get_or-set_other s.readers r k q' (open_reader s.spec) ne
 
     -- what holds of each part of a reader holds still if it holds of the new one
     each_part : (P : Reader → Reader → Type 0) (q' : Reader) → P q q' → ((k : ℕ) → k < spec.readers → P (reader_at s k) (reader_at s k))
         → (k : ℕ) → k < spec.readers → P (reader_at s k) (slice_index_or (set s.readers r q') k (open_reader s.spec))
     each_part P q' mine others k h = elim (cases_eq k r) [
-      | inl e ↦ rw (e, is_at, set_here q') mine
-      | inr ne ↦ rw (set_there k q' ne) (others k h)
+      | inl e ↦ rw (e, is_at, get_or-set_same s.readers r q' (open_reader s.spec) (slice_get_within s.readers r q at)) mine
+      | inr ne ↦ rw (get_or-set_other s.readers r k q' (open_reader s.spec) ne) (others k h)
     ]
 
     -- the part of reader r after a move

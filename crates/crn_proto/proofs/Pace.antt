@@ -81,9 +81,6 @@ abbrev OrMore : ℕ → ℕ → Type 0 → Type 0
 OrMore n n' may = (n' ≡ n) ⊎ ((n' ≡ n + 1) × may)
 
 module _ (spec : RingSpec) (x y : Mark) (go : Rounds spec x y) (f g : ℕ) (re : Reached spec x f g) where
-  done_later : (r : ℕ) → r < spec.readers → has_finished x (suc r) ≡ true → has_finished y (suc r) ≡ true
-  done_later r h e = finished_on spec x y go.onward (suc r) (omega arith) e
-
   room_here : x.ended ≡ false → x.published ≡ f → f < g + spec.size → HasRoom spec x
   room_here going at near r h = elim (re.took r h) [
     | inl fin ↦ elim (or_cases _ _ fin) [
@@ -133,14 +130,14 @@ module _ (spec : RingSpec) (x y : Mark) (go : Rounds spec x y) (f g : ℕ) (re :
   takes_on g' more r h =
       let rises = go.onward.taken r h in
       elim (re.took r h) [
-        | inl fin ↦ inl (done_later r h fin)
+        | inl fin ↦ inl (finished_on spec x y go.onward (suc r) (omega arith) fin)
         | inr (inr (end, whole)) ↦ ended_took g' r h end whole
         | inr (inl low) ↦ elim more [
           | inl same ↦ inr (inl (omega arith))
           | inr (one, behind) ↦ elim (cases_lt g (x.taken r)) [
             | inl above ↦ inr (inl (omega arith))
             | inr at ↦ elim (cases_Bool (has_finished x (suc r))) [
-              | inl fin ↦ inl (done_later r h fin)
+              | inl fin ↦ inl (finished_on spec x y go.onward (suc r) (omega arith) fin)
               | inr there ↦ elim (takes_one r h there (omega arith) behind) [
                 | inl fin ↦ inl fin
                 | inr (inl up) ↦ inr (inl (omega arith))
@@ -168,12 +165,12 @@ module _ (spec : RingSpec) (x y : Mark) (go : Rounds spec x y) (f g : ℕ) (re :
   -- with the end marked and all blocks taken, each reader sees the end
   last_round : x.ended ≡ true → spec.id.total ≤ g → AllFinished spec y
   last_round end full = all_finished spec y (go.onward.ended end).0 (λ r h. elim (cases_Bool (has_finished x (suc r))) [
-    | inl fin ↦ done_later r h fin
+    | inl fin ↦ finished_on spec x y go.onward (suc r) (omega arith) fin
     | inr there ↦
         let most = go.stands.in_total in
         let own = go.stands.in_published r h (or_parts (x.left r) (x.seen_end r) there).0 in
         elim (re.took r h) [
-          | inl fin ↦ done_later r h fin
+          | inl fin ↦ finished_on spec x y go.onward (suc r) (omega arith) fin
           | inr (inl low) ↦ go.sees_end r h there end (omega arith)
           | inr (inr (also, whole)) ↦ go.sees_end r h there end (omega arith)
         ]

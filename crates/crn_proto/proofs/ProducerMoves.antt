@@ -48,6 +48,10 @@ reader_kept spec words new r q law same no_fewer whole at_end = record {
   at_end = at_end;
 }
 
+-- the cursor of a reader that has not left is a count
+pub no_mark : (spec : RingSpec) → IsRing spec → (words : List ℕ) (r : ℕ) (q : Reader) → WordsLaw spec words → ReaderHere spec words r q → get_or words (1 + r) 0 ≢ left_mark
+no_mark spec ring words r q laws here e = omega (arith, here.cursor, here.taken_seen, here.seen_published, laws.in_total, ring.total_below)
+
 module _ (spec : RingSpec) (ring : IsRing spec) (words : List ℕ) (p : Producer) (laws : WordsLaw spec words) (own : ProducerLaw spec words p) where
   -- the gate of a reader that has not left is a count
   gate_counts : (r : ℕ) → r < spec.readers → get_or words (1 + r) 0 ≢ left_mark
@@ -78,9 +82,7 @@ module _ (spec : RingSpec) (ring : IsRing spec) (words : List ℕ) (p : Producer
   pub store_near : ProducerMay spec p StoreWord → (r : ℕ) → r < spec.readers → get_or words (1 + r) 0 ≢ left_mark → storing p < get_or words (1 + r) 0 + spec.size
   store_near may r h ne =
       let g = gate_counts r h ne in
-      let near : storing p < get_or p.gates r 0 + spec.size = may.2 r h g.0 in
-      let low = g.1 in
-      omega arith
+      omega (arith, may.2 r h g.0, g.1)
 
   module _ (new : List ℕ) where
     module _ (may : ProducerMay spec p StoreWord) (ch : Changes words new (producer_word spec p StoreWord) (block_word spec.id.key (storing p) (p.stored % BLOCK_WORDS))) where
@@ -112,10 +114,8 @@ module _ (spec : RingSpec) (ring : IsRing spec) (words : List ℕ) (p : Producer
       store_whole : (r : ℕ) (q : Reader) → r < spec.readers → ReaderHere spec words r q → (n i : ℕ) → q.taken ≤ n → n < get_or words 0 0 / 2 → i < BLOCK_WORDS
           → get_or new (place spec n i) 0 ≡ block_word spec.id.key n i
       store_whole r q h here n i low high l =
-          let below = ring.total_below in
-          let most = laws.in_total in
-          let count : get_or words (1 + r) 0 ≡ q.taken = here.cursor in
-          let was : get_or words (1 + r) 0 ≢ left_mark = λ e. omega arith in
+          let count = here.cursor in
+          let was = no_mark spec ring words r q laws here in
           let near = store_near may r h was in
           let c = published_is may.0 in
           ch.others (place spec n i) (places_apart spec n (storing p) i (p.stored % BLOCK_WORDS) (omega arith) (omega arith) l (omega arith)) ∙ here.whole n i low high l
@@ -153,10 +153,8 @@ module _ (spec : RingSpec) (ring : IsRing spec) (words : List ℕ) (p : Producer
       publish_whole : (r : ℕ) (q : Reader) → r < spec.readers → ReaderHere spec words r q → (n i : ℕ) → q.taken ≤ n → n < p.published + c → i < BLOCK_WORDS
           → get_or new (place spec n i) 0 ≡ block_word spec.id.key n i
       publish_whole r q h here n i low high l =
-          let below = ring.total_below in
-          let most = laws.in_total in
-          let count : get_or words (1 + r) 0 ≡ q.taken = here.cursor in
-          let was : get_or words (1 + r) 0 ≢ left_mark = λ e. omega arith in
+          let count = here.cursor in
+          let was = no_mark spec ring words r q laws here in
           let f = published_is may.0 in
           let all = may.1 in
           ch.others (place spec n i) (place_not_first spec n i)

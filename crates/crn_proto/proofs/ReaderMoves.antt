@@ -9,7 +9,7 @@ use Rattle.crn_proto.specs.Stream.{first_words}
 use Rattle.crn_proto.specs.Ring.{left_mark, place, IsRing, Producer, Reader, LoadCursor, LoadWord, Take, Leave, ReaderMay, reader_word, reader_after, reading}
 use Rattle.crn_proto.specs.Lawful.{WordsLaw, ProducerLaw, ReaderLaw}
 use Rattle.crn_proto.proofs.Places.{place_above}
-use Rattle.crn_proto.proofs.ProducerMoves.{Changes, reader_kept}
+use Rattle.crn_proto.proofs.ProducerMoves.{Changes, reader_kept, no_mark}
 
 -- the laws after a move of reader r
 pub record ReaderKeeps (spec : RingSpec) (words new : List ℕ) (r : ℕ) (after : Reader) : Type 0 where
@@ -90,17 +90,6 @@ module _ (spec : RingSpec) (ring : IsRing spec) (words : List ℕ) (r : ℕ) (q 
     slots_same : (n i : ℕ) → get_or new (place spec n i) 0 ≡ get_or words (place spec n i) 0
     slots_same n i = ch.others (place spec n i) (place_above spec r n i own.known)
 
-    -- a reader that has not left has no mark
-    not_left : get_or words (1 + r) 0 ≢ left_mark
-    not_left e =
-        let here = own.here is_here in
-        let count = here.cursor in
-        let low = here.taken_seen in
-        let high = here.seen_published in
-        let most = laws.in_total in
-        let below = ring.total_below in
-        omega arith
-
     cursor_producer : (p : Producer) → ProducerLaw spec words p → ProducerLaw spec new p
     cursor_producer p law = record {
       cursor = first_same ∙ law.cursor;
@@ -120,7 +109,7 @@ module _ (spec : RingSpec) (ring : IsRing spec) (words : List ℕ) (r : ℕ) (q 
       ];
       stored_in_total = law.stored_in_total;
       stored_passed = law.stored_passed;
-      stored_stand = λ j s l h ne. slots_same (p.published + j / BLOCK_WORDS) (j % BLOCK_WORDS) ∙ law.stored_stand j r l own.known not_left;
+      stored_stand = λ j s l h ne. slots_same (p.published + j / BLOCK_WORDS) (j % BLOCK_WORDS) ∙ law.stored_stand j r l own.known (no_mark spec ring words r q laws (own.here is_here));
       none_stored = law.none_stored;
       as_opened = λ e none i l. ch.others i (λ z. let h = own.known in omega arith) ∙ law.as_opened e none i l;
     }
@@ -143,7 +132,7 @@ module _ (spec : RingSpec) (ring : IsRing spec) (words : List ℕ) (r : ℕ) (q 
                   let here = own.here is_here in
                   let count = here.cursor in
                   elim (laws.cursors r own.known) [
-                    | inl gone ↦ absurd (not_left gone)
+                    | inl gone ↦ absurd (no_mark spec ring words r q laws here gone)
                     | inr both ↦ let room = both.1 in inr (omega arith, omega arith)
                   ]
             ]

@@ -6,7 +6,7 @@ use Rattle.std.proofs.lemmas.Option.{slice_get-map, get_or_from_slice_get}
 use Rattle.crn_proto.specs.declared.spec.RingSpec.{RingSpec}
 use Rattle.crn_proto.specs.Stream.{front}
 use Rattle.crn_proto.specs.Broadcast.{Broadcast, Event, Published, Happens, Unfolds, top}
-use Rattle.crn_proto.specs.Ring.{IsRing, Reader, Ring, Move, ByProducer, ByReader, LoadGate, StoreWord, Publish, Finish, LoadCursor, LoadWord, Take, Leave, LeadsTo, Runs, ProducerMay, ReaderMay, open_ring, shows, count_of, events, bit}
+use Rattle.crn_proto.specs.Ring.{IsRing, Reader, Ring, Move, ByProducer, ByReader, StoreWord, Publish, Finish, LoadCursor, Take, Leave, LeadsTo, Runs, ProducerMay, ReaderMay, open_ring, shows, count_of, events, bit}
 use Rattle.crn_proto.specs.Lawful.{ProducerLaw, ReaderLaw, OfProducer, OfReader, Lawful, parts_of}
 use Rattle.crn_proto.proofs.Fronts.{length-front, front_append}
 use Rattle.crn_proto.proofs.ProducerMoves.{publish_near}
@@ -94,18 +94,11 @@ half_is s law = let c = (producer_law s law).cursor in let b = bit_small s.produ
 pub taken_published : (s : Ring) (r : ℕ) (q : Reader) (c : ℕ) → Lawful s.spec s.words (parts_of s) → slice_get s.readers r ≡ Some q → ReaderMay q (Take c) → q.taken + c ≤ s.producer.published
 taken_published s r q c law at may =
     let here = (reader_law s law r q at).here may.0 in
-    let read = here.read_seen in
-    let high = here.seen_published in
-    let half = half_is s law in
-    let whole = may.1 in
-    omega arith
+    omega (arith, here.read_seen, here.seen_published, half_is s law, may.1)
 
 taken_shown : (s : Ring) (r : ℕ) (q : Reader) (c : ℕ) → Lawful s.spec s.words (parts_of s) → slice_get s.readers r ≡ Some q → ReaderMay q (Take c) → q.taken + c ≤ top (shows s)
 taken_shown s r q c law at may =
-    let n = length-front s.spec.id.key s.spec.id.first (s.producer.published - s.spec.id.first) in
-    let low = (producer_law s law).from_first in
-    let most = taken_published s r q c law at may in
-    omega arith
+    omega (arith, length-front s.spec.id.key s.spec.id.first (s.producer.published - s.spec.id.first), (producer_law s law).from_first, taken_published s r q c law at may)
 
 pub ring_at : (spec : RingSpec) → IsRing spec → (other : RingSpec) → other ≡ spec → IsRing other
 ring_at spec ring other e = rw e ring

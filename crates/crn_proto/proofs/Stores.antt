@@ -5,7 +5,7 @@ use Rattle.std.specs.Prelude.{slice_get, slice_index}
 use Rattle.std.proofs.lemmas.Bool.{cases_lt}
 use Rattle.std.proofs.lemmas.List.{length-set, length-replicate}
 use Rattle.crn_proto.specs.declared.spec.RingSpec.{RingSpec}
-use Rattle.crn_proto.specs.Ring.{IsRing, Reader, Ring, Move, ByProducer, ByReader, LoadGate, StoreWord, Publish, Finish, LoadCursor, LoadWord, Take, Leave, LeadsTo, Runs, reader_after, reader_word, open_ring, open_reader, bit}
+use Rattle.crn_proto.specs.Ring.{IsRing, Reader, Ring, Move, ByProducer, ByReader, Publish, Finish, Take, Leave, LeadsTo, Runs, reader_after, reader_word, open_ring, open_reader, bit}
 use Rattle.crn_proto.specs.Lawful.{Lawful, parts_of}
 use Rattle.crn_proto.specs.Traces.{kind_of}
 use Rattle.crn_proto.specs.Progress.{blocks_of, is_store, stores_in, store_limit, StoresAreBounded}

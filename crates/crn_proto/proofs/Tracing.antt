@@ -1,9 +1,9 @@
 -- The machine's steps are moves of the ring, by actors that go on with one block at a time.
-use Rattle.std.proofs.Common.{◌≡◌, ℕ, ◌+◌, ◌*◌, ◌/◌, ◌%◌, ◌<◌, ◌≤◌, ◌≢◌, ◌||◌, ◌⊎◌, not, Bool, true, false, List, [], ◌∷◌, ◌++◌, length, replicate, set, Option, Some, None, inl, inr, refl, sym, ap, subst, ◌∙◌, arith, get_or-set_same, get_or-set_other}
+use Rattle.std.proofs.Common.{◌≡◌, ℕ, suc, ◌+◌, ◌*◌, ◌/◌, ◌%◌, ◌<◌, ◌≤◌, ◌≢◌, ◌||◌, ◌⊎◌, not, Bool, true, false, List, [], ◌∷◌, ◌++◌, length, replicate, set, Option, Some, None, inl, inr, refl, sym, ap, subst, ◌∙◌, arith, get_or-set_same, get_or-set_other}
 use Rattle.crn_cipher.specs.declared.TheConstants.{BLOCK_WORDS}
 use Rattle.std.specs.Prelude.{slice_get, slice_index, slice_index_or, ◌==◌, nat_lt}
 use Rattle.std.specs.List.{All}
-use Rattle.std.proofs.lemmas.Bool.{cases_eq, true≢false, cond_both, eq-eqb, eqb-true, eqb-false, ltb-true, ltb-false, or_parts, not-true, not-false}
+use Rattle.std.proofs.lemmas.Bool.{cases_eq, true≢false, cond_both, eq-eqb, eqb-true, eqb-false, ne_eqb, ltb-true, ltb-false, or_parts, not-true, not-false}
 use Rattle.std.proofs.lemmas.List.{length-set, set-get_or, length-replicate, get_or-replicate, length_push}
 use Rattle.std.proofs.lemmas.List.Elements.{All-head, All-tail}
 use Rattle.std.proofs.lemmas.Option.{slice_get-get_or}
@@ -15,11 +15,13 @@ use Rattle.crn_proto.specs.declared.machine.Taker.{Taker}
 use Rattle.crn_proto.specs.Ring.{place, word_count, IsRing, Producer, Reader, ProducerMove, ReaderMove, Ring, Move, ByProducer, ByReader, LoadGate, StoreWord, Publish, Finish, LoadCursor, LoadWord, Take, Leave, LeadsTo, Runs, ProducerMay, ReaderMay, PassesGates, producer_word, producer_after, reader_word, reader_leaves, reader_after, storing, open_reader, reading}
 use Rattle.crn_proto.specs.Machine.{MachineState, Outcome, IsActor, machine_of, machine_after, machine_answers, machine_steps, open_machine, open_taker, taker_at, producer_steps, finish_steps, reader_steps, leave_steps, ends, loads_gate, stores_word, publishes, loads_cursor, loads_word, takes, leaves}
 use Rattle.crn_proto.specs.Traces.{kind_of, reader_at, IsMoveOf, IsAnswer, Traces, Matches, EveryReplayIsARun}
+use Rattle.crn_proto.specs.Progress.{machine_mark, has_finished, is_turn_of}
 use Rattle.crn_proto.specs.Batches.{Watch, watch_after, GoingOn, GoesOnTo, ring_mark}
 use Rattle.crn_proto.proofs.Places.{place_within}
 use Rattle.crn_proto.proofs.Runs.{producer_law}
+use Rattle.crn_proto.proofs.Replays.{same_spec as steps_same}
 use Rattle.crn_proto.proofs.Pace.{Onward}
-use Rattle.crn_proto.proofs.Batches.{Fits, Comes, onward_self, step_leads, after_producer, open_fits, watch_by_reader, looked_by_others}
+use Rattle.crn_proto.proofs.Batches.{Fits, onward_self, step_leads, after_producer, open_fits, watch_by_reader, looked_by_others}
 
 -- ---- a ring beside a machine
 
@@ -69,14 +71,19 @@ abbrev pub Goes : Ring → Watch → List Move → Watch → Type 0
 Goes s w [] v = v ≡ w
 Goes s w (move ∷ moves) v = GoingOn 1 s w move × (v ≡ watch_after s w move)
 
+-- actor a has finished, or the turn is none of its
+abbrev pub IsOver : MachineState → Actor → ℕ → Type 0
+IsOver m who a = (has_finished (machine_mark m) a ≡ true) ⊎ (is_turn_of a who ≡ false)
+
 -- a step leads on, by a move or none
 pub record Advances (m : MachineState) (at : Beside m) (who : Actor) (out : Outcome) : Type 0 where
   pub next : Beside out.0
-  pub same_spec : out.0.spec ≡ m.spec
   pub made : List Move
   pub took : IsAnswer who (ring_by m at) made out.1 (ring_by out.0 next)
   pub goes : Goes (ring_by m at) (watch_by m at) made (watch_by out.0 next)
   pub onward : Onward m.spec (ring_mark (ring_by m at)) (ring_mark (ring_by out.0 next))
+  -- an actor whose turn has no step has finished
+  pub idle : out.1 ≡ None → (a : ℕ) → IsOver m who a
 
 module _ (m : MachineState) (ring : IsRing m.spec) (at : Beside m) where
   abbrev s : Ring
@@ -85,15 +92,15 @@ module _ (m : MachineState) (ring : IsRing m.spec) (at : Beside m) where
   abbrev w : Watch
   w = watch_by m at
 
-  leads : (move : Move) (t : Ring) → LeadsTo s move t → GoingOn 1 s w move → Comes m.spec 1 s t (watch_after s w move)
-  leads move t step going = step_leads m.spec ring 1 s w at.fits move t step going
-
   -- what stands where something was stored
   stored_at : (i v : ℕ) → i < word_count m.spec → v ≡ slice_index (set m.words i v) i
   stored_at i v h = let n : length m.words ≡ word_count m.spec = at.fits.law.of_words.sized in let l : i < length m.words = omega arith in sym (get_or-set_same m.words i v 0 l)
 
-  stays : (who : Actor) → Advances m at who (m, None)
-  stays who = record { next = at; same_spec = refl; made = []; took = (refl, refl); goes = refl; onward = onward_self m.spec (ring_mark s) }
+  stays : (who : Actor) → ((a : ℕ) → IsOver m who a) → Advances m at who (m, None)
+  stays who over = record { next = at; made = []; took = (refl, refl); goes = refl; onward = onward_self m.spec (ring_mark s); idle = λ none. over }
+
+  over : (b : ℕ) → has_finished (machine_mark m) b ≡ true → (a : ℕ) → (has_finished (machine_mark m) a ≡ true) ⊎ ((b == a) ≡ false)
+  over b e a = elim (cases_eq b a) [ inl is ↦ inl (subst (λ x. has_finished (machine_mark m) x ≡ true) is e) | inr ne ↦ inr (ne_eqb b a ne) ]
 
   -- ---- the producer
 
@@ -110,7 +117,7 @@ module _ (m : MachineState) (ring : IsRing m.spec) (at : Beside m) where
   by_producer who p words published ended passed stored answer makes may going same watch all_passed is =
       let m' = machine_of m.spec words published ended passed stored m.takers in
       let t = ring_of m' (moved p).gates (moved p).loads (moved p).steps at.readers in
-      let on = leads (ByProducer p) t (may, same) going in
+      let on = step_leads m.spec ring 1 s w at.fits (ByProducer p) t (may, same) going in
       record {
         next = record {
           gates = (moved p).gates;
@@ -123,11 +130,11 @@ module _ (m : MachineState) (ring : IsRing m.spec) (at : Beside m) where
           taker_count = at.taker_count;
           each = at.each;
         };
-        same_spec = refl;
         made = ByProducer p ∷ [];
         took = (ByProducer p, refl, makes, (may, same), is);
         goes = (going, watch);
         onward = on.onward;
+        idle = λ none. cc;
       }
 
   ends_advance : (who : Actor) → (who ≡ ProducerActs) ⊎ (who ≡ FinishActs) → m.ended ≡ false → m.stored ≡ 0 → Advances m at who (ends m)
@@ -161,7 +168,7 @@ module _ (m : MachineState) (ring : IsRing m.spec) (at : Beside m) where
   producer_advances : Advances m at ProducerActs (producer_steps m)
   unfolding producer_steps
   producer_advances =
-      cond_both m.ended _ _ (Advances m at ProducerActs) (λ e. stays ProducerActs)
+      cond_both m.ended _ _ (Advances m at ProducerActs) (λ e. stays ProducerActs (over 0 e))
       (λ going. cond_both (m.published == m.spec.id.total) _ _ (Advances m at ProducerActs)
       (λ e. let all = eqb-true _ _ e in
       ends_advance ProducerActs (inl refl) going
@@ -175,7 +182,7 @@ module _ (m : MachineState) (ring : IsRing m.spec) (at : Beside m) where
   finish_advances : Advances m at FinishActs (finish_steps m)
   unfolding finish_steps
   finish_advances =
-      cond_both (m.ended || (not (m.passed == 0)) || (not (m.stored == 0))) _ _ (Advances m at FinishActs) (λ e. stays FinishActs)
+      cond_both (m.ended || (not (m.passed == 0)) || (not (m.stored == 0))) _ _ (Advances m at FinishActs) (λ e. stays FinishActs (λ a. inr refl))
       (λ none.
       let (first, third) = or_parts (m.ended || (not (m.passed == 0))) (not (m.stored == 0)) none in
       let (going, second) = or_parts m.ended (not (m.passed == 0)) first in
@@ -210,7 +217,7 @@ module _ (m : MachineState) (ring : IsRing m.spec) (at : Beside m) where
         let new = ring_of m' at.gates at.loads at.steps (set at.readers r (read_by a)) in
         let step : LeadsTo s (ByReader r a) new = (q_at, here, may, ap (λ x. record s { words = x; readers = set at.readers r (read_by a) }) stores) in
         let watch = watch_by_reader s w r a in
-        let on = leads (ByReader r a) new step going in
+        let on = step_leads m.spec ring 1 s w at.fits (ByReader r a) new step going in
         record {
           next = record {
             gates = at.gates;
@@ -235,11 +242,11 @@ module _ (m : MachineState) (ring : IsRing m.spec) (at : Beside m) where
                   rw (first, second, third) (at.each k h)
             ];
           };
-          same_spec = refl;
           made = ByReader r a ∷ [];
           took = (ByReader r a, refl, makes, step, is);
           goes = (going, watch);
           onward = on.onward;
+          idle = λ none. cc;
         }
 
     cursor_advance : t_at.left ≡ false → t_at.seen_end ≡ false → t_at.reading ≡ false → Advances m at (ReaderActs r) (loads_cursor m r)
@@ -299,7 +306,7 @@ module _ (m : MachineState) (ring : IsRing m.spec) (at : Beside m) where
     reader_advances : Advances m at (ReaderActs r) (reader_steps m r)
     unfolding reader_steps
     reader_advances =
-        cond_both (t_at.left || t_at.seen_end) _ _ (Advances m at (ReaderActs r)) (λ e. stays (ReaderActs r))
+        cond_both (t_at.left || t_at.seen_end) _ _ (Advances m at (ReaderActs r)) (λ e. stays (ReaderActs r) (over (suc r) e))
         (λ going. let (stays_in, no_end) = or_parts t_at.left t_at.seen_end going in
         cond_both (not t_at.reading) _ _ (Advances m at (ReaderActs r))
         (λ e. cursor_advance stays_in no_end (not-true _ e))
@@ -310,7 +317,7 @@ module _ (m : MachineState) (ring : IsRing m.spec) (at : Beside m) where
     leave_advances : Advances m at (LeaveActs r) (leave_steps m r)
     unfolding leave_steps
     leave_advances =
-        cond_both (t_at.left || t_at.reading) _ _ (Advances m at (LeaveActs r)) (λ e. stays (LeaveActs r))
+        cond_both (t_at.left || t_at.reading) _ _ (Advances m at (LeaveActs r)) (λ e. stays (LeaveActs r) (λ a. inr refl))
         (λ none. let (stays_in, rests) = or_parts t_at.left t_at.reading none in leave_advance stays_in rests)
 
   pub steps_advance : (who : Actor) → IsActor m.spec who → Advances m at who (machine_steps m who)
@@ -354,10 +361,11 @@ replay_from [] m ring at all = record { end = at; same_spec = refl; moves = []; 
 replay_from (who ∷ actors) m ring at all =
     let adv = steps_advance m ring at who (All-head (IsActor m.spec) who actors all) in
     let next = (machine_steps m who).0 in
-    let rest = replay_from actors next (rw adv.same_spec ring) adv.next (rw adv.same_spec (All-tail (IsActor m.spec) who actors all)) in
+    let same : next.spec ≡ m.spec = steps_same m who in
+    let rest = replay_from actors next (rw same ring) adv.next (rw same (All-tail (IsActor m.spec) who actors all)) in
     record {
       end = rest.end;
-      same_spec = rest.same_spec ∙ adv.same_spec;
+      same_spec = rest.same_spec ∙ same;
       moves = adv.made ++ rest.moves;
       goes = goes_cons who _ _ _ _ _ _ adv.made rest.moves (machine_steps m who).1 adv.took adv.goes rest.goes;
       traces = (adv.made, rest.moves, refl, (machine_steps m who).1, machine_answers next actors, refl, ring_by next adv.next, adv.took, rest.traces);

@@ -1,20 +1,20 @@
 -- A machine's progress, from that of the run that its steps are: with batches of one block.
-use Rattle.std.proofs.Common.{◌≡◌, ℕ, zero, suc, ◌+◌, ◌<◌, ◌≤◌, ◌≢◌, ◌||◌, ◌&&◌, ◌⊎◌, not, Bool, true, false, List, [], ◌∷◌, ◌++◌, length, Option, Some, None, inl, inr, refl, sym, ap, subst, ◌∙◌, arith, ne_eqb}
-use Rattle.crn_cipher.specs.declared.TheConstants.{BLOCK_WORDS}
+use Rattle.std.proofs.Common.{◌≡◌, ℕ, zero, suc, ◌+◌, ◌<◌, ◌≤◌, ◌≢◌, ◌||◌, ◌&&◌, ◌⊎◌, not, Bool, true, false, List, [], ◌∷◌, ◌++◌, length, Option, Some, None, inl, inr, refl, sym, ap, subst, ◌∙◌, arith}
 use Rattle.std.specs.List.{All}
-use Rattle.std.specs.Prelude.{if◌then◌else◌, ◌==◌, nat_lt}
-use Rattle.std.proofs.lemmas.Bool.{cases_Bool, cases_eq, cond_both, eq-eqb, true≢false}
+use Rattle.std.specs.Prelude.{if◌then◌else◌, ◌==◌}
+use Rattle.std.proofs.lemmas.Bool.{cases_Bool, cases_eq, eq-eqb, true≢false}
 use Rattle.std.proofs.lemmas.List.Elements.{All-head, All-tail}
 use Rattle.crn_proto.specs.declared.spec.RingSpec.{RingSpec}
 use Rattle.crn_proto.specs.declared.schedule.Actor.{Actor}
-use Rattle.crn_proto.specs.declared.schedule.Actor.TheVariants.{Producer, Finish, Reader, Leave}
+use Rattle.crn_proto.specs.declared.schedule.Actor.TheVariants.{Producer}
 use Rattle.crn_proto.specs.declared.schedule.Step.{Step as Answer}
 use Rattle.crn_proto.specs.Ring.{IsRing, Ring, Move, ByProducer, ByReader, LoadGate, Publish, Finish as FinishMove, LoadCursor, LoadWord, Take, LeadsTo, bit}
-use Rattle.crn_proto.specs.Machine.{MachineState, Outcome, IsActor, machine_steps, machine_after, open_machine, taker_at, producer_steps, reader_steps}
+use Rattle.crn_proto.specs.Machine.{MachineState, IsActor, machine_steps, machine_after, open_machine}
 use Rattle.crn_proto.specs.Traces.{kind_of, reader_at, IsMoveOf, IsAnswer}
 use Rattle.crn_proto.specs.Progress.{owner, machine_mark, has_finished, is_store, has_stored, makes_progress, progress, progress_of, is_turn_of, turns_of, stores_in, turns_to_progress, turns_a_round, ProgressIsBounded, NeverStuck, IsRound, AreRounds, after_rounds, EndsByRounds}
 use Rattle.crn_proto.specs.Batches.{Watch, mover, ring_mark, moves_by, stores_by, RoundsLead}
 use Rattle.crn_proto.proofs.Runs.{bit_small}
+use Rattle.crn_proto.proofs.Replays.{same_spec as steps_same}
 use Rattle.crn_proto.proofs.Pace.{Onward, finished_on}
 use Rattle.crn_proto.proofs.Batches.{Fits, comes, part_now, part_by_others}
 use Rattle.crn_proto.proofs.BatchRounds.{batches_never_stick, batches_end_by_rounds}
@@ -48,20 +48,18 @@ bit_rises : (a b : Bool) → (a ≡ true → b ≡ true) → bit a ≤ bit b
 bit_rises true b h = rw (h refl) (omega arith)
 bit_rises false b h = omega arith
 
-count_rises : (f g : ℕ → Bool) (n : ℕ) → ((k : ℕ) → k < n → f k ≡ true → g k ≡ true) → count f n ≤ count g n
-count_rises f g zero on = omega arith
-count_rises f g (suc n) on = let b = bit_rises (f n) (g n) (on n (omega arith)) in let more = count_rises f g n (λ k h. on k (omega arith)) in omega arith
-
-count_more : (f g : ℕ → Bool) (n r : ℕ) → r < n → ((k : ℕ) → k < n → f k ≡ true → g k ≡ true) → f r ≡ false → bit (g r) + count f n ≤ count g n
-count_more f g zero r h on none = absurd (omega arith)
-count_more f g (suc n) r h on none = elim (cases_eq r n) [
-  | inl e ↦
-      let before : bit (f n) ≡ 0 = rw (← e, none) refl in
-      let after : bit (g r) ≡ bit (g n) = ap (λ k. bit (g k)) e in
-      let more = count_rises f g n (λ k l. on k (omega arith)) in
-      omega arith
-  | inr ne ↦ let b = bit_rises (f n) (g n) (on n (omega arith)) in let more = count_more f g n r (omega arith) (λ k l. on k (omega arith)) none in omega arith
-]
+-- a test that holds of more numbers counts more, and one more if it now holds of r
+count_rises : (f g : ℕ → Bool) (n r : ℕ) → ((k : ℕ) → k < n → f k ≡ true → g k ≡ true) → (count f n ≤ count g n) × (r < n → f r ≡ false → bit (g r) + count f n ≤ count g n)
+count_rises f g zero r on = (omega arith, λ h. absurd (omega arith))
+count_rises f g (suc n) r on =
+    let b = bit_rises (f n) (g n) (on n (omega arith)) in
+    let (all, one) = count_rises f g n r (λ k h. on k (omega arith)) in (
+      omega arith,
+      λ h none. elim (cases_eq r n) [
+        | inl e ↦ let before : bit (f n) ≡ 0 = rw (← e, none) refl in let after : bit (g r) ≡ bit (g n) = ap (λ k. bit (g k)) e in omega arith
+        | inr ne ↦ let more = one (omega arith) none in omega arith
+      ],
+    )
 
 nothing_new : (b : Bool) → not b && b ≡ false
 nothing_new true = refl
@@ -77,7 +75,7 @@ shows s t a answer = has_stored answer || (not (has_finished (ring_mark s) a) &&
 
 module _ (spec : RingSpec) (ring : IsRing spec) (s : Ring) (w : Watch) (fits : Fits spec 1 s w) (t : Ring) (onward : Onward spec (ring_mark s) (ring_mark t)) where
   rises : seen spec s ≤ seen spec t
-  rises = count_rises (ring_mark s).seen_end (ring_mark t).seen_end spec.readers onward.seen_end
+  rises = (count_rises (ring_mark s).seen_end (ring_mark t).seen_end spec.readers 0 onward.seen_end).0
 
   -- by a move that is no store a reader may see the end
   abbrev sees : Move → Type 0
@@ -91,7 +89,7 @@ module _ (spec : RingSpec) (ring : IsRing spec) (s : Ring) (w : Watch) (fits : F
   move_sees (ByReader r LoadCursor) step h =
       let ((stays, no_end, none), is) = part_now spec ring 1 s w fits r t LoadCursor step in
       let left : (reader_at t r).left ≡ false = rw is stays in
-      let more = count_more (ring_mark s).seen_end (ring_mark t).seen_end spec.readers r (omega arith) onward.seen_end no_end in
+      let more = (count_rises (ring_mark s).seen_end (ring_mark t).seen_end spec.readers r onward.seen_end).1 (omega arith) no_end in
       rw (stays, no_end, left) (omega arith)
   move_sees (ByReader r LoadWord) step h = let (may, is) = part_now spec ring 1 s w fits r t LoadWord step in same_sees (suc r) (rw is refl)
   move_sees move step h = let up = rises in omega arith
@@ -106,32 +104,6 @@ module _ (spec : RingSpec) (ring : IsRing spec) (s : Ring) (w : Watch) (fits : F
       rw (one, is, ← e) (omega arith)
 
 -- ---- one turn
-
-abbrev IdleOnly : Bool → Outcome → Type 0
-IdleOnly b out = out.1 ≡ None → b ≡ true
-
-idle_producer : (m : MachineState) → IdleOnly m.ended (producer_steps m)
-unfolding producer_steps
-idle_producer m =
-    cond_both m.ended _ _ (IdleOnly m.ended) (λ e none. e)
-    (λ _. cond_both (m.published == m.spec.id.total) _ _ (IdleOnly m.ended) (λ _ none. cc)
-    (λ _. cond_both (nat_lt m.passed m.spec.readers) _ _ (IdleOnly m.ended) (λ _ none. cc)
-    (λ _. cond_both (nat_lt m.stored BLOCK_WORDS) _ _ (IdleOnly m.ended) (λ _ none. cc) (λ _ none. cc))))
-
-idle_reader : (m : MachineState) (r : ℕ) → IdleOnly (has_finished (machine_mark m) (suc r)) (reader_steps m r)
-unfolding reader_steps
-idle_reader m r =
-    let fin = (taker_at m r).left || (taker_at m r).seen_end in
-    cond_both fin _ _ (IdleOnly fin) (λ e none. e)
-    (λ _. cond_both (not (taker_at m r).reading) _ _ (IdleOnly fin) (λ _ none. cc)
-    (λ _. cond_both (nat_lt (taker_at m r).read BLOCK_WORDS) _ _ (IdleOnly fin) (λ _ none. cc) (λ _ none. cc)))
-
--- an actor whose turn has no step has finished
-idle : (m : MachineState) (who : Actor) (a : ℕ) → (machine_steps m who).1 ≡ None → (has_finished (machine_mark m) a ≡ true) ⊎ (is_turn_of a who ≡ false)
-idle m Producer a none = elim (cases_eq 0 a) [ inl e ↦ inl (subst (λ x. has_finished (machine_mark m) x ≡ true) e (idle_producer m none)) | inr ne ↦ inr (ne_eqb 0 a ne) ]
-idle m Finish a none = inr refl
-idle m (Reader r) a none = elim (cases_eq (suc r) a) [ inl e ↦ inl (subst (λ x. has_finished (machine_mark m) x ≡ true) e (idle_reader m r none)) | inr ne ↦ inr (ne_eqb (suc r) a ne) ]
-idle m (Leave r) a none = inr refl
 
 own_turn : (a : ℕ) (who : Actor) → bit (is_turn_of a who) ≤ bit (owner who == a)
 own_turn a Producer = omega arith
@@ -182,7 +154,7 @@ progress_shown : (m : MachineState) (at : Beside m) (who : Actor) → IsActor m.
 progress_shown m at who known adv =
     let few = owner_few m.spec who known in
     let before = finished_alike m at (owner who) few in
-    let after = finished_alike (machine_steps m who).0 adv.next (owner who) (rw adv.same_spec few) in
+    let after = finished_alike (machine_steps m who).0 adv.next (owner who) (rw (steps_same m who) few) in
     rw (before, after) refl
 
 -- ---- a schedule
@@ -210,9 +182,6 @@ record Counts (a : ℕ) (m : MachineState) (actors : List Actor) (s : Ring) (mov
 abbrev end_of : {m : MachineState} {at : Beside m} {actors : List Actor} → Replayed m at actors → Ring
 end_of {m} {at} {actors} run = ring_by (machine_after m actors) run.end
 
-onward_of : (m : MachineState) → IsRing m.spec → (at : Beside m) (actors : List Actor) (run : Replayed m at actors) → Onward m.spec (ring_mark (ring_by m at)) (ring_mark (end_of run))
-onward_of m ring at actors run = (comes m.spec ring 1 run.moves (ring_by m at) (end_of run) (watch_by m at) _ at.fits run.goes).onward
-
 counts : (actors : List Actor) (m : MachineState) (ring : IsRing m.spec) (at : Beside m) (all : All (IsActor m.spec) actors) (a : ℕ) → a ≤ m.spec.readers
     → Counts a m actors (ring_by m at) (replay_from actors m ring at all).moves (end_of (replay_from actors m ring at all))
 unfolding replay_from
@@ -221,9 +190,10 @@ counts (who ∷ actors) m ring at all a few =
     let known = All-head (IsActor m.spec) who actors all in
     let adv = steps_advance m ring at who known in
     let next = (machine_steps m who).0 in
-    let few' : a ≤ next.spec.readers = rw adv.same_spec few in
-    let later : All (IsActor next.spec) actors = rw adv.same_spec (All-tail (IsActor m.spec) who actors all) in
-    let ring' : IsRing next.spec = rw adv.same_spec ring in
+    let same : next.spec ≡ m.spec = steps_same m who in
+    let few' : a ≤ next.spec.readers = rw same few in
+    let later : All (IsActor next.spec) actors = rw same (All-tail (IsActor m.spec) who actors all) in
+    let ring' : IsRing next.spec = rw same ring in
     let rest = replay_from actors next ring' adv.next later in
     let more = counts actors next ring' adv.next later a few' in
     let (moves, stores, finishes) = counted who (ring_by m at) adv.made (machine_steps m who).1 (ring_by next adv.next) a adv.took in
@@ -236,16 +206,16 @@ counts (who ∷ actors) m ring at all a few =
     let t = ring_by next adv.next in
     let one = answer_sees m.spec ring (ring_by m at) (watch_by m at) at.fits t adv.onward who adv.made (machine_steps m who).1 adv.took (owner_few m.spec who known) in
     let sees_here : bit (makes_progress m who) + seen m.spec (ring_by m at) ≤ stores_in adv.made + seen m.spec t = rw shown one in
-    let sees_later = subst (λ x. progress next actors + seen x t ≤ stores_in rest.moves + seen x (end_of rest)) adv.same_spec more.sees in
+    let sees_later = subst (λ x. progress next actors + seen x t ≤ stores_in rest.moves + seen x (end_of rest)) same more.sees in
     let all_sum = all_append adv.made rest.moves in
     record {
       turns = elim more.turns [
         | inl fin ↦ inl fin
         | inr turns ↦ elim moves [
-          | inl none ↦ elim (idle m who a none) [
+          | inl none ↦ elim (adv.idle none a) [
             | inl fin ↦
                 let before : has_finished (ring_mark (ring_by m at)) a ≡ true = sym (finished_alike m at a few) ∙ fin in
-                inl (finished_on m.spec _ _ (onward_of m ring at (who ∷ actors) (replay_from (who ∷ actors) m ring at all)) a few before)
+                inl (finished_on m.spec _ _ (comes m.spec ring 1 _ _ _ _ _ at.fits (replay_from (who ∷ actors) m ring at all).goes).onward a few before)
             | inr other ↦ let zero_turns : bit (is_turn_of a who) ≡ 0 = rw other refl in inr (omega arith)
           ]
           | inr mine ↦ inr (omega arith)
