@@ -127,5 +127,4 @@ stores_are_bounded spec moves s ring run =
     let count : length s.readers ≡ s.spec.readers = all.count ∙ length-replicate spec.readers (open_reader spec) ∙ sym readers in
     let most = stored_most s count all.law all.few in
     let limit : store_limit s.spec ≡ store_limit spec = ap store_limit all.spec in
-    let stores = all.stores in
-    omega arith
+    omega (arith, all.stores)

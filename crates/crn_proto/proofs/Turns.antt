@@ -236,9 +236,7 @@ progress_is_bounded spec actors ring all =
     let at = open_beside spec ring in
     let run = replay_from actors (open_machine spec) ring at all in
     let most = (counts actors (open_machine spec) ring at all 0 (omega arith)).sees in
-    let few = count_few (ring_mark (end_of run)).seen_end spec.readers in
-    let stores = stores_are_bounded spec run.moves (end_of run) ring (runs_of run.moves _ _ _ _ run.goes) in
-    omega arith
+    omega (arith, count_few (ring_mark (end_of run)).seen_end spec.readers, stores_are_bounded spec run.moves (end_of run) ring (runs_of run.moves _ _ _ _ run.goes))
 
 pub never_stuck : NeverStuck
 never_stuck spec actors ring all unfinished =
