@@ -16,7 +16,6 @@ from typing import Any, NamedTuple, TypeVar
 import numpy as np
 import pandas as pd
 
-from crnplan.compiled import PLAIN_CALLS
 from crnplan.plan.catalogue import ANSWERS
 from crnplan.plan.learned import learned_of
 from crnplan.plan.question import ALL, Question, Settings, question_of
@@ -95,10 +94,10 @@ def is_comparable(question: Question) -> bool:
 
 def compared_batch(batch: Sequence[Item], prior: Prior) -> list[Compared]:
     """Compares both on those of some items that both can plan. Before the first item of a process the loops of both are
-    compiled: these run as they are written for some calls."""
+    loaded, or compiled."""
     questions = [question_of(item, SETTINGS, prior) for item in batch]
     asked = [question for question in questions if is_comparable(question)]
-    while asked and len(WARM) <= PLAIN_CALLS:
+    if asked and not WARM:
         compared(dataclasses.replace(asked[0]), "")
         WARM.append(1)
     return [compared(question, question.item.group) for question in asked]

@@ -14,7 +14,7 @@ import numpy as np
 import numpy.typing as npt
 from scipy.signal import convolve
 
-from crnplan.compiled import composed
+from crnplan.compiled import compiled
 
 Floats = npt.NDArray[np.float64]
 Rates = tuple[float, float, float]
@@ -29,6 +29,7 @@ class Optimum(NamedTuple):
     level: int
 
 
+@compiled
 def stock_cost(table: Floats, rates: Rates, level: int) -> float:
     """Returns G(y), the mean cost of stock and backlog of a period, of a position y after a review. `table` has it from
     0 on, up to all demand of a lead time and a period; `rates` are the mean of that, holding and backlog."""
@@ -38,6 +39,7 @@ def stock_cost(table: Floats, rates: Rates, level: int) -> float:
     return float(table[level]) if level < len(table) else holding * (level - mean)
 
 
+@compiled
 def grown(visits: Floats, sums: Floats, known: int, count: int, turned: Floats) -> tuple[Floats, Floats, int]:
     """Returns m(j), the mean number of visits to the place j below S in a cycle, for all j below a count, with M(n), the
     sum of those with j < n, and how many are known. `turned` are the chances of demands above 0, the greatest first."""
@@ -51,6 +53,7 @@ def grown(visits: Floats, sums: Floats, known: int, count: int, turned: Floats) 
     return visits, sums, max(known, count)
 
 
+@compiled
 def cycle_cost(table: Floats, rates: Rates, setup: float, visits: Floats, reorder: int, level: int) -> float:
     """Returns k(s,S), the mean cost of a cycle: K plus the sum of m(j) G(S - j) over j < S - s."""
     cycle = setup
@@ -59,7 +62,7 @@ def cycle_cost(table: Floats, rates: Rates, setup: float, visits: Floats, reorde
     return cycle
 
 
-@composed()
+@compiled
 def optimum(demand: Floats, table: Floats, rates: Rates, setup: float) -> tuple[float, int, int]:
     """Returns the best policy: its cost c(s,S) = k(s,S) / M(S - s), s and S. Step 0 takes S = y*, which minimizes G, and
     the greatest s below with c(s,S) <= G(s). In step 1 S rises while G(S) is at most the least cost so far, and s with
@@ -110,7 +113,7 @@ class Search:
     def cost(self, reorder: int, level: int) -> float:
         """Returns c(s,S), the cost of a period."""
         first, count = 1 / (1 - self.demand[0]), level - reorder
-        visits, sums, _ = grown(np.array([first]), np.array([0, first]), 1, count, self.demand[:0:-1])
+        visits, sums, _ = grown(np.array([first]), np.array([0, first]), 1, count, self.demand[:0:-1].copy())
         return cycle_cost(self.table, self.rates, self.setup, visits, reorder, level) / float(sums[count])
 
     def best(self) -> Optimum:

@@ -11,6 +11,7 @@ import sys
 import tempfile
 from collections.abc import Callable, Iterator
 from pathlib import Path
+from types import ModuleType
 from typing import NamedTuple
 
 import pytest
@@ -57,6 +58,14 @@ def open_room() -> Iterator[Path]:
     with tempfile.TemporaryDirectory(prefix="crnplan-test-") as folder:
         Path(folder).chmod(0o777)
         yield Path(folder)
+
+
+def leave_as_written(monkeypatch: pytest.MonkeyPatch, *modules: ModuleType) -> None:
+    """Has the loops of modules run in plain Python: as they are written, and not as they are compiled."""
+    for module in modules:
+        for name, loop in [*vars(module).items()]:
+            if hasattr(loop, "py_func"):
+                monkeypatch.setattr(module, name, loop.__wrapped__)
 
 
 def shared(factory: pytest.TempPathFactory, name: str, make: Callable[[Path], object]) -> Path:

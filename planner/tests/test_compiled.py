@@ -1,83 +1,42 @@
-"""Loops that numba compiles, and what stands in for them."""
+"""Loops that numba compiles, and where they are kept."""
 from __future__ import annotations
 
+import importlib
 import importlib.util
-import multiprocessing
 import os
+import pkgutil
+import shutil
+import subprocess
 import sys
 import tempfile
 from collections.abc import Callable, Iterator
 from pathlib import Path
 from types import ModuleType
+from typing import Any
 
 import numpy as np
 import pytest
 
-from crnplan import compiled as module
-from crnplan.compiled import cache_folder, compiled, left_plain, numba_njit
+import crnplan
+from crnplan.caches import cache_folder
+from crnplan.compiled import compiled, kept_in
 
 
-def total_of(values: np.ndarray) -> tuple[str, float]:
-    """Stands in for a loop, and says so."""
-    return "plain", float(values.sum())
-
-
-def loop(values: np.ndarray) -> tuple[str, float]:
+def loop(values: np.ndarray) -> float:
     total = 0.0
     for value in values:
         total += value
-    return "loop", total
-
-
-@pytest.fixture(autouse=True)
-def anew() -> Iterator[None]:
-    """Has numba looked for anew."""
-    numba_njit.cache_clear()
-    yield
-    numba_njit.cache_clear()
-
-
-def test_loop_is_compiled() -> None:
-    total = compiled(total_of)(loop)
-    assert total(np.ones(3)) == ("loop", 3.0)
-    assert total(np.arange(4)) == ("loop", 6.0)
-
-
-def test_first_calls_are_plain() -> None:
-    total = compiled(total_of, after=2)(loop)
-    assert [total(np.ones(3))[0] for _ in range(4)] == ["plain", "plain", "loop", "loop"]
-
-
-def test_loops_are_left_plain() -> None:
-    total = compiled(total_of)(loop)
-    with left_plain():
-        assert total(np.ones(3))[0] == "plain"
-    assert total(np.ones(3))[0] == "loop"
-
-
-def test_numpy_stands_in(monkeypatch: pytest.MonkeyPatch) -> None:
-    monkeypatch.setitem(sys.modules, "numba", None)
-    assert compiled(total_of)(loop)(np.ones(3)) == ("plain", 3.0)
-
-
-def test_without_a_folder_it_is_compiled_each_time(monkeypatch: pytest.MonkeyPatch) -> None:
-    """A machine without a folder that can be written compiles, and keeps nothing."""
-    def njit(*words: object, cache: bool = False) -> object:
-        if cache:
-            raise RuntimeError("cannot cache")
-        return words[0]
-    monkeypatch.setattr(module, "numba_njit", lambda: lambda *words, **named: njit(*words, **named)
-                        if words else lambda it: njit(it, **named))
-    assert compiled(total_of)(loop)(np.ones(2)) == ("loop", 2.0)
+    return total
 
 
 LOOPS = """
-from crnplan.compiled import composed
+from crnplan.compiled import compiled
 
+@compiled
 def half(number):
     return number / SHARE
 
-@composed()
+@compiled
 def halves(values):
     def added(total, value):
         return total + value
@@ -109,11 +68,9 @@ def installed(tmp_path: Path, monkeypatch: pytest.MonkeyPatch) -> Iterator[Calla
     yield install
 
 
-def sum_and_compiled(module: ModuleType, begins: Callable[[], object] = int) -> tuple[float, int]:
+def sum_and_compiled(module: ModuleType) -> tuple[float, int]:
     """Returns what a loop returns, and how many functions were compiled for it."""
     from numba.core.event import install_recorder
-    numba_njit.cache_clear()
-    begins()
     with install_recorder("numba:compile") as recorder:
         found = module.halves(np.arange(4.0))
     names = [str(event.data["dispatcher"]) for _, event in recorder.buffer if event.is_start]
@@ -129,12 +86,12 @@ def test_installations_share_loops(installed: Callable[..., ModuleType]) -> None
 
 
 def test_changed_loops_are_compiled(installed: Callable[..., ModuleType]) -> None:
-    """A change of a loop, of a function in it or that it calls, or of a number that these name, is heeded: also if the
-    text was changed after it was read."""
+    """A change of a loop, of a function in it or of a loop that it calls, or of a number that these name, is heeded: also
+    if the text was changed after it was read."""
     assert sum_and_compiled(installed("one")) == (3.0, 2)
-    assert sum_and_compiled(installed("one", LOOPS.replace("total = 0.0", "total = 1.0"))) == (4.0, 2)
+    assert sum_and_compiled(installed("one", LOOPS.replace("total = 0.0", "total = 1.0"))) == (4.0, 1)
     assert sum_and_compiled(installed("one", LOOPS.replace("number /", "3 * number /"))) == (9.0, 2)
-    assert sum_and_compiled(installed("one", LOOPS.replace("total + value", "total - value"))) == (-3.0, 2)
+    assert sum_and_compiled(installed("one", LOOPS.replace("total + value", "total - value"))) == (-3.0, 1)
     assert sum_and_compiled(installed("one", share=4)) == (1.5, 2)
     before = installed("one", LOOPS.replace("number /", "5 * number /"))
     installed("one", LOOPS.replace("number /", "7 * number /"))
@@ -143,27 +100,38 @@ def test_changed_loops_are_compiled(installed: Callable[..., ModuleType]) -> Non
     assert sum_and_compiled(installed("one")) == (3.0, 0)
 
 
-def test_one_process_compiles(installed: Callable[..., ModuleType]) -> None:
-    """Of processes that need a loop at once, one compiles it."""
-    loops, context = installed("one"), multiprocessing.get_context("fork")
-    barrier, found = context.Barrier(3), context.SimpleQueue()
-    processes = [context.Process(target=lambda: found.put(sum_and_compiled(loops, barrier.wait))) for _ in range(3)]
-    for process in processes:
-        process.start()
-    for process in processes:
-        process.join()
-        assert process.exitcode == 0
-    assert sorted(found.get() for _ in processes) == [(3.0, 0), (3.0, 0), (3.0, 2)]
-
-
 def test_a_folder_that_cannot_be_written(installed: Callable[..., ModuleType], tmp_path: Path,
                                          monkeypatch: pytest.MonkeyPatch) -> None:
     """Loops are compiled, and not kept."""
     (tmp_path / "caches").touch()
     monkeypatch.setattr(tempfile, "tempdir", str(tmp_path / "caches"))
+    for _ in range(2):
+        assert sum_and_compiled(installed("one")) == (3.0, 2)
+
+
+def test_a_full_disk(installed: Callable[..., ModuleType], monkeypatch: pytest.MonkeyPatch) -> None:
+    """Loops are compiled, and not kept."""
+    def full(*words: object, **more: object) -> None:
+        raise OSError(28, "No space left on device")
+    monkeypatch.setattr(Path, "touch", full)
     assert sum_and_compiled(installed("one")) == (3.0, 2)
-    with module.kept(installed("one").half) as path:
-        assert path == str(tmp_path / "one/loops.py")
+
+
+def loops_of_package() -> dict[str, Any]:
+    """Returns all loops of the package by name, and each module that has one."""
+    modules = [importlib.import_module(it.name) for it in pkgutil.walk_packages(crnplan.__path__, "crnplan.")
+               if it.name != "crnplan.__main__"]
+    return {f"{module.__name__}.{name}": value for module in modules for name, value in vars(module).items()
+            if hasattr(value, "py_func") and value.__module__ == module.__name__}
+
+
+def test_what_loops_name_stands_above_them() -> None:
+    """So what decides what a loop is compiled to is known when it is decorated."""
+    loops = loops_of_package()
+    assert len(loops) > 25
+    for name, machine in loops.items():
+        kept = machine.py_func.__code__.co_filename
+        assert kept_in(Path(kept).parent, machine.__wrapped__).__code__.co_filename == kept, name
 
 
 @pytest.fixture
@@ -217,8 +185,7 @@ def test_folders_of_others(monkeypatch: pytest.MonkeyPatch, home: Path, tmp_path
     spoil(other, way)
     assert cache_folder() is None
     before = sorted(tmp_path.rglob("*"))
-    numba_njit.cache_clear()
-    assert compiled(total_of)(loop)(np.ones(3)) == ("loop", 3.0)
+    assert compiled(loop)(np.ones(3)) == 3
     assert sorted(tmp_path.rglob("*")) == before
 
 
@@ -229,9 +196,44 @@ def test_numba_of_others(monkeypatch: pytest.MonkeyPatch, home: Path, tmp_path: 
     for way, is_own in (("all", False), ("own", True)):
         told.mkdir() if is_own else spoil(told, way)
         monkeypatch.setattr(config, "CACHE_DIR", str(told))
-        numba_njit.cache_clear()
-        assert compiled(total_of)(loop)(np.ones(3)) == ("loop", 3.0)
-        assert (config.CACHE_DIR == str(told)) == is_own == any(told.iterdir())
+        assert compiled(loop)(np.ones(3)) == 3 and config.CACHE_DIR == str(told)
+        assert any(told.iterdir()) == is_own and (home / ".cache/crnplan").exists() != is_own
         if not is_own:
-            assert config.CACHE_DIR.startswith(str(home / ".cache/crnplan"))
             told.rmdir()
+            shutil.rmtree(home / ".cache/crnplan")
+
+
+# Plans items of all kinds, with a curve and tests on the past, and prints what was compiled meanwhile.
+PLANNED = """
+import sys
+from numba.core.event import install_recorder
+from pathlib import Path
+from crnplan.commands import main
+from planner.bench.made import make
+
+folder, program = Path(sys.argv[1]), sys.argv[2]
+paths, plan = make(folder / "files", 40).paths, str(folder / "plan")
+commands = [["catalogue", str(paths["demand"]), str(paths["items"]), "--orders", str(paths["orders"]), "--out", plan,
+             "--jobs", "1", "--program", program],
+            ["curve", plan, "--jobs", "1"], ["backtest", plan, "--jobs", "1"],
+            ["report", plan, "--jobs", "1", "--program", program]]
+with install_recorder("numba:compile") as recorder:
+    for sys.argv[1:] in commands:
+        try:
+            main()
+        except SystemExit as ended:
+            assert not ended.code, sys.argv
+print([(str(event.data["dispatcher"]), event.data["args"]) for _, event in recorder.buffer if event.is_start])
+"""
+
+
+@pytest.mark.timeout(900)
+def test_all_is_compiled_beforehand(tmp_path: Path, program: Path) -> None:
+    """Once all loops are compiled, plans, curves and tests on the past compile none."""
+    (tmp_path / "plan.py").write_text(PLANNED, "utf-8")
+    top = Path(__file__).resolve().parents[2]
+    environment = {**os.environ, "XDG_CACHE_HOME": str(tmp_path / "caches"), "PYTHONPATH": str(top)}
+    subprocess.run([sys.executable, "-m", "crnplan.compiled"], env=environment, check=True)
+    words = [sys.executable, "plan.py", str(tmp_path), str(program)]
+    ran = subprocess.run(words, cwd=tmp_path, env=environment, check=True, capture_output=True, text=True)
+    assert ran.stdout.splitlines()[-1] == "[]"

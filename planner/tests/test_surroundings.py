@@ -35,19 +35,22 @@ def room(open_room: Path) -> Path:
 def run(room: Path, words: Sequence[str], program: Path,
         environment: Mapping[str, str]) -> "subprocess.CompletedProcess[str]":
     """Runs Python as a user of whom the machine knows nothing, in the folder, with a few variables alone."""
-    variables = {"PATH": os.environ["PATH"], "CRNSIM": str(program), **environment}
+    plain = {"NUMBA_DISABLE_JIT": "1"}  # This user has no compiled loops, and these would take long to compile.
+    variables = {"PATH": os.environ["PATH"], "CRNSIM": str(program), **plain, **environment}
     return subprocess.run([*as_nobody(), sys.executable, "-B", *words], cwd=room, capture_output=True, text=True,
                           stdin=subprocess.DEVNULL, env=variables, check=False)
 
 
 KEEPING = """
 import numpy as np
-from crnplan.compiled import cache_folder, compiled
+from crnplan.caches import cache_folder
+from crnplan.compiled import compiled
 
+@compiled
 def loop(values):
     return values.sum()
 
-assert compiled(loop)(loop)(np.ones(3)) == 3
+assert loop(np.ones(3)) == 3
 print(cache_folder())
 """
 
@@ -64,7 +67,7 @@ def temporary(open_room: Path) -> Path:
 def test_loops_of_a_user_without_a_home(room: Path, program: Path, temporary: Path) -> None:
     """What is compiled is kept in an own folder among the temporary files."""
     (room / "loops.py").write_text(KEEPING, "utf-8")
-    told = run(room, ["loops.py"], program, {"TMPDIR": str(temporary)})
+    told = run(room, ["loops.py"], program, {"TMPDIR": str(temporary), "NUMBA_DISABLE_JIT": "0"})
     user = NOBODY if os.geteuid() == 0 else os.geteuid()
     assert told.stdout == f"{temporary}/crnplan-{user}\n", told.stderr
     own, = temporary.iterdir()

@@ -7,6 +7,8 @@ import subprocess
 from dataclasses import dataclass
 from pathlib import Path
 
+from crnplan.caches import cache_folder
+
 SECONDS = 100
 Ran = subprocess.CompletedProcess[str]
 # The folders of the path behind that of the fakes.
@@ -53,9 +55,10 @@ class Machine:
         write_script(self.folder / "bin" / name, text)
 
     def environment(self, **more: str) -> dict[str, str]:
-        """Returns the environment of a tool."""
+        """Returns the environment of a tool, in which crnplan finds the inner loops that this user has compiled."""
         named = {"PATH": f"{self.folder}/bin:{PATH}", "HOME": str(self.folder), "LANG": "C.UTF-8"}
-        return {**named, "LOG": str(self.folder / "log"), **more}
+        loops = {"NUMBA_CACHE_DIR": str(own)} if (own := cache_folder()) else {}
+        return {**named, **loops, "LOG": str(self.folder / "log"), **more}
 
     def run(self, *words: str | Path, text: str = "", **more: str) -> Ran:
         """Runs a command, whose name may be a path in the copy, to its end."""

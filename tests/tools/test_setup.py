@@ -17,9 +17,10 @@ PROJECT = "planner/pyproject.toml"
 ALL_THERE = "tools/setup: all is there\n"
 DONE = "tools/setup: done\n"
 MAKING = "tools/setup: making .venv from /usr/bin/python3 and its libraries, since {}\n"
-INSTALLING = "tools/setup: installing crnplan in .venv, since {}\n"
+INSTALLING = ("tools/setup: installing crnplan in .venv, since {}\n"
+              "tools/setup: compiling the inner loops of crnplan\n")
 MADE = MAKING.format("there is none") + INSTALLING.format("there is none") + DONE
-PIP = "python3 -m venv --copies .venv && .venv/bin/pip install -e 'planner[cluster,fast,test]' && rm -f .venv/lib64"
+PIP = "python3 -m venv --copies .venv && .venv/bin/pip install -e 'planner[cluster,test]' && rm -f .venv/lib64"
 OPTIONS = "apt-get -q -y -o DPkg::Lock::Timeout=900 -o APT::Update::Error-Mode=any"
 UPDATE = f"{OPTIONS} update"
 INSTALL = f"{OPTIONS} install --no-install-recommends"

@@ -14,12 +14,13 @@ from crnplan.catalogues import read_catalogue
 from crnplan.files import MARKER
 from crnplan.scenario import Costs
 from crnplan.theory.lattice import theories_of
-from planner.bench import page, usage, whole
+from planner.bench import page, usage, whole, zheng_federgruen
 from planner.bench.compared import all_figures, compare
 from planner.bench.made import Made, make
 from planner.bench.stored import keep, stored
-from planner.bench.zheng_federgruen import Floats, Search, best_policy, optimum, stock_cost
+from planner.bench.zheng_federgruen import Floats, Search, best_policy, stock_cost
 from planner.studies.page import PLACE, page_with
+from planner.tests.conftest import leave_as_written
 from planner.tests.theory.scenarios import PUBLISHED, scenario_of
 
 ITEMS = 120
@@ -175,8 +176,10 @@ def test_stock_costs_beyond_all_demands() -> None:
         Search(np.array([1.0, 0.0]), 2, 0, 2, 7)
 
 
-def test_published_as_it_is_written() -> None:
+def test_published_as_it_is_written(monkeypatch: pytest.MonkeyPatch) -> None:
     """The loop that is compiled gives the same policy in plain Python."""
     search = Search(chances([3, 0, 2, 1]), 2, 40, 2, 7)
     words = search.demand, search.table, search.rates, search.setup
-    assert optimum.loop(*words) == pytest.approx(search.best(), rel=1e-12)
+    best = search.best()
+    leave_as_written(monkeypatch, zheng_federgruen)
+    assert zheng_federgruen.optimum(*words) == pytest.approx(best, rel=1e-12)

@@ -1,4 +1,5 @@
-"""Tests the searches for the best policies against all policies one by one, and their loops against numpy."""
+"""Tests the searches for the best policies against all policies one by one, and their loops as they are compiled and as
+they are written."""
 from __future__ import annotations
 
 import functools
@@ -10,17 +11,17 @@ import pytest
 
 from crnplan.chances import Floats, Whole
 from crnplan.curve import every_gap
-from crnplan.curve.every_gap import GAIN, best_levels, best_policies, searched_policies
+from crnplan.curve.every_gap import GAIN, best_policies, searched_policies
 from crnplan.scenario import Costs, Scenario
 from crnplan.theory.feasible import ALL, Feasible
 from crnplan.theory.lattice import shape_of, theory_on
 from crnplan.theory.long_run import STOCK_LEFT, UNMET, LongRun, Means
 from crnplan.theory.one_lead import OneLead
+from planner.tests.conftest import leave_as_written
 from planner.tests.theory.long_run_costs import fills_of, shortfall_of
 from planner.tests.theory.scenarios import Pair, means_by_level, scenario_of
 
-LOOPS = "add_low", "choose_points", "compare_gap", "set_means", "finer"
-WAYS = pytest.mark.parametrize("way", ["run", "loop", "plain"])
+WAYS = pytest.mark.parametrize("is_compiled", [True, False])
 # Costs of an order, of an item in stock, and of one that is not met at once, by case.
 CASES = np.array([(order, holding, price) for order, holding in ((30.0, 1.0), (90.0, 1.0), (30.0, 4.0), (0.0, 1.0))
                   for price in 10.0**np.arange(-3, 5)]).T
@@ -87,17 +88,13 @@ def test_vertices_by_hand() -> None:
 
 
 @pytest.mark.parametrize("leads", [1, 3])
-@pytest.mark.parametrize("way", ["loop", "plain"])
 @pytest.mark.parametrize("step, feasible", [(1, ALL), (3, BOUNDS[1]), (1, BOUNDS[3])], ids=str)
-def test_ways(step: int, feasible: Feasible, way: str, leads: int, monkeypatch: pytest.MonkeyPatch) -> None:
-    """Finds the same as it is written, by numpy, and as it is compiled."""
+def test_ways(step: int, feasible: Feasible, leads: int, monkeypatch: pytest.MonkeyPatch) -> None:
+    """Finds the same as it is written and as it is compiled."""
     find, theory = (best_policies, theory_by(LUMPY, step, feasible)) if leads == 1 else (
         searched_policies, late_theory(LUMPY, None, step)[0].within(feasible))
     gaps, figures = find(theory, CASES)
-    for name in LOOPS:
-        monkeypatch.setattr(every_gap, name, getattr(getattr(every_gap, name), way))
-    for name in ("compare_gaps", "best_levels"):
-        monkeypatch.setattr(every_gap, name, getattr(every_gap, name).loop)
+    leave_as_written(monkeypatch, every_gap)
     its, others = find(theory, CASES)
     assert its.tolist() == gaps.tolist() and np.allclose(others, figures, 1e-12, 1e-12)
 
@@ -105,19 +102,18 @@ def test_ways(step: int, feasible: Feasible, way: str, leads: int, monkeypatch: 
 @WAYS
 @pytest.mark.parametrize("low", [0, -2])
 @pytest.mark.parametrize("step", [1, 3])
-def test_best_levels(step: int, low: int, way: str, monkeypatch: pytest.MonkeyPatch) -> None:
+def test_best_levels(step: int, low: int, is_compiled: bool, monkeypatch: pytest.MonkeyPatch) -> None:
     """Of the least level and all higher ones, each case has the cheapest, by stock and unmet demand between cells."""
-    if way != "run":
-        monkeypatch.setattr(every_gap, "set_means", getattr(every_gap.set_means, way))
+    if not is_compiled:
+        leave_as_written(monkeypatch, every_gap)
     before = np.array([[5, 2, 1, 1, 1, 0, 0, 0], [1, 1, 3, 3, 1, 1, 0, 0.0]])
     after = np.array([np.convolve(row, [3, 0, 1])[:8] for row in before])
     taken, levels, least = low + np.arange(8), np.array([5, 10, 15, 20, 40]) / step, np.array([1, 22]) / step
     asked, ranks, orders = np.array([1e-3, 0.2, 0.7, 5, 1e3]), np.array([4, 0, 1, 2, 3, 1]), np.array([0.4, 0.1])
     costs = np.array([[7, 0, 1, 2, 3, 4], [1, 2, 1, 2, 1, 1], np.array([1, 2, 1, 2, 1, 1]) * asked[ranks]])
     firsts = np.searchsorted(levels, least, "right")
-    found = (best_levels if way == "run" else best_levels.loop)(  # type: ignore[attr-defined]
-        np.array([9 * before, 7 * after]), low, step, orders, np.array([[3, 9], firsts]), least, levels, asked, ranks,
-        costs)
+    found = every_gap.best_levels(np.array([9 * before, 7 * after]), low, step, orders, np.array([[3, 9], firsts]), least,
+                                  levels, asked, ranks, costs)
     for each, figures in enumerate(found):
         its = np.array([least[each], *levels[levels > least[each]]])
         short, owed = (np.maximum(taken - np.arange(43)[:, None], 0) @ row[each] / row[each].sum()
@@ -129,20 +125,20 @@ def test_best_levels(step: int, low: int, way: str, monkeypatch: pytest.MonkeyPa
         assert figures == pytest.approx(np.array([its[best], stock[best], unmet[best], total[best, cases]]), abs=1e-12)
 
 
-def finer(way: str, places: Whole, gaps: int, *costs: Sequence[float] | Floats) -> list[int]:
+def finer(is_compiled: bool, places: Whole, gaps: int, *costs: Sequence[float] | Floats) -> list[int]:
     """Returns what `finer` does one way, of cases with costs by place; all places have equal gaps."""
-    loop = every_gap.finer if way == "run" else getattr(every_gap.finer, way)
+    loop = every_gap.finer if is_compiled else every_gap.finer.__wrapped__  # type: ignore[attr-defined]
     halves: Whole = loop(places, np.full(len(places), gaps), np.transpose(costs).astype(float, order="C"))
     return halves.tolist()
 
 
 @WAYS
-def test_finer_by_hand(way: str) -> None:
+def test_finer_by_hand(is_compiled: bool) -> None:
     """Stretches are halved where lines through the places beside them meet below the best, by more than a share."""
     places = np.array([0, 4, 8, 10, 11, 20])
 
     def due(*costs: Sequence[float] | Floats, gaps: int = 6400) -> list[int]:
-        return finer(way, places, gaps, *costs)
+        return finer(is_compiled, places, gaps, *costs)
     assert due([9, 2, 1, 2, 4, 40]) == [6, 9]  # lines meet at -1/3 and at 2/3
     assert due([103, 100.9, 100, 100.9, 102, 120]) == [2, 6, 9, 16]  # near the ends there is one line alone
     # Of a parabola with its least of 100, lines meet 32/7 and 8/3 times its bend below that: 0.005 is free.
@@ -153,19 +149,19 @@ def test_finer_by_hand(way: str) -> None:
 
 
 @WAYS
-def test_other_valleys_are_looked_at(way: str) -> None:
+def test_other_valleys_are_looked_at(is_compiled: bool) -> None:
     """Also where costs are nearly the best, but not where both ends of a stretch cost far more."""
     places = np.arange(0, 28, 4)
     for second, wanted in ((1.005, [6, 14, 18]), (1.2, [6])):
-        assert finer(way, places, 6400, [9, 2, 1, 2, second, 1.3, 9]) == wanted
+        assert finer(is_compiled, places, 6400, [9, 2, 1, 2, second, 1.3, 9]) == wanted
 
 
 @WAYS
-def test_lines_that_never_meet(way: str) -> None:
+def test_lines_that_never_meet(is_compiled: bool) -> None:
     """A stretch between parallel lines is halved if costs fall faster within it, which no convex costs do."""
     places = np.arange(0, 28, 4)
-    assert finer(way, places, 6400, [120, 104, 103, 103, 102, 100, 120]) == [2, 22]
-    assert finer(way, places, 6400, [120, 104, 103, 101, 100, 100.5, 120]) == [2, 10, 14, 18, 22]
+    assert finer(is_compiled, places, 6400, [120, 104, 103, 103, 102, 100, 120]) == [2, 22]
+    assert finer(is_compiled, places, 6400, [120, 104, 103, 101, 100, 100.5, 120]) == [2, 10, 14, 18, 22]
 
 
 @functools.cache

@@ -89,7 +89,7 @@ def test_histories_in_groups_and_chunks(monkeypatch: pytest.MonkeyPatch, mixed: 
     assert cells.marginal(prior) == pytest.approx(alone)
     expected = sum(np.outer(cells.shares[group], sizes) / chance
                    for group, sizes, chance in zip(cells.groups, cells.sizes, [alone[it] for it in range(5)]))
-    for way in ("loop", "plain", "__call__"):
+    for way in ("__call__", "__wrapped__"):
         assert np.allclose(getattr(grid.expected_of, way)(*cells, prior), expected, rtol=1e-9, atol=0)
         total = np.array([1.0, 2.0, 3.0])
         getattr(grid.add_row, way)(total, np.array([10.0, 0.0, -4.0]), 0.5)
@@ -478,9 +478,9 @@ def test_blur(seed: int, part: float) -> None:
     assert np.allclose(grid.estimated([], prior, prior, steps=1, blur=part), walked(prior, part), rtol=0, atol=1e-14)
 
 
-@pytest.mark.parametrize("way", ["loop", "plain", "__call__"])
+@pytest.mark.parametrize("way", ["__call__", "__wrapped__"])
 def test_weighed_sizes(way: str) -> None:
-    """Each way adds up the laws of cells with their weights, up to their widths: of three cells, the last two."""
+    """As it is compiled and as it is written, the loop adds up the laws of cells with their weights, up to their widths: of three cells, the last two."""
     table, ends = np.array([9.0, 9.0, 0.5, 0.3, 0.2, 0.6, 0.4, 0.0, 1.0, 0.75]), np.array([0, 2, 8, 10])
     words = np.array([[0.25, 0.25], [0.5, 0.0]]), np.array([1, 2]), np.array([2, 1]), table, ends
     # 0.25 * 0.5 + 0.25 * 0.6 + 0.5 * 1.0, and 0.25 * 0.3 + 0.25 * 0.4

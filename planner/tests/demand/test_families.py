@@ -16,6 +16,7 @@ from crnplan.demand.families import (beta_negative_binomial, cells_of, fits_of, 
 from crnplan.demand.fitting import fit_demand
 from crnplan.demand.posterior import allowed_laws
 from crnplan.demand.sample import Sample
+from planner.tests.conftest import leave_as_written
 from planner.tests.demand.made import HISTORIES
 
 BULKY = [0, 1, 0, 14, 2, 0, 0, 1, 0, 0, 19, 0, 3, 0, 1, 0, 0, 11, 0, 0, 1, 2, 0, 1, 0, 0]
@@ -44,8 +45,11 @@ def test_no_demand_above_the_range(name: str) -> None:
     assert len(predictive_of(name, Sample.of([0, 1, 5_000, 10_000] * 5))) <= 10_001
 
 
-def test_demand_in_two_of_the_most_periods() -> None:
+@pytest.mark.parametrize("is_compiled", [True, False])
+def test_demand_in_two_of_the_most_periods(is_compiled: bool, monkeypatch: pytest.MonkeyPatch) -> None:
     """The size of a negative binomial law is then far below 1, and none beside it is likelier."""
+    if not is_compiled:
+        leave_as_written(monkeypatch, families)
     numbers = [0] * 65_534 + [2, 2]
     size, rest = families.REGISTRY["negative-binomial"].likeliest(Sample.of(numbers)) or (0, 0)
 
@@ -269,9 +273,9 @@ def test_distances_by_definition(weights: list[int], histories: list[list[int]])
 
 @pytest.mark.parametrize("chances", [[0.5, 0.5], [0.6, 0.0, 0.3, 0.1, 0.0], [0.1] * 10, [0.9, 0.03, 0.03, 0.04]],
                          ids=["two", "gaps", "even", "rare"])
-@pytest.mark.parametrize("way", ["loop", "plain", "__call__"])
+@pytest.mark.parametrize("way", ["__call__", "__wrapped__"])
 def test_figures_of_drawn_histories(way: str, chances: list[float]) -> None:
-    """Each way draws each number by its uniform number, none above the last that has a chance."""
+    """As it is compiled and as it is written, the loop draws each number by its uniform number, none above the last that has a chance."""
     law, random = np.array(chances), np.random.default_rng(7)
     uniform, last = np.sort(random.random((6, 12)), axis=1), int(np.flatnonzero(law)[-1])
     uniform[0, -1] = 1 - 1e-16

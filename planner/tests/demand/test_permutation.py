@@ -92,11 +92,11 @@ def test_bound(statistics: list[int], level: float) -> None:
         assert (p_value(np.array([value, *statistics], dtype=float)) <= level + 1e-9) == (value > bound)
 
 
-@pytest.mark.parametrize("way", ["loop", "plain", "__call__"])
+@pytest.mark.parametrize("way", ["__call__", "__wrapped__"])
 @pytest.mark.parametrize("size, lengths", [(8, ()), (13, (2,)), (24, (4, 7))])
 def test_suspicious_orders(size: int, lengths: tuple[int, ...], way: str) -> None:
-    """Each way counts the orders whose statistic is at least that of the history, until all tests have more than they
-    may."""
+    """As it is compiled and as it is written, the loop counts the orders whose statistic is at least that of the
+    history, until all tests have more than they may."""
     random = np.random.default_rng(size)
     numbers, orders = random.poisson(1.5, size), random.permuted(np.tile(np.arange(size), (40, 1)), axis=1)
     parts = np.array([np.arange(size) % length for length in lengths], np.int64).reshape(-1, size)

@@ -56,14 +56,14 @@ def test_from_nothing(room: Path, plan: Plan, horizon: str) -> None:
 
 
 def test_imports_few_libraries(room: Path) -> None:
-    """A plan of an item starts fast: it imports no tables, pictures, clusters, compilers, nor the large parts of scipy."""
+    """A plan of an item starts fast: it imports no tables, pictures, clusters, nor the large parts of scipy."""
     code = ("import sys; from crnplan.commands import main\n"
             "try: main()\nfinally: print(*sys.modules, file=sys.stderr)")
     words = ("item", "history.csv", "settings.toml", "--out", "plan", "--program", "./program")
     found = subprocess.run([sys.executable, "-c", code, *words], cwd=room, capture_output=True, text=True, check=True)
     loaded = found.stderr.split()
     assert "crnplan.plan.item" in loaded and not {*loaded} & {
-        "pandas", "matplotlib", "distributed", "numba", "scipy.stats", "scipy.optimize", "crnplan.plan.catalogue"}
+        "pandas", "matplotlib", "distributed", "scipy.stats", "scipy.optimize", "crnplan.plan.catalogue"}
 
 
 def test_again_the_same_bytes(room: Path, whole: Path, crnplan: Command, monkeypatch: pytest.MonkeyPatch) -> None:

@@ -15,6 +15,7 @@ from crnplan.scenario import Costs, Policy, Scenario
 from crnplan.theory import run_effects
 from crnplan.theory.lattice import NoTheory, theories_of
 from crnplan.theory.run_effects import Runs, end_effects, start_bias, theory_of
+from planner.tests.conftest import leave_as_written
 from planner.tests.theory.chain import by_chain, expected
 from planner.tests.theory.scenarios import Pair, scenario_of
 
@@ -151,12 +152,12 @@ def test_all_reviews_at_once(weights: list[int], lead: Pair, s: int, gap: int, i
     assert at_once == pytest.approx(runs.bias(asked.policies[0], gap), rel=1e-8, abs=1e-7)
 
 
-@pytest.mark.parametrize("way", ["loop", "plain"])
+@pytest.mark.parametrize("is_compiled", [True, False])
 @pytest.mark.parametrize("case", ["one lead time", "least demand above 0"])
-def test_loops_and_what_stands_in(way: str, case: str, monkeypatch: pytest.MonkeyPatch) -> None:
-    """Both ways have the biases of a chain, also if the chances of orders settle before the end."""
-    for name in ("quotient", "sums_one_by_one", "counts_of"):
-        monkeypatch.setattr(run_effects, name, getattr(getattr(run_effects, name), way))
+def test_loops(is_compiled: bool, case: str, monkeypatch: pytest.MonkeyPatch) -> None:
+    """They give the biases of a chain, also if the chances of orders settle before the end."""
+    if not is_compiled:
+        leave_as_written(monkeypatch, run_effects)
     for start in [(4, 11, 7), (2, 6, 15), (5, 5, 5)]:
         asked, (usual, costs) = asked_of(case, start, 40), costs_of_chain(case, start)
         wanted = sum(costs) - 40 * (usual + COSTS.unit * float(asked.demand.mean))

@@ -7,16 +7,15 @@ import numpy as np
 import pytest
 from hypothesis import example, given, settings, strategies as st
 
-from crnplan.compiled import composed
 from crnplan.decide.sensitivity import Case, move_of
 from crnplan.scenario import Costs, Scenario
-from crnplan.theory import feasible, long_run, one_lead
+from crnplan.theory import feasible, least, long_run, one_lead
 from crnplan.theory.grid import search
 from crnplan.theory.lattice import NoTheory, shape_of, theory_on
-from crnplan.theory.least import gaps_walked
 from crnplan.theory.long_run import NO_POLICY, Candidate
 from crnplan.theory.many_laws import Promises
 from crnplan.theory.suggestions import MOST_EXCESS
+from planner.tests.conftest import leave_as_written
 from planner.tests.theory.long_run_costs import costs_of, fills_of, shortfall_of
 from planner.tests.theory.scenarios import Pair, laws, scenario_of, table, theory_of
 
@@ -149,19 +148,21 @@ def test_no_policy_within_the_range(monkeypatch: pytest.MonkeyPatch) -> None:
         move_of(Case("as it is", scenario, None), (0, 5))
 
 
+@pytest.mark.parametrize("is_compiled", [True, False])
 @pytest.mark.parametrize("share", [0.0, 0.95])
 @pytest.mark.parametrize("step, even", [(1, 99), (1, 40), (3, 99), (3, 40)])
-def test_each_gap_beside_all_its_levels(step: int, even: int, share: float) -> None:
+def test_each_gap_beside_all_its_levels(step: int, even: int, share: float, is_compiled: bool,
+                                        monkeypatch: pytest.MonkeyPatch) -> None:
     """Of each gap that is looked at the level is the cheapest one that is enough, and no other gap costs less: also with
-    equal lows from some place on. The first calls run as they are written: both ways are equal to the last bit."""
+    equal lows from some place on, as the loop is compiled and as it is written."""
     scenario = scenario_of(((1, 2, 3), (1, 2, 1)), ((5,), (1,)), costs=Costs(900, 0, 1, 9))
     theory = theory_on(scenario, shape_of(scenario), step, step == 1)
     lows, gaps, last = theory.lows_of(80), np.arange(8, 81), 120
     table, leasts = theory.figures_from(step * np.arange(-2, last + 1)), step * gaps + 26 * (gaps >= 35 // step)
     allowed, cycle, expected = theory.allowed(share) if share else math.inf, theory.setup / theory.span, []
-    for gap, least in zip(gaps.tolist(), leasts.tolist()):
+    for gap, lowest in zip(gaps.tolist(), leasts.tolist()):
         sums, cells = [table[:2, it - gap + 2:it + 3] @ lows[gap::-1] for it in range(gap, last + 1)], range(gap, last + 1)
-        levels = np.arange(least, step * last + 1)
+        levels = np.arange(lowest, step * last + 1)
         costs, unmet = (np.interp(levels, step * np.array(cells), its) / lows[:gap + 1].sum() for its in zip(*sums))
         costs[unmet > allowed * (1 + 1e-12)] = math.inf
         place = int(np.argmin(costs))
@@ -169,9 +170,10 @@ def test_each_gap_beside_all_its_levels(step: int, even: int, share: float) -> N
     added = [np.convolve(lows[:even] - lows[-1], row)[:len(row)] for row in table[:3]]
     words = (gaps, leasts, lows, table, np.concatenate([added, np.cumsum(table[:3], axis=1)]), even, step, step * last,
              cycle, 0.0, 0.0, allowed, theory.ratio, math.inf)
-    rows = gaps_walked.loop(*words)
+    if not is_compiled:
+        leave_as_written(monkeypatch, least)
+    rows = least.gaps_walked(*words)
     for gap, level, cost in rows.tolist():
         assert (level, pytest.approx(cost, rel=1e-12)) == expected[int(gap) - 8]
     best = min(cost for _, cost in expected)
     assert 20 < len(rows) < len(gaps) and rows[:, 2].min() == pytest.approx(best, rel=1e-12)
-    assert composed()(gaps_walked.loop)(*words).tolist() == rows.tolist()

@@ -1,27 +1,27 @@
-"""Tests the loops of theory with several lead times, as they are written and as numpy stands in for them."""
+"""Tests the loops of theory with several lead times, as they are compiled and as they are written."""
 from __future__ import annotations
 
 import numpy as np
 import pytest
 
 from crnplan.scenario import Costs
-from crnplan.theory import long_run, shortfalls
+from crnplan.theory import least, long_run, shortfalls
 from crnplan.theory.least import least_enough, sums_from
 from crnplan.theory.long_run import UNMET, Means
 from crnplan.theory.shortfalls import FAR
+from planner.tests.conftest import leave_as_written
 from planner.tests.theory.long_run_costs import costs_of, fills_of, shortfall_of
 from planner.tests.theory.scenarios import Pair, means_by_level, scenario_of, theory_of
 
-WAYS = ["loop", "plain"]
 
-
-@pytest.mark.parametrize("way", WAYS)
+@pytest.mark.parametrize("is_compiled", [True, False])
 @pytest.mark.parametrize("back, leads", [(None, [1, 2, 4]), (None, [2, 3]), (([0, 1], [3, 1]), [1, 2, 4])],
                          ids=["three lead times", "two", "returns"])
-def test_shortfalls_are_those_of_a_chain(way: str, back: Pair | None, leads: list[int],
+def test_shortfalls_are_those_of_a_chain(is_compiled: bool, back: Pair | None, leads: list[int],
                                          monkeypatch: pytest.MonkeyPatch) -> None:
     """Some gaps follow one another, and some are far from the one before."""
-    monkeypatch.setattr(shortfalls, "last_shortfalls", getattr(shortfalls.last_shortfalls, way))
+    if not is_compiled:
+        leave_as_written(monkeypatch, shortfalls)
     scenario, gaps = scenario_of(([0, 1, 3], [3, 2, 1]), (leads, [1] * len(leads)), back), [0, 1, 2, FAR + 1, FAR + 8]
     theory = theory_of(scenario)
     theory.rows_of(np.array(gaps))
@@ -47,7 +47,7 @@ def test_stocks_are_those_of_a_chain(back: Pair | None, leads: list[int]) -> Non
             assert row.sum() * wanted.orders == pytest.approx(1)
 
 
-@pytest.mark.parametrize("way", WAYS)
+@pytest.mark.parametrize("way", ["__call__", "__wrapped__"])
 @pytest.mark.parametrize("leads", [[2], [1, 4]], ids=["one lead time", "two"])
 @pytest.mark.parametrize("share", [0.0, 0.6, 0.99])
 def test_least_levels_that_are_enough(way: str, leads: list[int], share: float) -> None:
@@ -72,12 +72,12 @@ def test_least_levels_that_are_enough(way: str, leads: list[int], share: float) 
                          ids=["one lead time", "three", "returns"])
 def test_floors_of_costs(back: Pair | None, leads: list[int], share: float, monkeypatch: pytest.MonkeyPatch) -> None:
     """No policy of a gap costs less. With one lead time the best one costs no more."""
-    monkeypatch.setattr(long_run, "least_costs", long_run.least_costs.loop)
+    leave_as_written(monkeypatch, least, long_run)
     scenario = scenario_of(([0, 1, 3], [3, 2, 1]), (leads, [1] * len(leads)), back, Costs(20, 0, 2, 9))
     gaps, levels = [0, 1, 4, 20], np.arange(50)
     for gap, floor in zip(gaps, theory_of(scenario).floors(share, gaps)):
         short = shortfall_of(scenario, gap)
-        least = costs_of(scenario, short, levels)[fills_of(scenario, short, levels) >= share - 1e-9].min()
-        assert 0.5 * least < floor <= least + 1e-9
+        lowest = costs_of(scenario, short, levels)[fills_of(scenario, short, levels) >= share - 1e-9].min()
+        assert 0.5 * lowest < floor <= lowest + 1e-9
         if len(leads) == 1 and not share:
-            assert floor == pytest.approx(least)
+            assert floor == pytest.approx(lowest)

@@ -1,19 +1,17 @@
 """Tests sums and tails of laws with direct sums, and the lows and heights of a walk with its steps one by one."""
 from __future__ import annotations
 
-from typing import Any
-
 import numpy as np
 import pytest
 from hypothesis import given, settings, strategies as st
 
-from crnplan.compiled import composed
 from crnplan.law import Law
 from crnplan.theory.walk import (MOST_PRODUCTS, NOTHING, LatticeLaw, Surplus, convolved, cut, factors_of, figures_at,
                                  power_of, renewal_sequence, room_for, sum_of, summed)
 from planner.tests.theory.scenarios import table
 
 MOST_HEIGHT = 300
+WAYS = pytest.mark.parametrize("way", ["__call__", "__wrapped__"])
 chances = st.lists(st.integers(1, 1000), min_size=1, max_size=12)
 laws = st.builds(lambda low, weights: LatticeLaw(low, np.array(weights) / sum(weights)), st.integers(-20, 20), chances)
 tables = st.dictionaries(st.integers(0, 10_000), st.integers(0, 65_536), min_size=1, max_size=9).filter(
@@ -124,42 +122,48 @@ def test_any_walk_that_falls(demand: list[int], back: list[int]) -> None:
         assert error_of(net) < 1e-9
 
 
+def renewed(weights: list[int], count: int) -> tuple[np.ndarray, list[float]]:
+    """Returns the law of a fall, and the chances of so many places to be a low: sums over the last fall."""
+    falls, chances = np.array([0.0, *weights]) / sum(weights), [1.0]
+    for place in range(1, count):
+        chances.append(sum(falls[it] * chances[place - it] for it in range(1, min(place, len(weights)) + 1)))
+    return falls, chances
+
+
 @given(st.lists(st.integers(0, 9), min_size=1, max_size=5).filter(any), st.integers(0, 40), st.integers(0, 40))
 def test_lows_are_a_renewal_sequence(weights: list[int], first: int, count: int) -> None:
-    falls = np.array([0, *weights]) / sum(weights)
-    chances = [1.0]
-    for place in range(1, first + count + 1):
-        chances.append(sum(falls[it] * chances[place - it] for it in range(1, min(place, len(weights)) + 1)))
+    falls, chances = renewed(weights, first + count + 1)
     lows = renewal_sequence(np.array(chances[:first + 1]), falls, first + count + 1)
     assert lows == pytest.approx(chances, abs=1e-14)
 
 
+@WAYS
 @pytest.mark.parametrize("known, count", [(1, 9), (40, 700)])
 @pytest.mark.parametrize("weights", [[1], [0, 0, 3, 0, 1], [*range(1, 80)]], ids=len)
-def test_lows_are_the_same_when_compiled(weights: list[int], known: int, count: int) -> None:
-    """The first calls run as they are written, so both ways must be equal to the last bit."""
-    pytest.importorskip("numba")
-    falls, loop = np.array([0.0, *weights]) / sum(weights), renewal_sequence.loop
-    lows = loop(np.ones(1), falls, known)
-    assert composed()(loop)(lows, falls, count).tolist() == loop(lows, falls, count).tolist()
+def test_lows_that_become_equal(weights: list[int], known: int, count: int, way: str) -> None:
+    """Lows whose chances differ by less than 1e-13 of them are all equal."""
+    falls, chances = renewed(weights, count)
+    lows = getattr(renewal_sequence, way)(np.array(chances[:known]), falls, count)
+    assert lows == pytest.approx(chances, rel=1e-12)
 
 
-def same_of(loop: Any, *words: Any) -> list[Any]:
-    """Returns what a loop returns: to the last bit what stands in for it does, and what it is compiled to."""
-    results = [way(*words) for way in (loop.loop, loop.plain, composed()(loop.loop))]
-    first, *others = ([np.asarray(it).tolist() for it in (its if isinstance(its, tuple) else [its])] for its in results)
-    assert all(other == first for other in others)
-    return first
-
-
+@WAYS
 @pytest.mark.parametrize("step", [1, 3])
-def test_sums_are_the_same_when_compiled(step: int) -> None:
-    """The first calls run in numpy, so both ways must be equal to the last bit."""
+def test_sums_and_figures(step: int, way: str) -> None:
+    """A law loses its all but impossible ends. Its sums, and the figures of levels, are sums over its cells one by one:
+    what is taken with the demand of a period, and before that, here two cells less."""
     cells = LatticeLaw.of(Law((2, 3, 7, 40), (2, 3, 1, 4)), step).between(0, 40)
-    low, chances = same_of(cut, np.array([-1e-19, 1e-19, *cells, -1e-18, 1e-18]))
-    sums, = same_of(summed, np.array(chances), low, step)
-    figures, = same_of(figures_at, np.arange(-20, 99), step, low, *np.array(sums), 0, *np.array(sums)[:, 2:], 3, 7)
+    low, chances = getattr(cut, way)(np.array([-1e-19, 1e-19, *cells, -1e-18, 1e-18]))
     assert low == 4 - 2 * (step > 1) and len(chances) == 40 // step - low + 3 + (step > 1)
-    assert sum(cells) == pytest.approx(1) and sums[1][-1] == pytest.approx(step * sum(
-        cell * chance for cell, chance in enumerate(chances, low)))
-    assert figures[2][0] == 0 and figures[3][-1] == pytest.approx(98 - sums[1][-1])
+    assert chances.sum() == pytest.approx(1) and chances == pytest.approx(cells[low - 2:][:len(chances)])
+    below, taken = getattr(summed, way)(chances, low, step)
+    law = [(step * cell, chance) for cell, chance in enumerate(chances.tolist(), low)]
+    assert below == pytest.approx([sum(chance for _, chance in law[:count]) for count in range(len(law) + 1)])
+    assert taken == pytest.approx([sum(it * chance for it, chance in law[:count]) for count in range(len(law) + 1)])
+    before, levels = getattr(summed, way)(chances, low - 2, step), np.arange(-20, 99)
+    figures = getattr(figures_at, way)(levels, step, low, below, taken, low - 2, *before, 3, 7)
+    for level, (cost, unmet, held, stock) in zip(levels.tolist(), figures.T):
+        left = sum(max(level - it, 0) * chance for it, chance in law)
+        owed, owed_before = (sum(max(it - less - level, 0) * chance for it, chance in law) for less in (0, 2 * step))
+        expected = 3 * left + 7 * owed, owed - owed_before, sum(chance for it, chance in law if it <= level), left
+        assert (cost, unmet, held, stock) == pytest.approx(expected, abs=1e-12)

@@ -18,15 +18,13 @@ from .words import command, csv_style_option, folder_argument, picture, program_
 @csv_style_option
 @program_option
 def item(history: str, settings: str, out: str, program: str | None) -> None:
-    from ..compiled import left_plain
     from ..items import plan_item
     from ..pages.item_page import item_summary
 
     def told(part: str) -> None:
         if sys.stderr.isatty():
             print(f"{part} ..", file=sys.stderr)
-    with left_plain():
-        print(item_summary(plan_item(history, settings, out, program=program, told=told)), end="")
+    print(item_summary(plan_item(history, settings, out, program=program, told=told)), end="")
 
 
 @command()

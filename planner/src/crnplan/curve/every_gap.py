@@ -18,7 +18,7 @@ from __future__ import annotations
 import numpy as np
 
 from ..chances import Floats, Whole
-from ..compiled import compiled, composed
+from ..compiled import compiled
 from ..theory.grid import gap_grid
 from ..theory.least import NEAR
 from ..theory.long_run import STOCK_LEFT, UNMET, LongRun
@@ -32,16 +32,7 @@ FEW = 2  # One in so many gaps of a grid is looked at first.
 FINE = 64  # Beside the best gap, others are looked at that are so many times narrower apart.
 
 
-def low_added(sums: Floats, table: Floats, place: int, low: float, before: Floats, line: Floats) -> None:
-    """Stands in for `add_low`."""
-    width = table.shape[1]
-    last = place + width - 1
-    sums[0, last] = line[0] * (last * before[0] - before[1]) - line[1] * before[0]
-    sums[:, place:place + width] += low * table
-    before += low, low * place
-
-
-@compiled(low_added)
+@compiled
 def add_low(sums: Floats, table: Floats, place: int, low: float, before: Floats, line: Floats) -> None:
     """Adds a low, so many cells below S, to the sums of all levels from there on. `table` has by level of a low, in
     cells from 0 on, stock and unmet demand. Beyond it stock rises by the items of a cell, and is less by the mean
@@ -59,6 +50,7 @@ def add_low(sums: Floats, table: Floats, place: int, low: float, before: Floats,
     before[1] += low * place
 
 
+@compiled
 def set_point(sums: Floats, total: float, levels: Floats, place: int, points: Floats) -> None:
     """Sets a level, in cells, with the means of both sums: between two cells a mean."""
     cell = int(levels[place])
@@ -71,6 +63,7 @@ def set_point(sums: Floats, total: float, levels: Floats, place: int, points: Fl
         points[row + 1, place] = mean / total
 
 
+@compiled
 def first_of_price(sums: Floats, total: float, levels: Floats, price: float, points: Floats) -> tuple[int, int]:
     """Returns the place of the level that is best for a price, and how many levels were set."""
     first, least, place = 0, np.inf, 0
@@ -85,6 +78,7 @@ def first_of_price(sums: Floats, total: float, levels: Floats, price: float, poi
     return first, place
 
 
+@compiled
 def vertices_of(sums: Floats, total: float, levels: Floats, prices: Floats, points: Floats, kept: Whole) -> int:
     """Finds the vertices of the lower hull of levels with rising stock between two prices: from the first one on until
     more stock costs more than it can gain. Returns how many there are, and sets their places."""
@@ -109,25 +103,7 @@ def vertices_of(sums: Floats, total: float, levels: Floats, prices: Floats, poin
     return size
 
 
-def points_chosen(sums: Floats, total: float, levels: Floats, prices: Floats, points: Floats, chosen: Whole) -> None:
-    """Stands in for `choose_points`."""
-    cells = levels.astype(int)
-    points[0, :len(levels)] = levels
-    here, above = sums[:, cells], sums[:, np.minimum(cells + 1, sums.shape[1] - 1)]
-    points[1:, :len(levels)] = (here + (levels - cells) * (above - here)) / total
-    stock, unmet = points[1:, :len(levels)]
-    least = np.minimum.accumulate(unmet)
-    kept = np.flatnonzero(np.append(True, unmet[1:] < least[:-1]))
-    while True:
-        slopes = np.diff(stock[kept]) / -np.diff(unmet[kept])
-        is_vertex = np.append(-np.inf, slopes) < np.append(slopes, np.inf)
-        if is_vertex.all():
-            break
-        kept = kept[is_vertex]
-    chosen[:] = kept[np.searchsorted(slopes, prices)]
-
-
-@compiled(points_chosen)
+@compiled
 def choose_points(sums: Floats, total: float, levels: Floats, prices: Floats, points: Floats, chosen: Whole) -> None:
     """Sets for rising prices the place of the level that is best, of equal ones the first. Levels rise, in cells, as
     does the stock. `points` gets rows with levels that matter, and with the means of both sums, stock and unmet demand:
@@ -143,21 +119,7 @@ def choose_points(sums: Floats, total: float, levels: Floats, prices: Floats, po
         chosen[each] = kept[place]
 
 
-def gap_compared(gap: int, total: float, span: float, points: Floats, chosen: Whole, ranks: Whole, costs: Floats,
-                 floor: Floats, best: Floats, found: Floats, due: Floats) -> None:
-    """Stands in for `compare_gap`."""
-    some = np.flatnonzero(chosen[ranks] >= 0)
-    here = points[:, chosen[ranks[some]]]
-    cost = costs[0, some] * (1 / (span * total)) + costs[1, some] * here[1] + costs[2, some] * here[2]
-    is_better = cost < best[some] * (1 - NEAR / 10)
-    its = some[is_better]
-    best[its], found[0, its], found[1:, its] = cost[is_better], gap, here[:, is_better]
-    more, room = cost - best[some] * (1 + NEAR), best[some] - floor[some]
-    growth = np.divide(more, room, out=np.full(len(some), np.inf), where=room > 0)
-    due[some] = total * (1 + np.maximum(growth, 0.0))
-
-
-@compiled(gap_compared)
+@compiled
 def compare_gap(gap: int, total: float, span: float, points: Floats, chosen: Whole, ranks: Whole, costs: Floats,
                 floor: Floats, best: Floats, found: Floats, due: Floats) -> None:
     """Keeps for each case the gap and its chosen point if that costs less than the best so far, and sets when it is due:
@@ -178,6 +140,7 @@ def compare_gap(gap: int, total: float, span: float, points: Floats, chosen: Who
         due[case] = total * (1 + max(0.0, growth))
 
 
+@compiled
 def ranks_due(ranks: Whole, due: Floats, total: float) -> tuple[int, int]:
     """Returns the first rank of a case that is due, and the one after the last."""
     start, stop = len(ranks), 0
@@ -187,7 +150,7 @@ def ranks_due(ranks: Whole, due: Floats, total: float) -> tuple[int, int]:
     return start, stop
 
 
-@composed()
+@compiled
 def compare_gaps(lows: Floats, span: float, table: Floats, line: Floats, gaps: Whole, least: Floats, places: Floats,
                  asked: Floats, ranks: Whole, costs: Floats, floor: Floats, best: Floats, found: Floats) -> int:
     """Compares some rising gaps, and returns how many of them were looked at: see `compare_gap`.
@@ -214,18 +177,7 @@ def compare_gaps(lows: Floats, span: float, table: Floats, line: Floats, gaps: W
     return looks
 
 
-def means_set(chances: Floats, low: int, rounded: float, step: int, means: Floats) -> None:
-    """Stands in for `set_means`."""
-    tails = np.cumsum(np.where(chances > rounded, chances, 0.0)[:, ::-1], axis=1)
-    owed = np.cumsum(np.pad(tails[:, :-1], ((0, 0), (1, 0))), axis=1) / tails[:, -1:]
-    high, levels = low + chances.shape[1], np.arange(means.shape[1])
-    means[:] = 0.0
-    means[:, :high] = owed[:, :high][:, ::-1]
-    means[1], means[0] = means[1] - means[0], means[1] + levels - owed[1, -1] - low
-    means[:] = step * np.maximum(means, 0.0)
-
-
-@compiled(means_set)
+@compiled
 def set_means(chances: Floats, low: int, rounded: float, step: int, means: Floats) -> None:
     """Sets the mean stock and unmet demand, in items, of each level in cells from 0 on. `chances` has rows by how far
     the stock is below S, from the cell `low` on: before a period's demand, and after it. Their sum may be any, and those
@@ -249,7 +201,7 @@ def set_means(chances: Floats, low: int, rounded: float, step: int, means: Float
         level += 1
 
 
-@composed()
+@compiled
 def best_levels(chances: Floats, low: int, step: int, orders: Floats, gaps: Whole, least: Floats, places: Floats,
                 asked: Floats, ranks: Whole, costs: Floats) -> Floats:
     """Returns a table for each of some rising gaps: rows with the best level of each case, in cells, its stock, its
@@ -327,24 +279,7 @@ def best_policies(theory: OneLead, costs: Floats) -> tuple[Whole, Floats]:
     return its.policies()
 
 
-def finer_by_numpy(places: Whole, gaps: Whole, costs: Floats) -> Whole:
-    """Stands in for `finer`."""
-    least, widths, best = costs.min(axis=0), np.diff(places), np.unique(costs.argmin(axis=0))
-    at, case = np.nonzero(np.minimum(costs[:-1], costs[1:]) <= (1 + FAR_MORE) * least)
-    beside = np.clip(at + np.arange(-1, 3)[:, None], 0, len(widths))
-    values, is_due = costs[beside, case], np.zeros(len(widths), bool)
-    with np.errstate(divide="ignore", invalid="ignore"):
-        before, here, after = np.diff(values, axis=0) / np.diff(places[beside], axis=0)
-        lowest = values[1] + before * (after - here) / (after - before) * widths[at]
-    is_due[at[~(lowest >= (1 - GAIN) * least[case])]] = True  # also at both ends, where it is no number
-    for near in (best - 1, best):
-        inside = (near >= 0) & (near < len(widths))
-        is_due[near[inside]] |= widths[near[inside]] > gaps[best[inside]] // FINE
-    is_due &= widths > 1
-    halves: Whole = places[:-1][is_due] + (widths[is_due] + 1) // 2
-    return halves
-
-
+@compiled
 def may_gain(places: Whole, costs: Floats, least: Floats, at: int) -> bool:
     """Returns whether a case may cost less by more than a share between a place and the next one: see `finer`."""
     is_end, width = at == 0 or at == len(places) - 2, places[at + 1] - places[at]
@@ -362,7 +297,7 @@ def may_gain(places: Whole, costs: Floats, least: Floats, at: int) -> bool:
     return False
 
 
-@compiled(finer_by_numpy)
+@compiled
 def finer(places: Whole, gaps: Whole, costs: Floats) -> Whole:
     """Returns places halfway between some rising ones, at which a case may cost less by more than a share: `GAIN`.
     `costs` has a row for each place, whose gap is one of `gaps`, and a column for each case.

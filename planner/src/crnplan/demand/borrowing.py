@@ -25,7 +25,7 @@ from .fitting import boxes_of, cap_of, family_law, share_of
 from .learning import (FLAT, LEVELS, MOST_SIZE, NONE, SHARES, SIZE_CELLS, Prior, is_outside, share_likelihoods, size_laws,
                        size_likelihoods, size_table, size_widths)
 from .posterior import AllowedLaws, allowed_laws, law_of_chances, random_of, round_history, stratified
-from .sample import PLAIN_CALLS, Sample, shares_of
+from .sample import Sample, shares_of
 
 FAMILY = "borrowed"
 LEVEL = 0.05  # Each share of the guard is above it, else the law of the single item is taken.
@@ -34,16 +34,7 @@ ROWS = 4  # of uniform numbers for a drawn law; the last one chooses its part
 LEAST_CHANCE = 1e-9
 
 
-def weighed_by_rows(weights: Floats, cells: Whole, widths: Whole, table: Floats, ends: Whole) -> Floats:
-    """Stands in for `weighed_sizes`."""
-    chances = np.zeros(widths.max())
-    for its, cell, width in zip(weights, cells, widths):
-        for weight, law in zip(its, table[ends[cell]:ends[cell + 1]].reshape(len(its), -1)):
-            chances[:width] += weight * law[:width]
-    return chances
-
-
-@compiled(weighed_by_rows, PLAIN_CALLS)
+@compiled
 def weighed_sizes(weights: Floats, cells: Whole, widths: Whole, table: Floats, ends: Whole) -> Floats:
     """Returns the sum of the laws of sizes in a table (see `size_table`), each up to the width of its cell, with a row
     of weights for each cell."""

@@ -27,10 +27,10 @@ import numpy as np
 from scipy import special
 
 from ..chances import DEMANDS, LEAST_TAIL, Floats, Whole, cut, scaled
-from ..compiled import composed
+from ..compiled import compiled
 from ..formats import MOST_DEMAND
 from . import FAMILIES, LEAST_DEMANDS
-from .sample import PLAIN_CALLS, Sample
+from .sample import Sample
 
 Parameters = tuple[Any, ...]  # of a family: numbers of a member, or columns with one for each of several
 WORSE = 10.0  # in BIC: families further behind the best are not looked at
@@ -168,7 +168,7 @@ class Geometric(Family):
         return (special.betaincinv(counted * sample.size + 1, counted * sample.total + 1, uniform[0]),)
 
 
-@composed(after=PLAIN_CALLS)
+@compiled
 def score_of_size(above: Whole, count: int, mean: float, logarithm: float) -> tuple[float, float]:
     """Returns the derivative of a negative binomial likelihood's logarithm by the size k, and its own by the logarithm
     of k. `above` has how many of so many numbers are above 0, 1 and so on: digamma(n + k) - digamma(k) is a sum over 0

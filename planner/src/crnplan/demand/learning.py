@@ -176,25 +176,14 @@ class Cells(NamedTuple):
         return expected_of(self.shares, self.sizes, self.starts, self.groups, prior)
 
 
-def summed_likelihoods(shares: Floats, sizes: Floats, starts: Whole, groups: Whole, prior: Floats) -> Floats:
-    """Returns `Cells.expected`."""
-    marginal = Cells(shares, sizes, starts, groups).marginal(prior)
-    return np.asarray(np.einsum("ij,ik->jk", shares, np.add.reduceat(sizes * (1 / marginal)[:, None], starts)))
-
-
-def added(total: Floats, row: Floats, weight: float) -> None:
-    """Adds a row, times a weight, to a total."""
-    total += row * weight
-
-
-@compiled(added)
+@compiled
 def add_row(total: Floats, row: Floats, weight: float) -> None:
-    """Does what `added` does. By itself, the loop is computed with several cells at a time."""
+    """Adds a row, times a weight, to a total. By itself, the loop is computed with several cells at a time."""
     for cell in range(len(total)):
         total[cell] += row[cell] * weight
 
 
-@compiled(summed_likelihoods)
+@compiled
 def expected_of(shares: Floats, sizes: Floats, starts: Whole, groups: Whole, prior: Floats) -> Floats:
     """Returns `Cells.expected`."""
     cells, own, likely = np.zeros(prior.shape), np.empty(prior.shape[1]), np.empty(prior.shape[1])

@@ -25,7 +25,7 @@ from scipy import special
 
 from ..chances import Floats, Whole
 from ..compiled import compiled
-from .sample import PLAIN_CALLS, Sample
+from .sample import Sample
 
 Places = npt.NDArray[np.integer[Any]]
 Statistic = Callable[[Floats, Floats], Floats]  # of the numbers' distances from their mean, and of their ranks'
@@ -170,18 +170,11 @@ class Orders:
         return {name: count / (TIMES + 1) for name, count in zip(kinds, counts.tolist()) if count <= most}
 
 
-def as_suspicious(far: Floats, ranks: Floats, orders: Places, parts: Whole, most: Whole) -> Whole:
-    """Returns for each test, of the order and of each row of parts, how many orders of a history are as suspicious as
-    that itself, of which it takes distances and ranks. Tests are left, or all of them, that have more than `most`."""
-    rows, own = (far.take(orders), ranks.take(orders)), (far[None], ranks[None])
-    kinds: list[Statistic] = [ljung_box, trend, shift, *(functools.partial(kruskal, its) for its in parts)]
-    return np.array([np.count_nonzero(kind(*rows) >= kind(*own) * (1 - ROUNDING)) if its >= 0 else 0
-                     for kind, its in zip(kinds, most)])
-
-
-@compiled(as_suspicious, after=PLAIN_CALLS)
+@compiled
 def suspicious(far: Floats, ranks: Floats, orders: Places, parts: Whole, most: Whole) -> Whole:
-    """Returns what `as_suspicious` does, order by order, with three lags, until all tests are left."""
+    """Returns for each test, of the order and of each row of parts, how many orders of a history are as suspicious as
+    that itself, of which it takes distances and ranks, until all tests are left: those that have more than `most`. The
+    order is tested with three lags."""
     size, seasons, squares, rank_squares, edge = len(far), len(parts), 0.0, 0.0, max(1, math.ceil(EDGE * len(far)))
     counts, weights, row, ranked = np.zeros_like(most), np.zeros(size), np.zeros(size + LAGS), np.zeros(size)
     found, least, most_parts = np.zeros(len(most)), np.zeros(len(most)), parts.max() + 1 if seasons else 0

@@ -23,7 +23,6 @@ from ..formats import MOST_DEMAND
 PACKED, PACK_BITS = 3, 8.0
 TIMES, SEED = 199, 1  # of drawn histories
 COUNTED = 32  # uniform numbers, after which those of each row are counted
-PLAIN_CALLS = 100  # more than the laws of an item, whose histories are drawn before numba is imported
 ROUNDING = 1e-9  # Histories with the same counts vary as much and are as far, however their sums are rounded.
 
 
@@ -171,20 +170,12 @@ class Uniform(NamedTuple):
         return cls(numbers.ravel()[order], rows, places, np.cumsum([0 * parts[0], *parts], axis=0))
 
 
-def figures_of_histories(rising: Floats, rows: Whole, places: Whole, first: Whole, last: int, below: Floats,
-                         tails: Floats, means: Floats) -> tuple[Floats, Floats]:
-    """Returns of histories that are drawn by uniform numbers (see `Uniform`) their squared size times their variance,
-    and their `distances`. No number is above the last one."""
-    drawn = np.empty((first.shape[1], len(rising) // first.shape[1]), np.int64)
-    drawn[rows, places] = np.minimum(np.searchsorted(below, rising, side="right"), last)
-    squares = (drawn * drawn).sum(axis=1) * drawn.shape[1] - drawn.sum(axis=1)**2
-    return squares.astype(float), distances(drawn, Summed(below, tails, means))
-
-
-@compiled(figures_of_histories, after=PLAIN_CALLS)
+@compiled
 def drawn_figures(rising: Floats, rows: Whole, places: Whole, first: Whole, last: int, below: Floats, tails: Floats,
                   means: Floats) -> tuple[Floats, Floats]:
-    """Returns what `figures_of_histories` does, number by number: its draws stand together, one by one or row by row."""
+    """Returns of histories that are drawn by uniform numbers (see `Uniform`) their squared size times their variance,
+    and their `distances`. No number is above the last one. The draws of a number stand together: they are counted one
+    by one, or row by row if there are many."""
     times, size, rank = first.shape[1], len(rising) // first.shape[1], 0
     seen, now, totals = np.zeros(times, np.int64), np.zeros(times, np.int64), np.zeros(times)
     squares, far = np.zeros(times), np.zeros(times)

@@ -16,7 +16,7 @@ from functools import partial
 from typing import TYPE_CHECKING, Any, NamedTuple
 
 from .. import __version__
-from ..compiled import cache_folder
+from ..caches import cache_folder
 from ..money import Currency
 from ..words import PREMISE, advised, sentence
 

@@ -16,7 +16,7 @@ from typing import Any
 import numpy as np
 
 from ..chances import Floats
-from ..compiled import cache_folder, has_home
+from ..caches import cache_folder, has_home
 from ..crnsim.trajectory import Period
 from ..curve.parts import Point
 from ..decide.doubt import MOST, Doubt

@@ -14,7 +14,6 @@ from functools import cached_property
 
 import numpy as np
 
-from ..compiled import left_plain
 from ..records.columns import DAYS
 from ..records.observed import Day
 from ..records.stock import NONE
@@ -78,12 +77,11 @@ class Risk:
         """Returns both chances, and what is short."""
         box, sure = self.standing.laws.box, self.there
         in_time, without, short = 0.0, 0.0, 0.0
-        with left_plain():
-            for _, chance, demand in demands_of(self.standing.laws, self.horizons):
-                in_time += chance * demand.above(math.floor((sure + self.doubtful) / box))
-                without += chance * demand.above(math.floor(sure / box))
-                lacking = np.maximum(demand.cells * box - float(sure), 0.0)
-                short += chance * float(lacking @ demand.chances)
+        for _, chance, demand in demands_of(self.standing.laws, self.horizons):
+            in_time += chance * demand.above(math.floor((sure + self.doubtful) / box))
+            without += chance * demand.above(math.floor(sure / box))
+            lacking = np.maximum(demand.cells * box - float(sure), 0.0)
+            short += chance * float(lacking @ demand.chances)
         return in_time, without, short
 
     @property

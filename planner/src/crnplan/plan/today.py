@@ -19,7 +19,6 @@ from fractions import Fraction
 from functools import cached_property
 from operator import attrgetter
 
-from ..compiled import left_plain
 from ..errors import Refused, argument
 from ..records.columns import DAYS
 from ..records.controls import Controls
@@ -175,9 +174,8 @@ class Standing:
     def chance(self) -> float:
         """Returns the chance of a shortage before delivery: see the module."""
         laws = self.laws
-        with left_plain():  # The few loops of an item take less than a loop's compiled code to load.
-            return sum(chance * demand.above(math.floor(self.there_within(periods) / laws.box))
-                       for periods, chance, demand in demands_of(laws, self.horizons))
+        return sum(chance * demand.above(math.floor(self.there_within(periods) / laws.box))
+                   for periods, chance, demand in demands_of(laws, self.horizons))
 
     @property
     def time(self) -> float:

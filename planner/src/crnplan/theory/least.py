@@ -2,46 +2,16 @@
 one lead time what they cost."""
 from __future__ import annotations
 
-from collections.abc import Callable
-from typing import Any
-
 import numpy as np
 
 from ..chances import Floats, Whole
-from ..compiled import PLAIN_CALLS, compiled, composed
+from ..compiled import compiled
 from .grid import CLOSE
 
 NEAR = 1e-12  # Shares, and costs by their ratio, that differ by less are equal but for rounding.
 
 
-def least_levels(low: Whole, high: Whole, is_enough: Callable[[Whole], Any]) -> Whole:
-    """Returns the least levels from low to high that are enough, each by itself; high if none below it is."""
-    while (low < high).any():
-        middle = (low + high) // 2
-        enough = is_enough(middle)
-        low, high = np.where(enough, low, np.minimum(middle + 1, high)), np.where(enough, middle, high)
-    return low
-
-
-def windows_on(turned: Floats, width: int) -> Floats:
-    """Returns all windows of a width on rows of figures. numpy's `sliding_window_view` takes twenty times as long."""
-    rows = np.ascontiguousarray(turned)
-    across, along = rows.strides
-    return np.ndarray((len(rows), rows.shape[1] - width + 1, width), rows.dtype, rows, 0, (across, along, along))
-
-
-def sums_in(windows: Floats, chances: Floats, places: Whole) -> Floats:
-    """Returns what `sums_from` does, from windows on the figures."""
-    sums: Floats = np.einsum("fgx,gx->fg", windows[:, places], chances)
-    return sums
-
-
-def sums_by_windows(turned: Floats, chances: Floats, places: Whole) -> Floats:
-    """Stands in for `sums_from`."""
-    return sums_in(windows_on(turned, chances.shape[1]), chances, places)
-
-
-@compiled(sums_by_windows)
+@compiled
 def sums_from(turned: Floats, chances: Floats, places: Whole) -> Floats:
     """Returns the sums of figures from a place on for each gap, by its chances: rows by figure, columns by gap."""
     sums, width = np.empty((len(turned), len(places))), chances.shape[1]
@@ -51,25 +21,15 @@ def sums_from(turned: Floats, chances: Floats, places: Whole) -> Floats:
     return sums
 
 
-def least_by_halving(turned: Floats, chances: Floats, floors: Whole, highest: Whole, allowed: Floats, ratio: float
-                     ) -> Whole:
+@compiled
+def least_enough(turned: Floats, chances: Floats, floors: Whole, highest: Whole, allowed: Floats, ratio: float
+                 ) -> Whole:
     """Returns the least level of each gap, from a floor on, with a mean unmet demand of at most its `allowed` and a mean
     chance of no backlog of at least `ratio`; the highest if none below it has.
 
     `turned` has a row with the unmet demand and one with the chance of no backlog, from the highest level of a low
     down, and `chances` a row with how far a low is below the level, for each gap.
     """
-    windows = windows_on(turned, chances.shape[1])
-
-    def is_enough(levels: Whole) -> Any:
-        unmet, held = sums_in(windows, chances, highest - levels)
-        return (unmet <= allowed) & (held >= ratio)
-    return least_levels(floors, highest, is_enough)
-
-
-@compiled(least_by_halving)
-def least_enough(turned: Floats, chances: Floats, floors: Whole, highest: Whole, allowed: Floats, ratio: float
-                 ) -> Whole:
     levels, level, width = floors.copy(), 0, chances.shape[1]
     for gap in range(len(chances)):
         low, high, stride = floors[gap], highest[gap], 1
@@ -89,6 +49,7 @@ def least_enough(turned: Floats, chances: Floats, floors: Whole, highest: Whole,
     return levels
 
 
+@compiled
 def sum_at(table: Floats, turned: Floats, evened: Floats, even: int, gap: int, place: int, row: int) -> float:
     """Returns the sum of a figure over the lows of a gap, with the highest at a place: see `gaps_walked`."""
     if gap < even:
@@ -98,6 +59,7 @@ def sum_at(table: Floats, turned: Floats, evened: Floats, even: int, gap: int, p
     return total
 
 
+@compiled
 def least_place(table: Floats, turned: Floats, evened: Floats, even: int, gap: int, low: int, allowed: float,
                 ratio: float) -> int:
     """Returns the least place of a gap from one on that is enough, or the end of the table: it is looked for in strides
@@ -114,7 +76,7 @@ def least_place(table: Floats, turned: Floats, evened: Floats, even: int, gap: i
     return low
 
 
-@composed()
+@compiled
 def least_costs(gaps: Whole, lows: Floats, table: Floats, setup: float, allowed: float, ratio: float) -> Floats:
     """Returns for each of some rising gaps what a policy costs at least with one lead time, and a level that is enough:
     see `gaps_walked`. But `table` has the levels of lows from the widest gap and one below 0 on."""
@@ -130,6 +92,7 @@ def least_costs(gaps: Whole, lows: Floats, table: Floats, setup: float, allowed:
     return found
 
 
+@compiled
 def spare_at(table: Floats, turned: Floats, evened: Floats, even: int, gap: int, place: int, allowed: float,
              ratio: float) -> float:
     """Returns how far below a place, as a share of a cell, a level of a gap is enough: see `least_place`."""
@@ -140,7 +103,7 @@ def spare_at(table: Floats, turned: Floats, evened: Floats, even: int, gap: int,
     return (allowed - unmet) / slope if slope > 0 else 1.0
 
 
-@composed(after=PLAIN_CALLS)
+@compiled
 def gaps_walked(gaps: Whole, leasts: Whole, lows: Floats, table: Floats, evened: Floats, even: int, step: int, top: int,
                 setup: float, base: float, rise: float, allowed: float, ratio: float, known: float) -> Floats:
     """Returns rows with the gaps that are looked at, the best level of each, in items, and what both cost: the best one

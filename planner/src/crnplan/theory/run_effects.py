@@ -73,26 +73,10 @@ class Reviews(NamedTuple):
     last: float
 
 
-def reciprocal(series: Floats, count: int) -> Floats:
-    """Returns the first `count` coefficients of 1 / series, by Newton's iteration (Knuth, The Art of Computer
-    Programming, volume 2, section 4.7)."""
-    inverse = np.array([1 / series[0]])
-    while len(inverse) < count:
-        size = min(2 * len(inverse), count)
-        rest = -convolved(series[:size], inverse)[:size]
-        rest[0] += 2
-        inverse = convolved(inverse, rest)[:size]
-    return inverse
-
-
-def quotient_by_newton(series: Floats, divisor: Floats) -> Floats:
+@compiled
+def quotient(series: Floats, divisor: Floats) -> Floats:
     """Returns as many coefficients of series / divisor as the series has. The divisor begins with 1, and all its other
     coefficients are at most 0 and at least -1 together: those of the quotient are means of so many before them."""
-    return convolved(series, reciprocal(divisor, len(series)))[:len(series)]
-
-
-@compiled(quotient_by_newton)
-def quotient(series: Floats, divisor: Floats) -> Floats:
     found, reach, end = series.copy(), len(divisor) - 1, np.flatnonzero(series)[-1]
     for place in range(len(found) - 1):
         if place % LOOK_EVERY == 0 and place > max(reach, end):
@@ -122,8 +106,9 @@ def sums_by_doubling(law: Floats, count: int) -> Floats:
     return rows[:count]
 
 
-@compiled(sums_by_doubling)
+@compiled
 def sums_one_by_one(law: Floats, count: int) -> Floats:
+    """Returns what `sums_by_doubling` does, sum by sum."""
     size, rows, used, first, numbers = len(law), np.zeros((count, len(law))), 1, 0, np.flatnonzero(law)
     rows[0, 0] = 1.0
     while used < count:
@@ -143,21 +128,11 @@ def sums_one_by_one(law: Floats, count: int) -> Floats:
     return rows[:used]
 
 
-def counts_by_rows(chance: float, reviews: int, most: int) -> Floats:
+@compiled
+def counts_of(chance: float, reviews: int, most: int) -> Floats:
     """Returns the chances of 0, 1, .. of less than `most` events in 0, 1, .. trials, of which each has an event with a
     chance: binomial laws, a row each, of less than so many reviews, or of as many as have so few events with some
     chance."""
-    rows, used = np.zeros((reviews, most)), 1
-    rows[0, 0] = 1.0
-    while used < reviews and rows[used - 1].sum() > LEAST_MASS:
-        rows[used] = (1 - chance) * rows[used - 1]
-        rows[used, 1:] += chance * rows[used - 1, :-1]
-        used += 1
-    return rows[:used]
-
-
-@compiled(counts_by_rows)
-def counts_of(chance: float, reviews: int, most: int) -> Floats:
     rows, used = np.zeros((reviews, most)), 1
     rows[0, 0] = 1.0
     while used < reviews and rows[used - 1].sum() > LEAST_MASS:

@@ -111,21 +111,7 @@ def lasting(kept: Transforms, move: Transforms, late: Floats) -> Transforms:
     return last
 
 
-def last_by_transforms(cycles: Transforms, waits: Transforms, is_far: Truths, free: Floats, gaps: Whole,
-                       roots: Transforms, move: Transforms, late: Floats) -> Transforms:
-    """Returns a row for each of some rising gaps: what `lasting` returns.
-
-    `cycles` and `waits` have the rows that it takes for each gap that `is_far`, the first row and all others; the last
-    of `waits` is that of all further gaps. For other gaps these are the transforms, by some roots of unity, of `free`
-    up to the gap.
-    """
-    kept, far = np.empty((len(gaps), len(late), len(move)), complex), np.arange(len(cycles))
-    up_to = np.arange(free.shape[1]) <= gaps[~is_far, None, None]
-    kept[is_far, 0], kept[is_far, 1:] = cycles, waits[np.minimum(far, len(waits) - 1)]
-    kept[~is_far] = fft.rfft(np.where(up_to, free, 0.0), len(roots))
-    return lasting(kept.swapaxes(0, 1), move, late)
-
-
+@compiled
 def grow(kept: Floats, free: Floats, roots: Transforms, cells: Sequence[int]) -> bool:
     """Adds to `kept` what `free` has in some cells, and returns whether that is more than a part of C."""
     root, width, is_more = np.empty_like(kept[0]), kept.shape[2], False
@@ -146,6 +132,7 @@ def grow(kept: Floats, free: Floats, roots: Transforms, cells: Sequence[int]) ->
     return is_more
 
 
+@compiled
 def solved_for(kept: Floats, moves: Floats, late: Floats) -> Floats:
     """Returns R(1), R(2), .. of a gap, from row 1 on: numbers as rows with their real and imaginary parts. `kept` has
     rows with C, K(1), K(2), .., and `moves` is z. Numba makes fast code of `while` and of few arrays in a loop."""
@@ -180,6 +167,7 @@ def solved_for(kept: Floats, moves: Floats, late: Floats) -> Floats:
     return solved
 
 
+@compiled
 def left_by(solved: Floats, moves: Floats, late: Floats) -> Floats:
     """Returns by what C is multiplied in the module's last equation, from what `solved_for` returns."""
     under_way, left, width = np.zeros_like(moves), np.empty_like(moves), moves.shape[1]
@@ -198,9 +186,15 @@ def left_by(solved: Floats, moves: Floats, late: Floats) -> Floats:
     return left
 
 
-@compiled(last_by_transforms)
+@compiled
 def last_shortfalls(cycles: Transforms, waits: Transforms, is_far: Truths, free: Floats, gaps: Whole,
                     roots: Transforms, move: Transforms, late: Floats) -> Transforms:
+    """Returns a row for each of some rising gaps: what `lasting` returns.
+
+    `cycles` and `waits` have the rows that it takes for each gap that `is_far`, the first row and all others; the last
+    of `waits` is that of all further gaps. For other gaps these are the transforms, by some roots of unity, of `free`
+    up to the gap.
+    """
     reviews, width, far, last = len(late), len(move), 0, 0
     kept, moves = np.empty((reviews, 2, width)), np.stack((move.real, move.imag))
     found, left = np.empty((len(gaps), width), np.complex128), moves

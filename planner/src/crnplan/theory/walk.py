@@ -17,7 +17,7 @@ from functools import cached_property, lru_cache
 import numpy as np
 
 from ..chances import Floats, Whole
-from ..compiled import PLAIN_CALLS, compiled, composed
+from ..compiled import compiled
 from ..law import Law
 from ..scenario import Scenario
 
@@ -38,15 +38,7 @@ def chances_in(table: Law) -> tuple[Whole, Floats]:
     return values, weights / table.size
 
 
-def cut_by_numpy(chances: Floats) -> tuple[int, Floats]:
-    """Stands in for `cut`."""
-    chances = np.maximum(chances, 0.0)
-    kept = np.flatnonzero(chances > LEAST_CHANCE * np.cumsum(chances)[-1])
-    chances = chances[kept[0]:kept[-1] + 1]
-    return int(kept[0]), chances / np.cumsum(chances)[-1]
-
-
-@compiled(cut_by_numpy, PLAIN_CALLS)
+@compiled
 def cut(chances: Floats) -> tuple[int, Floats]:
     """Returns the first place that is not all but impossible, and the chances from there on, scaled to a sum of 1. So
     is their end cut."""
@@ -64,14 +56,7 @@ def cut(chances: Floats) -> tuple[int, Floats]:
     return first, kept / total
 
 
-def summed_by_numpy(chances: Floats, low: int, step: int) -> Floats:
-    """Stands in for `summed`."""
-    sums = np.zeros((2, len(chances) + 1))
-    np.cumsum([chances, chances * ((low + np.arange(len(chances))) * step)], axis=1, out=sums[:, 1:])
-    return sums
-
-
-@compiled(summed_by_numpy, PLAIN_CALLS)
+@compiled
 def summed(chances: Floats, low: int, step: int) -> Floats:
     """Returns rows with the chances of all cells below each, from the first on, and with the sums of their items."""
     sums = np.zeros((2, len(chances) + 1))
@@ -205,19 +190,7 @@ class Surplus:
         return self.left(level) - level + self.mean
 
 
-def figures_by_numpy(levels: Whole, step: int, low: int, below: Floats, taken: Floats, before: int,
-                     below_before: Floats, taken_before: Floats, holding: int, backlog: int) -> Floats:
-    """Stands in for `figures_at`."""
-    place, placed = (np.minimum(np.maximum(levels // step - first + 1, 0), len(sums) - 1)
-                     for first, sums in ((low, below), (before, below_before)))
-    held = below[place]
-    stock = levels * held - taken[place]
-    owed = stock - levels + taken[-1]
-    lacking = levels * below_before[placed] - taken_before[placed] - levels + taken_before[-1]
-    return np.array([holding * stock + backlog * owed, owed - lacking, held, stock])
-
-
-@compiled(figures_by_numpy, PLAIN_CALLS)
+@compiled
 def figures_at(levels: Whole, step: int, low: int, below: Floats, taken: Floats, before: int, below_before: Floats,
                taken_before: Floats, holding: int, backlog: int) -> Floats:
     """Returns what `LongRun.figures_from` does, by the sums of the law of what is taken from a level up to the end of a
@@ -283,7 +256,7 @@ def factors_of(net: LatticeLaw) -> tuple[Floats, Floats]:
     return visits[:kept], falls / falls.sum()
 
 
-@composed(after=PLAIN_CALLS)
+@compiled
 def renewal_sequence(lows: Floats, falls: Floats, count: int) -> Floats:
     """Returns the chances that each of the first `count` places is a low of the walk. `lows` are the first of them.
     Each is a mean of as many chances before it as a fall has cells. So once these are equal, all others are."""
