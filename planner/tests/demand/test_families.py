@@ -31,7 +31,7 @@ def test_adding_a_family(monkeypatch: pytest.MonkeyPatch) -> None:
     numbers = [int(number) for number in np.random.default_rng(3).geometric(0.3, 60) - 1]
     before = fit_demand(numbers)
     assert "geometric" not in before.diagnostics.families
-    monkeypatch.setitem(families.REGISTRY, "geometric", families.Geometric())
+    monkeypatch.setitem(families.FAMILIES, "geometric", families.Geometric())
     law = fit_demand(numbers, method="geometric")
     assert law.family == "geometric"
     assert law.weights[0] / 65_536 == pytest.approx(61 / (62 + sum(numbers)), abs=1e-5)
@@ -39,7 +39,7 @@ def test_adding_a_family(monkeypatch: pytest.MonkeyPatch) -> None:
     assert allowed_laws(numbers, times=50).families["geometric"] > 10
 
 
-@pytest.mark.parametrize("name", families.REGISTRY)
+@pytest.mark.parametrize("name", families.FAMILIES)
 def test_no_demand_above_the_range(name: str) -> None:
     """The next demand by a family is at most 10,000, the greatest of a scenario, also after such demands."""
     assert len(predictive_of(name, Sample.of([0, 1, 5_000, 10_000] * 5))) <= 10_001
@@ -51,7 +51,7 @@ def test_demand_in_two_of_the_most_periods(is_compiled: bool, monkeypatch: pytes
     if not is_compiled:
         leave_as_written(monkeypatch, families)
     numbers = [0] * 65_534 + [2, 2]
-    size, rest = families.REGISTRY["negative-binomial"].likeliest(Sample.of(numbers)) or (0, 0)
+    size, rest = families.FAMILIES["negative-binomial"].likeliest(Sample.of(numbers)) or (0, 0)
 
     def likelihood(other: float) -> float:
         """Returns the logarithm of the likelihood of another size with the same mean."""
@@ -215,7 +215,7 @@ def test_bulk() -> None:
         assert law[:value + 1].sum() == pytest.approx(share * below + (1 - share) * base[:value + 1].sum(), abs=1e-5)
 
 
-@pytest.mark.parametrize("name", families.REGISTRY)
+@pytest.mark.parametrize("name", families.FAMILIES)
 @pytest.mark.parametrize("numbers, width, most", [
     (BULKY, 40, 10_000), (BULKY, 20, 200), ([0] * 40 + [1, 2, 8], 25, 10_000), ([0, 0, 3, 900, 40, 0, 9], 2_000, 10_000),
     ([0, 1, 90, 30, 0, 0, 12], 101, 100)], ids=["light", "packs", "rare", "heavy", "all"])
@@ -223,9 +223,9 @@ def test_cells(name: str, numbers: list[int], width: int, most: int) -> None:
     """The last cell has the chance of all its numbers, as a law with a cell for each of them says."""
     sample = Sample.of(numbers)
     if name in fits_of(sample):
-        law = scaled(families.REGISTRY[name].predictive(sample, DEMANDS[:most + 1]))
+        law = scaled(families.FAMILIES[name].predictive(sample, DEMANDS[:most + 1]))
         expected = [*law[:width], law[width:].sum()] if width <= most else law
-        found = scaled(families.REGISTRY[name].predictive(sample, cells_of(width, most)))
+        found = scaled(families.FAMILIES[name].predictive(sample, cells_of(width, most)))
         assert found == pytest.approx(expected, rel=1e-7, abs=1e-12)
 
 

@@ -14,8 +14,8 @@ from hypothesis import given, settings, strategies as st
 from scipy import integrate, stats
 
 from crnplan.chances import blurred, in_items
-from crnplan.demand import FAMILIES, METHODS, fitting
-from crnplan.demand.families import fits_of, predictive_of
+from crnplan.demand import fitting
+from crnplan.demand.families import FAMILIES, METHODS, fits_of, predictive_of
 from crnplan.demand.fitted import Borrowed, Diagnostics, FittedLaw, notes_of
 from crnplan.demand.fitting import cap_of, fit_demand, fit_lead, seen_share, share_of
 from crnplan.demand.posterior import allowed_laws, allowed_leads

@@ -8,8 +8,8 @@ import pytest
 from scipy import stats
 
 from crnplan.chances import Floats, mixture
-from crnplan.demand import FAMILIES, posterior
-from crnplan.demand.families import REGISTRY, UNIFORMS, fits_of, greatest_mean, predictive_of
+from crnplan.demand import posterior
+from crnplan.demand.families import FAMILIES, UNIFORMS, fits_of, greatest_mean, predictive_of
 from crnplan.demand.fitting import fit_lead
 from crnplan.demand.posterior import allowed_laws, allowed_leads, demand_laws, members_of, round_history, stratified
 from crnplan.demand.sample import Sample
@@ -35,7 +35,7 @@ FITS = [pytest.param(family, numbers, id=f"{family}-{max(numbers)}") for numbers
 def test_mean_of_drawn_laws(family: str, numbers: Sequence[int]) -> None:
     """It is the posterior predictive law, within the error of the draws."""
     sample = Sample.of(numbers)
-    its, cells = REGISTRY[family], np.arange(100)
+    its, cells = FAMILIES[family], np.arange(100)
     below = np.cumsum(its.chances(cells, *its.drawn(sample, uniform(3000), 1.0)), axis=1)
     expected = np.zeros(10_001)
     law = predictive_of(family, sample)
@@ -47,7 +47,7 @@ def test_mean_of_drawn_laws(family: str, numbers: Sequence[int]) -> None:
 @HISTORIES
 def test_members_and_allowed_laws(numbers: Sequence[int]) -> None:
     """Members' laws are scaled. Weights add up, the same seed gives the same laws, and each ends within its range."""
-    its = REGISTRY["hurdle-lognormal"]
+    its = FAMILIES["hurdle-lognormal"]
     parameters = its.drawn(Sample.of(numbers), uniform(20), 1.0)
     laws, more = its.laws(parameters, max(numbers)), its.chances(np.arange(10_001), *parameters)
     assert laws.sum(axis=1) == pytest.approx(1) and np.allclose(laws, more[:, :laws.shape[1]], rtol=1e-3)
@@ -65,8 +65,8 @@ def test_coarsened_posterior(family: str) -> None:
     """If each number counts half, the posterior of a history is that of its half."""
     half, whole = Sample.of(ERRATIC), Sample.of([*ERRATIC, *ERRATIC])
     columns = uniform(200)
-    found = REGISTRY[family].drawn(whole, columns, 0.5)
-    expected = REGISTRY[family].drawn(half, columns, 1.0)
+    found = FAMILIES[family].drawn(whole, columns, 0.5)
+    expected = FAMILIES[family].drawn(half, columns, 1.0)
     for one, other in zip(found, expected):  # The greatest mean and the unbiased deviation are of all numbers.
         assert np.median(one / np.maximum(other, 1e-300)) == pytest.approx(1, rel=0.05)
         assert one.std() == pytest.approx(other.std(), rel=0.15)
@@ -81,12 +81,12 @@ def test_drawn_parameters(numbers: Sequence[int]) -> None:
     def far(drawn: Floats, law: object) -> bool:
         """Returns whether draws are surely not of a law."""
         return bool(stats.kstest(drawn.ravel(), law.cdf).pvalue < 1e-4)  # type: ignore[attr-defined]
-    mean, = REGISTRY["poisson"].drawn(sample, uniform(2000), 1.0)
+    mean, = FAMILIES["poisson"].drawn(sample, uniform(2000), 1.0)
     assert not far(mean, stats.gamma(sum(numbers) + 0.5, scale=1 / len(numbers)))
-    share, chance = REGISTRY["hurdle-geometric"].drawn(sample, uniform(2000), 1.0)
+    share, chance = FAMILIES["hurdle-geometric"].drawn(sample, uniform(2000), 1.0)
     assert not far(chance, stats.beta(seen + 1, demands.sum() - seen + 1))
     assert not share.any() if not zeros else not far(share, stats.beta(zeros + 0.5, seen + 0.5))
-    _, mean, deviation = REGISTRY["hurdle-lognormal"].drawn(sample, uniform(2000), 1.0)
+    _, mean, deviation = FAMILIES["hurdle-lognormal"].drawn(sample, uniform(2000), 1.0)
     logarithms = np.log(demands)
     assert not far(np.sqrt(seen) * (mean - logarithms.mean()) / deviation, stats.norm())
     squares = (seen - 1) * logarithms.var(ddof=1) / deviation**2
@@ -101,7 +101,7 @@ def test_drawn_negative_binomial() -> None:
     sizes = np.geomspace(sample.mean / 50, sample.mean / 0.02, 100)
     chances = np.exp(sum(stats.nbinom.logpmf(value, sizes, sizes / (sizes + means[:, None])) for value in ERRATIC))
     below = np.cumsum(chances.sum(axis=1)) / chances.sum()
-    size, rest = REGISTRY["negative-binomial"].drawn(sample, uniform(4000), 1.0)
+    size, rest = FAMILIES["negative-binomial"].drawn(sample, uniform(4000), 1.0)
     drawn = size * rest / (1 - rest)
     for share in (0.05, 0.25, 0.5, 0.75, 0.95):
         mean = means[np.searchsorted(below, share)]

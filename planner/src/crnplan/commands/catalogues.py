@@ -11,7 +11,7 @@ import click
 
 import crnplan as crn
 from ..catalogues import Catalogue, Lost, plan_catalogue, write_found
-from ..demand import METHODS
+from ..demand.families import METHODS
 from ..files import Folder, named_text, own_folder
 from ..pages.catalogue_page import CATALOGUE_FILES
 from ..pages.catalogue_tables import counted_rows, hardly_read, reasons_of, rejects_of

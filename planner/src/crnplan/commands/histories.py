@@ -12,7 +12,7 @@ from click.core import ParameterSource
 
 import crnplan as crn
 from ..decide.doubt import TIMES, WITHIN
-from ..demand import FAMILIES, METHODS
+from ..demand.families import FAMILIES, METHODS
 from ..errors import RefusedFaults
 from ..records.amounts import DECIMALS
 from ..records.dates import EVERY

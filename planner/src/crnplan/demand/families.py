@@ -12,7 +12,7 @@ A law is an array of chances: those of 0, 1, 2 and so on. All figures are rounde
 A predictive law has cells of numbers, of which the last may hold many: `ends` has the last number of each, which are 0, 1,
 2 and so on, and that of the last cell. The number is at most that.
 
-A new family is a class, its name in `demand.FAMILIES` and an entry in `REGISTRY`; docs/GUIDE.md says what it is for.
+A new family is a class with its name, and an instance in `FAMILIES`; docs/GUIDE.md says what it is for.
 """
 from __future__ import annotations
 
@@ -29,7 +29,7 @@ from scipy import special
 from ..chances import DEMANDS, LEAST_TAIL, Floats, Whole, cut, scaled
 from ..compiled import compiled
 from ..formats import MOST_DEMAND
-from . import FAMILIES, LEAST_DEMANDS
+from . import EMPIRICAL, LEAST_DEMANDS
 from .sample import Sample
 
 Parameters = tuple[Any, ...]  # of a family: numbers of a member, or columns with one for each of several
@@ -83,6 +83,11 @@ class Family(ABC):
     draws are the same, so the mean of many drawn members is that law.
     """
 
+    @property
+    @abstractmethod
+    def name(self) -> str:
+        """Returns the name of the family, by which a method asks for it."""
+
     @abstractmethod
     def likeliest(self, sample: Sample) -> Parameters | None:
         """Returns the member with the greatest likelihood; None if the sample does not allow the family."""
@@ -131,6 +136,8 @@ class Family(ABC):
 class Poisson(Family):
     """Poisson laws. The parameter is the mean."""
 
+    name = "poisson"
+
     def likeliest(self, sample: Sample) -> Parameters | None:
         return (sample.mean,) if sample.total else None
 
@@ -150,6 +157,8 @@ class Poisson(Family):
 
 class Geometric(Family):
     """Geometric laws on 0, 1, 2 and so on. The parameter is p."""
+
+    name = "geometric"
 
     def likeliest(self, sample: Sample) -> Parameters | None:
         return (1 / (1 + sample.mean),) if sample.total else None
@@ -181,6 +190,8 @@ def score_of_size(above: Whole, count: int, mean: float, logarithm: float) -> tu
 
 class NegativeBinomial(Family):
     """Negative binomial laws. The parameters are the size k and 1 - p; the mean is k (1 - p) / p."""
+
+    name = "negative-binomial"
 
     def likeliest(self, sample: Sample) -> Parameters | None:
         """Returns the parameters; None if the numbers vary no more than under a Poisson law. The score has a single
@@ -294,6 +305,10 @@ class Hurdle(Family):
 
     sizes: Family
 
+    @property
+    def name(self) -> str:
+        return f"hurdle-{self.sizes.name}"
+
     def likeliest(self, sample: Sample) -> Parameters | None:
         member = self.sizes.likeliest(sample.excess)
         return None if member is None else (sample.zeros / sample.size, *member)
@@ -320,6 +335,8 @@ class Hurdle(Family):
 class Lognormal(Family):
     """Rounded lognormal sizes, less 1, as samples are; what is below 1.5 counts as 1. The parameters are mean and
     deviation of a size's logarithm."""
+
+    name = "lognormal"
 
     def likeliest(self, sample: Sample) -> Parameters | None:
         """Returns the member with the moments of the logarithms. None if these hardly vary."""
@@ -379,6 +396,8 @@ class Parts(NamedTuple):
 class Bulk(Family):
     """Ordinary demand, which is Poisson or negative binomial, and in some periods a much larger normal bulk instead.
     The parameters are the share of bulks, their mean and deviation, and the parameters of ordinary demand."""
+
+    name = "bulk"
 
     def likeliest(self, sample: Sample) -> Parameters | None:
         """Fits both parts, each for itself. None if there are no two parts."""
@@ -446,15 +465,15 @@ def parts_of(sample: Sample) -> Parts | None:
 
 
 POISSON, NEGATIVE_BINOMIAL = Poisson(), NegativeBinomial()
-# The families by name. Sizes of a hurdle family have a family of their own.
-REGISTRY: dict[str, Family] = dict(zip(FAMILIES, (
+FAMILIES: dict[str, Family] = {family.name: family for family in (
     POISSON, NEGATIVE_BINOMIAL, Hurdle(Geometric()), Hurdle(POISSON), Hurdle(NEGATIVE_BINOMIAL), Hurdle(Lognormal()),
-    Bulk()), strict=True))
+    Bulk())}
+METHODS = ("auto", "predictive", EMPIRICAL, *FAMILIES)
 
 
 def fits_of(sample: Sample) -> dict[str, Fit]:
     """Returns all families that a sample allows, the least BIC first; none for less than two numbers above 0."""
-    families = REGISTRY.items() if sample.demands >= LEAST_DEMANDS else ()
+    families = FAMILIES.items() if sample.demands >= LEAST_DEMANDS else ()
     fits = {name: fit for name, family in families if (fit := family.fit(sample))}
     return dict(sorted(fits.items(), key=lambda pair: pair[1].bic))
 
@@ -472,4 +491,4 @@ def cells_of(width: int, most: int) -> Whole:
 def predictive_of(name: str, sample: Sample, ends: Whole = DEMANDS) -> Floats:
     """Returns the posterior predictive law of a family that the sample allows, without the end of its tail. Numbers are
     at most the last one of `ends`, which has the last one of each cell."""
-    return cut(REGISTRY[name].predictive(sample, ends))
+    return cut(FAMILIES[name].predictive(sample, ends))

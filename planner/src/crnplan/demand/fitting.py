@@ -19,8 +19,8 @@ from ..formats import MOST_DEMAND, MOST_LEAD
 from ..law import Law
 from ..money import Number
 from ..records.observed import Observed
-from . import EMPIRICAL, LEAD_METHODS, METHODS
-from .families import REGISTRY, cells_of, fits_of, near_of, parts_of, predictive_of
+from . import EMPIRICAL, LEAD_METHODS
+from .families import FAMILIES, METHODS, cells_of, fits_of, near_of, parts_of, predictive_of
 from .fitted import LEAST_MEAN, LEAST_VARIANCE, Diagnostics, FittedLaw, numbers_of
 from .sample import Sample, shares_of
 
@@ -118,10 +118,10 @@ def family_law(boxes: Sequence[int], method: str, box: int = 1) -> FittedLaw:
     sample = Sample.of(boxes)
     packs, pack = sample.packs, sample.pack
     fits = fits_of(packs)
-    if method in REGISTRY and method not in fits:
+    if method in FAMILIES and method not in fits:
         raise Refused(f"the history does not allow the family {method}; it allows {', '.join(fits) or 'none'}")
     guard = {name: shares_of(packs, fit.law(packs.most)) for name, fit in near_of(fits).items()}
-    names = [method] if method in REGISTRY else [name for name, shares in guard.items() if shares.passes]
+    names = [method] if method in FAMILIES else [name for name, shares in guard.items() if shares.passes]
     known = Diagnostics(Law.of_numbers(boxes), method, pack, {name: fit.bic for name, fit in fits.items()}, guard)
     if not names:
         return FittedLaw.made(known.seen, EMPIRICAL, known, box)
@@ -171,7 +171,7 @@ def fit_demand(observed: Observed | Iterable[Number], *, method: str = "auto", b
         if method != "auto":
             raise Refused(f"a law is either borrowed or fitted by the method {method!r}; leave one out")
         return law_of(borrow, observed, item_class, box=box)
-    if method not in METHODS and method not in REGISTRY:
+    if method not in METHODS and method not in FAMILIES:
         raise Refused(f"there is no method {method!r} to fit demand; say {', '.join(METHODS[:-1])} or {METHODS[-1]}")
     boxes = boxes_of(observed, box)
     if method != EMPIRICAL:

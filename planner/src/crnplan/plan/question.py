@@ -14,7 +14,8 @@ from ..demand.fitted import Borrowed, FittedLaw
 from ..demand.fitting import fit_demand, fit_lead
 from ..demand.borrowing import law_of
 from ..demand.learning import Prior
-from ..demand import LEAD_METHODS, METHODS
+from ..demand import LEAD_METHODS
+from ..demand.families import METHODS
 from ..errors import CrnplanError, Refused, argument
 from ..formats import MOST_DEMAND, MOST_ITEMS, MOST_LEAD, MOST_PERIODS, MOST_REPLICATIONS, MOST_WEIGHT, limits
 from ..law import Law

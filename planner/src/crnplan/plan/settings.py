@@ -12,7 +12,8 @@ from typing import Any
 
 from .. import formats
 from ..decide.doubt import TIMES
-from ..demand import LEAD_METHODS, METHODS
+from ..demand import LEAD_METHODS
+from ..demand.families import METHODS
 from ..errors import Refused
 from ..formats import MOST_ITEMS, MOST_PERIODS, MOST_REPLICATIONS, MOST_WEIGHT
 from ..money import MOST_DIGITS, exact
