@@ -2,13 +2,16 @@
 from __future__ import annotations
 
 import csv
+import datetime
 import html
 import io
 import json
 import math
 import re
+from collections.abc import Mapping
 from dataclasses import replace
 from fractions import Fraction
+from typing import NamedTuple
 
 import pandas as pd
 import pytest
@@ -57,6 +60,30 @@ def test_data_is_not_rounded() -> None:
         "cost": "money a period"}
     table = DataTable(COLUMNS, [["A", None, math.nan, 0.0, None]]).without_empty(("count", "cost", "share"))
     assert table.names == ["name", "share", "mean"] and table.rows == [["A", 0.0, None]]
+
+
+def test_cells_are_made_as_columns_say() -> None:
+    """By a path of attributes and keys, of which each part may be None, or by a function. A figure of a column of rounded
+    numbers is rounded, and what stands in a column of texts is a text. Rows of a list are kept, others are made once."""
+    class Box(NamedTuple):
+        name: str
+        sizes: Mapping[str, Fraction] | None
+        day: datetime.date | None = None
+
+    columns = (text("name", "its name").by("name"), text("day", "of it").by("day"),
+               number("mean", "items", "its mean").by("sizes.mean"), exact("most", "items", "the most").by("sizes.most"),
+               whole("letters", "letters", "of its name").by(lambda box: len(box.name)))
+    boxes = [Box("AB", {"mean": Fraction(7, 2), "most": Fraction(9, 4)}, datetime.date(2026, 3, 1)), Box("C", None)]
+    table = DataTable.of(columns, boxes, 2, "", currency="EUR")
+    rows = [["AB", "2026-03-01", 3.5, Fraction(9, 4), 2], ["C", None, None, None, 1]]
+    assert [*table.rows] == [*table.rows] == rows and type(rows[0][2]) is type(table.rows[0][2])
+    assert table.csv == "name,day,mean,most,letters\nAB,2026-03-01,3.5,9/4,2\nC,,,,1\n" and table.currency == "EUR"
+    once = DataTable.of(columns, iter(boxes))
+    assert [*once.rows] == rows and not [*once.rows]
+    with pytest.raises(AssertionError, match="how a cell of cost is made"):
+        number("cost", "money", "cost").cell(boxes[0])
+    with pytest.raises(AttributeError):
+        number("cost", "money", "cost").by("price").cell(boxes[0])
 
 
 @pytest.mark.parametrize("style", ["de", "fr"])

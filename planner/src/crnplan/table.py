@@ -1,4 +1,5 @@
-"""Tables whose columns are declared once: the frame, CSV, JSON, text, HTML and the page of formats follow from that."""
+"""Tables whose columns are declared once, each with how its cell is made: rows, the frame, CSV, JSON, text, HTML and the
+page of formats follow from that."""
 from __future__ import annotations
 
 import contextlib
@@ -10,10 +11,10 @@ import re
 from abc import ABC, abstractmethod
 from collections.abc import Callable, Collection, Iterable, Iterator, Mapping, Sequence
 from contextvars import ContextVar
-from dataclasses import dataclass, replace
+from dataclasses import dataclass, field, replace
 from fractions import Fraction
 from functools import partial
-from typing import TYPE_CHECKING, Literal
+from typing import TYPE_CHECKING, Any, Literal
 
 if TYPE_CHECKING:
     import pandas as pd
@@ -53,7 +54,8 @@ class Column:
     """A column: its name, what it has, in which unit, and what that means.
 
     `written` is how a number is spelt in a file and `shown` how it is spelt for a reader: formats of Python, or MONEY.
-    Without them a number has all its digits; without `shown` a reader gets what a file has.
+    Without them a number has all its digits; without `shown` a reader gets what a file has. `fact` makes a cell from what
+    its row is of.
     """
 
     name: str
@@ -62,6 +64,21 @@ class Column:
     written: str = ""
     shown: str = ""
     kind: Kind = "number"
+    fact: Callable[[Any], Any] | None = field(default=None, compare=False)
+
+    def by(self, fact: str | Callable[[Any], Any]) -> Column:
+        """Returns the column with how its cell is made from what a row is of: by a function, or by the path of a fact in
+        that, as `item.name`. Without a part of the path there is no figure."""
+        return replace(self, fact=at(fact) if isinstance(fact, str) else fact)
+
+    def cell(self, thing: object) -> Cell:
+        """Returns the cell of a row: a text or a figure, of a column of rounded numbers a rounded one."""
+        assert self.fact, f"it is not declared how a cell of {self.name} is made"
+        fact = self.fact(thing)
+        if self.is_text:
+            return None if fact is None else str(fact)
+        cell: Cell = float(fact) if self.kind == "number" and isinstance(fact, Fraction) else fact
+        return cell
 
     @property
     def is_text(self) -> bool:
@@ -98,6 +115,20 @@ def text(name: str, meaning: str) -> Column:
     return Column(name, "", meaning, kind="text")
 
 
+def at(path: str) -> Callable[[Any], Any]:
+    """Returns a function that returns a fact of a thing by its path of attributes, and of keys of mappings: None if a part
+    of the path is None, or not there as a key."""
+    names = path.split(".")
+
+    def fact(thing: Any) -> Any:
+        for name in names:
+            if thing is None:
+                break
+            thing = thing.get(name) if isinstance(thing, Mapping) else getattr(thing, name)
+        return thing
+    return fact
+
+
 def is_missing(value: Cell) -> bool:
     """Returns whether a cell has no figure: None or nan."""
     return value is None or isinstance(value, float) and math.isnan(value)
@@ -130,6 +161,13 @@ class DataTable:
     index: str = ""
     currency: str = ""
     every: str = ""
+
+    @classmethod
+    def of(cls, columns: Sequence[Column], things: Iterable[object], *words: Any, **named: Any) -> DataTable:
+        """Returns the table with a row for each thing; of an iterator, rows are made as they are needed. Further words
+        are those of a table."""
+        rows = ([column.cell(thing) for column in columns] for thing in things)
+        return cls(columns, [*rows] if isinstance(things, Sequence) else rows, *words, **named)
 
     @property
     def names(self) -> list[str]:

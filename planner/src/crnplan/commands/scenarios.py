@@ -162,7 +162,7 @@ def trajectory(scenario: str, names: tuple[str, ...], periods: int | None, progr
     if out:
         from ..pages.pictures import save, trajectories_picture
         save(trajectories_picture(policies, drawn, asked.initial), out)
-    table = table_of(policies, drawn)
+    table = table_of([policy.name for policy in policies], drawn)
     if form or not out:
         show_rows(table, form)
 

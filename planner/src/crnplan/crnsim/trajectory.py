@@ -42,17 +42,27 @@ class Period(NamedTuple):
     position: int
 
 
+class PeriodOf(NamedTuple):
+    """A period of a policy by name and number."""
+
+    policy: str
+    number: int
+    figures: Period
+
+
 COLUMNS = (
-    text("policy", "name of the policy"), whole("period", "periods", "number of the period, from 0"),
-    whole("ordered", "items", "what is ordered at its review"),
-    whole("net_demand", "items", "demand less what customers return"),
-    whole("stock", "items", "stock at its end, below 0 if items are owed"),
-    whole("position", "items", "stock and all that is on order, at its end"))
+    text("policy", "name of the policy").by("policy"),
+    whole("period", "periods", "number of the period, from 0").by("number"),
+    whole("ordered", "items", "what is ordered at its review").by("figures.ordered"),
+    whole("net_demand", "items", "demand less what customers return").by("figures.net_demand"),
+    whole("stock", "items", "stock at its end, below 0 if items are owed").by("figures.stock"),
+    whole("position", "items", "stock and all that is on order, at its end").by("figures.position"))
 
 
-def table_of(policies: Sequence[Policy], found: Sequence[Sequence[Period]]) -> DataTable:
-    return DataTable(COLUMNS, [(policy.name, number, *period) for policy, periods in zip(policies, found)
-                               for number, period in enumerate(periods)])
+def table_of(names: Iterable[str], found: Iterable[Sequence[Period]]) -> DataTable:
+    """Returns the periods of policies with these names."""
+    return DataTable.of(COLUMNS, [PeriodOf(name, number, period) for name, periods in zip(names, found)
+                                  for number, period in enumerate(periods)])
 
 
 def chosen(scenario: Scenario, names: Sequence[str]) -> list[Policy]:

@@ -11,7 +11,7 @@ import math
 from collections.abc import Iterable, Iterator, Mapping
 from dataclasses import dataclass, replace
 from pathlib import Path
-from typing import TYPE_CHECKING
+from typing import TYPE_CHECKING, NamedTuple
 
 import numpy as np
 
@@ -25,33 +25,67 @@ from ..plan.answer import CHOSEN, TODAY, Answer
 from ..plan.catalogue import planned_folder
 from ..plan.question import Levels, Question
 from ..records.catalogue_reading import CATALOGUE, Catalogued
+from ..remarks import Remark
 from ..scenario import Policy
-from ..table import Cell, DataTable, MONEY, Result, aligned, number, text, whole
+from ..table import MONEY, Column, DataTable, Result, aligned, number, text, whole
 from ..theory.least import NEAR
 from ..words import PREMISE, advice, sentence
 from .exchange import Budget, Items, OffCurve, chosen_by, gap_of, with_more_orders
 from .gathered import Gathered, gather
-from .parts import Choice, Point
+from .parts import Choice, Chosen, Point
 
 if TYPE_CHECKING:
     import pandas as pd
 
 CURVE, POLICIES, LEFT_OUT = "curve.csv", "curve_policies.csv", "curve_left_out.csv"
-FIGURES = (
-    number("value", "money", "the value of the mean stock", MONEY),
-    number("fill", "share", "of demand by value met at once", ".6f"), number("orders", "orders a period", "mean number",
-                                                                             ".6g"),
-    number("cost", "money a period", "setup and holding", MONEY))
+
+
+def figures_by(path: str) -> tuple[Column, ...]:
+    """Returns the columns of the figures of a choice of policies, which stand behind a path."""
+    return (number("value", "money", "the value of the mean stock", MONEY).by(f"{path}value"),
+            number("fill", "share", "of demand by value met at once", ".6f").by(f"{path}fill"),
+            number("orders", "orders a period", "mean number", ".6g").by(f"{path}orders"),
+            number("cost", "money a period", "setup and holding", MONEY).by(f"{path}cost"))
+
+
+class CurvePoint(NamedTuple):
+    """A point of the curve: of a price, or one that has a name."""
+
+    name: str
+    point: Point
+    gap: float = 0.0
+    price: float | None = None
+
+
+class PolicyOf(NamedTuple):
+    """The policy of an item in a choice."""
+
+    description: str
+    today: Levels | None
+    chosen: Chosen
+
+
+class LeftOut(NamedTuple):
+    """An item that is not on the curve."""
+
+    name: str
+    why: Remark
+
+
 COLUMNS = (
-    text("point", "`today`, `chosen`, `same stock`, `same service`, `budget`, or `curve`"),
-    number("price", "money", "of a unit of value that is not met at once, on the curve", ".6g"), *FIGURES,
-    number("gap", "share", "by which setup and holding are at most above the best with this service", ".6f"))
+    text("point", "`today`, `chosen`, `same stock`, `same service`, `budget`, or `curve`").by("name"),
+    number("price", "money", "of a unit of value that is not met at once, on the curve", ".6g").by("price"),
+    *figures_by("point."),
+    number("gap", "share", "by which setup and holding are at most above the best with this service", ".6f").by("gap"))
 POLICY_COLUMNS = (
-    text("item", "the item"), text("description", "of the masters"), whole("s_today", "items", "today's s"),
-    whole("S_today", "items", "today's S"), whole("s", "items", "s of the point"), whole("S", "items", "its S"),
-    *FIGURES)
-LEFT_OUT_COLUMNS = (text("item", "the item"), text("reason", "why it is not on the curve"),
-                    text("advice", "what to do"))
+    text("item", "the item").by("chosen.name"), text("description", "of the masters").by("description"),
+    whole("s_today", "items", "today's s").by(lambda row: row.today and row.today[0]),
+    whole("S_today", "items", "today's S").by(lambda row: row.today and row.today[1]),
+    whole("s", "items", "s of the point").by("chosen.point"), whole("S", "items", "its S").by("chosen.level"),
+    *figures_by("chosen."))
+LEFT_OUT_COLUMNS = (text("item", "the item").by("name"),
+                    text("reason", "why it is not on the curve").by(lambda row: sentence(row.why)),
+                    text("advice", "what to do").by(lambda row: advice(row.why)))
 ON_CURVE, SAME_STOCK, SAME_SERVICE, BUDGET = "curve", "same stock", "same service", "budget"
 # What each point is, for a reader.
 SAID = {TODAY: "today", CHOSEN: "chosen item by item", SAME_STOCK: "today's stock, best service",
@@ -131,8 +165,8 @@ class Drawn(Result):
     @property
     def table(self) -> DataTable:
         """Returns the points: named ones first, then the curve by rising price."""
-        rows: list[list[Cell]] = [[name, None, *point, gap] for name, (point, gap) in self.points.items()]
-        rows += [[ON_CURVE, price, *point, 0.0] for price, point in self.curve]
+        rows = [CurvePoint(name, point, gap) for name, (point, gap) in self.points.items()]
+        rows += [CurvePoint(ON_CURVE, point, price=price) for price, point in self.curve]
         return self.gathered.folder.table(COLUMNS, rows)
 
     @property
@@ -172,18 +206,18 @@ class Drawn(Result):
     @property
     def left_out(self) -> DataTable:
         """Returns the items that are not on the curve, with the reason and what to do."""
-        rows = ([name, sentence(remark), advice(remark)] for name, remark in self.gathered.parts.left_out())
-        return DataTable(LEFT_OUT_COLUMNS, rows, missing="")
+        left_out = (LeftOut(name, remark) for name, remark in self.gathered.parts.left_out())
+        return DataTable.of(LEFT_OUT_COLUMNS, left_out, missing="")
 
 
-def policy_rows(gathered: Gathered, choice: Choice) -> Iterator[list[Cell]]:
+def policy_rows(gathered: Gathered, choice: Choice) -> Iterator[PolicyOf]:
     """Yields the policy of each item in a choice with its figures, behind the description and today's s and S."""
     policies = gathered.items.policies(choice)
     its = next(policies, None)
     with contextlib.closing(Catalogued(gathered.folder.read.path, is_known=True)) as read:
         for name, description, levels in read.cells("name", "description", "levels"):
             if its and its.name == name:
-                yield [name, description, *(json.loads(levels) if levels else (None, None)), *its[1:]]
+                yield PolicyOf(description, json.loads(levels) if levels else None, its)
                 its = next(policies, None)
 
 

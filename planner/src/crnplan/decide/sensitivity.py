@@ -30,12 +30,13 @@ from .verdicts import POLICY, horizon_of
 CHANGES = [("demand_up", 11, "demand 10% up"), ("demand_down", 9, "demand 10% down")]
 AS_IT_IS = "as it is"
 MOVES = (
-    text("case", "what differs; all else is as it is"), whole("s", "items", "reorder point of the best policy there"),
-    whole("S", "items", "its order-up-to level"), number("cost", "money a period", "its cost", "", ".2f"),
-    number("fill", "share", "demand that it meets at once", "", ".2%"),
-    number("kept_cost", "money a period", "cost of the chosen policy there", "", ".2f"),
-    number("kept_more", "share", "how much more than the best that is", "", "+.2%"),
-    number("kept_fill", "share", "demand that the chosen policy meets at once", "", ".2%"))
+    text("case", "what differs; all else is as it is").by("words"),
+    whole("s", "items", "reorder point of the best policy there").by("s"),
+    whole("S", "items", "its order-up-to level").by("S"), number("cost", "money a period", "its cost", "", ".2f").by("cost"),
+    number("fill", "share", "demand that it meets at once", "", ".2%").by("fill"),
+    number("kept_cost", "money a period", "cost of the chosen policy there", "", ".2f").by("kept_cost"),
+    number("kept_more", "share", "how much more than the best that is", "", "+.2%").by("kept_more"),
+    number("kept_fill", "share", "demand that the chosen policy meets at once", "", ".2%").by("kept_fill"))
 # The regret of a policy in a case: money per period, and percent of the least cost, None if that is 0.
 Regret = tuple[Fraction, Fraction | None]
 Levels = tuple[int, int]
@@ -187,7 +188,7 @@ class Case(NamedTuple):
 
 
 class Move(NamedTuple):
-    """What is best in a case, and what keeping the chosen policy amounts to there, as the columns `MOVES` have it."""
+    """What is best in a case, and what keeping the chosen policy amounts to there."""
 
     words: str
     s: int
@@ -216,7 +217,7 @@ class Moves(Result):
     @property
     def table(self) -> DataTable:
         """Returns the cases."""
-        return DataTable(MOVES, self.moves)
+        return DataTable.of(MOVES, self.moves)
 
     @property
     def notes(self) -> str:

@@ -13,7 +13,7 @@ import functools
 import math
 import sys
 from collections.abc import Sequence
-from dataclasses import astuple, dataclass
+from dataclasses import dataclass
 from fractions import Fraction
 from pathlib import Path
 from typing import NamedTuple
@@ -23,32 +23,38 @@ from ..crnsim.report import Row, read_rows
 from ..errors import Refused, argument
 from ..remarks import Remark
 from ..scenario import BY_ITS_LAWS, Policy, Scenario
-from ..table import DataTable, Json, Result, names_of, number, text, whole
+from ..table import Column, DataTable, Json, Result, names_of, number, text, whole
 from ..words import sentence
 
 Ends = tuple[float, float] | tuple[None, None]
 FEWEST_ORDERS = 2  # of the rarer policy of a comparison, in all replications
 MOST_KEYS = 64  # that a check may pool into one report
-POLICY = (text("policy", "name of the policy"), whole("s", "items", "reorder point"),
-          whole("S", "items", "order-up-to level"))
-VERDICT = text("verdict", "`base`, `better`, `worse` or `undecided`, by the joint interval")
-# The columns over the periods of a report, and those in the long run: each in the order of the fields of `Compared`.
+POLICY = (text("policy", "name of the policy").by("policy"), whole("s", "items", "reorder point").by("s"),
+          whole("S", "items", "order-up-to level").by("S"))
+ENDS = (number("cost_low", "money a period", "low end of the interval of that cost, by itself", ".3f").by("cost_low"),
+        number("cost_high", "money a period", "high end of that interval", ".3f").by("cost_high"))
+PERCENT = number("percent", "percent of the base's cost", "the same difference", ".2f").by("percent")
+VERDICT = text("verdict", "`base`, `better`, `worse` or `undecided`, by the joint interval").by("verdict")
+
+
+def errors_of(unit: str) -> tuple[Column, ...]:
+    """Returns the columns of the error of a difference in a unit of money."""
+    return (number("std_error", unit, "standard error of the difference", ".3f").by("std_error"),
+            number("low", unit, "low end of the interval of the difference; all hold together", ".3f").by("low"),
+            number("high", unit, "high end of that interval", ".3f").by("high"))
+
+
+# The columns over the periods of a report, and those in the long run.
 COLUMNS = (
-    *POLICY, number("cost_a_period", "money a period", "mean cost", ".3f"),
-    number("cost_low", "money a period", "low end of the interval of that cost, by itself", ".3f"),
-    number("cost_high", "money a period", "high end of that interval", ".3f"),
-    number("diff_mean", "money a replication", "mean cost less the base's", ".3f"),
-    number("percent", "percent of the base's cost", "the same difference", ".2f"),
-    number("std_error", "money a replication", "standard error of the difference", ".3f"),
-    number("low", "money a replication", "low end of the interval of the difference; all hold together", ".3f"),
-    number("high", "money a replication", "high end of that interval", ".3f"), VERDICT)
+    *POLICY, number("cost_a_period", "money a period", "mean cost", ".3f").by("cost"), *ENDS,
+    number("diff_mean", "money a replication", "mean cost less the base's", ".3f").by("diff"), PERCENT,
+    *errors_of("money a replication"), VERDICT)
 LONG_RUN_COLUMNS = (
-    *POLICY, number("cost", "money a period", "mean cost in the long run by crnsim, without `unit`", ".3f"),
-    *COLUMNS[4:6], number("diff", "money a period", "cost less the base's", ".3f"), COLUMNS[7],
-    *(number(column.name, "money a period", column.meaning, ".3f") for column in COLUMNS[8:11]), VERDICT,
-    number("theory_cost", "money a period", "cost by theory", ".3f"),
-    number("theory_diff", "money a period", "cost by theory less the base's", ".3f"),
-    number("effect", "standard errors", "what the start adds to a difference that is not corrected", ".2f"))
+    *POLICY, number("cost", "money a period", "mean cost in the long run by crnsim, without `unit`", ".3f").by("cost"), *ENDS,
+    number("diff", "money a period", "cost less the base's", ".3f").by("diff"), PERCENT, *errors_of("money a period"),
+    VERDICT, number("theory_cost", "money a period", "cost by theory", ".3f").by("theory_cost"),
+    number("theory_diff", "money a period", "cost by theory less the base's", ".3f").by("theory_diff"),
+    number("effect", "standard errors", "what the start adds to a difference that is not corrected", ".2f").by("effect"))
 MAY_LACK = ("theory_cost", "theory_diff", "effect")  # columns that stand if some policy has a figure
 MOST_ROWS = 20
 VERDICTS = {"better": "better than {}", "worse": "worse than {}", "undecided": "can't be told apart from {}"}
@@ -264,7 +270,7 @@ class Decision(Result):
     def _table_of(self, rows: Sequence[Compared]) -> DataTable:
         """Returns the table of some policies, without columns that may lack and have no figure."""
         columns = LONG_RUN_COLUMNS if self.runs else COLUMNS
-        return DataTable(columns, [astuple(row)[:len(columns)] for row in rows], index="policy").without_empty(MAY_LACK)
+        return DataTable.of(columns, rows, index="policy").without_empty(MAY_LACK)
 
     @property
     def listed(self) -> Sequence[Compared]:

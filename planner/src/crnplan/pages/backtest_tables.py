@@ -2,16 +2,15 @@
 from __future__ import annotations
 
 from collections.abc import Iterator, Mapping
-from dataclasses import replace
+from typing import NamedTuple
 
 from ..plan.backtest.catalogue import Past, Tested
 from ..plan.backtest.one import Backtest
-from ..plan.backtest.outcomes import Outcome
 from ..plan.backtest.sums import (BOTH, DAMPED, FEW, HOLDS, KEPT, LEAST_ITEMS, POLICIES, RARE, REFITTED,
                                   SLACK, SMOOTHED, TIME, UNSURE, Estimate, Sums)
 from ..records.item import Item
 from ..remarks import Remark
-from ..table import Cell, Column, DataTable, number, text, whole
+from ..table import Column, DataTable, number, text, whole
 from ..words import advised, counted, sentence
 from .catalogue_tables import money
 
@@ -38,91 +37,83 @@ def share(name: str, meaning: str) -> Column:
 
 
 def _policy_columns(policy: str) -> Iterator[Column]:
-    words = WORDS[policy]
-    yield from (whole(f"{letter}_{policy}", "items", f"{letter} of {words}, at first") for letter in "sS")
+    words, path = WORDS[policy], f"test.{policy}"
+    yield whole(f"s_{policy}", "items", f"s of {words}, at first").by(f"{path}.point")
+    yield whole(f"S_{policy}", "items", f"S of {words}, at first").by(f"{path}.level")
     if policy in PROMISING:
-        yield money(f"promised_{policy}", f"what {words} was to cost, by theory")
-    yield money(f"cost_{policy}", f"what {words} cost")
+        yield money(f"promised_{policy}", f"what {words} was to cost, by theory").by(f"{path}.promised_cost")
+    yield money(f"cost_{policy}", f"what {words} cost").by(f"{path}.cost")
     if policy in PROMISING:
-        yield share(f"promised_fill_{policy}", f"of demand that {words} was to meet at once, by theory")
-    yield share(f"fill_{policy}", f"of demand that {words} met at once")
-    yield number(f"stock_{policy}", "items", f"the mean stock of {words}", ".5g")
-    yield number(f"orders_{policy}", "orders a period", f"of {words}", ".5g")
+        yield share(f"promised_fill_{policy}", f"of demand that {words} was to meet at once, by theory").by(
+            f"{path}.promised_fill")
+    yield share(f"fill_{policy}", f"of demand that {words} met at once").by(f"{path}.fill")
+    yield number(f"stock_{policy}", "items", f"the mean stock of {words}", ".5g").by(f"{path}.stock")
+    yield number(f"orders_{policy}", "orders a period", f"of {words}", ".5g").by(f"{path}.orders")
     if policy in CHANGING:
-        yield whole(f"changes_{policy}", "changes", f"of the levels of {words}")
+        yield whole(f"changes_{policy}", "changes", f"of the levels of {words}").by(f"{path}.changes")
+
+
+class Row(NamedTuple):
+    """An item with its test, or with why it has none."""
+
+    item: Item
+    test: Backtest | None
+    why: Remark | None
+
+    @classmethod
+    def of(cls, item: Item, test: Backtest | Remark) -> Row:
+        return cls(item, None, test) if isinstance(test, Remark) else cls(item, test, None)
 
 
 BACKTEST_COLUMNS = (
-    text("item", "the item"), text("class", "of the masters"),
-    whole("record", "periods", "from which the first plan is made"),
-    whole("periods", "periods", "after it, on which all policies are run"),
-    number("demand", "items a period", "the mean of both", ".5g"),
+    text("item", "the item").by("item.name"), text("class", "of the masters").by("item.category"),
+    whole("record", "periods", "from which the first plan is made").by("test.record"),
+    whole("periods", "periods", "after it, on which all policies are run").by(
+        lambda row: row.test and len(row.test.demands)),
+    number("demand", "items a period", "the mean of both", ".5g").by("test.mean"),
     *(column for policy in (*POLICIES, "shuffled") for column in _policy_columns(policy)),
-    number("above", "ratio", "of the largest later demand to the largest before", ".4f"),
-    number("above_shuffled", "ratio", "the same in a random order", ".4f"),
-    text("left_out", "why the item has no test"))
+    number("above", "ratio", "of the largest later demand to the largest before", ".4f").by("test.above"),
+    number("above_shuffled", "ratio", "the same in a random order", ".4f").by("test.shuffled_above"),
+    text("left_out", "why the item has no test").by(lambda row: row.why and advised(row.why)))
 
 
-def _with_error(name: str, unit: str, meaning: str) -> tuple[Column, Column]:
-    return number(name, unit, meaning, ".4f"), number(f"{name}_error", unit, "its standard error", ".4f")
+def _with_error(name: str, unit: str, meaning: str, path: str) -> tuple[Column, Column]:
+    return (number(name, unit, meaning, ".4f").by(f"{path}.value"),
+            number(f"{name}_error", unit, "its standard error", ".4f").by(f"{path}.error"))
+
+
+def _met(policy: str) -> tuple[Column, Column]:
+    """Returns the columns of the share of demand that a policy met at once."""
+    value, error = _with_error(f"fill_{policy}", "share", f"met at once by {WORDS[policy]}", f"unmet.{policy}")
+    return value.by(lambda sums: (unmet := sums.unmet.get(policy)) and 1 - unmet.value), error
 
 
 SUM_COLUMNS = (
-    text("class", "of the masters; empty for all items"), whole("items", "items", "with a plan in either order"),
-    text("verdict", "what breaks the promised fill"),
-    share("promised_fill", "of demand that the kept plan was to meet at once; all items weigh alike"),
-    *(column for policy in POLICIES for column in _with_error(f"fill_{policy}", "share", f"met at once by "
-                                                              f"{WORDS[policy]}")),
-    *_with_error("missed", "share", "of demand by which the kept plan missed its promise"),
-    *_with_error("missed_shuffled", "share", "the same with all periods in a random order"),
-    *_with_error("missed_by_time", "share", "what it missed more in time than in a random order"),
-    *_with_error("dearer", "share", "what the kept plan cost more than it promised"),
+    text("class", "of the masters; empty for all items").by("group"),
+    whole("items", "items", "with a plan in either order").by("items"),
+    text("verdict", "what breaks the promised fill").by(lambda sums: VERDICTS[sums.verdict]),
+    share("promised_fill", "of demand that the kept plan was to meet at once; all items weigh alike").by("promised"),
+    *(column for policy in POLICIES for column in _met(policy)),
+    *_with_error("missed", "share", "of demand by which the kept plan missed its promise", "missed"),
+    *_with_error("missed_shuffled", "share", "the same with all periods in a random order", "chance"),
+    *_with_error("missed_by_time", "share", "what it missed more in time than in a random order", "time"),
+    *_with_error("dearer", "share", "what the kept plan cost more than it promised", "dearer"),
     *(column for policy in POLICIES if policy != KEPT for column in _with_error(
-        f"cost_{policy}", "share", f"what {WORDS[policy]} cost more than the kept plan")),
-    whole("broken", "items", f"whose kept plan missed its promised fill by more than {100 * SLACK:g} point"),
-    whole("above", "items", "with a later demand above the largest before"),
-    *(number(f"changes_{policy}", "changes a period", f"of the levels of an item, by {WORDS[policy]}", ".4f")
-      for policy in CHANGING))
-
-
-def _policy_cells(outcome: Outcome | None, policy: str) -> list[Cell]:
-    if outcome is None:
-        return [None] * len([*_policy_columns(policy)])
-    promised = policy in PROMISING
-    return [outcome.point, outcome.level, *[outcome.promised_cost] * promised, outcome.cost,
-            *[outcome.promised_fill] * promised, outcome.fill, outcome.stock, outcome.orders,
-            *[outcome.changes] * (policy in CHANGING)]
-
-
-def _row(item: Item, test: Backtest | Remark) -> list[Cell]:
-    if isinstance(test, Remark):
-        return [item.name, item.category, *[None] * (len(BACKTEST_COLUMNS) - 3), advised(test)]
-    policies = [cell for policy in (*POLICIES, "shuffled") for cell in _policy_cells(getattr(test, policy), policy)]
-    return [item.name, item.category, test.record, len(test.demands), test.mean, *policies, test.above,
-            test.shuffled_above, None]
+        f"cost_{policy}", "share", f"what {WORDS[policy]} cost more than the kept plan", f"beside.{policy}")),
+    whole("broken", "items", f"whose kept plan missed its promised fill by more than {100 * SLACK:g} point").by("broken"),
+    whole("above", "items", "with a later demand above the largest before").by("above"),
+    *(number(f"changes_{policy}", "changes a period", f"of the levels of an item, by {WORDS[policy]}", ".4f").by(
+        f"changes.{policy}") for policy in CHANGING))
 
 
 def backtest_of(tested: Tested) -> DataTable:
     """Returns the tests by item. An item without one has the reason."""
-    return DataTable(BACKTEST_COLUMNS, [_row(*pair) for pair in tested.items], tested.decimals, "")
-
-
-def _error_cells(*estimates: Estimate | None) -> list[Cell]:
-    return [cell for estimate in estimates
-            for cell in ((estimate.value, estimate.error) if estimate else (None, None))]
-
-
-def _sum_row(sums: Sums) -> list[Cell]:
-    met = (unmet and replace(unmet, value=1 - unmet.value) for unmet in map(sums.unmet.get, POLICIES))
-    beside = (sums.beside.get(policy) for policy in POLICIES if policy != KEPT)
-    return [sums.group, sums.items, VERDICTS[sums.verdict], sums.promised, *_error_cells(*met),
-            *_error_cells(sums.missed, sums.chance, sums.time, sums.dearer, *beside), sums.broken, sums.above,
-            *map(sums.changes.get, CHANGING)]
+    return DataTable.of(BACKTEST_COLUMNS, [Row.of(*pair) for pair in tested.items], tested.decimals, "")
 
 
 def sums_table(tested: Tested) -> DataTable:
     """Returns the sums of all items, and of each class."""
-    return DataTable(SUM_COLUMNS, [_sum_row(sums) for sums in tested.sums], tested.decimals, "")
+    return DataTable.of(SUM_COLUMNS, tested.sums, tested.decimals, "")
 
 
 def fills_of(sums: Sums) -> dict[str, str]:

@@ -31,7 +31,7 @@ from ..remarks import Remark
 from ..table import DataTable
 from .backtest_tables import past_line
 from .board import board_of
-from .catalogue_tables import (DECISION_COLUMNS, DECISIONS, EXACT, REJECTS, aims_of, catalogue_summary, decision_row,
+from .catalogue_tables import (DECISION_COLUMNS, DECISIONS, EXACT, REJECTS, Decision, aims_of, catalogue_summary,
                                decisions_of, exact_of, reasons_of, rejects_of)
 from .change_tables import CHANGES, change_lines, changes_of, moved_rows
 from .control_tables import controls_of
@@ -140,7 +140,7 @@ def catalogue_page(folder: PlannedFolder, survey: Survey, orders: OrdersToday | 
 def shown_items(decided: Iterable[Decided], digits: int) -> list[Shown]:
     """Returns the items of the table by falling saving; those without one come last. Money has so many digits."""
     kept = sorted(decided, key=lambda it: (saving_of(it[1]) is None, -(saving_of(it[1]) or 0.0), it[0].name))
-    table = DataTable(DECISION_COLUMNS, [decision_row(*pair) for pair in kept], digits, "")
+    table = DataTable.of(DECISION_COLUMNS, [Decision.of(*pair) for pair in kept], digits, "")
     return [Shown(*pair, cells) for pair, cells in zip(kept, table.cells(is_shown=True))]
 
 

@@ -2,19 +2,20 @@
 from __future__ import annotations
 
 from collections.abc import Iterable, Iterator, Mapping, Sequence
-from dataclasses import astuple, dataclass, field
+from dataclasses import dataclass, field
 from fractions import Fraction
-from typing import TYPE_CHECKING
+from operator import methodcaller
+from typing import TYPE_CHECKING, NamedTuple
 
-from ..plan.aims import CLASSES
-from ..plan.answer import RUN, THEORY, Answer, Figures
+from ..plan.aims import CLASSES, Tried
+from ..plan.answer import CHOSEN, RUN, THEORY, TODAY, Answer, Figures
 from ..records.catalogue_reading import defaulted
 from ..records.classes import xyz_of
 from ..records.item import NO_DEMAND, UNORDERED, Item
 from ..records.items import OUTSIDE
 from ..records.lateness import receipt_remarks
 from ..remarks import Remark
-from ..table import MONEY, Cell, Column, DataTable, exact, number, text, whole
+from ..table import MONEY, Column, DataTable, exact, number, text, whole
 from ..words import advice, counted, pattern, sentence
 from .control_tables import controls_of
 from .page import rendered
@@ -36,162 +37,201 @@ def money(name: str, meaning: str) -> Column:
     return number(name, "money a period", meaning, MONEY)
 
 
+def codes_of(remarks: Iterable[Remark]) -> str:
+    return "; ".join(remark.code for remark in remarks)
+
+
+def words_of(remarks: Iterable[Remark]) -> str:
+    return "; ".join(map(sentence, remarks))
+
+
+@dataclass(frozen=True)
+class Decision:
+    """An item with its answer, None if nothing is ordered of it, and all that must be said of it."""
+
+    item: Item
+    answer: Answer | None
+    remarks: tuple[Remark, ...]
+
+    @classmethod
+    def of(cls, item: Item, answer: Answer | Remark) -> Decision:
+        """Takes why nothing is ordered in place of an answer."""
+        if isinstance(answer, Answer):
+            return cls(item, answer, (*item.remarks, *answer.remarks))
+        return cls(item, None, (*item.remarks, answer))
+
+    @property
+    def verdict(self) -> str:
+        return self.answer.verdict if self.answer else self.item.past
+
+    @property
+    def mean(self) -> float | None:
+        """Returns the mean of the law of demand; 0 for an item without any."""
+        return self.answer.law.mean if self.answer else 0.0 if self.item.past == NO_DEMAND else None
+
+    def level(self, policy: str, place: int) -> int | None:
+        """Returns s or S, by its place, of a policy. If nothing is ordered, that is 0 of the chosen one."""
+        if self.answer:
+            figures: Figures | None = getattr(self.answer, policy)
+            levels = figures.levels if figures else None
+        else:
+            levels = self.item.levels if policy == TODAY else (0, 0)
+        return levels[place] if levels else None
+
+    def stock(self, policy: str) -> float | Fraction | None:
+        """Returns the mean stock of a policy by theory; without an answer today's, by the masters."""
+        if self.answer:
+            figures: Figures | None = getattr(self.answer, policy)
+            return figures.stock if figures else None
+        return self.item.stock if policy == TODAY else None
+
+    def value(self, policy: str) -> float | Fraction | None:
+        """Returns what that stock is worth."""
+        if self.answer is None:
+            return self.item.value if policy == TODAY else None
+        stock = self.stock(policy)
+        return None if self.item.price is None or stock is None else float(self.item.price) * stock
+
+    def boxes(self, policy: str, place: int) -> int | None:
+        """Returns s or S, by its place, of a policy in boxes, as it was run."""
+        levels = self.answer.chosen.levels if self.answer and policy == CHOSEN else self.item.levels
+        return round(levels[place] / self.item.box) if levels else None
+
+    def of_period(self, amount: Fraction | None, power: int = 1) -> Fraction | None:
+        """Returns an amount of a replication, in the program's units, as money of a period."""
+        run = self.answer.run if self.answer else None
+        return None if amount is None or run is None else amount / (run.periods * run.scale)**power
+
+    def run_cost(self, policy: str) -> Fraction | None:
+        """Returns what a policy costs a period by the run."""
+        run = self.answer.run if self.answer else None
+        total: int | None = getattr(run, f"total_{policy}", None)
+        return self.of_period(Fraction(total, run.replications)) if run and total is not None else None
+
+
 DECISION_COLUMNS = (
-    text("item", "the item"), text("description", "of the masters"),
-    text("class", "of the masters; that of `abc` if no item has one there"),
+    text("item", "the item").by("item.name"), text("description", "of the masters").by("item.description"),
+    text("class", "of the masters; that of `abc` if no item has one there").by("item.category"),
     text("verdict", "cheaper, more service, undecided, same, dearer, bounded; no policy today; new; or without an order: "
-         "no demand, stopped (asked for no longer), phase out or do not order"),
-    *(whole(f"{letter}_{policy}", "items", f"{letter} of {words}") for policy, words in (
-        ("today", "today's policy"), ("chosen", "the chosen policy")) for letter in "sS"),
-    money("cost_today", "what today's policy costs: by theory, or by crnsim (column by)"),
-    money("cost_chosen", "what the chosen policy costs, by the same"),
-    money("saving", "what the chosen policy costs less than today's, by the same"),
-    text("by", "theory where it is exact, else crnsim: whose figures costs and saving are"),
-    money("run_saving", "the saving by crnsim, less the bias of the start by theory"),
-    money("run_low", "the low end of its interval; empty if it has none"), money("run_high", "the high end"),
-    number("fill_wanted", "share", "of demand to be met at once", ".4f"),
-    number("fill_aimed", "share", "at which the plan aims by the catalogue's past, if that corrects it", ".4f"),
-    number("fill_today", "share", "of demand met at once, by theory", ".4f"),
-    number("fill_chosen", "share", "of demand met at once, by theory", ".4f"),
-    number("stock_today", "items", "the mean stock, by theory; without demand, that of the masters", ".5g"),
-    number("stock_chosen", "items", "the mean stock, by theory", ".5g"),
-    number("stock_uncorrected", "items", "that of the policy that aims at the wanted fill, if it is corrected", ".5g"),
-    *(number(f"value_{it}", "money", "that stock at the price of the masters", MONEY) for it in ("today", "chosen")),
-    *(number(f"orders_{it}", "orders a period", "by theory", ".5g") for it in ("today", "chosen")),
-    money("cost_confidence", "what the confidence in the wanted fill costs, by theory"),
-    money("cost_coverage", "what it costs that S, or S less s, covers no more periods of demand, by theory"),
-    whole("s_alone", "items", "s of the policy by the item's own history alone"), whole("S_alone", "items", "its S"),
-    money("cost_alone", "what that policy costs under the law that the item has, by theory"),
-    number("fill_alone", "share", "of demand that it meets at once", ".4f"),
-    number("demand", "items a period", "the mean of the law", ".5g"),
-    whole("periods", "periods", "of the history that count"),
-    whole("periods_with_demand", "periods", "of these, with demand"), text("law", "the family of the law"),
-    number("law_share", "share", "of the family in the law; the rest is what was seen", ".5g"),
-    number("log10_bayes", "log10", "of the Bayes factor for what was learned from others", ".5g"),
+         "no demand, stopped (asked for no longer), phase out or do not order").by("verdict"),
+    *(whole(f"{letter}_{policy}", "items", f"{letter} of {words}").by(methodcaller("level", policy, place))
+      for policy, words in ((TODAY, "today's policy"), (CHOSEN, "the chosen policy"))
+      for place, letter in enumerate("sS")),
+    money("cost_today", "what today's policy costs: by theory, or by crnsim (column by)").by("answer.cost_today"),
+    money("cost_chosen", "what the chosen policy costs, by the same").by("answer.cost_chosen"),
+    money("saving", "what the chosen policy costs less than today's, by the same").by("answer.saving"),
+    text("by", "theory where it is exact, else crnsim: whose figures costs and saving are").by(
+        lambda row: row.answer and PLANNED_BY[row.answer.source]),
+    money("run_saving", "the saving by crnsim, less the bias of the start by theory").by("answer.run.saving"),
+    money("run_low", "the low end of its interval; empty if it has none").by("answer.run.low"),
+    money("run_high", "the high end").by("answer.run.high"),
+    number("fill_wanted", "share", "of demand to be met at once", ".4f").by("item.fill"),
+    number("fill_aimed", "share", "at which the plan aims by the catalogue's past, if that corrects it", ".4f").by(
+        "answer.correction.aim"),
+    *(number(f"fill_{it}", "share", "of demand met at once, by theory", ".4f").by(f"answer.{it}.fill")
+      for it in (TODAY, CHOSEN)),
+    number("stock_today", "items", "the mean stock, by theory; without demand, that of the masters", ".5g").by(
+        methodcaller("stock", TODAY)),
+    number("stock_chosen", "items", "the mean stock, by theory", ".5g").by(methodcaller("stock", CHOSEN)),
+    number("stock_uncorrected", "items", "that of the policy that aims at the wanted fill, if it is corrected", ".5g").by(
+        "answer.correction.plain_stock"),
+    *(number(f"value_{it}", "money", "that stock at the price of the masters", MONEY).by(methodcaller("value", it))
+      for it in (TODAY, CHOSEN)),
+    *(number(f"orders_{it}", "orders a period", "by theory", ".5g").by(f"answer.{it}.orders") for it in (TODAY, CHOSEN)),
+    money("cost_confidence", "what the confidence in the wanted fill costs, by theory").by("answer.confidence_cost"),
+    money("cost_coverage", "what it costs that S, or S less s, covers no more periods of demand, by theory").by(
+        "answer.coverage_cost"),
+    whole("s_alone", "items", "s of the policy by the item's own history alone").by("answer.alone.point"),
+    whole("S_alone", "items", "its S").by("answer.alone.level"),
+    money("cost_alone", "what that policy costs under the law that the item has, by theory").by("answer.alone.cost"),
+    number("fill_alone", "share", "of demand that it meets at once", ".4f").by("answer.alone.fill"),
+    number("demand", "items a period", "the mean of the law", ".5g").by("mean"),
+    whole("periods", "periods", "of the history that count").by(lambda row: len(row.item.counts)),
+    whole("periods_with_demand", "periods", "of these, with demand").by("item.demands"),
+    text("law", "the family of the law").by("answer.law.family"),
+    number("law_share", "share", "of the family in the law; the rest is what was seen", ".5g").by("answer.law.share"),
+    number("log10_bayes", "log10", "of the Bayes factor for what was learned from others", ".5g").by(
+        "answer.law.log10_bayes"),
     text("abc", "A, B or C by the value of demand, its mean at the price: A while items of higher value have less than "
          "80% of all, B while less than 95%, else C (`--abc 80,95`); empty without a price. Source: Silver, Pyke and "
-         "Thomas, Inventory and Production Management in Supply Chains (2017), section 2.4"),
+         "Thomas, Inventory and Production Management in Supply Chains (2017), section 2.4").by(
+             lambda row: row.answer and row.item.abc),
     text("xyz", "X, Y or Z by the standard deviation of demand by period over its mean: X up to 0.5, Y up to 1, else "
-         "Z; these limits are a convention"),
-    number("fill_low", "share", "that a new item meets under all but a tenth of the laws that its class allows", ".4f"),
-    number("fill_high", "share", "that it meets under no more than a tenth", ".4f"),
-    money("cost_low", "what its chosen policy costs, under these laws, if it has a backlog cost"),
-    money("cost_high", "the same"),
-    text("codes", "codes of all that must be said of the item"), text("warnings", "the same in words"),
-    text("override", "what the planner has set, whatever is chosen: levels, or do not order"),
-    whole("s_override", "items", "s that the planner has set, by which is ordered"), whole("S_override", "items", "its S"),
-    money("cost_override", "what that policy costs more than the chosen one, by theory"),
-    number("fill_override", "share", "of demand that it meets at once, by theory", ".4f"),
-    text("override_reason", "of the planner"))
-OVERRIDDEN = [column.name for column in DECISION_COLUMNS[-6:]]
+         "Z; these limits are a convention").by(lambda row: row.answer and xyz_of(row.item.counts)),
+    number("fill_low", "share", "that a new item meets under all but a tenth of the laws that its class allows", ".4f").by(
+        "answer.allowed.fill_low"),
+    number("fill_high", "share", "that it meets under no more than a tenth", ".4f").by("answer.allowed.fill_high"),
+    money("cost_low", "what its chosen policy costs, under these laws, if it has a backlog cost").by(
+        "answer.allowed.cost_low"),
+    money("cost_high", "the same").by("answer.allowed.cost_high"),
+    text("codes", "codes of all that must be said of the item").by(lambda row: codes_of(row.remarks)),
+    text("warnings", "the same in words").by(lambda row: words_of(row.remarks)),
+    text("override", "what the planner has set, whatever is chosen: levels, or do not order").by("item.override.kind"),
+    whole("s_override", "items", "s that the planner has set, by which is ordered").by("item.override.point"),
+    whole("S_override", "items", "its S").by("item.override.level"),
+    money("cost_override", "what that policy costs more than the chosen one, by theory").by("answer.override_cost"),
+    number("fill_override", "share", "of demand that it meets at once, by theory", ".4f").by("answer.override.fill"),
+    text("override_reason", "of the planner").by("item.override.reason"))
 EXACT_COLUMNS = (
-    text("item", "the item"),
-    *(whole(f"{letter}_{it}", "boxes", "as run") for it in ("today", "chosen") for letter in "sS"),
-    whole("periods", "periods", "of a replication"), whole("replications", "replications", "of the run"),
-    whole("initial", "boxes", "the stock at the start"), text("key", "of the random numbers"),
-    exact("units_of_money", "units", "that one of money counts"),
-    *(whole(it, "units", f"the rate {it} of a box") for it in ("setup", "holding", "backlog")),
-    *(exact(f"total_{it}", "units", "the cost of all replications") for it in ("today", "chosen")),
-    *(exact(f"cost_{it}", "money a period", "of the run, with the bias of its start") for it in ("today", "chosen")),
-    exact("saving", "money a period", "of the run, with the bias of its start"),
-    exact("saving_variance", "money squared", "of that saving"))
+    text("item", "the item").by("item.name"),
+    *(whole(f"{letter}_{it}", "boxes", "as run").by(methodcaller("boxes", it, place))
+      for it in (TODAY, CHOSEN) for place, letter in enumerate("sS")),
+    whole("periods", "periods", "of a replication").by("answer.run.periods"),
+    whole("replications", "replications", "of the run").by("answer.run.replications"),
+    whole("initial", "boxes", "the stock at the start").by("answer.run.initial"),
+    text("key", "of the random numbers").by("answer.run.key"),
+    exact("units_of_money", "units", "that one of money counts").by("answer.run.scale"),
+    *(whole(it, "units", f"the rate {it} of a box").by(f"answer.run.{it}") for it in ("setup", "holding", "backlog")),
+    *(exact(f"total_{it}", "units", "the cost of all replications").by(f"answer.run.total_{it}")
+      for it in (TODAY, CHOSEN)),
+    *(exact(f"cost_{it}", "money a period", "of the run, with the bias of its start").by(methodcaller("run_cost", it))
+      for it in (TODAY, CHOSEN)),
+    exact("saving", "money a period", "of the run, with the bias of its start").by(
+        lambda row: (saved := row.of_period(row.answer.run.difference)) and -saved),
+    exact("saving_variance", "money squared", "of that saving").by(
+        lambda row: row.of_period(row.answer.run.variance, 2)))
 AIM_COLUMNS = (
-    number("wanted", "share", "of demand to be met at once", ".10g", ".2%"),
-    text("class", "items whose mean demand is up to the median of the catalogue, or above"),
-    number("aimed", "share", "at which the plans of the class aim", ".10g", ".2%"),
-    number("met", "share", "that this met of demand on the past", ".10g", ".2%"),
-    whole("items", "items", "whose past was tried"), whole("periods", "periods", "of these items"))
+    number("wanted", "share", "of demand to be met at once", ".10g", ".2%").by("wanted"),
+    text("class", "items whose mean demand is up to the median of the catalogue, or above").by("name"),
+    number("aimed", "share", "at which the plans of the class aim", ".10g", ".2%").by("aimed"),
+    number("met", "share", "that this met of demand on the past", ".10g", ".2%").by(lambda row: row.tried.met(row.aimed)),
+    whole("items", "items", "whose past was tried").by("tried.items"),
+    whole("periods", "periods", "of these items").by("tried.periods"))
 MOST_WANTED = 3  # fill rates, of which the aims are shown
 REJECT_COLUMNS = (
-    text("kind", "`row`, `item`, or `suspicious`: a row that counts all the same"), text("file", "its name"),
-    whole("line", "lines", "the line of the file, from 1"), text("item", "the item"),
-    text("column", "the column of what is wrong"), text("text", "the cell as it stands in the file"),
-    text("reason", "what is wrong"), text("advice", "what to do"),
-    whole("rows", "rows", "rows of demand that are left out"),
-    number("value", "money", "of the stock of an item that is left out, by its master", MONEY))
+    text("kind", "`row`, `item`, or `suspicious`: a row that counts all the same").by("kind"),
+    text("file", "its name").by("file"), whole("line", "lines", "the line of the file, from 1").by(lambda row: row.line or None),
+    text("item", "the item").by("item"), text("column", "the column of what is wrong").by("column"),
+    text("text", "the cell as it stands in the file").by("text"),
+    text("reason", "what is wrong").by(lambda row: sentence(row.remark)),
+    text("advice", "what to do").by(lambda row: advice(row.remark)),
+    whole("rows", "rows", "rows of demand that are left out").by("rows"),
+    number("value", "money", "of the stock of an item that is left out, by its master", MONEY).by("value"))
 
 
-def level_cells(*policies: Figures | None) -> list[Cell]:
-    """Returns s and S of policies, empty cells for one that there is not."""
-    return [level for policy in policies for level in (policy.levels if policy else (None, None))]
+class Aimed(NamedTuple):
+    """Where a class of items, whose past was `tried`, aims for a wanted fill rate."""
 
+    wanted: float
+    name: str
+    tried: Tried
 
-def override_cells(item: Item, answer: Answer | None) -> list[Cell]:
-    """Returns what the planner has set of an item, and what that comes to, if it is planned."""
-    override, figures = item.override, answer and answer.override
-    if override is None:
-        return [None] * len(OVERRIDDEN)
-    s, S = override.levels or (None, None)
-    cost = answer.override_cost if answer else None
-    return [override.kind, s, S, cost, figures.fill if figures else None, override.reason]
-
-
-def idle_row(item: Item, why: Remark) -> list[Cell]:
-    """Returns the row of an item of which nothing is ordered."""
-    s, S = item.levels or (None, None)
-    cells: dict[str, Cell] = {
-        "item": item.name, "description": item.description, "class": item.category, "verdict": item.past, "s_today": s,
-        "S_today": S, "s_chosen": 0, "S_chosen": 0, "fill_wanted": None if item.fill is None else float(item.fill),
-        "stock_today": None if item.stock is None else float(item.stock),
-        "value_today": None if item.value is None else float(item.value), "demand": 0.0 if item.past == NO_DEMAND else None,
-        "periods": len(item.counts), "periods_with_demand": item.demands, **said_of(item, why),
-        **dict(zip(OVERRIDDEN, override_cells(item, None)))}
-    return [cells.get(column.name) for column in DECISION_COLUMNS]
-
-
-def said_of(item: Item, *more: Remark) -> dict[str, str]:
-    """Returns what must be said of an item, as codes and in words."""
-    remarks = *item.remarks, *more
-    return {"codes": "; ".join(it.code for it in remarks), "warnings": "; ".join(map(sentence, remarks))}
-
-
-def decision_row(item: Item, answer: Answer | Remark) -> list[Cell]:
-    """Returns the row of an item in decisions.csv, unrounded: of a planned one, or of one that is not ordered."""
-    if isinstance(answer, Remark):
-        return idle_row(item, answer)
-    today, chosen, alone, run, correction = (
-        answer.today, answer.chosen, answer.alone, answer.run, answer.correction)
-    fills, stocks, orders = ([getattr(policy, name) if policy else None for policy in (today, chosen)]
-                             for name in ("fill", "stock", "orders"))
-    values = [None if item.price is None or stock is None else float(item.price) * stock for stock in stocks]
-    allowed = answer.allowed
-    return [item.name, item.description, item.category, answer.verdict, *level_cells(today, chosen), answer.cost_today,
-            answer.cost_chosen, answer.saving, PLANNED_BY[answer.source], run.saving,
-            run.low, run.high, None if item.fill is None else float(item.fill),
-            correction.aim if correction else None, *fills, *stocks, correction.plain_stock if correction else None,
-            *values, *orders, answer.confidence_cost, answer.coverage_cost, *level_cells(alone),
-            alone.cost if alone else None, alone.fill if alone else None, answer.law.mean, len(item.counts),
-            item.demands, answer.law.family, answer.law.share, answer.law.log10_bayes,
-            item.abc, xyz_of(item.counts), *(astuple(allowed) if allowed else [None] * 4),
-            *said_of(item, *answer.remarks).values(), *override_cells(item, answer)]
-
-
-def exact_row(item: Item, answer: Answer) -> list[Cell]:
-    """Returns the row of an item in exact.csv: crnsim's own figures of the run, as fractions of a period's money."""
-    run, box = answer.run, item.box
-    unit = run.periods * run.scale
-    costs = [None if total is None else Fraction(total, run.replications) / unit
-             for total in (run.total_today, run.total_chosen)]
-    levels = [None if level is None else round(level / box)
-              for level in (*(item.levels or (None, None)), *answer.chosen.levels)]
-    saving = None if run.difference is None else -run.difference / unit
-    variance = None if run.variance is None else run.variance / unit**2
-    return [item.name, *levels, run.periods, run.replications, run.initial, run.key, run.scale, run.setup, run.holding,
-            run.backlog, run.total_today, run.total_chosen, *costs, saving, variance]
+    @property
+    def aimed(self) -> float:
+        return self.tried.aim(self.wanted)
 
 
 def decisions_of(folder: PlannedFolder, answers: Iterable[Decided]) -> DataTable:
     """Returns the decisions of a folder: of its items with their answers a row for each that is planned, or of which no
     order is."""
-    rows = (decision_row(item, answer) for item, answer in answers
-            if isinstance(answer, Answer) or item.past in UNORDERED)
-    return folder.table(DECISION_COLUMNS, rows)
+    return folder.table(DECISION_COLUMNS, (Decision.of(item, answer) for item, answer in answers
+                                           if isinstance(answer, Answer) or item.past in UNORDERED))
 
 
 def exact_of(answers: Iterable[Decided]) -> DataTable:
     """Returns the exact figures of the runs of the items that are planned."""
-    rows = (exact_row(item, answer) for item, answer in answers if isinstance(answer, Answer))
-    return DataTable(EXACT_COLUMNS, rows, missing="")
+    planned = (Decision.of(item, answer) for item, answer in answers if isinstance(answer, Answer))
+    return DataTable.of(EXACT_COLUMNS, planned, missing="")
 
 
 def was_read(remark: Remark) -> bool:
@@ -257,10 +297,7 @@ def reasons_of(rejects: Iterable[Reject]) -> list[Reason]:
 
 def rejects_of(rejects: Iterable[Reject]) -> DataTable:
     """Returns what was left out or named, with the reason and what to do."""
-    rows = ([reject.kind, reject.file, reject.line or None, reject.item, reject.column, reject.text,
-             sentence(reject.remark), advice(reject.remark), reject.rows,
-             None if reject.value is None else float(reject.value)] for reject in rejects)
-    return DataTable(REJECT_COLUMNS, rows, missing="")
+    return DataTable.of(REJECT_COLUMNS, rejects, missing="")
 
 
 def counted_rows(files: Mapping[str, FileCounts]) -> Iterator[str]:
@@ -289,9 +326,8 @@ def aims_of(folder: PlannedFolder, totals: Totals) -> DataTable | None:
     if aims is None:
         return None
     wanted = sorted(fill for fill, _ in totals.corrected.most_common(MOST_WANTED))
-    rows = [(fill, name, tried.aim(fill), tried.met(tried.aim(fill)), tried.items, tried.periods)
-            for fill in wanted for name, tried in zip(CLASSES, aims.classes)]
-    return DataTable(AIM_COLUMNS, rows)
+    aimed = [Aimed(fill, name, tried) for fill in wanted for name, tried in zip(CLASSES, aims.classes)]
+    return DataTable.of(AIM_COLUMNS, aimed)
 
 
 def catalogue_summary(folder: PlannedFolder, totals: Totals, learned: Sequence[Remark], changes: Iterable[str] = (),

@@ -4,10 +4,10 @@ from __future__ import annotations
 import heapq
 
 from ..plan.catalogue import PlannedFolder
-from ..plan.changes import DAMPED, KINDS, MOVED, Change, ChangeSums, Since, SinceSums
-from ..table import Cell, Column, DataTable, number, text, whole
-from ..words import counted, sentence
-from .catalogue_tables import level_cells, money
+from ..plan.changes import DAMPED, KINDS, MOVED, Change, ChangeSums, SinceSums
+from ..table import Column, DataTable, number, text, whole
+from ..words import counted
+from .catalogue_tables import codes_of, money, words_of
 
 CHANGES = "changes.csv"
 MOST_MOVED = 15
@@ -18,64 +18,58 @@ REASONS = {"new rows": "new rows", "changed rows": "changed rows", "other first 
            "other learning": "laws learned anew", "other program": "another program"}
 
 
-def _pair(name: str, unit: str, meaning: str, style: str) -> tuple[Column, Column]:
-    return (number(f"{name}_before", unit, f"{meaning}, in the earlier plan", style),
-            number(f"{name}_after", unit, f"{meaning}, now", style))
+def _pair(name: str, unit: str, meaning: str, style: str, path: str) -> tuple[Column, Column]:
+    return (number(f"{name}_before", unit, f"{meaning}, in the earlier plan", style).by(path.format("before")),
+            number(f"{name}_after", unit, f"{meaning}, now", style).by(path.format("after")))
+
+
+def _share(change: Change) -> float | None:
+    """Returns what a change gains as a share of what the earlier policy costs."""
+    cost = change.before.cost if change.before else 0.0
+    return change.gain / cost if cost and change.gain is not None else None
 
 
 CHANGE_COLUMNS = (
-    text("item", "the item"), text("description", "of the masters"), text("class", "of the masters"),
-    text("change", ", ".join(KINDS[:-1]) + f" or {KINDS[-1]}"),
-    *(whole(f"{letter}_{when}", "items", f"{letter} of the {words} plan") for when, words in (
-        ("before", "earlier"), ("after", "new")) for letter in "sS"),
-    whole("s_best", "items", "s of the policy that costs least now, if the earlier one stays"),
-    whole("S_best", "items", "its S"),
-    money("gain", "what the change gains, or would gain, by the new law"),
-    number("gain_share", "share", "that as a share of what the earlier policy costs by that law", ".4f"),
-    money("cost_before", "what the earlier policy costs, by the new law"),
-    money("cost_after", "what the new policy costs, by the new law"),
-    number("fill_before", "share", "of demand that the earlier policy meets at once, by the new law", ".4f"),
-    number("fill_after", "share", "of demand that the new policy meets at once, by the new law", ".4f"),
-    *_pair("mean", "items a period", "the mean of the law", ".5g"),
-    *_pair("spread", "items a period", "the standard deviation of the law", ".5g"),
-    whole("periods_since", "periods", "since the earlier plan"),
-    whole("demand_since", "items", "that were asked for in these"),
-    money("promised_cost", "what the earlier policy was to cost"),
-    money("cost_since", "what it cost in these periods, at the costs of then"),
-    number("promised_fill", "share", "of demand that the earlier policy was to meet at once", ".4f"),
-    number("fill_since", "share", "of demand that it met at once in these periods", ".4f"),
-    text("codes", "codes of the reasons"), text("why", "the reasons in words"))
-
-
-def _since_cells(since: Since | None) -> list[Cell]:
-    if since is None:
-        return [None] * 6
-    kept = since.kept
-    return [len(since.demands), sum(since.demands), kept.promised_cost, kept.cost, kept.promised_fill, kept.fill]
-
-
-def _row(change: Change) -> list[Cell]:
-    earlier, before, after, gain = change.earlier, change.before, change.after, change.gain
-    levels = level_cells(earlier, after, change.undamped)
-    share = gain / before.cost if before and before.cost and gain is not None else None
-    policies, laws = (before, after), (change.law_before, change.law_after)
-    return [change.name, change.description, change.group, change.kind, *levels, gain, share,
-            *(policy.cost if policy else None for policy in policies),
-            *(policy.fill if policy else None for policy in policies), *(law.mean if law else None for law in laws),
-            *(law.spread if law else None for law in laws), *_since_cells(change.since),
-            "; ".join(reason.code for reason in change.reasons), "; ".join(map(sentence, change.reasons))]
+    text("item", "the item").by("name"), text("description", "of the masters").by("description"),
+    text("class", "of the masters").by("group"),
+    text("change", ", ".join(KINDS[:-1]) + f" or {KINDS[-1]}").by("kind"),
+    *(whole(f"{letter}_{when}", "items", f"{letter} of the {words} plan").by(f"{policy}.{level}")
+      for when, words, policy in (("before", "earlier", "earlier"), ("after", "new", "after"))
+      for letter, level in (("s", "point"), ("S", "level"))),
+    whole("s_best", "items", "s of the policy that costs least now, if the earlier one stays").by("undamped.point"),
+    whole("S_best", "items", "its S").by("undamped.level"),
+    money("gain", "what the change gains, or would gain, by the new law").by("gain"),
+    number("gain_share", "share", "that as a share of what the earlier policy costs by that law", ".4f").by(_share),
+    money("cost_before", "what the earlier policy costs, by the new law").by("before.cost"),
+    money("cost_after", "what the new policy costs, by the new law").by("after.cost"),
+    number("fill_before", "share", "of demand that the earlier policy meets at once, by the new law", ".4f").by(
+        "before.fill"),
+    number("fill_after", "share", "of demand that the new policy meets at once, by the new law", ".4f").by("after.fill"),
+    *_pair("mean", "items a period", "the mean of the law", ".5g", "law_{}.mean"),
+    *_pair("spread", "items a period", "the standard deviation of the law", ".5g", "law_{}.spread"),
+    whole("periods_since", "periods", "since the earlier plan").by(
+        lambda change: change.since and len(change.since.demands)),
+    whole("demand_since", "items", "that were asked for in these").by(
+        lambda change: change.since and sum(change.since.demands)),
+    money("promised_cost", "what the earlier policy was to cost").by("since.kept.promised_cost"),
+    money("cost_since", "what it cost in these periods, at the costs of then").by("since.kept.cost"),
+    number("promised_fill", "share", "of demand that the earlier policy was to meet at once", ".4f").by(
+        "since.kept.promised_fill"),
+    number("fill_since", "share", "of demand that it met at once in these periods", ".4f").by("since.kept.fill"),
+    text("codes", "codes of the reasons").by(lambda change: codes_of(change.reasons)),
+    text("why", "the reasons in words").by(lambda change: words_of(change.reasons)))
 
 
 def changes_of(folder: PlannedFolder) -> DataTable:
     """Returns what has changed since the earlier plan: a row for each item of either."""
-    return DataTable(CHANGE_COLUMNS, (_row(change) for change in folder.changes()), folder.decimals, "")
+    return DataTable.of(CHANGE_COLUMNS, folder.changes(), folder.decimals, "")
 
 
 def moved_rows(folder: PlannedFolder) -> list[dict[str, str]]:
     """Returns the rows of the items whose levels move most, by what that gains or costs, as a reader gets them."""
     moved = heapq.nlargest(MOST_MOVED, (change for change in folder.changes() if change.kind == MOVED),
                            key=lambda change: (abs(change.gain or 0.0), change.name))
-    return [*DataTable(CHANGE_COLUMNS, map(_row, moved), folder.decimals, "").cells(is_shown=True)]
+    return [*DataTable.of(CHANGE_COLUMNS, moved, folder.decimals, "").cells(is_shown=True)]
 
 
 def _since_line(since: SinceSums, every: str) -> str:

@@ -6,17 +6,18 @@ import itertools
 import textwrap
 from collections import Counter
 from collections.abc import Iterable, Sequence
-from dataclasses import astuple, replace
+from dataclasses import replace
 from functools import cached_property
+from operator import methodcaller
 from pathlib import Path
-from typing import Any
+from typing import Any, NamedTuple
 
-from ..crnsim.trajectory import COLUMNS as PERIOD_COLUMNS
+from ..crnsim.trajectory import Period, table_of
 from ..decide.doubt import WITHIN
-from ..decide.verdicts import POLICY
+from ..decide.verdicts import POLICY, Compared as ComparedRow
 from ..demand import EMPIRICAL
 from ..demand.checks import largest_periods
-from ..demand.fitted import QUANTILES, FittedLaw, fit_words
+from ..demand.fitted import QUANTILES, Figures as LawFigures, FittedLaw, fit_words
 from ..errors import Fault, spelt, worded
 from ..money import Currency
 from ..plan.answer import BOUNDED, CHEAPER, CHOSEN, DEARER, SAME, SERVICE, THEORY, UNCOMPARED, UNDECIDED, Figures
@@ -26,9 +27,9 @@ from ..plan.settings import as_setting
 from ..records.dates import EVERY, period_name
 from ..records.item import NEW
 from ..remarks import Remark
-from ..table import MONEY, Cell, DataTable, number as numbers, text, whole
+from ..table import MONEY, Cell, Column, DataTable, number as numbers, text, whole
 from ..words import PREMISE, advised, exactness, sentence
-from .catalogue_tables import DECISION_COLUMNS, decision_row, exact_of
+from .catalogue_tables import DECISION_COLUMNS, Decision, exact_of
 from .law_words import law_said, law_words
 from .page import (OF_CHOSEN, OF_TODAY, UNITS, Line, Plot, Scale, capital, marks_of, number, percent, rendered,
                    tick)
@@ -38,31 +39,64 @@ VERDICTS = {CHEAPER: "cheaper than today's policy ({})", DEARER: "dearer than to
             SERVICE: "for the fill rate that today's policy ({}) misses", UNCOMPARED: UNCOMPARED,
             BOUNDED: "as near to the wanted fill rate as its bounds allow", NEW: "a new item"}
 ALONE = "the law of this item alone"
-VERDICT = text("verdict", "beside today's policy, or else the chosen one: base, better, worse or undecided")
+VERDICT = text("verdict", "beside today's policy, or else the chosen one: base, better, worse or undecided").by("verdict")
+
+
+class ComingRow(NamedTuple):
+    """A policy with its figures, over the coming periods."""
+
+    row: ComparedRow
+    figures: Figures
+
+
+class LawRow(NamedTuple):
+    """The figures of a law, or of what was seen."""
+
+    table: str
+    law: str
+    figures: LawFigures
+
+    def quantile(self, share: float) -> int:
+        return self.figures.quantiles[share]
+
+
+def policy_by(name: str) -> tuple[Column, ...]:
+    """Returns the columns of a policy with figures, whose name is at a path."""
+    return tuple(column.by(path) for column, path in zip(POLICY, (name, "figures.point", "figures.level"), strict=True))
+
+
 POLICY_COLUMNS = (
-    *POLICY, numbers("cost", "money a period", "cost in the long run: by theory if exact, else by crnsim", MONEY),
-    numbers("difference", "money a period", "that cost less today's", MONEY), VERDICT,
-    numbers("theory_cost", "money a period", "cost by theory", MONEY),
-    numbers("fill", "share", "demand met at once, by theory", ".10g"),
-    numbers("short", "share", "periods that end with items owed, by theory", ".10g"),
-    numbers("stock", "items", "mean stock, by theory", ".10g"),
-    numbers("orders", "orders a period", "by theory", ".10g"),
-    numbers("run_cost", "money a period", "cost by crnsim's run, less the bias of the start", MONEY),
-    numbers("run_cost_low", "money a period", "low end of the interval of that cost, by itself", MONEY),
-    numbers("run_cost_high", "money a period", "high end of that interval", MONEY),
-    numbers("run_difference", "money a period", "cost by the run less today's", MONEY),
-    numbers("run_low", "money a period", "low end of the interval of that difference, by itself", MONEY),
-    numbers("run_high", "money a period", "high end of that interval", MONEY), text("reasons", "why it is looked at"))
+    *policy_by("name"),
+    numbers("cost", "money a period", "cost in the long run: by theory if exact, else by crnsim", MONEY).by("cost"),
+    numbers("difference", "money a period", "that cost less today's", MONEY).by("difference"), VERDICT,
+    numbers("theory_cost", "money a period", "cost by theory", MONEY).by("figures.cost"),
+    numbers("fill", "share", "demand met at once, by theory", ".10g").by("figures.fill"),
+    numbers("short", "share", "periods that end with items owed, by theory", ".10g").by("figures.short"),
+    numbers("stock", "items", "mean stock, by theory", ".10g").by("figures.stock"),
+    numbers("orders", "orders a period", "by theory", ".10g").by("figures.orders"),
+    numbers("run_cost", "money a period", "cost by crnsim's run, less the bias of the start", MONEY).by("run.cost"),
+    numbers("run_cost_low", "money a period", "low end of the interval of that cost, by itself", MONEY).by(
+        lambda policy: policy.own_ends[0]),
+    numbers("run_cost_high", "money a period", "high end of that interval", MONEY).by(lambda policy: policy.own_ends[1]),
+    numbers("run_difference", "money a period", "cost by the run less today's", MONEY).by("run.difference"),
+    numbers("run_low", "money a period", "low end of the interval of that difference, by itself", MONEY).by(
+        lambda policy: policy.ends[0]),
+    numbers("run_high", "money a period", "high end of that interval", MONEY).by(lambda policy: policy.ends[1]),
+    text("reasons", "why it is looked at").by(lambda policy: "; ".join(policy.reasons)))
 COMING_COLUMNS = (
-    *POLICY, numbers("cost", "money a period", "mean cost over the coming periods, by crnsim", MONEY),
-    numbers("difference", "money a period", "that cost less today's", MONEY),
-    numbers("low", "money a period", "low end of the interval of that difference; all hold together", MONEY),
-    numbers("high", "money a period", "high end of that interval", MONEY), VERDICT)
+    *policy_by("row.policy"),
+    numbers("cost", "money a period", "mean cost over the coming periods, by crnsim", MONEY).by("row.cost"),
+    numbers("difference", "money a period", "that cost less today's", MONEY).by("row.diff"),
+    numbers("low", "money a period", "low end of the interval of that difference; all hold together", MONEY).by("row.low"),
+    numbers("high", "money a period", "high end of that interval", MONEY).by("row.high"), VERDICT.by("row.verdict"))
 LAW_COLUMNS = (
-    text("table", "demand, returns or lead"), text("law", "what was seen, or the law that was fitted to it"),
-    numbers("mean", "boxes or periods", "its mean", ".4f"), numbers("variance", "squared", "its variance", ".4f"),
-    *(whole(f"{share:.1%}", "boxes or periods", "what this share of periods does not exceed") for share in QUANTILES),
-    whole("largest", "boxes or periods", "its largest value"))
+    text("table", "demand, returns or lead").by("table"),
+    text("law", "what was seen, or the law that was fitted to it").by("law"),
+    numbers("mean", "boxes or periods", "its mean", ".4f").by("figures.mean"),
+    numbers("variance", "squared", "its variance", ".4f").by("figures.variance"),
+    *(whole(f"{share:.1%}", "boxes or periods", "what this share of periods does not exceed").by(
+        methodcaller("quantile", share)) for share in QUANTILES),
+    whole("largest", "boxes or periods", "its largest value").by("figures.most"))
 # The summary has so many lines of so many characters. Its table needs four: the heading, two policies, and a blank one.
 LINES, WIDTH, LEAST_TABLE = 24, 80, 4
 # The page has all warnings; in the summary each is cut to one or two lines.
@@ -256,27 +290,20 @@ class ItemWords:
 
 
 def policies_of(words: ItemWords) -> DataTable:
-    rows: list[list[Cell]] = [
-        [row.name, *row.figures.levels, row.cost, row.difference, row.verdict, *astuple(row.figures)[2:], row.run.cost,
-         *row.own_ends, row.run.difference, *row.ends, "; ".join(row.reasons)] for row in words.depth.compared]
-    return DataTable(POLICY_COLUMNS, rows, words.decimals, index="policy")
+    return DataTable.of(POLICY_COLUMNS, words.depth.compared, words.decimals, index="policy")
 
 
 def periods_of(words: ItemWords) -> DataTable:
-    rows: list[list[Cell]] = [
-        [name, place, *(words.item.box * count for count in period)]
-        for name, periods in words.depth.trajectory.items() for place, period in enumerate(periods)]
-    return DataTable(PERIOD_COLUMNS, rows)
+    box, found = words.item.box, words.depth.trajectory
+    return table_of(found, [[Period(*(box * count for count in period)) for period in its] for its in found.values()])
 
 
 def coming_of(words: ItemWords) -> DataTable | None:
     """Returns the policies over the coming periods; None if they were not asked for."""
     if words.coming is None:
         return None
-    rows: list[list[Cell]] = [
-        [row.policy, *words.figures[row.policy].levels, row.cost, row.diff, row.low, row.high, row.verdict]
-        for row in words.coming.rows]
-    return DataTable(COMING_COLUMNS, rows, words.decimals, index="policy")
+    rows = [ComingRow(row, words.figures[row.policy]) for row in words.coming.rows]
+    return DataTable.of(COMING_COLUMNS, rows, words.decimals, index="policy")
 
 
 def demand_of(words: ItemWords) -> DataTable:
@@ -288,7 +315,7 @@ def demand_of(words: ItemWords) -> DataTable:
 def laws_of(question: Question, single: FittedLaw | None) -> DataTable:
     """Returns the figures of the laws: of what was seen, and its own if a law was fitted. Below a law that is learned
     from others stands that of the item alone, `single`, if there is one."""
-    rows = list[list[Cell]]()
+    rows = list[LawRow]()
     for name, law in {"demand": question.demand, "returns": question.returns, "lead": question.lead}.items():
         if law is None:
             continue
@@ -298,9 +325,8 @@ def laws_of(question: Question, single: FittedLaw | None) -> DataTable:
             titles = {named if is_seen else "what was seen": law.diagnostics.history} | titles
         if name == "demand" and single is not None:
             titles[ALONE] = single.figures
-        rows += [[name, title, figures.mean, figures.variance, *figures.quantiles.values(), figures.most]
-                 for title, figures in titles.items()]
-    return DataTable(LAW_COLUMNS, rows)
+        rows += [LawRow(name, title, figures) for title, figures in titles.items()]
+    return DataTable.of(LAW_COLUMNS, rows)
 
 
 def screen_table(words: ItemWords, most: int) -> str:
@@ -347,7 +373,7 @@ def item_summary(words: ItemWords) -> str:
 def item_page(words: ItemWords) -> str:
     """Returns the page of an item as HTML."""
     depth, pair = words.depth, (words.item, words.answer)
-    decision, = DataTable(DECISION_COLUMNS, [decision_row(*pair)], words.decimals).cells()
+    decision, = DataTable.of(DECISION_COLUMNS, [Decision.of(*pair)], words.decimals).cells()
     exact, = exact_of([pair]).cells()
     doubted = dict([*words.doubted.items()][:MOST_DOUBTED])
     regrets: list[Range] = [(name, 100 * row["regret"], 0.0, 100 * row["regret_90"], "")

@@ -6,7 +6,7 @@ import datetime
 import math
 import re
 import tempfile
-from collections.abc import Iterable, Mapping, Sequence
+from collections.abc import Callable, Iterable, Mapping, Sequence
 from dataclasses import dataclass, field, replace
 from fractions import Fraction
 from functools import cached_property
@@ -19,7 +19,7 @@ from ..money import Currency
 from ..plan.catalogue import PlannedFolder, copied_folder, planned_folder
 from ..plan.risk import Risk, risks_of
 from ..plan.ended import Ended
-from ..plan.today import Addition, Group, Lying, Money, Standing, Today, sum_of_money, today_of
+from ..plan.today import Addition, Group, Money, Standing, Today, sum_of_money, today_of
 from ..records.item import PHASE_OUT, Item
 from ..records.items import Words
 from ..records.observed import Day, stated_day
@@ -27,9 +27,9 @@ from ..records.opening import Table
 from ..records.stock import NONE
 from ..records.told import merged, told_of, words_from
 from ..remarks import Remark
-from ..table import MONEY, Cell, Column, DataTable, TextResult, names_of, number, text, whole
-from ..words import counted, sentence
-from .catalogue_tables import REJECT_COLUMNS, counted_rows, reasons_of, rejects_of
+from ..table import MONEY, Column, DataTable, TextResult, names_of, number, text, whole
+from ..words import counted
+from .catalogue_tables import REJECT_COLUMNS, codes_of, counted_rows, reasons_of, rejects_of, words_of
 from .control_tables import CONTROL_COLUMNS, controls_of
 from .page import rendered
 
@@ -55,74 +55,163 @@ def weeks(name: str, meaning: str) -> Column:
     return number(name, "weeks", meaning, ".5g", ".1f")
 
 
-NAMED = (text("item", "the item"), text("description", "of the masters"), text("class", "of the masters"),
-         text("supplier", "of the masters"))
-STOCK = items("stock", "by the table of stock, else by the masters; not below 0")
-ON_ORDER = items("on_order", "ordered before, and still to come")
-OWED = items("owed", "to customers; what a stock is below 0, too")
-LEVELS = whole("s", "items", "s of the chosen policy, or of the planner's"), whole("S", "items", "its S")
-POSITION = items("position", "the stock, less what is owed, plus all that is on order")
+def named(path: str) -> tuple[Column, ...]:
+    """Returns the columns that name an item, which is at a path."""
+    return (text("item", "the item").by(f"{path}.name"), text("description", "of the masters").by(f"{path}.description"),
+            text("class", "of the masters").by(f"{path}.category"), text("supplier", "of the masters").by(f"{path}.supplier"))
+
+
+@dataclass(frozen=True)
+class Row:
+    """An item on a day with what it stands at; if that is `unknown`, with the reason alone."""
+
+    today: Today
+    item: Item
+    standing: Standing | None = None
+    unknown: Remark | None = None
+
+    @property
+    def reasons(self) -> Sequence[Remark]:
+        return self.today.reasons(self.standing) if self.standing else [self.unknown] if self.unknown else []
+
+    @property
+    def latest(self) -> Day | None:
+        return self.today.latest(self.standing) if self.standing else None
+
+    @property
+    def number(self) -> str:
+        """Returns the number of the order of its supplier."""
+        return self.today.number(self.item.supplier)
+
+
+@dataclass(frozen=True)
+class GroupRow:
+    """The items of a class or a supplier on a day."""
+
+    today: Today
+    group: Group
+
+    @property
+    def number(self) -> str:
+        """Returns the number of today's order of a supplier; empty if nothing is ordered."""
+        return self.today.number(self.group.name) if self.group.due else ""
+
+    @property
+    def file(self) -> str:
+        """Returns the file of today's order; empty if nothing is ordered."""
+        return supplier_file(self.today.place(self.group.name)) if self.group.due else ""
+
+
+def excess(row: Row) -> Fraction:
+    """Returns what an item is above S."""
+    return -row.standing.to_level if row.standing else NONE
+
+
+def codes(row: Row | Risk | Ended) -> str:
+    return codes_of(row.reasons)
+
+
+def said(row: Row | Risk | Ended) -> str:
+    return words_of(row.reasons)
+
+
+def level(place: int) -> Callable[[Row | Addition | Risk], int | None]:
+    """Returns a function that returns s or S, by its place, of what an item stands at."""
+    return lambda row: row.standing.levels[place] if row.standing else None
+
+
+def placed_worth(row: Row | Addition) -> Money:
+    """Returns what an order in whole packs is worth."""
+    return row.standing.worth(row.standing.placed) if row.standing else None
+
+
+NAMED, STANDING = named("item"), named("standing.item")
+STOCK = items("stock", "by the table of stock, else by the masters; not below 0").by("standing.hand.stock")
+ON_ORDER = items("on_order", "ordered before, and still to come").by("standing.on_order")
+OWED = items("owed", "to customers; what a stock is below 0, too").by("standing.hand.owed")
+LEVELS = (whole("s", "items", "s of the chosen policy, or of the planner's").by(level(0)),
+          whole("S", "items", "its S").by(level(1)))
+POSITION = items("position", "the stock, less what is owed, plus all that is on order").by("standing.position")
+PACKS, PLACED = "standing.packs", "standing.placed"
+CODE, WHY = text("code", "of the reasons").by(codes), text("why", "it in words").by(said)
 ORDER_COLUMNS = (
     *NAMED, STOCK, ON_ORDER, OWED, POSITION, *LEVELS,
-    items("order", "S less the position, as that is below s"), whole("packs", "packs", "that order, rounded up"),
-    whole("placed", "items", "the order in whole packs"),
-    worth("value", "the placed order at the price of the masters"),
-    weeks("weeks", "until a shortage at mean demand if nothing came: the stock less what is owed, over the mean"),
+    items("order", "S less the position, as that is below s").by("standing.to_level"),
+    whole("packs", "packs", "that order, rounded up").by(PACKS), whole("placed", "items", "the order in whole packs").by(PLACED),
+    worth("value", "the placed order at the price of the masters").by(placed_worth),
+    weeks("weeks", "until a shortage at mean demand if nothing came: the stock less what is owed, over the mean").by(
+        "standing.weeks"),
     number("chance", "share", "the chance of a shortage before delivery: that the demand of a lead time and one more "
            "period exceeds the stock less what is owed and what is due by then, by the laws of the plan, if periods "
            "are independent; what has no date, or is overdue, comes in time (at_risk has it without that)", ".5g",
-           ".1%"),
+           ".1%").by("standing.chance"),
     text("latest", "the day on which the order has to leave: today, as the position is below s; if the least value of "
          "its supplier's order is not met whatever is added, until when it may wait: at mean demand and after the mean "
-         "lead time it arrives before the position is used up"),
-    text("code", "of the reasons; of items without an order, why nothing is known of them"), text("why", "it in words"))
+         "lead time it arrives before the position is used up").by("latest"),
+    text("code", "of the reasons; of items without an order, why nothing is known of them").by(codes), WHY)
 ABOVE_COLUMNS = (
-    *NAMED, STOCK, OWED, POSITION, *LEVELS, items("excess", "the position less S"), worth("value", "of the excess"),
-    weeks("weeks", "until the excess is used at mean demand"))
+    *NAMED, STOCK, OWED, POSITION, *LEVELS, items("excess", "the position less S").by(excess),
+    worth("value", "of the excess").by(lambda row: row.standing.worth(excess(row))),
+    weeks("weeks", "until the excess is used at mean demand").by(lambda row: row.standing.weeks_of(excess(row))))
 DEAD_COLUMNS = (
-    *NAMED, STOCK, whole("periods", "periods", "at the end of the record without demand: a year or more"),
-    worth("value", "of the stock"))
+    *NAMED, STOCK.by("stock"),
+    whole("periods", "periods", "at the end of the record without demand: a year or more").by("periods"),
+    worth("value", "of the stock").by("value"))
 STOPPED_COLUMNS = (
     *NAMED, text("status", "stopped (asked for no longer, by its status or its record), do not order (as its planner has set), "
-                 "or phase out: of these what is owed is ordered"), STOCK, OWED, items("on_order", "ordered before, and still to come"),
-    whole("periods", "periods", "at the end of the record without demand"), worth("value", "of the stock"),
-    text("code", "of the reasons"), text("why", "it in words"))
-OWED_COLUMNS = (*NAMED, STOCK, OWED, POSITION, *LEVELS, whole("placed", "items", "today's order, in whole packs"),
-                worth("value", "of the items owed"))
+                 "or phase out: of these what is owed is ordered").by("item.past"),
+    STOCK.by("hand.stock"), OWED.by("hand.owed"), ON_ORDER.by("on_order"),
+    whole("periods", "periods", "at the end of the record without demand").by("periods"),
+    worth("value", "of the stock").by("value"), CODE, WHY)
+OWED_COLUMNS = (
+    *NAMED, STOCK, OWED, POSITION, *LEVELS,
+    whole("placed", "items", "today's order, in whole packs").by(lambda row: row.standing.placed if row.standing.is_due else 0),
+    worth("value", "of the items owed").by(lambda row: row.standing.worth(row.standing.hand.owed)))
 SUM_COLUMNS = (
-    whole("items", "items", "whose stock is known"), whole("orders", "orders", "of today"),
-    worth("value", "of these orders, but for items without a price"), worth("excess", "the value of what is above S"),
-    worth("dead", "the value of stock without demand for a year"), items("owed", "to customers"))
-CLASS_COLUMNS = (text("class", "of the masters"), *SUM_COLUMNS)
+    whole("items", "items", "whose stock is known").by(lambda row: len(row.group.standings)),
+    whole("orders", "orders", "of today").by(lambda row: len(row.group.due)),
+    worth("value", "of these orders, but for items without a price").by("group.value"),
+    worth("excess", "the value of what is above S").by("group.excess"),
+    worth("dead", "the value of stock without demand for a year").by("group.dead_value"),
+    items("owed", "to customers").by("group.owed"))
+CLASS_COLUMNS = (text("class", "of the masters").by("group.name"), *SUM_COLUMNS)
 SUPPLIER_COLUMNS = (
-    text("supplier", "of the masters"), *SUM_COLUMNS, worth("minimum", "the least value of an order of the supplier"),
-    worth("short", "by how much today's orders lack it; 0 if nothing is ordered"),
+    text("supplier", "of the masters").by("group.name"), *SUM_COLUMNS,
+    worth("minimum", "the least value of an order of the supplier").by("group.minimum"),
+    worth("short", "by how much today's orders lack it; 0 if nothing is ordered").by("group.short"),
     text("number", "of today's order: the day, and the place of the supplier among all of the plan; empty if nothing "
-         "is ordered"), text("file", "with the lines of that order, beside this file"))
+         "is ordered").by("number"), text("file", "with the lines of that order, beside this file").by("file"))
 ADDED_COLUMNS = (
-    *NAMED, POSITION, *LEVELS, weeks("weeks", "of mean demand that the position is above s"),
-    whole("packs", "packs", "an order up to S, rounded up"), whole("placed", "items", "that order in whole packs"),
-    worth("value", "of that order"), worth("total", "of all orders of the supplier with this one"))
+    *STANDING, POSITION, *LEVELS, weeks("weeks", "of mean demand that the position is above s").by("standing.weeks_above"),
+    whole("packs", "packs", "an order up to S, rounded up").by(PACKS),
+    whole("placed", "items", "that order in whole packs").by(PLACED),
+    worth("value", "of that order").by(placed_worth),
+    worth("total", "of all orders of the supplier with this one").by("total"))
 LINE_COLUMNS = (
-    text("number", "of the order of a supplier"), text("supplier", "of the masters"), text("ordered", "the day"),
-    text("due", "the day after the mean lead time, in days rounded up"), text("item", "the item"),
-    text("description", "of the masters"), whole("packs", "packs", "that are ordered"),
-    whole("pack", "items", "in each of them"), whole("placed", "items", "the order in whole packs"),
-    worth("price", "of an item, by the masters"), worth("value", "of the placed order"),
-    text("code", "of the reasons"), text("why", "it in words"))
+    text("number", "of the order of a supplier").by("number"), text("supplier", "of the masters").by("item.supplier"),
+    text("ordered", "the day").by("today.day"),
+    text("due", "the day after the mean lead time, in days rounded up").by("standing.due"),
+    text("item", "the item").by("item.name"), text("description", "of the masters").by("item.description"),
+    whole("packs", "packs", "that are ordered").by(PACKS), whole("pack", "items", "in each of them").by("item.bounds.pack"),
+    whole("placed", "items", "the order in whole packs").by(PLACED),
+    worth("price", "of an item, by the masters").by("item.price"),
+    worth("value", "of the placed order").by(placed_worth), CODE, WHY)
 RISK_COLUMNS = (
-    *NAMED, STOCK, ON_ORDER, OWED, whole("overdue_orders", "orders", "that were due before the day"),
-    items("overdue", "on these orders"), whole("days_late", "days", "since the oldest of them was due"),
-    text("next_receipt", "the next day on which an order is due; empty if that is an order of today"),
-    number("days", "days", "until then; of an order of today the mean lead time", ".4g"),
-    weeks("weeks", "until a shortage at mean demand if nothing came: the stock less what is owed, over the mean"),
+    *STANDING, STOCK, ON_ORDER, OWED,
+    whole("overdue_orders", "orders", "that were due before the day").by(lambda risk: len(risk.standing.overdue)),
+    items("overdue", "on these orders").by("overdue"),
+    whole("days_late", "days", "since the oldest of them was due").by("days_late"),
+    text("next_receipt", "the next day on which an order is due; empty if that is an order of today").by(
+        lambda risk: risk.receipt or ""),
+    number("days", "days", "until then; of an order of today the mean lead time", ".4g").by("days"),
+    weeks("weeks", "until a shortage at mean demand if nothing came: the stock less what is owed, over the mean").by(
+        "standing.weeks"),
     number("chance", "share", "the chance of a shortage before the next receipt, if what is overdue or has no date comes "
            "in time: that the demand of the periods until then, rounded up, or of the lead time of an order of today and "
-           "one more period, exceeds what is there", ".5g", ".1%"),
-    number("chance_without", "share", "the same if none of that comes before", ".5g", ".1%"),
-    number("short", "items", "expected to lack then, if none of that comes before", ".5g"),
-    worth("value", "of what is expected to lack: the item to expedite first is the first row"),
-    text("code", "of the reasons"), text("why", "it in words"))
+           "one more period, exceeds what is there", ".5g", ".1%").by("chance"),
+    number("chance_without", "share", "the same if none of that comes before", ".5g", ".1%").by("chance_without"),
+    number("short", "items", "expected to lack then, if none of that comes before", ".5g").by("short"),
+    worth("value", "of what is expected to lack: the item to expedite first is the first row").by("value"), CODE, WHY)
 
 
 # The tables by name, with their columns.
@@ -142,83 +231,6 @@ def supplier_file(place: int) -> str:
     return f"today_supplier_{place:03}.csv"
 
 
-def named(item: Item) -> list[Cell]:
-    return [item.name, item.description, item.category, item.supplier]
-
-
-def plain(amount: Money) -> float | None:
-    return None if amount is None else float(amount)
-
-
-def levels_of(standing: Standing) -> list[Cell]:
-    return [float(standing.position), *standing.levels]
-
-
-def said(remarks: Sequence[Remark]) -> list[Cell]:
-    """Returns the codes of remarks, and their words."""
-    return ["; ".join(remark.code for remark in remarks), "; ".join(map(sentence, remarks))]
-
-
-def order_row(today: Today, standing: Standing) -> list[Cell]:
-    hand = standing.hand
-    return [*named(standing.item), float(hand.stock), float(standing.on_order), float(hand.owed), *levels_of(standing),
-            float(standing.to_level), standing.packs, standing.placed, plain(standing.worth(standing.placed)),
-            standing.weeks, standing.chance, str(today.latest(standing)), *said(today.reasons(standing))]
-
-
-def line_row(today: Today, standing: Standing) -> list[Cell]:
-    """Returns a line of the order of a supplier."""
-    item = standing.item
-    return [today.number(item.supplier), item.supplier, str(today.day), str(standing.due), item.name, item.description,
-            standing.packs, item.bounds.pack, standing.placed, plain(item.price),
-            plain(standing.worth(standing.placed)), *said(today.reasons(standing))]
-
-
-def risk_row(risk: Risk) -> list[Cell]:
-    standing = risk.standing
-    return [*named(standing.item), float(standing.hand.stock), float(standing.on_order), float(standing.hand.owed),
-            len(standing.overdue), float(risk.overdue), risk.days_late, str(risk.receipt or ""), risk.days, standing.weeks, risk.chance,
-            risk.chance_without, risk.short, risk.value, *said(risk.reasons)]
-
-
-def above_row(standing: Standing) -> list[Cell]:
-    excess = -standing.to_level
-    return [*named(standing.item), float(standing.hand.stock), float(standing.hand.owed), *levels_of(standing),
-            float(excess), plain(standing.worth(excess)), standing.weeks_of(excess)]
-
-
-def dead_row(lying: Lying) -> list[Cell]:
-    return [*named(lying.item), float(lying.stock), lying.periods, plain(lying.value)]
-
-
-def stopped_row(ended: Ended) -> list[Cell]:
-    stock, owed = (ended.hand.stock, ended.hand.owed) if ended.hand else (None, None)
-    return [*named(ended.item), ended.item.past, plain(stock), plain(owed), float(ended.on_order), ended.periods,
-            plain(ended.value), *said(ended.reasons)]
-
-
-def owed_row(standing: Standing) -> list[Cell]:
-    owed = standing.hand.owed
-    return [*named(standing.item), float(standing.hand.stock), float(owed), *levels_of(standing),
-            standing.placed if standing.is_due else 0, plain(standing.worth(owed))]
-
-
-def sum_row(group: Group) -> list[Cell]:
-    return [group.name, len(group.standings), len(group.due), *map(float, (
-        group.value, group.excess, group.dead_value, group.owed))]
-
-
-def supplier_row(today: Today, group: Group) -> list[Cell]:
-    order = [today.number(group.name), supplier_file(today.place(group.name))] if group.due else ["", ""]
-    return [*sum_row(group), plain(group.minimum), float(group.short), *order]
-
-
-def added_row(addition: Addition) -> list[Cell]:
-    standing, total = addition.standing, addition.total
-    return [*named(standing.item), *levels_of(standing), standing.weeks_above, standing.packs, standing.placed,
-            plain(standing.worth(standing.placed)), float(total)]
-
-
 def short_of(group: Group) -> tuple[Group, str, Fraction]:
     """Returns a supplier whose order is below its least value, with what to add, and what is lacking then."""
     added = [*group.additions()]
@@ -236,25 +248,23 @@ class OrdersToday(TextResult):
     currency: Currency = field(default=Currency(), repr=False)
     plan: str = field(default="", repr=False)  # the digest of the plan
 
-    def _table(self, name: str, rows: Iterable[Sequence[Cell]]) -> DataTable:
-        return DataTable(TABLES[name], [*rows], self.currency.decimals, "", currency=self.currency.code,
-                         every=self.every)
+    def _table(self, name: str, things: Iterable[object]) -> DataTable:
+        return DataTable.of(TABLES[name], [*things], self.currency.decimals, "", currency=self.currency.code,
+                            every=self.every)
+
+    def _rows(self, standings: Iterable[Standing]) -> list[Row]:
+        return [Row(self.today, standing.item, standing) for standing in standings]
 
     @cached_property
     def table(self) -> DataTable:
         """Returns the orders, and items without one since nothing is known of them."""
-        unknown = ([*named(item), *[None] * (len(ORDER_COLUMNS) - 6), reason.code, sentence(reason)]
-                   for item, reason in self.today.unknown)
-        return self._table("orders", [*self._orders(), *unknown])
-
-    def _orders(self, most: int | None = None) -> list[list[Cell]]:
-        """Returns the orders, the most urgent first, perhaps so many alone."""
-        return [order_row(self.today, standing) for standing in self.today.whole.due[:most]]
+        unknown = (Row(self.today, item, unknown=reason) for item, reason in self.today.unknown)
+        return self._table("orders", [*self._rows(self.today.whole.due), *unknown])
 
     @property
     def urgent(self) -> DataTable:
         """Returns the most urgent orders."""
-        return self._table("orders", self._orders(MOST_URGENT)).with_columns(URGENT)
+        return self._table("orders", self._rows(self.today.whole.due[:MOST_URGENT])).with_columns(URGENT)
 
     def money(self, amount: Fraction | float) -> str:
         """Returns an amount of money with all its decimals."""
@@ -281,21 +291,21 @@ class OrdersToday(TextResult):
 
     def _lines(self, groups: Iterable[Group]) -> DataTable:
         """Returns the lines of the orders of suppliers, each with its most urgent item first."""
-        return self._table("lines", (line_row(self.today, standing) for group in groups for standing in group.due))
+        return self._table("lines", self._rows(standing for group in groups for standing in group.due))
 
     @cached_property
     def tables(self) -> dict[str, DataTable]:
         """Returns all tables by name."""
         today = self.today
         additions = (addition for group in today.suppliers if group.short for addition in group.additions())
-        return {"orders": self.table, "above": self._table("above", map(above_row, today.above)),
-                "dead": self._table("dead", map(dead_row, today.dead)),
-                "stopped": self._table("stopped", map(stopped_row, today.ended)),
-                "owed": self._table("owed", map(owed_row, today.owed)),
-                "classes": self._table("classes", map(sum_row, today.classes)),
-                "suppliers": self._table("suppliers", (supplier_row(today, group) for group in today.suppliers)),
-                "added": self._table("added", map(added_row, additions)), "lines": self._lines(today.suppliers),
-                "at_risk": self._table("at_risk", map(risk_row, self.risks)),
+        return {"orders": self.table, "above": self._table("above", self._rows(today.above)),
+                "dead": self._table("dead", today.dead),
+                "stopped": self._table("stopped", today.ended),
+                "owed": self._table("owed", self._rows(today.owed)),
+                "classes": self._table("classes", (GroupRow(today, group) for group in today.classes)),
+                "suppliers": self._table("suppliers", (GroupRow(today, group) for group in today.suppliers)),
+                "added": self._table("added", additions), "lines": self._lines(today.suppliers),
+                "at_risk": self._table("at_risk", self.risks),
                 "controls": controls_of(today.controls, self.currency.decimals, self.currency.code),
                 "left_out": rejects_of(today.rejects)}
 

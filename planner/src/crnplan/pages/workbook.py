@@ -10,10 +10,11 @@ import io
 import math
 import re
 from collections.abc import Iterator, Sequence
+from operator import methodcaller
 from pathlib import Path
-from typing import TYPE_CHECKING
+from typing import TYPE_CHECKING, NamedTuple
 
-from ..curve.exchange_curve import FIGURES, kept_curve
+from ..curve.exchange_curve import CurvePoint, figures_by, kept_curve
 from ..curve.parts import Point
 from ..errors import Refused
 from ..files import named_bytes
@@ -45,16 +46,51 @@ MARKERS = (("circle", "#000000"), ("diamond", "#d55e00"), ("triangle", "#009e73"
 SUMMARY, CURVE = "Summary", "Curve"
 SHEETS = {"Today": "orders", "At risk": "at_risk", "Orders by supplier": "lines"}  # of orders, with their tables
 POLICIES = TODAY, CHOSEN
-SUM_COLUMNS = (text("figure", "what all items come to"), *(number(it, "", f"with {words} policies") for it, words in (
-    (TODAY, "today's"), (CHOSEN, "the chosen"))))
-CURVE_COLUMNS = (text("point", "what it is; empty on the line of the curve"), *FIGURES)
+
+
+class Sum(NamedTuple):
+    """What all items come to, today and chosen: a line of the summary, which may be a text alone."""
+
+    figure: str
+    today: float | None = None
+    chosen: float | None = None
+
+
+class Meaning(NamedTuple):
+    """What a column of a sheet has."""
+
+    sheet: str
+    column: str
+    unit: str
+    meaning: str
+
+
+class ClassTotals(NamedTuple):
+    """What the items of a class come to."""
+
+    name: str
+    totals: Totals
+
+    def fill(self, policy: str) -> float | None:
+        return self.totals.fill(policy)
+
+    def figure(self, name: str) -> float | None:
+        return self.totals[name]
+
+
+SUM_COLUMNS = (
+    text("figure", "what all items come to").by("figure"),
+    *(number(it, "", f"with {words} policies").by(it) for it, words in ((TODAY, "today's"), (CHOSEN, "the chosen"))))
+CURVE_COLUMNS = (text("point", "what it is; empty on the line of the curve").by("name"), *figures_by("point."))
 CLASS_COLUMNS = (
-    text("class", "of decisions"), whole("items", "items", "that are planned, and have a policy today"),
-    money("saving", "what the chosen policies cost less than today's"),
-    *(number(f"fill_{it}", "share", "of demand met at once, by value; empty without prices", ".4f") for it in POLICIES),
-    *(number(f"value_{it}", "money", "of the mean stock", MONEY) for it in POLICIES))
-READ_ME_COLUMNS = (text("sheet", "of this workbook"), text("column", "its name"), text("unit", "of its numbers"),
-                   text("meaning", "what it has"))
+    text("class", "of decisions").by("name"),
+    whole("items", "items", "that are planned, and have a policy today").by("totals.planned"),
+    money("saving", "what the chosen policies cost less than today's").by(methodcaller("figure", "saving")),
+    *(number(f"fill_{it}", "share", "of demand met at once, by value; empty without prices", ".4f").by(
+        methodcaller("fill", it)) for it in POLICIES),
+    *(number(f"value_{it}", "money", "of the mean stock", MONEY).by(methodcaller("figure", f"value_{it}")) for it in POLICIES))
+READ_ME_COLUMNS = (text("sheet", "of this workbook").by("sheet"), text("column", "its name").by("column"),
+                   text("unit", "of its numbers").by("unit"), text("meaning", "what it has").by("meaning"))
 TEXT = "@"  # the format of texts
 SPELT = re.compile(r"[+]?(?P<group>,?)\.(?P<digits>[0-9])(?P<kind>[f%])")
 
@@ -107,7 +143,7 @@ class Book:
         self.book.set_properties({"title": "Plan", "author": "crnplan", "created": CREATED})
         self.headings = {is_text: self.book.add_format({"bold": True, "bottom": 1, "align": side, "indent": int(is_text)})
                          for is_text, side in ((True, "left"), (False, "right"))}
-        self.meanings = list[list[Cell]]()
+        self.meanings = list[Meaning]()
 
     def add(self, name: str, table: DataTable, styles: Sequence[Sequence[str]] = (),
             widest: int = MOST_WIDTH) -> tuple[Worksheet, int]:
@@ -135,7 +171,7 @@ class Book:
         sheet.repeat_rows(0)
         if len(columns) <= MOST_ON_PAGE:
             sheet.fit_to_pages(1, 0)
-        self.meanings += ([name, column.name, column.unit_in(table.currency, table.every), column.meaning]
+        self.meanings += (Meaning(name, column.name, column.unit_in(table.currency, table.every), column.meaning)
                           for column in table.columns)
         return sheet, count
 
@@ -164,23 +200,21 @@ class Book:
         sheet.insert_chart(1, len(table.columns) + 1, chart)
 
 
-def sums_of(folder: PlannedFolder, totals: Totals) -> Iterator[tuple[list[Cell], Column]]:
+def sums_of(folder: PlannedFolder, totals: Totals) -> Iterator[tuple[Sum, Column]]:
     """Yields what all items come to, today and chosen, and a column of such figures."""
     amount, every = money("", ""), folder.every
     parts = {f"of it {words}": name for words, name in PARTS.items() if name != ALL_PARTS}
     for words, name in {f"cost a {every}": ALL_PARTS, **parts, "value of the mean stock": "value"}.items():
-        yield [words, *(totals[f"{name}_{policy}"] for policy in POLICIES)], amount
-    yield [f"saved a {every}", None, totals["saving"]], amount
-    yield ["demand met at once, by value", *map(totals.fill, POLICIES)], number("", "share", "", ".4f")
-    yield [f"orders a {every}", *(totals[f"orders_{it}"] for it in POLICIES)], number("", "orders", "", ".1f")
-    yield ["items planned", None, totals.planned], whole("", "items", "")
+        yield Sum(words, *(totals[f"{name}_{policy}"] for policy in POLICIES)), amount
+    yield Sum(f"saved a {every}", None, totals["saving"]), amount
+    yield Sum("demand met at once, by value", *map(totals.fill, POLICIES)), number("", "share", "", ".4f")
+    yield Sum(f"orders a {every}", *(totals[f"orders_{it}"] for it in POLICIES)), number("", "orders", "", ".1f")
+    yield Sum("items planned", None, totals.planned), whole("", "items", "")
 
 
-def class_rows(survey: Survey) -> Iterator[list[Cell]]:
-    """Yields what each class comes to."""
-    for name, totals in sorted((name or NO_CLASS, totals) for name, totals in survey.classes.items()):
-        yield [name, totals.planned, totals["saving"], *map(totals.fill, POLICIES),
-               *(totals[f"value_{it}"] for it in POLICIES)]
+def classes_of(survey: Survey) -> list[ClassTotals]:
+    """Returns what each class comes to."""
+    return sorted(ClassTotals(name or NO_CLASS, totals) for name, totals in survey.classes.items())
 
 
 def add_orders(book: Book, orders: OrdersToday) -> None:
@@ -198,7 +232,7 @@ def fill_book(book: Book, folder: PlannedFolder, orders: OrdersToday | None) -> 
     sums = [*sums_of(folder, survey.totals)]
     lines = catalogue_summary(folder, survey.totals, (), change_lines(folder)).splitlines()
     lines = [*([orders.headline, ""] if orders else []), *lines]
-    summary = folder.table(SUM_COLUMNS, [row for row, _ in sums] + [[line, None, None] for line in ["", *lines]])
+    summary = folder.table(SUM_COLUMNS, [row for row, _ in sums] + [Sum(line) for line in ["", *lines]])
     styles = [[TEXT, *[number_format(column, summary)] * 2] for _, column in sums] + [[TEXT] * 3] * (len(lines) + 1)
     book.add(SUMMARY, summary, styles)
     book.add("Decisions", decisions_of(folder, survey.seen(folder.answers())))
@@ -206,9 +240,9 @@ def fill_book(book: Book, folder: PlannedFolder, orders: OrdersToday | None) -> 
         add_orders(book, orders)
     book.add("Left out", rejects_of(folder.read.rejects(survey.faults)))
     if curve:
-        book.add_curve(curve, folder.table(CURVE_COLUMNS, [[name, *point] for name, point in curve]),
+        book.add_curve(curve, folder.table(CURVE_COLUMNS, [CurvePoint(name, point) for name, point in curve]),
                        folder.currency.code)
-    book.add("Classes", folder.table(CLASS_COLUMNS, [*class_rows(survey)]))
+    book.add("Classes", folder.table(CLASS_COLUMNS, classes_of(survey)))
     lateness = lateness_of(folder.read)
     if lateness.rows:
         book.add("Suppliers", lateness)

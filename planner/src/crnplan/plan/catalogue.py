@@ -102,9 +102,9 @@ class PlannedFolder:
         """Returns what the answers add up to."""
         return Totals.together(self.store.sums())
 
-    def table(self, columns: Sequence[Column], rows: Iterable[Sequence[Cell]]) -> DataTable:
-        """Returns rows as a table with the money and the periods of the plan."""
-        return DataTable(columns, rows, self.decimals, "", currency=self.currency.code, every=self.every)
+    def table(self, columns: Sequence[Column], things: Iterable[object]) -> DataTable:
+        """Returns a table with a row for each thing, with the money and the periods of the plan."""
+        return DataTable.of(columns, things, self.decimals, "", currency=self.currency.code, every=self.every)
 
     def changes(self) -> Iterator[Change]:
         """Yields what has changed since the earlier plan, by item. Raises Refused if that is not known."""

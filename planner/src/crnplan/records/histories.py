@@ -66,17 +66,17 @@ class RefusedFiles(RefusedFaults):
         super().__init__(faults, "\n".join([*lines, *(it.message for it in notes)]))
 
 
-REJECTS = (text("file", "name of the file"), whole("line", "", "line of the fault, 0 if there is none"),
-           whole("column", "", "column, 0 if there is none"), text("what", "what is wrong"),
-           text("row", "text of the row"))
+REJECTS = (
+    text("file", "name of the file").by("file"), whole("line", "", "line of the fault, 0 if there is none").by("line"),
+    whole("column", "", "column, 0 if there is none").by("column"),
+    text("what", "what is wrong").by(lambda fault: worded(fault.what)),
+    text("row", "text of the row").by(lambda fault: fault.row.replace("\r", "\\r") if isinstance(fault, Reject) else ""))
 
 
 def write_rejects(path: Path, faults: Sequence[Fault]) -> None:
     """Writes all faults as CSV: file, line and column (0 if there is none), what is wrong, and the text of the row."""
     with named_text(path) as file:
-        file.writelines(DataTable(REJECTS, (
-            [fault.file, fault.line, fault.column, worded(fault.what),
-             fault.row.replace("\r", "\\r") if isinstance(fault, Reject) else ""] for fault in faults)).lines)
+        file.writelines(DataTable.of(REJECTS, faults).lines)
 
 
 def read_history(table: Table, *, demand: str, returns: str | None = None, date: str | None = None,
