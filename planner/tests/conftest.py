@@ -90,11 +90,14 @@ def rows_of(path: Path, key: str = "item", kind: str = "", delimiter: str = ",")
 @pytest.fixture
 def crnplan(monkeypatch: pytest.MonkeyPatch, capfd: pytest.CaptureFixture[str]) -> Command:
     """Returns a function that runs a command of crnplan by its words, with `data` as standard input."""
+    usual = signal.getsignal(signal.SIGINT)
+
     def run(*words: str | Path, data: bytes = b"") -> Answer:
         monkeypatch.setattr(sys, "argv", ["crnplan", *map(str, words)])
         monkeypatch.setattr(sys, "stdin", io.TextIOWrapper(io.BytesIO(data)))
         with pytest.raises(SystemExit) as ended:
             commands.main()
+        signal.signal(signal.SIGINT, usual)  # A command that was interrupted heeds no second one.
         return Answer(int(ended.value.code or 0), *capfd.readouterr())
     return run
 

@@ -3,7 +3,6 @@ from __future__ import annotations
 
 import datetime
 import shutil
-import tempfile
 from collections.abc import Iterable, Mapping, Sequence
 from dataclasses import dataclass, field, replace
 from functools import cached_property
@@ -14,8 +13,9 @@ from .catalogues import Catalogue, Lost, plan_catalogue, write_found
 from .crnsim.program import find_program
 from .decide.sensitivity import Moves
 from .errors import Refused, argument
-from .files import Folder, own_folder
+from .files import Folder, Room, own_folder
 from .items import plan_item as plan_one_item
+from .jobs import Scheduler
 from .money import Amount, Number
 from .pages.catalogue_page import CATALOGUE_FILES, report
 from .pages.catalogue_tables import catalogue_summary, decisions_of, rejects_of
@@ -125,7 +125,7 @@ class Plan(TextResult):
     path: Path
     learned: tuple[Remark, ...] = field(default=(), repr=False)
     program: str | Path | None = field(default=None, repr=False)
-    room: tempfile.TemporaryDirectory[str] | None = field(default=None, repr=False, compare=False)
+    room: Room | None = field(default=None, repr=False, compare=False)
 
     @cached_property
     def table(self) -> DataTable:
@@ -187,7 +187,7 @@ class Plan(TextResult):
             return PlannedItem(ItemWords(depth, folder.every, folder.currency))
 
     def curve(self, *, stock_value: float | None = None, fill: float | None = None, orders: float | None = None,
-              confirm: int = 0, jobs: int | None = None, cluster: str | None = None) -> Drawn:
+              confirm: int = 0, jobs: int | None = None, cluster: Scheduler | None = None) -> Drawn:
         """Returns how much service the whole stock can give for its value: see `exchange_curve`. `policies` has the
         policy of each item for the budget."""
         from .curve.exchange_curve import exchange_curve
@@ -219,7 +219,7 @@ class Plan(TextResult):
         write_workbook(self.path, Path(path), orders)
 
     def report(self, items: Iterable[str] = (), *, orders: OrdersToday | None = None, jobs: int | None = None,
-               cluster: str | None = None) -> Path:
+               cluster: Scheduler | None = None) -> Path:
         """Writes report.html, and pages of `items`, into the folder of the plan, and returns the path: see `report`."""
         return report(self.path, items, orders=orders, jobs=jobs, cluster=cluster, program=self.program)
 
@@ -260,7 +260,7 @@ def plan(sales: str | Path | pd.DataFrame | Catalogue, masters: str | Path | pd.
          confidence: float | None = None, correct: bool = False, order_min: int | None = None,
          max_coverage: int | None = None, s_min: int | None = None, window: int | None = None, level: float = 0.95,
          seed: str | int = "crnplan", periods: int = 1024, replications: int = 24, jobs: int | None = None,
-         cluster: str | None = None, program: str | Path | None = None, learn_again: bool = False,
+         cluster: Scheduler | None = None, program: str | Path | None = None, learn_again: bool = False,
          progress: bool = False) -> Plan:
     """Plans all items of a catalogue, and returns the plan. Nothing is written unless `out` names a folder.
 
@@ -298,8 +298,8 @@ def plan(sales: str | Path | pd.DataFrame | Catalogue, masters: str | Path | pd.
 
     Intervals hold at `level`. Each item is run by crnsim under `replications` of `periods` periods, with random
     numbers that follow from the `seed` (a text or a whole number) and its name alone. `jobs` processes work, by
-    default one for each processor, or those of a Dask `cluster`; the result is the same. `program` is the path of
-    crnsim, if it is not found by itself.
+    default one for each processor, or those of a Dask `cluster`, the address of its scheduler or a Client; the result is
+    the same. `program` is the path of crnsim, if it is not found by itself.
 
     With `out`, the folder keeps tables, pages and all answers: planned again, only what has changed is planned, and
     items learn from one another and plans aim as before, unless `learn_again`. `progress` is shown on standard error.
@@ -315,8 +315,8 @@ def plan(sales: str | Path | pd.DataFrame | Catalogue, masters: str | Path | pd.
     earlier = None if after is None else Path(after)
     check_masters(sales, masters)
     check_earlier(earlier, None if out is None else Path(out), settings)
-    room = tempfile.TemporaryDirectory(prefix="crnplan-") if out is None else None
-    path = Path(room.name if room else out or "")
+    room = Room() if out is None else None
+    path = room.path if room else Path(out or "")
     with own_folder(path, CATALOGUE, CATALOGUE_FILES) as folder:
         take_tables(folder, sales, masters, orders, words, jobs)
         set_overrides(folder, overrides, words, earlier)

@@ -11,6 +11,7 @@ from typing import TYPE_CHECKING
 from .api import Roles, check_masters, take_tables
 from .catalogues import Catalogue
 from .files import Folder, own_folder
+from .jobs import Scheduler
 from .pages.backtest_page import backtest_page
 from .pages.backtest_tables import (BACKTEST, PAGE, SUMMARY, SUMS, VERDICTS, backtest_of, backtest_summary, first_line,
                                     sums_table)
@@ -60,7 +61,7 @@ class Backtests(TextResult):
 
 
 def write_backtest(folder: Folder, settings: Settings, walk: Walk, *, jobs: int | None = None,
-                   address: str | None = None, shown: bool = False) -> Backtests:
+                   address: Scheduler | None = None, shown: bool = False) -> Backtests:
     """Tests the catalogue that was read into a folder, and writes its tables and its summary there."""
     tests = Backtests(backtest_into(folder, settings, walk, jobs=jobs, address=address, shown=shown))
     folder.write(BACKTEST, tests.table.lines)
@@ -76,7 +77,7 @@ def backtest(sales: str | Path | pd.DataFrame | Catalogue, masters: str | Path |
              columns: Roles | None = None, units: Roles | None = None, start: datetime.date | str | None = None,
              end: datetime.date | str | None = None, date_formats: Sequence[str] = (), fit: str = "auto",
              borrow: str | None = None, confidence: float | None = None, seed: str | int = "crnplan",
-             jobs: int | None = None, cluster: str | None = None, progress: bool = False) -> Backtests:
+             jobs: int | None = None, cluster: Scheduler | None = None, progress: bool = False) -> Backtests:
     """Tests plans on a catalogue's own past: what they would have promised, and what came.
 
         tests = crn.backtest(sales, masters)

@@ -2,14 +2,14 @@
 from __future__ import annotations
 
 import contextlib
-import tempfile
 from collections.abc import Mapping, Sequence
 from dataclasses import dataclass, field
 from pathlib import Path
 from typing import TYPE_CHECKING, Any, cast
 
 from .errors import Failed, argument, worded
-from .files import Folder
+from .files import Folder, Room
+from .jobs import Scheduler
 from .money import Amount, Number
 from .pages.catalogue_page import FOUND, write_catalogue, write_tables
 from .pages.catalogue_tables import REJECTS, rejects_of
@@ -46,7 +46,7 @@ class Catalogue:
 
     path: Path
     # A folder for the time that the catalogue is used, if it was not read into a named one.
-    room: tempfile.TemporaryDirectory[str] | None = field(default=None, repr=False, compare=False)
+    room: Room | None = field(default=None, repr=False, compare=False)
 
     def opened(self) -> contextlib.closing[Catalogued]:
         """Returns what was read, to be closed after use."""
@@ -149,8 +149,8 @@ def read_catalogue(demand: Table, items: Table, orders: Table | None = None, *,
 
     Raises Refused and RefusedFaults for files that can't be read. Rows and items with faults are in `rejects`.
     """
-    words, room = words_of(locals()), tempfile.TemporaryDirectory(prefix="crnplan-")
-    path = read_alone(Path(room.name), {"demand": demand, "items": items, "orders": orders}, words, jobs)
+    words, room = words_of(locals()), Room()
+    path = read_alone(room.path, {"demand": demand, "items": items, "orders": orders}, words, jobs)
     return Catalogue(path, room)
 
 
@@ -176,7 +176,7 @@ class Done:
 
 
 def plan_catalogue(folder: Folder, settings: Settings, *, after: Path | None = None, jobs: int | None = None,
-                   address: str | None = None, program: str | Path | None = None, again: bool = False,
+                   address: Scheduler | None = None, program: str | Path | None = None, again: bool = False,
                    shown: bool = False) -> Done:
     """Plans the catalogue that was read into a folder, and writes its tables and pages: see `plan`."""
     with planning(folder, settings, after=after, jobs=jobs, address=address, program=program, again=again,

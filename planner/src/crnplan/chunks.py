@@ -357,14 +357,15 @@ class Chunked(Facts, Generic[Row]):
     def kept_now(self, made: Iterable[Made], start: float) -> int:
         """Returns how many answers are kept in files that are known and in files and parts since a time, as they are
         now: of a file and its parts in that with most."""
-        counts = Counter[str]()
+        counts = Counter({it.file.partition(".")[0]: it.items for it in made})
+        known = {*counts}
         for path in self.own_files():
-            if path.stat().st_mtime >= start:
-                name = path.name.partition(".")[0]
+            name = path.name.partition(".")[0]
+            if name not in known and path.stat().st_mtime >= start:
                 with path.open("rb") as file:
                     lines = sum(line[DIGITS + 1:DIGITS + 2] == b"[" and line.endswith(b"\n") for line in file)
                 counts[name] = max(counts[name], lines - 1)  # but for the head
-        return counts.total() + sum(it.items for it in made if it.file.partition(".")[0] not in counts)
+        return counts.total()
 
     def commit(self, made: Sequence[Made], facts: Mapping[str, str]) -> None:
         """Makes files the answers of this index, with facts, and removes all others that are named as ours."""

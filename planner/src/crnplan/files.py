@@ -19,7 +19,10 @@ import shutil
 import socket
 import sqlite3
 import stat
+import subprocess
 import sys
+import tempfile
+import weakref
 from collections.abc import Iterable, Iterator
 from pathlib import Path
 from typing import IO
@@ -35,6 +38,8 @@ NO_SUCH_PLACE = {errno.EACCES, errno.EPERM, errno.EROFS, errno.EEXIST, errno.ENO
                  errno.ECONNREFUSED}
 # A folder for what is not finished, with a random name, so that it is nobody else's.
 UNFINISHED = re.compile(r"unfinished-[0-9a-f]{16}/")
+# Has a shell remove a folder if its input ends before it has a line.
+GUARD = 'trap "" HUP INT TERM; read -r line || rm -rf -- "$1"'
 
 
 def bytes_digest(data: bytes) -> str:
@@ -333,6 +338,7 @@ def read_folder(path: Path, kind: str) -> Iterator[None]:
                 fcntl.flock(marker, fcntl.LOCK_SH | fcntl.LOCK_NB)
             except BlockingIOError as fault:
                 raise Refused(f"{path}: another run of crnplan works in this folder; wait for its end") from fault
+            stack.callback(fcntl.flock, marker, fcntl.LOCK_UN)
             if marker.readline().rstrip("\n") != SIGNATURE.format(kind=kind):
                 raise Refused(f"{path}: this is no folder of crnplan {kind}")
         yield
@@ -359,6 +365,7 @@ def own_folder(path: Path, kind: str, names: Iterable[str] = ()) -> Iterator[Fol
             except BlockingIOError as fault:
                 raise Refused(f"{path}: another run of crnplan works in this folder; wait for its end, or name another "
                               "folder") from fault
+            stack.callback(fcntl.flock, marker, fcntl.LOCK_UN)  # Processes that have begun meanwhile share it.
             folder = Folder(path, kind, marker)
             folder.claim(*names)
         try:
@@ -366,3 +373,21 @@ def own_folder(path: Path, kind: str, names: Iterable[str] = ()) -> Iterator[Fol
         finally:
             with contextlib.suppress(OSError):
                 folder.close()
+
+
+class Room:
+    """A new folder among the temporary files. It is removed once no value needs it, and in whatever way this process
+    ends: if by force, then by a guard that waits for that."""
+
+    def __init__(self) -> None:
+        self.path = Path(tempfile.mkdtemp(prefix="crnplan-")).absolute()
+        guard = subprocess.Popen(["/bin/sh", "-c", GUARD, "crnplan", self.path], stdin=subprocess.PIPE,
+                                 stdout=subprocess.DEVNULL, stderr=subprocess.DEVNULL, cwd="/", start_new_session=True)
+        weakref.finalize(self, remove_room, self.path, guard, os.getpid())
+
+
+def remove_room(path: Path, guard: subprocess.Popen[bytes], owner: int) -> None:
+    """Removes a temporary folder of this process, and ends its guard. A process that was forked leaves both."""
+    if os.getpid() == owner:
+        shutil.rmtree(path, ignore_errors=True)
+        guard.communicate(b"removed\n")

@@ -8,26 +8,27 @@ from __future__ import annotations
 import contextlib
 import importlib
 import itertools
-import multiprocessing
 import operator
 import os
 import queue
 import shutil
-import signal
 import sys
-import threading
 import time
 from collections.abc import Callable, Iterable, Iterator, Mapping, Sequence
 from concurrent import futures
-from concurrent.futures.process import BrokenProcessPool
 from dataclasses import dataclass, field
 from pathlib import Path
-from typing import Any, Generic, TypeVar
+from typing import TYPE_CHECKING, Any, Generic, TypeVar, Union
 
 from .errors import Failed, Refused, argument
 from .files import KEPT, bytes_digest, package_digest
+from .interrupts import interrupted_later
+from .processes import Worker, end_with_programs
 from .remarks import Remark
 from .stored import Store
+
+if TYPE_CHECKING:
+    from distributed import Client
 
 # Items of a batch, of which each worker has one under way: so much at most is lost if all ends by force.
 BATCH = 8
@@ -36,13 +37,14 @@ LIMIT_SECONDS, MOST_TRIES = 900.0, 3
 LOOKS = 8  # for late batches, in that time
 # A worker of a cluster that nobody has heard of for so long does nothing more. Most send a sign each second.
 LOST_SECONDS = 60.0
-MOST_POOLS = 4  # that a run may begin, since a process of the one before has ended by force
-WATCH_SECONDS = 0.5
+MOST_ENDS = 4  # of processes by force while they had the same batch
 CONNECT_SECONDS, WORKER_SECONDS = 10, 30
 MOST_LINES = 10
 Answer = TypeVar("Answer")
 Key = TypeVar("Key")
 Value = TypeVar("Value")
+# A Dask scheduler: its address, or a client of it.
+Scheduler = Union[str, "Client"]
 
 
 def batched(values: Iterable[Value], most: int) -> Iterator[list[Value]]:
@@ -84,10 +86,6 @@ class Workers:
         """Returns after how many seconds batches are looked at."""
         return LIMIT_SECONDS / LOOKS
 
-    def renew(self, fault: BrokenProcessPool) -> None:
-        """Begins again after a fault. Raises it if that can't be."""
-        raise fault
-
     def result(self, future: Any) -> Any:
         """Returns the result of a future that is done. Raises what the function has raised, and a stranger's error."""
         result = future.result()
@@ -102,13 +100,16 @@ class Workers:
         Failed."""
         run = _Run[Key](self, function)
         rest = itertools.starmap(_Batch[Key], batches)
-        while True:
-            run.begin([*itertools.islice(rest, run.room(ahead))])
-            if not run.under_way:
-                return
-            if batch := run.next_done():
-                yield batch.key, batch.result
-                del batch
+        try:
+            while True:
+                run.begin([*itertools.islice(rest, run.room(ahead))])
+                if not run.under_way:
+                    return
+                if batch := run.next_done():
+                    yield batch.key, batch.result
+                    del batch
+        finally:
+            run.under_way.clear()  # A cluster drops what nobody waits for.
 
     def in_order(self, function: Callable[..., Any], many: Iterable[Sequence[Any]],
                  ahead: int | None = 1) -> Iterator[Any]:
@@ -123,12 +124,14 @@ class Workers:
 
 @dataclass(eq=False)
 class _Batch(Generic[Key]):
-    """A batch that is under way: its futures, one for each worker that has it, and since when the latest one may."""
+    """A batch that is under way: its futures, one for each worker that has it, since when the latest one may, and how
+    many processes have ended by force with it."""
 
     key: Key
     words: Sequence[Any]
     futures: list[Any] = field(default_factory=list)
     since: float = 0.0
+    ends: int = 0
     result: Any = None
 
 
@@ -165,18 +168,19 @@ class _Run(Generic[Key]):
             future = self.done.get(timeout=max(0.0, self.due - time.monotonic()))
         except queue.Empty:
             return None
-        batch = self.under_way.get(future)
+        batch = self.under_way.pop(future, None)
         return batch and self._ended(batch, future)
 
     def _ended(self, batch: _Batch[Key], future: Any) -> _Batch[Key] | None:
-        """Returns a batch with its result; None if a process has ended by force, and the batches are given again."""
+        """Returns a batch with its result; None if its process has ended by force, and another one gets the batch."""
         try:
             batch.result = self.workers.result(future)
-        except BrokenProcessPool as fault:
-            self.workers.renew(fault)
-            again = [*dict.fromkeys(self.under_way.values())]
-            self.under_way.clear()
-            self.begin(again)
+        except futures.BrokenExecutor:
+            batch.ends += 1
+            if batch.ends == MOST_ENDS:
+                raise
+            batch.futures.remove(future)
+            self._watch(batch, self.workers.submit(self.function, batch.words))
             return None
         for each in batch.futures:
             self.under_way.pop(each, None)
@@ -197,66 +201,44 @@ class _Run(Generic[Key]):
             self._watch(batch, self.workers.submit(self.function, batch.words, batch.futures))
 
 
-def end_programs(process: int) -> None:
-    """Ends the programs that a process runs, at once."""
-    for path in Path("/proc").glob("[0-9]*/stat"):
-        with contextlib.suppress(OSError):  # it has ended meanwhile
-            _, parent, *_ = path.read_text("utf-8", "replace").rpartition(")")[2].split()
-            if int(parent) == process:
-                os.kill(int(path.parent.name), signal.SIGKILL)
-
-
-def end_with_programs(worker: multiprocessing.process.BaseProcess) -> None:
-    """Ends a worker process, which begins no more, and the programs that it runs."""
-    if worker.pid is not None and worker.is_alive():
-        with contextlib.suppress(ProcessLookupError, ChildProcessError):  # it has ended meanwhile
-            os.kill(worker.pid, signal.SIGSTOP)
-            # Until it has stopped, it may begin a program that the search below would not find.
-            os.waitid(os.P_PID, worker.pid, os.WSTOPPED | os.WEXITED | os.WNOWAIT)
-            end_programs(worker.pid)
-        worker.kill()
-
-
-def _begin_worker(parent: int) -> None:
-    """Has a worker process end with its parent, and leave an interruption to it. A handler that does nothing is not
-    handed on to the programs that it runs."""
-    signal.signal(signal.SIGINT, lambda number, frame: None)
-
-    def watch() -> None:
-        while os.getppid() == parent:
-            time.sleep(WATCH_SECONDS)
-        end_programs(os.getpid())
-        os._exit(1)
-    threading.Thread(target=watch, daemon=True).start()
-
-
 class Processes(Workers):
-    """So many processes of this machine, which are begun anew a few times if one of them ends by force."""
+    """So many processes of this machine, each of which a thread sends one batch at a time. One that ends by force is
+    begun anew with the next batch."""
 
     are_others = True
 
     def __init__(self, most: int) -> None:
-        self.most, self.pools, self.is_late = most, 0, False
-        self._begin()
-
-    def _begin(self) -> None:
-        self.pools += 1
-        self.pool = futures.ProcessPoolExecutor(self.most, initializer=_begin_worker, initargs=(os.getpid(),))
+        self.most, self.workers = most, list[Worker]()
+        self.idle, self.threads = queue.SimpleQueue[Worker | None](), futures.ThreadPoolExecutor(most)
 
     def submit(self, function: Callable[..., Any], words: Sequence[Any], late: Sequence[Any] = ()) -> Any:
-        self.is_late |= bool(late)
-        try:
-            return self.pool.submit(function, *words)
-        except BrokenProcessPool as fault:
-            future: futures.Future[Any] = futures.Future()
-            future.set_exception(fault)
-            return future
+        while len(self.workers) < self.most:
+            with interrupted_later():
+                self.workers.append(worker := Worker())
+            self.idle.put(worker)
+        return self.threads.submit(self._call, function, words)
 
-    def renew(self, fault: BrokenProcessPool) -> None:
-        if self.pools == MOST_POOLS:
-            raise fault
-        self.pool.shutdown(wait=True)
-        self._begin()
+    def _call(self, function: Callable[..., Any], words: Sequence[Any]) -> Any:
+        """Has a process that does nothing call a function. Raises BrokenExecutor if the process ends by force."""
+        worker = self.idle.get()
+        if worker is None:
+            raise futures.CancelledError
+        try:
+            return worker.call(function, words)
+        except futures.BrokenExecutor:
+            self.workers.remove(worker)
+            raise
+        finally:
+            if worker in self.workers:
+                self.idle.put(worker)
+
+    def end(self) -> None:
+        """Ends all processes, whatever they do, and all threads."""
+        self.threads.shutdown(wait=False, cancel_futures=True)
+        end_with_programs([worker.process for worker in [*self.workers]])
+        for _ in range(self.most):
+            self.idle.put(None)
+        self.threads.shutdown()
 
 
 @contextlib.contextmanager
@@ -265,19 +247,15 @@ def processes(jobs: int) -> Iterator[Workers]:
     if jobs == 1:
         yield Workers()
         return
-    before = set(multiprocessing.active_children())
     workers = Processes(jobs)
     try:
         yield workers
-        workers.pool.shutdown(wait=not workers.is_late)
-    except BrokenProcessPool as fault:
-        raise Failed(f"worker processes have ended by force {MOST_POOLS} times (was there enough memory?)",
+    except futures.BrokenExecutor as fault:
+        raise Failed(f"worker processes have ended by force {MOST_ENDS} times (was there enough memory?)",
                      f"{KEPT}; run again, with fewer {argument('jobs')} if memory is short") from fault
     finally:
-        # If all is well they have ended. Otherwise nobody waits for what they do.
-        for worker in set(multiprocessing.active_children()) - before:
-            end_with_programs(worker)
-        workers.pool.shutdown(wait=False, cancel_futures=True)
+        with interrupted_later():
+            workers.end()
 
 
 def identity(program: str) -> dict[str, str]:
@@ -366,47 +344,60 @@ class Cluster(Workers):
 
 
 @contextlib.contextmanager
-def cluster(address: str, program: str = "") -> Iterator[Cluster]:
-    """Gives the workers of a Dask scheduler. `program` is what they run; they need it at the same path.
-
-    Raises Refused if the scheduler can't be reached, and for workers with another crnplan or program; Failed if it is
-    lost.
-    """
-    place = argument("cluster", address)
+def client_of(scheduler: Scheduler) -> Iterator[Any]:
+    """Gives the client of a Dask scheduler. One that was given stays open. Raises Refused if the scheduler can't be
+    reached."""
     try:
         distributed: Any = importlib.import_module("distributed")
     except ImportError as fault:
         raise Refused(f"{argument('cluster')} needs distributed, which is missing here",
                       "install it (on Debian: apt-get install python3-distributed)") from fault
+    if isinstance(scheduler, distributed.Client):
+        yield scheduler
+        return
     try:
-        client = distributed.Client(address, timeout=CONNECT_SECONDS)
+        client = distributed.Client(scheduler, timeout=CONNECT_SECONDS)
     except (OSError, ValueError, TypeError) as fault:  # a TypeError for tls:// without certificates
-        raise Refused(f"{place}: {fault}") from fault
+        raise Refused(f"{argument('cluster', str(scheduler))}: {fault}") from fault
     try:
-        yield Cluster(client, program)
-    except Refused as fault:
-        raise Refused(f"{place}: {fault.what}", fault.advice) from fault
-    except (OSError, futures.CancelledError, ImportError, distributed.scheduler.KilledWorker) as fault:
-        is_cancelled = isinstance(fault, futures.CancelledError)
-        what = "a batch was cancelled (has the scheduler ended?)" if is_cancelled else str(fault)
-        raise Failed(f"{place}: {what}", f"{KEPT}; run again when the cluster works") from fault
+        yield client
     finally:
         with contextlib.suppress(Exception):
             client.close(timeout=0.5)
 
 
-def workers_of(jobs: int | None, address: str | None,
+@contextlib.contextmanager
+def cluster(scheduler: Scheduler, program: str = "") -> Iterator[Cluster]:
+    """Gives the workers of a Dask scheduler. `program` is what they run; they need it at the same path.
+
+    Raises Refused if the scheduler can't be reached, and for workers with another crnplan or program; Failed if it is
+    lost.
+    """
+    with client_of(scheduler) as client:
+        place = argument("cluster", scheduler if isinstance(scheduler, str) else client.scheduler.address)
+        killed = importlib.import_module("distributed").scheduler.KilledWorker
+        try:
+            yield Cluster(client, program)
+        except Refused as fault:
+            raise Refused(f"{place}: {fault.what}", fault.advice) from fault
+        except (OSError, futures.CancelledError, ImportError, killed) as fault:
+            is_cancelled = isinstance(fault, futures.CancelledError)
+            what = "a batch was cancelled (has the scheduler ended?)" if is_cancelled else str(fault)
+            raise Failed(f"{place}: {what}", f"{KEPT}; run again when the cluster works") from fault
+
+
+def workers_of(jobs: int | None, scheduler: Scheduler | None,
                program: str = "") -> contextlib.AbstractContextManager[Workers]:
     """Returns the workers of a Dask scheduler, which run a program, or so many processes, by default one for each
     processor."""
-    return cluster(address, program) if address else processes(jobs or os.cpu_count() or 1)
+    return cluster(scheduler, program) if scheduler else processes(jobs or os.cpu_count() or 1)
 
 
-def program_digest(program: str, address: str | None) -> str:
+def program_digest(program: str, scheduler: Scheduler | None) -> str:
     """Returns the digest of a program, which may be on the workers of a cluster alone; empty if it is nowhere."""
     digest = identity(program)["crnsim"]
-    if address and not digest:
-        with cluster(address, program) as workers:
+    if scheduler and not digest:
+        with cluster(scheduler, program) as workers:
             digest = workers.own["crnsim"]
     return digest
 

@@ -41,6 +41,11 @@ HOLDING = """echo run >> "{folder}/runs"
 [ "$(wc -l < "{folder}/runs")" -le {passes} ] || until [ -e "{folder}/go_on" ]; do sleep 0.05; done
 exec "{program}"
 """
+# Moments at which a plan is interrupted, in seconds since it works, and how long after that once more. In two rounds it
+# gets through a batch, and in none to its end.
+INTERRUPTS, MOST_SECONDS, MOST_MORE = 7, 2.0, 0.3
+FEW_PASSES, BATCH_PASSES, BATCH_ROUNDS = 4, 9, (2, 5)
+HOLDING_BY_ROUND = HOLDING.replace("{passes}", '$(cat "{folder}/passes")')
 Start = Callable[..., "subprocess.Popen[bytes]"]
 
 
@@ -186,6 +191,34 @@ def test_killed_at_random(folder: Path, drawn: Path, crnplan: Command, start: St
     else:
         now = exchange_curve(folder / "plan", fill=0.9, jobs=1).gathered.new
     assert now == FEW - len(before) and tables(folder / "plan", names) == tables(drawn, names)
+
+
+@pytest.mark.parametrize("jobs", [1, 2, 4])
+def test_interrupted_at_random(folder: Path, whole: Path, crnplan: Command, start: Start, program: Path,
+                               jobs: int) -> None:
+    """Interrupted at random moments, once or twice, a plan ends with one line, loses nothing that was kept, leaves no
+    process, and goes on to the same bytes."""
+    source, before = random.Random(jobs), set[bytes]()
+    holding = script(folder / "holding", HOLDING_BY_ROUND.format(folder=folder, program=program))
+    for number in range(INTERRUPTS):
+        (folder / "passes").write_text(str(BATCH_PASSES if number in BATCH_ROUNDS else source.randrange(FEW_PASSES)))
+        for left in (folder / "runs", *folder.glob("plan/unfinished-*")):
+            shutil.rmtree(left) if left.is_dir() else left.unlink(missing_ok=True)
+        process = start("--jobs", str(jobs))
+        wait_until(lambda: [*folder.glob("plan/unfinished-*")] or process.poll() is not None)
+        time.sleep(source.uniform(0, MOST_SECONDS))
+        interrupt(process)
+        if number % 2:
+            time.sleep(source.uniform(0, MOST_MORE))
+            with contextlib.suppress(ProcessLookupError):
+                interrupt(process)
+        errors = process.communicate(timeout=60)[1].decode()
+        assert process.returncode == 130 and "Traceback" not in errors, errors
+        assert [line for line in errors.splitlines() if line.startswith("crnplan:")] == ["crnplan: interrupted"]
+        wait_until(lambda: not living(process))
+        assert before <= (there := answers(folder))
+        before = there
+    assert goes_on(folder, whole, crnplan, holding) == (FEW - len(before), len(before))
 
 
 def test_killed_after_an_earlier_plan(folder: Path, crnplan: Command, start: Start, holding: Path) -> None:

@@ -15,9 +15,10 @@ from unittest.mock import Mock
 import pytest
 
 from crnplan.crnsim import program as module
-from crnplan.crnsim.program import interrupted_later, run_all, run_program
+from crnplan.crnsim.program import run_all, run_program
 from crnplan.errors import ProgramFailed
-from crnplan.jobs import end_with_programs
+from crnplan.interrupts import interrupted_later
+from crnplan.processes import end_with_programs
 from planner.tests.conftest import Command, heed_interrupts, script
 
 TOP = Path(__file__).resolve().parents[3]
@@ -132,8 +133,7 @@ def test_a_worker_that_begins_programs(room: Path, monkeypatch: pytest.MonkeyPat
         else:
             kill(process, number)
     monkeypatch.setattr(os, "kill", kill_later)
-    end_with_programs(worker)
-    worker.join()
+    end_with_programs([worker])
     assert living(room) == []
 
 
@@ -157,3 +157,27 @@ def test_interrupted_while_a_run_begins() -> None:
     finally:
         signal.signal(signal.SIGINT, usual)
     assert begun == ["a run"]
+
+
+LOSING = """
+import ctypes, time
+from crnplan.interrupts import heed_interrupt, heeding_interrupts
+with heeding_interrupts():
+    try:
+        for _ in range(9):  # of C, in which an error is lost
+            ctypes.CFUNCTYPE(None)(lambda: print("works", flush=True) or time.sleep(0.2))()
+        time.sleep(60)
+    except KeyboardInterrupt:
+        heed_interrupt()
+        print("heeded")
+"""
+
+
+def test_an_interrupt_that_is_lost() -> None:
+    """It comes again until it is heeded, and nothing is said of those that are lost."""
+    with subprocess.Popen([sys.executable, "-c", LOSING], stdout=subprocess.PIPE, stderr=subprocess.PIPE,
+                          preexec_fn=heed_interrupts) as process:
+        assert process.stdout and process.stdout.readline() == b"works\n"
+        process.send_signal(signal.SIGINT)
+        output, errors = process.communicate(timeout=LONG)
+    assert output.endswith(b"heeded\n") and (process.returncode, errors) == (0, b"")

@@ -7,11 +7,9 @@ import resource
 import signal
 import time
 from collections.abc import Callable, Iterable, Iterator, Sequence
-from concurrent.futures.process import BrokenProcessPool
 from dataclasses import dataclass
 from pathlib import Path
 from typing import Any
-from unittest.mock import Mock
 
 import pytest
 
@@ -180,16 +178,6 @@ def test_a_worker_that_is_killed(store: Chunked[Correction]) -> None:
     (folder / "always").unlink()
     there = 40 - len(numbers)
     assert done(store, killing, 2) >= 40 - 8 - there and {*range(24, 32)} <= {*asked(folder)}
-
-
-def test_pools_that_are_broken() -> None:
-    """A pool that is broken says so of each batch, as one that breaks under way. This process has no other one."""
-    workers = jobs.Processes(2)
-    workers.pool = Mock(submit=Mock(side_effect=BrokenProcessPool("broken")))
-    with pytest.raises(BrokenProcessPool, match="broken"):
-        workers.submit(len, [[]]).result()
-    with pytest.raises(BrokenProcessPool, match="here"):
-        jobs.Workers().renew(BrokenProcessPool("here"))
 
 
 def test_a_full_disk(store: Chunked[Correction]) -> None:

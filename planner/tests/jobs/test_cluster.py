@@ -84,6 +84,21 @@ def test_a_worker_that_leaves_changes_nothing(cluster: Cluster, room: Path, crnp
     assert len(by_cluster) == SCENARIOS and by_cluster == kept(room / "kept_here")
 
 
+def test_a_client(cluster: Cluster, room: Path, program: Path, monkeypatch: pytest.MonkeyPatch) -> None:
+    """A client of one's own does the same, stays open, and is named by the address of its scheduler."""
+    import distributed
+
+    def swept(**more: Any) -> str:
+        scenario = crn.Scenario.read(room / "base.toml")
+        return crn.sweep(scenario, range(50, 62), range(70, 80), program=program, **more).text
+    with distributed.Client(cluster.address, timeout=SECONDS) as client:
+        assert swept(cluster=client) == swept(jobs=1)
+        monkeypatch.setattr(jobs, "stranger", lambda *words: crn.Refused("it is strange"))
+        with pytest.raises(crn.Refused, match=f"^cluster={cluster.address}: it is strange"):
+            swept(cluster=client)
+        assert client.submit(pow, 2, 3).result() == 8
+
+
 def test_a_fault_of_the_base(cluster: Cluster, room: Path, crnplan: Command) -> None:
     """Checks that a fault of the base is reported, and a failing program by its line."""
     text = (room / "base.toml").read_text("utf-8")
@@ -196,7 +211,10 @@ def test_what_workers_have(room: Path, monkeypatch: pytest.MonkeyPatch) -> None:
     own = jobs.identity("")
     client = Mock(ncores=lambda: {"a": 1}, scheduler_info=lambda: {"workers": {}},
                   run=lambda *_, **__: {"a": {**own, "crnsim": "theirs"}})
-    monkeypatch.setitem(sys.modules, "distributed", Mock(Client=lambda *_, **__: client))
+    class Client:
+        def __new__(cls, *words: Any, **more: Any) -> Mock:
+            return client
+    monkeypatch.setitem(sys.modules, "distributed", Mock(Client=Client))
     assert jobs.program_digest(str(room / "none"), LOOPBACK) == "theirs"
     assert jobs.program_digest(str(room / "none"), None) == ""
     # One that is here is not asked of them, and they need the same.

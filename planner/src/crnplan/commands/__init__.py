@@ -23,6 +23,7 @@ import click
 from .. import __version__
 from ..errors import CrnplanError, Failed, Refused, escaped, spelt, worded
 from ..files import faults_of
+from ..interrupts import heed_interrupt, heeding_interrupts
 
 # The threads of linear algebra gain nothing here. Beside other work they wait for one another, busily.
 for _threads in ("OMP_NUM_THREADS", "OPENBLAS_NUM_THREADS"):
@@ -102,7 +103,7 @@ def main() -> None:
     status = Failed.status
     open_streams()
     output, errors = _shown(sys.stdout, BrokenPipeError), _shown(sys.stderr, OSError)
-    with redirect_stdout(output), redirect_stderr(errors), spelt(as_option):
+    with redirect_stdout(output), redirect_stderr(errors), spelt(as_option), heeding_interrupts():
         try:
             with faults_of(Path("crnplan")):
                 result: Any = group.main(prog_name="crnplan", standalone_mode=False)
@@ -117,6 +118,7 @@ def main() -> None:
             note(refusal.message)
             status = refusal.status
         except (KeyboardInterrupt, click.Abort):
+            heed_interrupt()
             note("interrupted")
             status = INTERRUPTED
         except MemoryError:

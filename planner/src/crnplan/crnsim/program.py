@@ -10,21 +10,19 @@ import ctypes
 import os
 import select
 import shutil
-import signal
 import subprocess
 import tempfile
-import threading
 import tomllib
 from collections.abc import Iterable, Iterator, Mapping, Sequence
 from concurrent.futures import ThreadPoolExecutor
 from dataclasses import dataclass, field
 from pathlib import Path
-from types import FrameType
 from typing import IO
 
 from .. import formats
 from ..errors import ProgramError, ProgramFailed, argument
 from ..formats import STATUSES, status_of
+from ..interrupts import interrupted_later
 from ..scenario import Scenario
 
 VARIABLE = "CRNSIM"
@@ -94,7 +92,7 @@ def find_program(named: str | Path | None = None) -> Path:
     return program_and_reason(named)[0]
 
 
-def program_for(named: str | Path | None, cluster: str | None) -> str:
+def program_for(named: str | Path | None, cluster: object) -> str:
     """Returns the program's path. The workers of a cluster may have a named one even if this machine has not."""
     if cluster is None or named is None:
         return str(find_program(named))
@@ -115,25 +113,6 @@ def own_processor() -> Iterator[None]:
         yield
     finally:
         os.sched_setaffinity(0, allowed)
-
-
-@contextlib.contextmanager
-def interrupted_later() -> Iterator[None]:
-    """Has an interrupt raise its error at the end of the block: within it, what the block begins would be lost."""
-    usual, late = signal.getsignal(signal.SIGINT), list[tuple[int, FrameType | None]]()
-    if threading.current_thread() is not threading.main_thread() or not callable(usual):
-        yield
-        return
-
-    def keep(number: int, frame: FrameType | None) -> None:
-        late.append((number, frame))
-    signal.signal(signal.SIGINT, keep)
-    try:
-        yield
-    finally:
-        signal.signal(signal.SIGINT, usual)
-    for interrupt in late:
-        usual(*interrupt)
 
 
 class Runs:

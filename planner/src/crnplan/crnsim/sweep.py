@@ -9,7 +9,7 @@ from pathlib import Path
 from .. import formats
 from ..errors import Refused
 from ..files import own_folder
-from ..jobs import Work, program_digest, workers_of
+from ..jobs import Scheduler, Work, program_digest, workers_of
 from ..money import Number, whole
 from ..remarks import Remark
 from ..scenario import Policy, Scenario
@@ -57,16 +57,16 @@ def run_parts(parts: Sequence[Scenario], program: str) -> list[Kept | Remark]:
 
 
 def sweep(scenario: Scenario, s: Iterable[Number], S: Iterable[Number], *, jobs: int | None = None,
-          out: str | Path | None = None, cluster: str | None = None, program: str | Path | None = None,
+          out: str | Path | None = None, cluster: Scheduler | None = None, program: str | Path | None = None,
           progress: bool = False) -> Report:
     """Compares all pairs of reorder points `s` and levels `S` (items) with the scenario's first policy, the base.
 
     Pairs with s above S are left out. All policies meet the same demands, under the scenario's key. The report has the
     base first, and then the grid by `diff_total`, the cheapest first: the same bytes whatever the number of runs at a
     time, `jobs` (by default one for each core). With `out`, a folder, each report is kept, and the same sweep begun
-    again runs only what is not there. With `cluster`, the address of a Dask scheduler, its workers run the program at
-    its path. `progress` shows on standard error how many scenarios are done. Raises Refused, ScenarioError if a level
-    is out of range, ProgramError if a run fails, and Failed.
+    again runs only what is not there. With `cluster`, the address of a Dask scheduler or a Client, its
+    workers run the program at its path. `progress` shows on standard error how many scenarios are done. Raises Refused,
+    ScenarioError if a level is out of range, ProgramError if a run fails, and Failed.
     """
     path = program_for(program, cluster)
     asked = scenario.with_policies([scenario.policies[0], *grid_of(scenario, s, S)])

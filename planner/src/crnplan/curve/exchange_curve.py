@@ -21,6 +21,7 @@ from ..crnsim.long_run import long_run_of
 from ..crnsim.report import counting
 from ..errors import Refused
 from ..files import own_folder
+from ..jobs import Scheduler
 from ..plan.answer import CHOSEN, TODAY, Answer
 from ..plan.catalogue import planned_folder
 from ..plan.question import Levels, Question
@@ -307,7 +308,7 @@ def kept_curve(answers: Chunked[Answer]) -> list[tuple[str, Point]] | None:
 
 
 def exchange_curve(folder: str | Path, *, stock_value: float | None = None, fill: float | None = None,
-                   orders: float | None = None, jobs: int | None = None, cluster: str | None = None,
+                   orders: float | None = None, jobs: int | None = None, cluster: Scheduler | None = None,
                    program: str | Path | None = None, confirm: int = 0, progress: bool = False) -> Drawn:
     """Returns the exchange curve of a planned folder: how much service a stock of some value can give. `frame` has its
     points, `policies` the policy of each item.

@@ -21,7 +21,7 @@ import numpy as np
 from ..chunks import HEX, LEFT, Answering, Chunk, Chunked, Lines, finishing
 from ..errors import Refused
 from ..files import Folder, new_bytes
-from ..jobs import Workers, workers_of
+from ..jobs import Scheduler, Workers, workers_of
 from ..plan.answer import CHOSEN, TODAY, Answer
 from ..plan.catalogue import PlannedFolder, planned_folder
 from ..plan.question import Settings
@@ -221,7 +221,7 @@ class Gathered:
 
 
 @contextlib.contextmanager
-def gather(own: Folder, folder: PlannedFolder, jobs: int | None, address: str | None, shown: bool) -> Iterator[Gathered]:
+def gather(own: Folder, folder: PlannedFolder, jobs: int | None, address: Scheduler | None, shown: bool) -> Iterator[Gathered]:
     """Computes the candidates of a planned folder that are not kept yet, and gives all. Raises Refused if no item can
     be on the curve."""
     with contextlib.closing(Chunked(own.store(CANDIDATES), OnCurve, own.inner(IN_CHUNKS))) as kept:

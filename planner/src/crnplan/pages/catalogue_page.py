@@ -15,7 +15,7 @@ from ..crnsim.program import find_program
 from ..curve.parts import Point
 from ..curve.exchange_curve import SAID, kept_curve
 from ..files import Folder, own_folder
-from ..jobs import batched
+from ..jobs import Scheduler, batched
 from ..plan.answer import (BOUNDED, CHEAPER, CHOSEN, DEARER, SAME, SERVICE, TODAY, UNCOMPARED, UNDECIDED,
                            Answer)
 from ..plan.backtest.catalogue import past_of
@@ -250,7 +250,7 @@ def write_catalogue(folder: Folder, planned: PlannedFolder, survey: Survey, lear
 
 
 def report(folder: str | Path, items: Iterable[str] = (), *, orders: OrdersToday | None = None,
-           jobs: int | None = None, cluster: str | None = None, program: str | Path | None = None,
+           jobs: int | None = None, cluster: Scheduler | None = None, program: str | Path | None = None,
            progress: bool = False) -> Path:
     """Writes the page of a planned folder, report.html, and returns its path.
 

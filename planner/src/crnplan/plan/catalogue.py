@@ -15,7 +15,7 @@ from ..crnsim.program import program_for
 from ..demand.learning import Prior
 from ..errors import Refused, argument
 from ..files import Folder, faults_of, read_folder
-from ..jobs import program_digest, workers_of
+from ..jobs import Scheduler, program_digest, workers_of
 from ..money import Currency
 from ..records.catalogue_reading import CATALOGUE, READ, Catalogued
 from ..records.item import Item
@@ -273,7 +273,7 @@ class Run:
 
 @contextlib.contextmanager
 def planning(folder: Folder, settings: Settings, *, after: Path | None = None, jobs: int | None = None,
-             address: str | None = None, program: str | Path | None = None, again: bool = False,
+             address: Scheduler | None = None, program: str | Path | None = None, again: bool = False,
              shown: bool = False) -> Iterator[Run]:
     """Plans the catalogue that was read into a folder: see `plan`. An item that is not planned yet is planned when its
     answer is asked for."""

@@ -20,7 +20,7 @@ from ..chances import Floats
 from ..decide.sensitivity import changed_demand
 from ..errors import Refused
 from ..files import Folder
-from ..jobs import Work, workers_of
+from ..jobs import Scheduler, Work, workers_of
 from ..law import Law
 from ..records.item import Item
 from ..remarks import Remark
@@ -114,7 +114,7 @@ def drawn_items(folder: PlannedFolder, survey: Survey) -> dict[str, str]:
     return {name: digest_of(folder.store.digest_of(name), VERSION) for name in survey.drawn.names}
 
 
-def keep_swings(own: Folder, folder: PlannedFolder, survey: Survey, *, jobs: int | None = None, address: str | None = None,
+def keep_swings(own: Folder, folder: PlannedFolder, survey: Survey, *, jobs: int | None = None, address: Scheduler | None = None,
                 shown: bool = False) -> None:
     """Computes the figures of a planned folder that are not kept yet, and keeps them."""
     with contextlib.closing(Store(own.store(SWINGS), Swing)) as kept:

@@ -12,7 +12,7 @@ from pathlib import Path
 from ...chunks import Answering, Chunk, Chunked, finishing
 from ...demand.learning import Prior
 from ...files import Folder, faults_of
-from ...jobs import workers_of
+from ...jobs import Scheduler, workers_of
 from ...records.catalogue_reading import READ, Catalogued
 from ...records.item import Item
 from ...remarks import Remark
@@ -122,7 +122,7 @@ class TestAsking:
 
 
 def backtest_into(folder: Folder, settings: Settings, walk: Walk, *, jobs: int | None = None,
-                  address: str | None = None, shown: bool = False) -> Tested:
+                  address: Scheduler | None = None, shown: bool = False) -> Tested:
     """Tests the catalogue that was read into a folder, and keeps all tests there. Items learn from one another as they
     would have at the end of their records."""
     with (faults_of(folder.path),
