@@ -18,7 +18,6 @@ from __future__ import annotations
 
 import bisect
 import contextlib
-import hashlib
 import itertools
 import json
 import os
@@ -31,10 +30,11 @@ from dataclasses import dataclass, field
 from pathlib import Path
 from typing import Any, BinaryIO, Generic, NamedTuple, Protocol, TypeVar
 
+from .digests import DIGITS, digest_of, sha256, sum_of_digests
 from .files import new_bytes, put_in_place
 from .jobs import BATCH, Workers, batched, progress
 from .remarks import Remark
-from .stored import DIGITS, Columns, Damaged, Facts, columns_of, digest_of, reading
+from .stored import Columns, Damaged, Facts, columns_of, reading
 from .table import Json
 
 # Items of a chunk. Of small catalogues there are fewer, so that there are enough chunks for all workers.
@@ -66,12 +66,6 @@ def cover_all(chunks: Sequence[Chunk]) -> bool:
     """Returns whether each name is in one of some chunks, which are given in order."""
     ends: list[str | None] = ["", *(chunk.stop for chunk in chunks)]
     return ends == [*(chunk.start for chunk in chunks), None]
-
-
-def sum_of_digests(digests: Iterable[str]) -> str:
-    """Returns a digest of some digests, in whatever order: their sum. So that of a catalogue is the sum of those of its
-    chunks, whatever these are."""
-    return f"{sum(int(digest, 16) for digest in digests) % 16**DIGITS:0{DIGITS}x}"
 
 
 class Made(NamedTuple):
@@ -119,17 +113,13 @@ def made_by(workers: Workers, making: Answering[Any], tasks: Iterable[Sequence[A
 def sealed(value: Any) -> bytes:
     """Returns a value as a line of JSON behind its digest."""
     text = json.dumps(value, separators=(",", ":")).encode()
-    return b"%s %s\n" % (_seal(text), text)
-
-
-def _seal(text: bytes) -> bytes:
-    return hashlib.sha256(text).hexdigest()[:DIGITS].encode()
+    return b"%s %s\n" % (sha256(text)[:DIGITS].encode(), text)
 
 
 def unsealed(line: bytes) -> bytes:
     """Returns the text of a sealed line. Raises ValueError if it is cut, or not as it was written."""
     seal, _, text = line.partition(b" ")
-    if not text.endswith(b"\n") or _seal(text[:-1]) != seal:
+    if not text.endswith(b"\n") or sha256(text[:-1])[:DIGITS].encode() != seal:
         raise ValueError("a line is not as it was written")
     return text
 

@@ -10,7 +10,6 @@ import contextlib
 import errno
 import fcntl
 import functools
-import hashlib
 import io
 import os
 import re
@@ -27,6 +26,7 @@ from collections.abc import Iterable, Iterator
 from pathlib import Path
 from typing import IO
 
+from .digests import sha256
 from .errors import Failed, Refused, escaped
 
 MARKER = "crnplan-folder.txt"
@@ -42,10 +42,6 @@ UNFINISHED = re.compile(r"unfinished-[0-9a-f]{16}/")
 GUARD = 'trap "" HUP INT TERM; read -r line || rm -rf -- "$1"'
 
 
-def bytes_digest(data: bytes) -> str:
-    return hashlib.sha256(data).hexdigest()
-
-
 @functools.cache
 def package_digest() -> str:
     """Returns the digest of all files of the package, and of the versions of what it computes with."""
@@ -53,9 +49,9 @@ def package_digest() -> str:
     import scipy
     top = Path(__file__).parent
     texts = [f"{sys.version_info} {numpy.__version__} {scipy.__version__}"]
-    texts += [f"{path.relative_to(top)} {bytes_digest(path.read_bytes())}" for path in sorted(top.rglob("*"))
+    texts += [f"{path.relative_to(top)} {sha256(path.read_bytes())}" for path in sorted(top.rglob("*"))
               if path.is_file() and "__pycache__" not in path.parts]
-    return bytes_digest("\n".join(texts).encode())
+    return sha256("\n".join(texts).encode())
 
 
 def is_of_disk(fault: sqlite3.Error) -> bool:

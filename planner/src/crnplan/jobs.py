@@ -20,8 +20,9 @@ from dataclasses import dataclass, field
 from pathlib import Path
 from typing import TYPE_CHECKING, Any, Generic, TypeVar, Union
 
+from .digests import sha256
 from .errors import Failed, Refused, argument
-from .files import KEPT, bytes_digest, package_digest
+from .files import KEPT, package_digest
 from .interrupts import interrupted_later
 from .processes import Worker, end_with_programs
 from .remarks import Remark
@@ -261,7 +262,7 @@ def processes(jobs: int) -> Iterator[Workers]:
 def identity(program: str) -> dict[str, str]:
     """Returns the digests of what makes figures here: of crnplan, and of a program, empty if it is not there."""
     path = shutil.which(program) if program else None
-    return {"crnplan": package_digest(), "crnsim": bytes_digest(Path(path).read_bytes()) if path else ""}
+    return {"crnplan": package_digest(), "crnsim": sha256(Path(path).read_bytes()) if path else ""}
 
 
 def stranger(worker: str, own: Mapping[str, str], answer: object) -> Refused | None:

@@ -6,7 +6,6 @@ from __future__ import annotations
 
 import csv
 import dataclasses
-import hashlib
 import io
 import re
 from collections import Counter
@@ -17,6 +16,7 @@ from pathlib import Path
 from typing import TYPE_CHECKING, Any
 
 from . import formats
+from .digests import sha256
 from .toml.documents import check_size, read_bytes, shown, text_of_document
 from .toml.scenarios import checked_tree, error_of, plain_text, read_scenario, toml_text
 from .errors import Refused
@@ -223,7 +223,7 @@ def key_words(key: str | Sequence[str]) -> list[str]:
     """Returns the four words of a key. They follow from a text by SHA-256."""
     if not isinstance(key, str):
         return list(key)
-    digits, length = hashlib.sha256(key.encode()).hexdigest(), formats.DIGITS_OF_WORD
+    digits, length = sha256(key), formats.DIGITS_OF_WORD
     return [digits[place:place + length] for place in range(0, formats.WORDS_OF_KEY * length, length)]
 
 

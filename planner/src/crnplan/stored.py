@@ -5,7 +5,6 @@ import base64
 import contextlib
 import dataclasses
 import functools
-import hashlib
 import itertools
 import json
 import sqlite3
@@ -15,6 +14,7 @@ from fractions import Fraction
 from pathlib import Path
 from typing import Any, Generic, TypeVar
 
+from .digests import digest_of
 from .errors import CrnplanError, Failed
 from .files import is_of_disk
 from .remarks import Remark
@@ -22,8 +22,6 @@ from .remarks import Remark
 Cell = int | float | str | None
 Row = TypeVar("Row")
 LARGEST = 2**63  # SQLite's whole numbers are below
-# The digits of a digest that are kept.
-DIGITS = 32
 
 
 class Damaged(Failed):
@@ -31,11 +29,6 @@ class Damaged(Failed):
 
     def __init__(self, path: Path, what: str) -> None:
         super().__init__(f"{path}: {what}: the file is damaged", "remove it, and run again")
-
-
-def digest_of(*parts: object) -> str:
-    """Returns a digest of values, by how they are spelt."""
-    return hashlib.sha256("\n".join(map(repr, parts)).encode()).hexdigest()[:DIGITS]
 
 
 def quoted(names: Iterable[str]) -> str:

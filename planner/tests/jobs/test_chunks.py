@@ -14,11 +14,12 @@ from typing import Any
 import pytest
 
 from crnplan import chunks, jobs
-from crnplan.chunks import ENDING, PART, Answering, Chunk, Chunked, chunks_of, finishing, sum_of_digests
+from crnplan.chunks import ENDING, PART, Answering, Chunk, Chunked, chunks_of, finishing
+from crnplan.digests import digest_of, sum_of_digests
 from crnplan.errors import Failed
 from crnplan.plan.answer import Correction
 from crnplan.remarks import Remark
-from crnplan.stored import Damaged, digest_of
+from crnplan.stored import Damaged
 
 NAMES = sorted(f'{place:02} "ä",' for place in range(40))
 MINE = "mine.txt"  # a file in the folder of the answers that is not ours

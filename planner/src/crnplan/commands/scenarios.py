@@ -12,7 +12,7 @@ import crnplan as crn
 from .. import formats
 from ..crnsim.program import build_of_package, program_and_reason, writes_known_report
 from ..crnsim.trajectory import MOST_DRAWN, chosen, shown_periods, table_of
-from ..files import bytes_digest
+from ..digests import sha256
 from ..scenario import read_policies
 from ..toml.documents import read_bytes
 from ..toml.scenarios import read_scenario
@@ -186,7 +186,7 @@ def sweep(base: str, points: tuple[int, int, int], levels: tuple[int, int, int],
 @program_option
 def where(program: str | None) -> int:
     path, reason = program_and_reason(program)
-    digest, build = bytes_digest(path.read_bytes()), build_of_package()
+    digest, build = sha256(path.read_bytes()), build_of_package()
     origin = f"built from commit {build.commit}" if build else "in a checkout"
     match = f" ({'built' if build.program == digest else 'not built'} with this crnplan)" if build else ""
     print(f"crnplan {crn.__version__}, {origin}\n{path} ({reason})\nsha256 {digest}{match}")

@@ -7,13 +7,14 @@ from dataclasses import dataclass
 from pathlib import Path
 
 from .. import formats
+from ..digests import digest_of
 from ..errors import Refused
 from ..files import own_folder
 from ..jobs import Scheduler, Work, program_digest, workers_of
 from ..money import Number, whole
 from ..remarks import Remark
 from ..scenario import Policy, Scenario
-from ..stored import Store, digest_of
+from ..stored import Store
 from ..toml.scenarios import checked_tree, plain_text
 from .program import program_for, run_program
 from .report import Report, joined, parts_of, rows_of

@@ -19,6 +19,7 @@ from typing import Any, NamedTuple, cast
 import numpy as np
 
 from ..chunks import HEX, LEFT, Answering, Chunk, Chunked, Lines, finishing
+from ..digests import digest_of
 from ..errors import Refused
 from ..files import Folder, new_bytes
 from ..jobs import Scheduler, Workers, workers_of
@@ -27,7 +28,6 @@ from ..plan.catalogue import PlannedFolder, planned_folder
 from ..plan.question import Settings
 from ..records.item import Item
 from ..remarks import Remark
-from ..stored import digest_of
 from ..table import Json
 from ..words import advice, sentence
 from .candidates import VERSION, Candidates, candidates_batch

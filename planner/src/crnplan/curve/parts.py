@@ -6,7 +6,6 @@ exact, so they are the same for any parts in any order.
 from __future__ import annotations
 
 import functools
-import hashlib
 import heapq
 import math
 from collections.abc import Callable, Iterable, Sequence
@@ -16,6 +15,7 @@ from typing import NamedTuple
 import numpy as np
 
 from ..chances import Floats, Whole
+from ..digests import sha256
 from .candidates import DEARER, PRICES, Candidates, lower_hull, slopes, variants_of
 
 # The figures of a period that are added up: the value of the mean stock, that of demand that is not met at once,
@@ -308,8 +308,8 @@ def policies_of(part: Part, choice: Choice, places: Whole | None = None) -> list
     return [*map(Chosen, (part.names[place] for place in some), *(column.tolist() for column in columns))]
 
 
-def drawn_of(part: Part, start: int, seed: str, count: int) -> list[tuple[bytes, int, str]]:
+def drawn_of(part: Part, start: int, seed: str, count: int) -> list[tuple[str, int, str]]:
     """Returns so many items at most, which are drawn by a digest of the seed and the name: digests, places and names.
     """
-    return heapq.nsmallest(count, ((hashlib.sha256(f"{seed}\nconfirm\n{name}".encode()).digest(), start + place, name)
+    return heapq.nsmallest(count, ((sha256(f"{seed}\nconfirm\n{name}"), start + place, name)
                                    for place, name in enumerate(part.names)))

@@ -2,7 +2,6 @@
 writes all that a plan exports. None of it is read again, but by people."""
 from __future__ import annotations
 
-import hashlib
 import itertools
 import math
 from collections import Counter
@@ -14,6 +13,7 @@ from urllib.parse import quote
 from ..crnsim.program import find_program
 from ..curve.parts import Point
 from ..curve.exchange_curve import SAID, kept_curve
+from ..digests import sha256
 from ..files import Folder, own_folder
 from ..jobs import Scheduler, batched
 from ..plan.answer import (BOUNDED, CHEAPER, CHOSEN, DEARER, SAME, SERVICE, TODAY, UNCOMPARED, UNDECIDED,
@@ -209,7 +209,7 @@ def file_name(name: str) -> str:
     if plain.startswith("."):
         plain = "%2E" + plain[1:]
     if len(plain) > MOST_LETTERS:
-        return f"{plain[:KEPT_LETTERS]}~~{hashlib.sha256(name.encode()).hexdigest()[:DIGITS]}.html"
+        return f"{plain[:KEPT_LETTERS]}~~{sha256(name)[:DIGITS]}.html"
     small = sum(1 << place for place, letter in enumerate(plain) if letter.islower())
     return plain + f"~{small:x}" * (small > 0) + ".html"
 

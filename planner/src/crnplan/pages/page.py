@@ -8,7 +8,6 @@ from __future__ import annotations
 import base64
 import contextlib
 import functools
-import hashlib
 import json
 import math
 from collections.abc import Iterable, Mapping, Sequence
@@ -17,6 +16,7 @@ from typing import TYPE_CHECKING, Any, NamedTuple
 
 from .. import __version__
 from ..caches import cache_folder
+from ..digests import sha256
 from ..money import Currency
 from ..words import PREMISE, advised, sentence
 
@@ -113,7 +113,7 @@ def source(text: str) -> Markup:
     Source: W3C, Content Security Policy Level 3, section 2.3.1. 'none' allows nothing, and stands for no text.
     """
     from markupsafe import Markup
-    return Markup(f"'sha256-{base64.b64encode(hashlib.sha256(text.encode()).digest()).decode()}'" if text else "'none'")
+    return Markup(f"'sha256-{base64.b64encode(bytes.fromhex(sha256(text))).decode()}'" if text else "'none'")
 
 
 @functools.cache

@@ -10,9 +10,10 @@ from dataclasses import dataclass
 from difflib import get_close_matches
 from pathlib import Path
 
-from ..chunks import Answering, Chunk, Chunked, Made, finishing, sum_of_digests
+from ..chunks import Answering, Chunk, Chunked, Made, finishing
 from ..crnsim.program import program_for
 from ..demand.learning import Prior
+from ..digests import digest_of, sum_of_digests
 from ..errors import Refused, argument
 from ..files import Folder, faults_of, read_folder
 from ..jobs import Scheduler, program_digest, workers_of
@@ -20,8 +21,8 @@ from ..money import Currency
 from ..records.catalogue_reading import CATALOGUE, READ, Catalogued
 from ..records.item import Item
 from ..remarks import Remark
-from ..stored import Damaged, Facts, Store, digest_of
-from ..table import Cell, Column, DataTable, Json
+from ..stored import Damaged, Facts, Store
+from ..table import Column, DataTable, Json
 from ..words import advice, sentence
 from .after import CHANGES, PLAN, check_records, changes_since, keep_changes, policy_before, taken_over
 from .aims import Aims

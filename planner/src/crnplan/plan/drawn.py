@@ -6,13 +6,13 @@ Sequential Poisson sampling, Journal of Official Statistics 14, 1998, pages 149 
 """
 from __future__ import annotations
 
-import hashlib
 import heapq
 import math
 from collections.abc import Mapping
 from typing import Any, NamedTuple, TypeVar
 
 from ..chances import Floats
+from ..digests import number_of
 
 MOST = 120  # items that are taken and drawn together
 MOST_TAKEN = 80  # of these, since they carry a share of all costs
@@ -79,8 +79,7 @@ def _keep(heap: list[Entry], entry: Entry, most: int) -> None:
 
 def uniform_of(name: str) -> float:
     """Returns a number above 0 and at most 1 that follows from a name, and is as good as at random."""
-    digits = hashlib.sha256(name.encode()).digest()[:BITS // 8]
-    return float(int.from_bytes(digits) + 1) / 2.0**BITS
+    return float(number_of(name, BITS) + 1) / 2.0**BITS
 
 
 class Estimate(NamedTuple):

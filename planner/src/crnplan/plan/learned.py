@@ -1,7 +1,6 @@
 """Draws the histories of a catalogue by which its items learn from one another, and keeps what was learned."""
 from __future__ import annotations
 
-import hashlib
 import heapq
 from collections import Counter, defaultdict
 from collections.abc import Iterable, Iterator
@@ -10,6 +9,7 @@ from typing import Any, NamedTuple
 import numpy as np
 
 from ..demand.learning import LEAST_ITEMS, LEAST_ON_REQUEST, MOST_PULLED, Prior, learn
+from ..digests import sha256
 from ..errors import Refused
 from ..records.catalogue_reading import Catalogued
 from ..records.item import NO_DEMAND, TEACHING, Item
@@ -40,7 +40,7 @@ def own_laws(reason: str) -> Learned:
 
 def drawn_from(names: Iterable[str], most: int) -> frozenset[str]:
     """Returns so many names, or all if there are fewer: those with the least digests, which is as good as at random."""
-    return frozenset(heapq.nsmallest(most, names, key=lambda name: hashlib.sha256(name.encode()).digest()))
+    return frozenset(heapq.nsmallest(most, names, key=sha256))
 
 
 def drawn_of_groups(pairs: Iterable[tuple[str, str]], most: int) -> list[str]:
@@ -48,7 +48,7 @@ def drawn_of_groups(pairs: Iterable[tuple[str, str]], most: int) -> list[str]:
     name and its group."""
     drawn = defaultdict[str, list[tuple[int, str]]](list)
     for name, group in pairs:
-        entry = -int.from_bytes(hashlib.sha256(name.encode()).digest()), name
+        entry = -int(sha256(name), 16), name
         if len(drawn[group]) < most:
             heapq.heappush(drawn[group], entry)
         else:

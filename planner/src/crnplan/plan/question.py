@@ -2,7 +2,6 @@
 from __future__ import annotations
 
 import dataclasses
-import hashlib
 import json
 from collections.abc import Mapping
 from dataclasses import dataclass, field
@@ -16,6 +15,7 @@ from ..demand.borrowing import law_of
 from ..demand.learning import Prior
 from ..demand import LEAD_METHODS
 from ..demand.families import METHODS
+from ..digests import number_of, sha256
 from ..errors import CrnplanError, Refused, argument
 from ..formats import MOST_DEMAND, MOST_ITEMS, MOST_LEAD, MOST_PERIODS, MOST_REPLICATIONS, MOST_WEIGHT, limits
 from ..law import Law
@@ -31,6 +31,7 @@ from .aims import Aims
 from .answer import Laws
 from .bounds import MOST_COVERAGE, feasible_of
 
+SEED_BITS = 32
 VERSION = 9  # Answers of others are not used again.
 NONE, CLASS, ALL = BORROW
 MOST_GAPS = 4_000  # of a lattice: with 150 times as many, a search takes half a minute
@@ -108,7 +109,7 @@ class Settings:
     def common(self, program: str, prior: Prior) -> str:
         """Returns what all answers depend on, with the digest of the program and what was learned, as a text. The least
         gain is left out: it only counts beside an earlier plan."""
-        learned = hashlib.sha256(prior.text.encode()).hexdigest()
+        learned = sha256(prior.text)
         settings = dataclasses.asdict(self)
         del settings["least_gain"]
         return json.dumps([__version__, VERSION, program, learned, settings])
@@ -125,7 +126,7 @@ class Settings:
 
     def seed_of(self, purpose: str, name: str) -> int:
         """Returns the seed of random numbers for a purpose, which follows from an item's name and the seed."""
-        return int.from_bytes(hashlib.sha256(f"{self.seed}\n{purpose}\n{name}".encode()).digest()[:4])
+        return number_of(f"{self.seed}\n{purpose}\n{name}", SEED_BITS)
 
 
 @dataclass(frozen=True, eq=False)

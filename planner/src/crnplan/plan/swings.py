@@ -18,13 +18,14 @@ import numpy as np
 
 from ..chances import Floats
 from ..decide.sensitivity import changed_demand
+from ..digests import digest_of
 from ..errors import Refused
 from ..files import Folder
 from ..jobs import Scheduler, Work, workers_of
 from ..law import Law
 from ..records.item import Item
 from ..remarks import Remark
-from ..stored import Store, digest_of
+from ..stored import Store
 from ..theory.long_run import LongRun
 from .answer import CHOSEN, TODAY as TODAY_POLICY, Answer
 from .catalogue import PlannedFolder

@@ -12,12 +12,13 @@ from operator import itemgetter
 from pathlib import Path
 from typing import Any, cast
 
+from ..digests import digest_of
 from ..errors import Refused, RefusedFaults
 from ..files import Folder, faults_of, own_folder
 from ..jobs import workers_of
 from ..money import Currency
 from ..remarks import Remark
-from ..stored import Cell, check_whole, digest_of, quoted, reading
+from ..stored import Cell, check_whole, quoted, reading
 from ..words import message
 from .blocks import Sizes
 from .choosing import said_of_marks
