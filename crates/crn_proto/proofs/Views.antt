@@ -12,7 +12,7 @@ use Rattle.crn_proto.proofs.Parts.{Moved, lawful_moved}
 
 -- ---- how many parts an actor has
 
-parts_append : (a : ℕ) (xs ys : List Part) → parts_named a (xs ++ ys) ≡ parts_named a xs + parts_named a ys
+pub parts_append : (a : ℕ) (xs ys : List Part) → parts_named a (xs ++ ys) ≡ parts_named a xs + parts_named a ys
 parts_append a [] ys = sym (zero-add (parts_named a ys))
 parts_append a (x ∷ xs) ys = let more = parts_append a xs ys in omega arith
 
@@ -22,7 +22,7 @@ parts_cons a x xs = refl
 is_one : (a : ℕ) (part : Part) → own_cursor part ≡ a → is_of a part ≡ 1
 is_one a part e = rw (eq-eqb (own_cursor part) a e) refl
 
-counted : (parts : List Part) (k a : ℕ) (part : Part) → slice_get parts k ≡ Some part → own_cursor part ≡ a → 1 ≤ parts_named a parts
+pub counted : (parts : List Part) (k a : ℕ) (part : Part) → slice_get parts k ≡ Some part → own_cursor part ≡ a → 1 ≤ parts_named a parts
 counted [] k a part h e = cc
 counted (x ∷ xs) zero a part h e = let same : x ≡ part = cc in let one = is_one a x (ap own_cursor same ∙ e) in rw parts_cons (omega arith)
 counted (x ∷ xs) (suc k) a part h e = let more = counted xs k a part h e in rw parts_cons (omega arith)

@@ -16,7 +16,7 @@ use Rattle.crn_proto.proofs.Parts.{Moved, producer_keeps, reader_keeps, moved_by
 use Rattle.crn_proto.proofs.Views.{view_part, rule_moved}
 use Rattle.crn_ring.specs.declared.view.View.{View}
 use Rattle.crn_ring.specs.Holds.{parts_as, parts_of_view, Holds, HasProducer, HasReader}
-use Rattle.crn_ring.specs.Plays.{Sat, by_producer, by_reader, publishing, taking, MadeByProducer, MadeByReader, loaded_gate, stored_word, published_some, stored_end, loaded_cursor, loaded_word, stored_taken, stored_left}
+use Rattle.crn_ring.specs.Plays.{Sat, by_producer, by_reader, publishing, taking, ProducerGoesOn, ReaderGoesOn, MadeByProducer, MadeByReader, loaded_gate, stored_word, published_some, stored_end, loaded_cursor, loaded_word, stored_taken, stored_left}
 
 pub got : {A : Type 0} (xs : List A) (k : ℕ) (x : A) → get_elem? xs k ≡ some x → slice_get xs k ≡ Some x
 got [] k x h = cc
@@ -98,11 +98,12 @@ module _ (spec : RingSpec) (slots id : ℕ) (me : Sat) where
 
   module _ (same : me.0.spec ≡ spec) (is : HasProducer me.0) where
     -- a step in the move's word that leaves what the move leaves
-    producer_made : (move : ProducerMove) (k x n : ℕ) → k ≡ producer_word spec me.0.producer move → n ≡ producer_leaves spec me.0.producer move n → ProducerMay spec me.0.producer move
+    producer_made : (move : ProducerMove) (k x n : ℕ) → k ≡ producer_word spec me.0.producer move → n ≡ producer_leaves spec me.0.producer move n → ProducerMay spec me.0.producer move → ProducerGoesOn spec me.0.producer me.0.passed move
         → MadeByProducer move (step slots k x 0 none) me n (by_producer move n me.0, me.1)
-    producer_made move k x n here leaves may = record {
+    producer_made move k x n here leaves may on = record {
       seat = is;
       may = rw same may;
+      goes_on = rw same on;
       word = rw same here;
       leaves = rw same leaves;
       view = refl;
@@ -110,15 +111,15 @@ module _ (spec : RingSpec) (slots id : ℕ) (me : Sat) where
 
     -- a store, whose move heeds nothing that it finds
     producer_stores : (move : ProducerMove) (k x : ℕ) → k ≡ producer_word spec me.0.producer move → ((found : ℕ) → x ≡ producer_leaves spec me.0.producer move found)
-        → ((found : ℕ) → by_producer move x me.0 ≡ by_producer move found me.0) → ProducerMay spec me.0.producer move → Allows (Holds spec) slots id me k (λ _. x) (λ _. MadeByProducer move (step slots k x 0 none) me x)
-    producer_stores move k x here value heeds may =
+        → ((found : ℕ) → by_producer move x me.0 ≡ by_producer move found me.0) → ProducerMay spec me.0.producer move → ProducerGoesOn spec me.0.producer me.0.passed move → Allows (Holds spec) slots id me k (λ _. x) (λ _. MadeByProducer move (step slots k x 0 none) me x)
+    producer_stores move k x here value heeds may on =
         let told : ℕ → Sat → Type 0 = λ _. MadeByProducer move (step slots k x 0 none) me x in
         subst (λ (z : ℕ × (ℕ → ℕ)). Allows (Holds spec) slots id me z.0 z.1 told) (λ i. (sym here i, λ found. sym (value found) i))
         (producer_allows is move may told (λ words ring laws own.
-        subst (λ (v : View). told x (v, me.1)) (heeds (slice_index words (producer_word spec me.0.producer move))) (producer_made move k x x here (value x) may)))
+        subst (λ (v : View). told x (v, me.1)) (heeds (slice_index words (producer_word spec me.0.producer move))) (producer_made move k x x here (value x) may on)))
 
-    pub loads_gate : (r k : ℕ) → k ≡ 1 + r → ProducerMay spec me.0.producer (LoadGate r) → Allows (Holds spec) slots id me k (λ n. n) (loaded_gate (step slots k 0 0 none) me)
-    loads_gate r k here may = subst (λ (z : ℕ). Allows (Holds spec) slots id me z (λ n. n) (loaded_gate (step slots z 0 0 none) me)) (sym here)
+    pub loads_gate : (r k : ℕ) → k ≡ 1 + r → ProducerMay spec me.0.producer (LoadGate r) → ProducerGoesOn spec me.0.producer me.0.passed (LoadGate r) → Allows (Holds spec) slots id me k (λ n. n) (loaded_gate (step slots k 0 0 none) me)
+    loads_gate r k here may on = subst (λ (z : ℕ). Allows (Holds spec) slots id me z (λ n. n) (loaded_gate (step slots z 0 0 none) me)) (sym here)
         (producer_allows is (LoadGate r) may (loaded_gate (step slots (1 + r) 0 0 none) me) tells)
       where
         -- the value that is found is the mark, or a count that the producer has not left behind
@@ -132,57 +133,58 @@ module _ (spec : RingSpec) (slots id : ℕ) (me : Sat) where
         tells : (words : List ℕ) → IsRing spec → WordsLaw spec words → ProducerLaw spec words me.0.producer
             → loaded_gate (step slots (1 + r) 0 0 none) me (slice_index words (1 + r)) (by_producer (LoadGate r) (slice_index words (1 + r)) me.0, me.1)
         tells words ring laws own = let found = slice_index words (1 + r) in let back : r ≡ (1 + r) - 1 = omega arith in (
-          subst (λ (z : ℕ). MadeByProducer (LoadGate z) (step slots (1 + r) 0 0 none) me found (by_producer (LoadGate r) found me.0, me.1)) back (producer_made (LoadGate r) (1 + r) 0 found refl refl may),
+          subst (λ (z : ℕ). MadeByProducer (LoadGate z) (step slots (1 + r) 0 0 none) me found (by_producer (LoadGate r) found me.0, me.1)) back (producer_made (LoadGate r) (1 + r) 0 found refl refl may on),
           own.gate_count ∙ ap (λ (z : RingSpec). z.readers) (sym same),
           λ ne. rw same (bound words ring laws own ne),
         )
 
-    pub stores_word : (k x : ℕ) → k ≡ producer_word spec me.0.producer StoreWord → x ≡ producer_leaves spec me.0.producer StoreWord 0 → ProducerMay spec me.0.producer StoreWord
+    pub stores_word : (k x : ℕ) → k ≡ producer_word spec me.0.producer StoreWord → x ≡ producer_leaves spec me.0.producer StoreWord 0 → ProducerMay spec me.0.producer StoreWord → ProducerGoesOn spec me.0.producer me.0.passed StoreWord
         → Allows (Holds spec) slots id me k (λ _. x) (λ _. stored_word (step slots k x 0 none) me x)
     stores_word k x here value = producer_stores StoreWord k x here (λ found. value) (λ found. refl)
 
     pub publishes : (x : ℕ) → x ≡ producer_leaves spec me.0.producer (publishing me.0) 0 → ProducerMay spec me.0.producer (publishing me.0)
         → Allows (Holds spec) slots id me 0 (λ _. x) (λ _. published_some (step slots 0 x 0 none) me x)
-    publishes x value = producer_stores (publishing me.0) 0 x refl (λ found. value) (λ found. refl)
+    publishes x value may = producer_stores (publishing me.0) 0 x refl (λ found. value) (λ found. refl) may tt
 
     pub stores_end : (x : ℕ) → x ≡ producer_leaves spec me.0.producer Finish 0 → ProducerMay spec me.0.producer Finish
         → Allows (Holds spec) slots id me 0 (λ _. x) (λ _. stored_end (step slots 0 x 0 none) me x)
-    stores_end x value = producer_stores Finish 0 x refl (λ found. value) (λ found. refl)
+    stores_end x value may = producer_stores Finish 0 x refl (λ found. value) (λ found. refl) may tt
 
   module _ (same : me.0.spec ≡ spec) (is : HasReader me.0) where
-    reader_made : (move : ReaderMove) (k x n : ℕ) → k ≡ reader_word spec me.0.number me.0.reader move → n ≡ reader_leaves me.0.reader move n → ReaderMay me.0.reader move
+    reader_made : (move : ReaderMove) (k x n : ℕ) → k ≡ reader_word spec me.0.number me.0.reader move → n ≡ reader_leaves me.0.reader move n → ReaderMay me.0.reader move → ReaderGoesOn me.0.reader me.0.looked move
         → MadeByReader move (step slots k x 0 none) me n (by_reader move n me.0, me.1)
-    reader_made move k x n here leaves may = record {
+    reader_made move k x n here leaves may on = record {
       seat = is;
       may = may;
+      goes_on = on;
       word = rw same here;
       leaves = leaves;
       view = refl;
     }
 
     reader_stores : (move : ReaderMove) (k x : ℕ) → k ≡ reader_word spec me.0.number me.0.reader move → ((found : ℕ) → x ≡ reader_leaves me.0.reader move found)
-        → ((found : ℕ) → by_reader move x me.0 ≡ by_reader move found me.0) → ReaderMay me.0.reader move → Allows (Holds spec) slots id me k (λ _. x) (λ _. MadeByReader move (step slots k x 0 none) me x)
-    reader_stores move k x here value heeds may =
+        → ((found : ℕ) → by_reader move x me.0 ≡ by_reader move found me.0) → ReaderMay me.0.reader move → ReaderGoesOn me.0.reader me.0.looked move → Allows (Holds spec) slots id me k (λ _. x) (λ _. MadeByReader move (step slots k x 0 none) me x)
+    reader_stores move k x here value heeds may on =
         let told : ℕ → Sat → Type 0 = λ _. MadeByReader move (step slots k x 0 none) me x in
         subst (λ (z : ℕ × (ℕ → ℕ)). Allows (Holds spec) slots id me z.0 z.1 told) (λ i. (sym here i, λ found. sym (value found) i))
         (reader_allows is move may told (λ words ring laws own.
-        subst (λ (v : View). told x (v, me.1)) (heeds (slice_index words (reader_word spec me.0.number me.0.reader move))) (reader_made move k x x here (value x) may)))
+        subst (λ (v : View). told x (v, me.1)) (heeds (slice_index words (reader_word spec me.0.number me.0.reader move))) (reader_made move k x x here (value x) may on)))
 
-    pub loads_cursor : ReaderMay me.0.reader LoadCursor → Allows (Holds spec) slots id me 0 (λ n. n) (loaded_cursor (step slots 0 0 0 none) me)
-    loads_cursor may = reader_allows is LoadCursor may (loaded_cursor (step slots 0 0 0 none) me)
+    pub loads_cursor : ReaderMay me.0.reader LoadCursor → ReaderGoesOn me.0.reader me.0.looked LoadCursor → Allows (Holds spec) slots id me 0 (λ n. n) (loaded_cursor (step slots 0 0 0 none) me)
+    loads_cursor may on = reader_allows is LoadCursor may (loaded_cursor (step slots 0 0 0 none) me)
         (λ words ring laws own. let here = own.here may.0 in let order = here.taken_seen in let seen = here.seen_published in
-        (reader_made LoadCursor 0 0 (slice_index words 0) refl refl may, omega arith, seen, rw same laws.in_total))
+        (reader_made LoadCursor 0 0 (slice_index words 0) refl refl may on, omega arith, seen, rw same laws.in_total))
 
     pub loads_word : (k : ℕ) → k ≡ reader_word spec me.0.number me.0.reader LoadWord → ReaderMay me.0.reader LoadWord → Allows (Holds spec) slots id me k (λ n. n) (loaded_word (step slots k 0 0 none) me)
     loads_word k here may = let here_word = reader_word spec me.0.number me.0.reader LoadWord in
         subst (λ (z : ℕ). Allows (Holds spec) slots id me z (λ n. n) (loaded_word (step slots z 0 0 none) me)) (sym here)
         (reader_allows is LoadWord may (loaded_word (step slots here_word 0 0 none) me)
-        (λ words ring laws own. (reader_made LoadWord here_word 0 (slice_index words here_word) refl refl may, rw same (word_found spec ring words me.0.number me.0.reader laws own may))))
+        (λ words ring laws own. (reader_made LoadWord here_word 0 (slice_index words here_word) refl refl may tt, rw same (word_found spec ring words me.0.number me.0.reader laws own may))))
 
     pub stores_taken : (k x : ℕ) → k ≡ 1 + me.0.number → x ≡ reader_leaves me.0.reader (taking me.0) 0 → ReaderMay me.0.reader (taking me.0)
         → Allows (Holds spec) slots id me k (λ _. x) (λ _. stored_taken (step slots k x 0 none) me x)
-    stores_taken k x here value = reader_stores (taking me.0) k x here (λ found. value) (λ found. refl)
+    stores_taken k x here value may = reader_stores (taking me.0) k x here (λ found. value) (λ found. refl) may tt
 
     pub stores_left : (k : ℕ) → k ≡ 1 + me.0.number → ReaderMay me.0.reader Leave
         → Allows (Holds spec) slots id me k (λ _. left_mark) (λ _. stored_left (step slots k left_mark 0 none) me left_mark)
-    stores_left k here = reader_stores Leave k left_mark here (λ found. refl) (λ found. refl)
+    stores_left k here may = reader_stores Leave k left_mark here (λ found. refl) (λ found. refl) may tt

@@ -1,18 +1,19 @@
 -- One gate more.
 use Rattle.std.proofs.Common.{◌≡◌, ℕ, ◌+◌, ◌<◌, List, [], ◌∷◌, ◌++◌, length, get_or, set, refl, sym, ap, ◌∙◌, subst, arith, append_assoc, length-append, get_or-set_same, get_or-set_other, inl, inr, min}
 use Rattle.std.proofs.Math.ListN.{get_or-append}
-use Rattle.std.proofs.lemmas.Bool.{cases_lt, cases_eq}
+use Rattle.std.proofs.lemmas.Bool.{cases_lt, cases_eq, eq-eqb, ne_eqb, lt-ltb, le-ltb}
 use Rattle.std.proofs.lemmas.List.{append-nil, get_or_push}
 use Rattle.std.proofs.lemmas.Option.{get_or_from_slice_get, slice_get-get_or}
 use mathlib.Core.Logic.{dite}
 use native.Mathlib.Decide.{ℕ_discrete}
 use Rattle.std.specs.Prelude.{slice_set, slice_index, Some}
+use Rattle.crn_proto.specs.declared.spec.RingSpec.{RingSpec}
 use Rattle.crn_proto.specs.declared.actor_parts.ProducerPart.{ProducerPart}
 use Rattle.crn_proto.specs.Ring.{left_mark, LoadGate, producer_after}
 use Rattle.crn_ring.specs.declared.view.View.{View}
 use Rattle.crn_ring.specs.Gates.{Loaded, Passes}
 use Rattle.crn_ring.specs.Inner.Gates.{LeastOf}
-use Rattle.crn_ring.specs.Plays.{by_producer}
+use Rattle.crn_ring.specs.Plays.{by_producer, passed_after}
 use Rattle.crn_ring.specs.Inner.Plays.{Gauged}
 
 loaded_none : (p : ProducerPart) → Loaded 0 p p
@@ -33,22 +34,38 @@ loaded_more r x p p' l inside = let gates : List ℕ = p'.gates in let es : List
 
 pub gauged_none : (size n : ℕ) (v : View) → Gauged size n 0 v v
 gauged_none size n v = record {
-  same = ap (λ (k : ℕ). record v { producer = record v.producer { steps = k } }) (let e : v.producer.steps ≡ v.producer.steps + 0 = omega arith in e);
+  same = λ i. record v {
+    producer = record v.producer { steps = (let e : v.producer.steps ≡ v.producer.steps + 0 = omega arith in e) i };
+    passed = (let e : v.passed ≡ v.passed + 0 = omega arith in e) i;
+  };
   loaded = loaded_none v.producer;
   passed = λ q h. absurd (omega arith);
   kept = λ q h. refl;
 }
 
+-- a gate that has room for the next block is passed; at one that has none the producer begins with the first again
+pub passes_on : (spec : RingSpec) (p : ProducerPart) (passed r x : ℕ) → Passes spec.size p.published x → passed_after spec p passed (LoadGate r) x ≡ passed + 1
+passes_on spec p passed r x room = elim (cases_eq x left_mark) [
+  | inl e ↦ rw (eq-eqb x left_mark e) refl
+  | inr ne ↦ rw (ne_eqb x left_mark ne, lt-ltb p.published (x + spec.size) (room ne)) refl
+]
+
+pub begins_again : (spec : RingSpec) (p : ProducerPart) (passed r x : ℕ) → p.published < left_mark → p.published ≡ x + spec.size → passed_after spec p passed (LoadGate r) x ≡ 0
+begins_again spec p passed r x small full = rw (ne_eqb x left_mark (λ e. omega arith), le-ltb p.published (x + spec.size) (omega arith)) refl
+
 -- the steps, and what else a load leaves as it was
 pub gauged_same : (size n r x : ℕ) (v v' : View) → Gauged size n r v v'
-    → by_producer (LoadGate r) x v' ≡ record v { producer = record v.producer { gates = slice_set v'.producer.gates r x; loads = v'.producer.loads ++ (r, x) ∷ []; steps = v.producer.steps + (r + 1) } }
-gauged_same size n r x v v' g = let gates : List ℕ = v'.producer.gates in
-    ap (λ (u : View). record u { producer = record u.producer { gates = slice_set gates r x; loads = v'.producer.loads ++ (r, x) ∷ []; steps = u.producer.steps + 1 } }) g.same
-    ∙ ap (λ (k : ℕ). record v { producer = record v.producer { gates = slice_set gates r x; loads = v'.producer.loads ++ (r, x) ∷ []; steps = k } }) (omega arith)
+    → by_producer (LoadGate r) x v' ≡ record v { producer = record v.producer { gates = slice_set v'.producer.gates r x; loads = v'.producer.loads ++ (r, x) ∷ []; steps = v.producer.steps + (r + 1) }; passed = passed_after v'.spec v'.producer v'.passed (LoadGate r) x }
+gauged_same size n r x v v' g = let gates : List ℕ = v'.producer.gates in let now : ℕ = passed_after v'.spec v'.producer v'.passed (LoadGate r) x in
+    ap (λ (u : View). record u { producer = record u.producer { gates = slice_set gates r x; loads = v'.producer.loads ++ (r, x) ∷ []; steps = u.producer.steps + 1 }; passed = now }) g.same
+    ∙ ap (λ (k : ℕ). record v { producer = record v.producer { gates = slice_set gates r x; loads = v'.producer.loads ++ (r, x) ∷ []; steps = k }; passed = now }) (omega arith)
 
-pub gauged_more : (size n r x : ℕ) (v v' : View) → Gauged size n r v v' → r < length v'.producer.gates → Passes size n x → Gauged size n (r + 1) v (by_producer (LoadGate r) x v')
-gauged_more size n r x v v' g inside p = let gates : List ℕ = v'.producer.gates in record {
-  same = gauged_same size n r x v v' g;
+pub gauged_more : (size n r x : ℕ) (v v' : View) → v'.spec.size ≡ size → v'.producer.published ≡ n → Gauged size n r v v' → r < length v'.producer.gates → Passes size n x → Gauged size n (r + 1) v (by_producer (LoadGate r) x v')
+gauged_more size n r x v v' slots counts g inside p = let gates : List ℕ = v'.producer.gates in record {
+  same = gauged_same size n r x v v' g
+      ∙ ap (λ (k : ℕ). record v { producer = record v.producer { gates = slice_set gates r x; loads = v'.producer.loads ++ (r, x) ∷ []; steps = v.producer.steps + (r + 1) }; passed = k })
+      (passes_on v'.spec v'.producer v'.passed r x (subst (λ (z : ℕ × ℕ). Passes z.0 z.1 x) (λ i. (sym slots i, sym counts i)) p)
+      ∙ (let was : v'.passed ≡ v.passed + r = ap (λ (u : View). u.passed) g.same in omega arith));
   loaded = loaded_more r x v.producer v'.producer g.loaded inside;
   passed = λ q h. dite (ℕ_discrete q r)
       (λ e. subst (Passes size n) (sym (ap (λ (z : ℕ). get_or (set gates r x) z 0) e ∙ get_or-set_same gates r x 0 inside)) p)

@@ -5,6 +5,7 @@ pub mod Ending
 pub mod Filling
 pub mod Fresh
 pub mod Gauging
+pub mod Going
 pub mod Opened
 pub mod Remembering
 pub mod Rooms

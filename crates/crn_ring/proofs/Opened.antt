@@ -24,12 +24,12 @@ use Rattle.crn_ring.proofs.Allowed.{own_law, producer_alone, reader_alone}
 
 -- ---- the parts that wait in the first seat
 
-waiting_reader : (p : ProducerPart) (q : ReaderPart) (r count k : ℕ) → k < count → slice_get (waiting_parts p q r count) k ≡ Some (OfReader (r + k) q)
+pub waiting_reader : (p : ProducerPart) (q : ReaderPart) (r count k : ℕ) → k < count → slice_get (waiting_parts p q r count) k ≡ Some (OfReader (r + k) q)
 waiting_reader p q r zero k h = absurd (omega arith)
 waiting_reader p q r (suc count) zero h = let e : r ≡ r + 0 = omega arith in cc
 waiting_reader p q r (suc count) (suc k) h = let e : suc r + k ≡ r + suc k = omega arith in rw e at (waiting_reader p q (suc r) count k (omega arith))
 
-waiting_producer : (p : ProducerPart) (q : ReaderPart) (r count : ℕ) → slice_get (waiting_parts p q r count) count ≡ Some (OfProducer p)
+pub waiting_producer : (p : ProducerPart) (q : ReaderPart) (r count : ℕ) → slice_get (waiting_parts p q r count) count ≡ Some (OfProducer p)
 waiting_producer p q r zero = refl
 waiting_producer p q r (suc count) = waiting_producer p q (suc r) count
 

@@ -15,12 +15,12 @@ use Rattle.crn_ring.specs.Plays.{by_producer}
 use Rattle.crn_ring.specs.Inner.Plays.{Gauged}
 use Rattle.crn_ring.specs.Parts.{IsFull, Publishes, Takes, TakesShown}
 use Rattle.crn_ring.specs.Inner.Rooms.{HasFound}
-use Rattle.crn_ring.proofs.Gauging.{least_room, loaded_more, gauged_same}
+use Rattle.crn_ring.proofs.Gauging.{begins_again, least_room, loaded_more, gauged_same}
 use Rattle.crn_ring.proofs.Remembering.{after_full, all_fit}
 
 -- the count remembered leaves room for all
-pub found_before : (spec : RingSpec) (p : ProducerPart) (m least : ℕ) → 0 < m → p.published + m ≤ least + spec.size → Remembers spec.size p.published spec.readers p.gates least → HasFound spec p p m m
-found_before spec p m least some fits old = record {
+pub found_before : (spec : RingSpec) (p : ProducerPart) (n m least : ℕ) → p.published ≡ n → 0 < m → n + m ≤ least + spec.size → Remembers spec.size n spec.readers p.gates least → HasFound spec p p m m
+found_before spec p n m least counts some fits old = record {
   some = some;
   at_most = omega arith;
   same = refl;
@@ -29,12 +29,11 @@ found_before spec p m least some fits old = record {
 }
 
 -- all gates were loaded
-pub found_now : (spec : RingSpec) (v v' : View) (m least : ℕ) → 0 < m → v.producer.published + m < left_mark → Gauged spec.size v.producer.published spec.readers v v' → LeastOf spec.readers v'.producer.gates least
-    → HasFound spec v.producer v'.producer m (min m ((least + spec.size) - v.producer.published))
-found_now spec v v' m least some small g l =
-    let n : ℕ = v.producer.published in
+pub found_now : (spec : RingSpec) (v v' : View) (n m least : ℕ) → v.producer.published ≡ n → 0 < m → n + m < left_mark → Gauged spec.size n spec.readers v v' → LeastOf spec.readers v'.producer.gates least
+    → HasFound spec v.producer v'.producer m (min m ((least + spec.size) - n))
+found_now spec v v' n m least counts some small g l =
     let room : n < least + spec.size = least_room spec.size n spec.readers least v'.producer.gates (omega arith) g.passed l in
-    let stays : v'.producer.published ≡ n = ap (λ (u : View). u.producer.published) g.same in
+    let stays : v'.producer.published ≡ v.producer.published = ap (λ (u : View). u.producer.published) g.same in
     let steps : v'.producer.steps ≡ v.producer.steps + spec.readers = ap (λ (u : View). u.producer.steps) g.same in record {
       some = omega arith;
       at_most = omega arith;
@@ -146,14 +145,18 @@ is_full spec v u v' n r taken counts below full g inside is =
     }
 
 -- what is remembered then
-pub remembers_full : (spec : RingSpec) (v u v' : View) (n r taken least : ℕ) → v.spec ≡ spec → n ≤ left_mark → r < spec.readers → n ≡ taken + spec.size → Gauged spec.size n r v u → r < length u.producer.gates
-    → v' ≡ by_producer (LoadGate r) taken u → Remembers v.spec.size n v.spec.readers v.producer.gates least → Remembers v'.spec.size n v'.spec.readers v'.producer.gates taken
-remembers_full spec v u v' n r taken least here small below full g inside is old =
-    let same : v'.spec ≡ spec = ap (λ (x : View). x.spec) is ∙ ap (λ (x : View). x.spec) g.same ∙ here in
+pub remembers_full : (spec : RingSpec) (v u v' : View) (n r taken least : ℕ) → n ≤ left_mark → r < spec.readers → n ≡ taken + spec.size → Gauged spec.size n r v u → r < length u.producer.gates
+    → v' ≡ by_producer (LoadGate r) taken u → Remembers spec.size n spec.readers v.producer.gates least → Remembers spec.size n spec.readers v'.producer.gates taken
+remembers_full spec v u v' n r taken least small below full g inside is old =
     let gates : v'.producer.gates ≡ slice_set u.producer.gates r taken = ap (λ (x : View). x.producer.gates) is in
-    let before : Remembers spec.size n spec.readers v.producer.gates least = subst (λ (z : RingSpec). Remembers z.size n z.readers v.producer.gates least) here old in
-    subst (λ (z : RingSpec × List ℕ). Remembers z.0.size n z.0.readers z.1 taken) (λ i. (sym same i, sym gates i))
-    (after_full spec.size n spec.readers r taken least v.producer.gates u.producer.gates small below inside full before g.passed g.kept)
+    subst (λ (gs : List ℕ). Remembers spec.size n spec.readers gs taken) (sym gates) (after_full spec.size n spec.readers r taken least v.producer.gates u.producer.gates small below inside full old g.passed g.kept)
+
+-- the producer begins with the first reader again then
+pub passed_full : (spec : RingSpec) (v u v' : View) (n r taken : ℕ) → v.spec ≡ spec → v.producer.published ≡ n → n < left_mark → n ≡ taken + spec.size → Gauged spec.size n r v u → v' ≡ by_producer (LoadGate r) taken u → v'.passed ≡ 0
+passed_full spec v u v' n r taken here counts small full g is =
+    let slots : u.spec.size ≡ spec.size = ap (λ (x : View). x.spec.size) g.same ∙ ap (λ (z : RingSpec). z.size) here in
+    let published : u.producer.published ≡ n = ap (λ (x : View). x.producer.published) g.same ∙ counts in
+    ap (λ (x : View). x.passed) is ∙ begins_again u.spec u.producer u.passed r taken (omega arith) (omega arith)
 
 -- the moves of a publication
 pub publish_moves : (spec : RingSpec) (p found stored p' : ProducerPart) (count : ℕ) → ProducerReaches spec p spec.readers found → ProducerReaches spec found (BLOCK_WORDS * count) stored → ProducerReaches spec stored 1 p'
@@ -169,7 +172,5 @@ pub take_moves : (q looked q' : ReaderPart) (count : ℕ) → ReaderReaches q 1 
 take_moves q looked q' count a b = reaches_more ReaderMay reader_after q q' (1 + (BLOCK_WORDS * count + 1)) (BLOCK_WORDS * count + 2) (omega arith) (reaches_join ReaderMay reader_after q looked q' 1 (BLOCK_WORDS * count + 1) a b)
 
 -- where each gate has room for all, the count remembered leaves room for all
-pub never_late : (spec : RingSpec) (v : View) (n m least : ℕ) → v.spec ≡ spec → n ≡ v.producer.published → n + m ≤ left_mark → Remembers v.spec.size n v.spec.readers v.producer.gates least → HaveRoom spec v.producer m
-    → n + m ≤ least + spec.size
-never_late spec v n m least here counts small old room = all_fit spec.size n m spec.readers least v.producer.gates small (subst (λ (z : RingSpec). Remembers z.size n z.readers v.producer.gates least) here old)
-    (λ r h ne. let fits = room r h ne in omega arith)
+pub never_late : (spec : RingSpec) (p : ProducerPart) (n m least : ℕ) → p.published ≡ n → n + m ≤ left_mark → Remembers spec.size n spec.readers p.gates least → HaveRoom spec p m → n + m ≤ least + spec.size
+never_late spec p n m least counts small old room = all_fit spec.size n m spec.readers least p.gates small old (λ r h ne. let fits = room r h ne in omega arith)

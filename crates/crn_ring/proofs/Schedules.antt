@@ -132,7 +132,7 @@ by_a_reader spec s s' ring o move n m law shown p made is value leaves heeds =
     reader_moved spec s s' ring o.id o.view move o.i n (slice_index s.words o.i) law shown p.at made.seat made.may made.word refl (made.leaves ∙ leaves)
     (rw value (ap (λ (t : TableState). t.words) p.after)) (rw (sym view) (ap (λ (t : TableState). t.views) p.after))
 
-step_of_kind : (spec : RingSpec) (s s' : TableState) (ring : Ring) (kind : StepKind) (id i x : ℕ) (v : View) (carried : List (ℕ × Unit {0})) → Holds spec s → Shows spec s ring
+pub step_of_kind : (spec : RingSpec) (s s' : TableState) (ring : Ring) (kind : StepKind) (id i x : ℕ) (v : View) (carried : List (ℕ × Unit {0})) → Holds spec s → Shows spec s ring
     → Picks spec s record { kind = kind; id = id; view = v; carried = carried; i = i; x = x } s' → (after : Ring) × LeadsTo ring (move_as kind v i) after × Shows spec s' after
 step_of_kind spec s s' ring LoadsGate id i x v carried law shown p = by_the_producer spec s s' ring _ (LoadGate (i - 1)) _ _ law shown p p.told.0 refl refl refl refl
 step_of_kind spec s s' ring StoresWord id i x v carried law shown p = by_the_producer spec s s' ring _ StoreWord _ _ law shown p p.told refl refl refl refl
@@ -151,7 +151,7 @@ parts_cut v role waits =
     let next : suc v.number ≡ v.number + 1 = omega arith in
     rw (role, more, next) refl
 
-cut_shows : (spec : RingSpec) (s s' : TableState) (ring : Ring) (id : ℕ) (v : View) → Shows spec s ring → Cuts spec s id v s' → Shows spec s' ring
+pub cut_shows : (spec : RingSpec) (s s' : TableState) (ring : Ring) (id : ℕ) (v : View) → Shows spec s ring → Cuts spec s id v s' → Shows spec s' ring
 cut_shows spec s s' ring id v shown c =
     let left = cut_left v in
     let right = cut_right v in
@@ -187,7 +187,7 @@ replicate_at zero k x h = absurd (omega arith)
 replicate_at (suc n) zero x h = refl
 replicate_at (suc n) (suc k) x h = replicate_at n k x (omega arith)
 
-open_shown : (spec : RingSpec) → Shows spec (opened_table spec) (open_ring spec)
+pub open_shown : (spec : RingSpec) → Shows spec (opened_table spec) (open_ring spec)
 open_shown spec = record {
   words = refl;
   spec_of = refl;

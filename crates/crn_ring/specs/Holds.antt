@@ -1,5 +1,5 @@
 -- The rule of the ring's table: the words and the parts in the views are lawful, and no two views name one actor.
-use Rattle.std.specs.Prelude.{◌≡◌, ℕ, ◌-◌, List, [], ◌∷◌}
+use Rattle.std.specs.Prelude.{◌≡◌, ℕ, ◌-◌, false, List, [], ◌∷◌}
 use mathlib.Core.Option.{some}
 use lib.ListN.{get_elem?}
 use Rattle.atomic_table.specs.Table.{State}
@@ -37,4 +37,4 @@ HasReader v = v.role ≡ Reader
 
 -- the view of the first seat when the readers below r have seats of their own
 abbrev pub opened : RingSpec → ℕ → View
-opened spec r = record { spec = spec; role = Producer; number = r; producer = open_producer spec; reader = open_reader spec }
+opened spec r = record { spec = spec; role = Producer; number = r; producer = open_producer spec; reader = open_reader spec; passed = 0; looked = false }

@@ -1,8 +1,11 @@
 -- What each kind of step does to the view of its seat, and what it tells besides.
-use Rattle.std.specs.Prelude.{◌≡◌, ◌≢◌, ℕ, ◌+◌, ◌-◌, ◌/◌, ◌%◌, ◌≤◌, length}
+use Rattle.std.specs.Prelude.{◌≡◌, ◌≢◌, ℕ, ◌+◌, ◌-◌, ◌/◌, ◌%◌, ◌<◌, ◌≤◌, ◌==◌, ◌||◌, ◌⊎◌, nat_lt, Bool, true, false, if◌then◌else◌, length}
 use Rattle.atomic_table.specs.Table.{Me, Step}
 use Rattle.crn_cipher.specs.declared.TheConstants.{BLOCK_WORDS}
 use Rattle.crn_cipher.specs.Blocks.{block_word}
+use Rattle.crn_proto.specs.declared.spec.RingSpec.{RingSpec}
+use Rattle.crn_proto.specs.declared.actor_parts.ProducerPart.{ProducerPart}
+use Rattle.crn_proto.specs.declared.actor_parts.ReaderPart.{ReaderPart}
 use Rattle.crn_proto.specs.Ring.{left_mark, ProducerMove, LoadGate, StoreWord, Publish, Finish, ProducerMay, producer_word, producer_leaves, producer_after, ReaderMove, LoadCursor, LoadWord, Take, Leave, ReaderMay, reader_word, reader_leaves, reader_after, reading}
 use Rattle.crn_ring.specs.declared.view.Role.TheVariants.{Reader}
 use Rattle.crn_ring.specs.declared.view.View.{View}
@@ -12,13 +15,45 @@ use Rattle.crn_ring.specs.Holds.{HasProducer, HasReader}
 abbrev pub Sat : Type 0
 Sat = Me (Unit {0}) View
 
+-- how many cursors the producer has loaded in turn that let the next block in, after a move that found this value: at a
+-- cursor that doesn't it begins with the first reader again
+abbrev pub passed_after : RingSpec → ProducerPart → ℕ → ProducerMove → ℕ → ℕ
+passed_after spec p passed (LoadGate r) found = if (found == left_mark) || nat_lt p.published (found + spec.size) then passed + 1 else 0
+passed_after spec p passed StoreWord found = passed
+passed_after spec p passed (Publish c) found = 0
+passed_after spec p passed Finish found = passed
+
+-- whether the reader has looked how far blocks are published and has taken none since, after a move
+abbrev pub looked_after : Bool → ReaderMove → Bool
+looked_after looked LoadCursor = true
+looked_after looked LoadWord = looked
+looked_after looked (Take c) = false
+looked_after looked Leave = looked
+
+-- Which moves these are, `GoingOn` of crn_proto says: between two batches the producer loads each reader's cursor in turn, or
+-- none; then it stores words until it publishes. A reader that has seen a block to take looks again only after it has taken.
+
+-- By this move the producer goes on.
+abbrev pub ProducerGoesOn : RingSpec → ProducerPart → ℕ → ProducerMove → Type 0
+ProducerGoesOn spec p passed (LoadGate r) = (p.stored ≡ 0) × (p.published < spec.id.total) × (r ≡ passed)
+ProducerGoesOn spec p passed StoreWord = (0 < p.stored) ⊎ ((passed ≡ 0) ⊎ (passed ≡ spec.readers))
+ProducerGoesOn spec p passed (Publish c) = Unit {0}
+ProducerGoesOn spec p passed Finish = Unit {0}
+
+-- By this move a reader goes on.
+abbrev pub ReaderGoesOn : ReaderPart → Bool → ReaderMove → Type 0
+ReaderGoesOn q looked LoadCursor = looked ≡ true → q.seen ≤ q.taken
+ReaderGoesOn q looked LoadWord = Unit {0}
+ReaderGoesOn q looked (Take c) = Unit {0}
+ReaderGoesOn q looked Leave = Unit {0}
+
 -- the view after a move of its producer that found this value
 abbrev pub by_producer : ProducerMove → ℕ → View → View
-by_producer m found v = record v { producer = producer_after v.producer m found }
+by_producer m found v = record v { producer = producer_after v.producer m found; passed = passed_after v.spec v.producer v.passed m found }
 
 -- the view after a move of its reader that found this value
 abbrev pub by_reader : ReaderMove → ℕ → View → View
-by_reader m found v = record v { reader = reader_after v.reader m found }
+by_reader m found v = record v { reader = reader_after v.reader m found; looked = looked_after v.looked m }
 
 -- the move that publishes all blocks that are stored
 abbrev pub publishing : View → ProducerMove
@@ -28,11 +63,12 @@ publishing v = Publish (v.producer.stored / BLOCK_WORDS)
 abbrev pub taking : View → ReaderMove
 taking v = Take (length v.reader.read / BLOCK_WORDS)
 
--- The step is this move of the producer: its part allows the move, and the word of the step, what
--- that word is afterwards, n, and the view afterwards are those of the move.
+-- The step is this move of the producer: its part allows the move, it goes on by it, and the word, n that is there
+-- afterwards, and the view afterwards are the move's.
 pub record MadeByProducer (move : ProducerMove) (st : Step (Unit {0})) (m : Sat) (n : ℕ) (m' : Sat) : Type 0 where
   pub seat : HasProducer m.0
   pub may : ProducerMay m.0.spec m.0.producer move
+  pub goes_on : ProducerGoesOn m.0.spec m.0.producer m.0.passed move
   pub word : st.word ≡ producer_word m.0.spec m.0.producer move
   pub leaves : n ≡ producer_leaves m.0.spec m.0.producer move n
   pub view : m' ≡ (by_producer move n m.0, m.1)
@@ -41,6 +77,7 @@ pub record MadeByProducer (move : ProducerMove) (st : Step (Unit {0})) (m : Sat)
 pub record MadeByReader (move : ReaderMove) (st : Step (Unit {0})) (m : Sat) (n : ℕ) (m' : Sat) : Type 0 where
   pub seat : HasReader m.0
   pub may : ReaderMay m.0.reader move
+  pub goes_on : ReaderGoesOn m.0.reader m.0.looked move
   pub word : st.word ≡ reader_word m.0.spec m.0.number m.0.reader move
   pub leaves : n ≡ reader_leaves m.0.reader move n
   pub view : m' ≡ (by_reader move n m.0, m.1)

@@ -1,12 +1,14 @@
 -- Every schedule of the running ring: the steps that the table of a ring makes, one at a time, whatever seats make them.
-use Rattle.std.specs.Prelude.{◌≡◌, ℕ, ◌-◌, ◌<◌, ◌^◌, List, [], ◌∷◌, ◌++◌, length, Some, slice_get, slice_index, slice_set}
+use Rattle.std.specs.Prelude.{◌≡◌, ℕ, ◌-◌, ◌*◌, ◌<◌, ◌≤◌, ◌^◌, List, [], ◌∷◌, ◌++◌, length, Some, slice_get, slice_index, slice_set}
 use Rattle.std.specs.List.{flat_map}
 use mathlib.Core.Option.{some, none}
 use lib.ListN.{get_elem?}
 use Rattle.atomic_table.specs.Table.{State, Step, Act, Allows, Splits, Valid, carried_after, opening, step, stepped}
+use Rattle.crn_cipher.specs.declared.TheConstants.{BLOCK_WORDS}
 use Rattle.crn_proto.specs.declared.spec.RingSpec.{RingSpec}
 use Rattle.crn_proto.specs.Ring.{IsRing, Ring, Move, ByProducer, ByReader, LoadGate, StoreWord, Finish, LoadCursor, LoadWord, Leave, Runs, open_ring, open_words, shows, events}
 use Rattle.crn_proto.specs.Broadcast.{Unfolds}
+use Rattle.crn_proto.specs.Batches.{Watch, open_watch, GoesOnTo}
 use Rattle.crn_proto.specs.declared.actor_parts.Part.{Part}
 use Rattle.crn_proto.specs.declared.actor_parts.Part.TheVariants.{OfProducer, OfReader}
 use Rattle.crn_ring.specs.declared.view.Role.TheVariants.{Producer}
@@ -68,7 +70,7 @@ pub record OnWord : Type 0 where
   pub i : ℕ
   pub x : ℕ
 
--- A step of the table: on a word, or a seat for a reader is cut off the seat `id`, whose view is v.
+-- A step on a word, or the cut of a reader's seat off the seat `id`, whose view is v.
 pub data TableStep : Type 0 where
   Made : OnWord → TableStep
   Cut : ℕ → View → TableStep
@@ -144,15 +146,55 @@ pub record IsRunTo (spec : RingSpec) (moves : List Move) (s : TableState) : Type
   pub shown : Shows spec s ring
   pub broadcast : Unfolds (shows (open_ring spec)) (events moves) (shows ring)
 
--- Whatever steps a table has made since the ring was opened, they are a run of the ring, each the move of its kind.
+-- The steps of a table since the ring was opened are a run of the ring, each the move of its kind.
 abbrev pub StepsAreARun : Type 0
 StepsAreARun = (spec : RingSpec) (steps : List TableStep) (s : TableState) → IsRing spec → MakesAll spec (opened_table spec) steps s → IsRunTo spec (moves_of steps) s
 
--- The rule holds as a ring is opened, and what a table asks of a step on a word, or of a cut, is that it can be made where
--- the rule holds.
+-- The rule holds as a ring is opened, and each step or cut that a table allows can be made.
 abbrev pub AllowedStepsAreMade : Type 0
 AllowedStepsAreMade =
     ((spec : RingSpec) → IsRing spec → Holds spec (opened_table spec))
     × ((spec : RingSpec) (s : TableState) (o : OnWord) → Holds spec s → length s.homes ≡ 0 → get_elem? s.views o.id ≡ some o.view → slice_index s.words o.i < 2 ^ 64 → IsAllowed spec o → (s' : TableState) × Picks spec s o s')
     × ((spec : RingSpec) (s : TableState) (id : ℕ) (v : View) → Holds spec s → get_elem? s.views id ≡ some v → v.role ≡ Producer → v.number < v.spec.readers
     → Splits (Holds spec) id v (cut_left v) (cut_right v) → (s' : TableState) × Cuts spec s id v s')
+
+-- ---- actors that go on
+
+-- The step's batch has at most b blocks.
+abbrev pub IsInBatch : ℕ → StepKind → View → Type 0
+IsInBatch b LoadsGate v = Unit {0}
+IsInBatch b StoresWord v = v.producer.stored < BLOCK_WORDS * b
+IsInBatch b Publishes v = Unit {0}
+IsInBatch b StoresEnd v = Unit {0}
+IsInBatch b LoadsCursor v = Unit {0}
+IsInBatch b LoadsWord v = length v.reader.read < BLOCK_WORDS * b
+IsInBatch b StoresTaken v = Unit {0}
+IsInBatch b StoresLeft v = Unit {0}
+
+-- Each step's batch has.
+abbrev pub AreInBatches : ℕ → List TableStep → Type 0
+AreInBatches b [] = Unit {0}
+AreInBatches b (Made o ∷ steps) = IsInBatch b o.kind o.view × AreInBatches b steps
+AreInBatches b (Cut id v ∷ steps) = AreInBatches b steps
+
+-- Actors that go on lead to what the table is in s, and on to t.
+pub record GoOn (spec : RingSpec) (b : ℕ) (moves later : List Move) (s t : TableState) : Type 0 where
+  pub ring : Ring
+  pub watch : Watch
+  pub goes_on : GoesOnTo b (open_ring spec) open_watch moves ring watch
+  pub shown : Shows spec s ring
+  pub last : Ring
+  pub last_watch : Watch
+  pub goes_further : GoesOnTo b ring watch later last last_watch
+  pub last_shown : Shows spec t last
+
+-- They, and later steps, are moves of actors that go on.
+abbrev pub StepsGoOn : Type 0
+StepsGoOn =
+    (spec : RingSpec) (b : ℕ) (steps later : List TableStep) (s t : TableState) → IsRing spec → MakesAll spec (opened_table spec) steps s → MakesAll spec s later t
+    → AreInBatches b steps → AreInBatches b later → GoOn spec b (moves_of steps) (moves_of later) s t
+
+-- No batch has more blocks than the stream.
+abbrev pub BatchesAreBounded : Type 0
+BatchesAreBounded =
+    (spec : RingSpec) (b : ℕ) (steps : List TableStep) (s : TableState) → IsRing spec → MakesAll spec (opened_table spec) steps s → spec.id.total ≤ b → AreInBatches b steps

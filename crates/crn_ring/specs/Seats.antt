@@ -1,4 +1,5 @@
 -- What the seat of an actor knows of the ring.
+use Rattle.std.specs.Prelude.{ℕ, Bool}
 use Rattle.atomic_table.specs.declared.shared.Seat.{Seat}
 use Rattle.crn_proto.specs.declared.spec.RingSpec.{RingSpec}
 use Rattle.crn_proto.specs.declared.actor_parts.ProducerPart.{ProducerPart}
@@ -24,3 +25,11 @@ producer_in seat = (view_of seat).producer
 -- the part of the ring's state that is a reader's
 abbrev pub reader_in : Place → ReaderPart
 reader_in seat = (view_of seat).reader
+
+-- how many cursors the producer has loaded in turn that let the next block in
+abbrev pub passed_in : Place → ℕ
+passed_in seat = (view_of seat).passed
+
+-- whether the reader has looked how far blocks are published, and has taken none since
+abbrev pub looked_in : Place → Bool
+looked_in seat = (view_of seat).looked

@@ -2,10 +2,13 @@
 ghost use Rattle.std.specs.Prelude.{◌≡◌, ℕ, ◌+◌, ◌*◌, ◌%◌, ◌<◌, ◌≤◌, false, List, [], drop, length};
 ghost use Rattle.crn_cipher.specs.Blocks.{BlockWords};
 ghost use Rattle.crn_cipher.specs.Following.{FollowOn};
-ghost use Rattle.crn_proto.specs.Ring.{PassesGates, reading, storing};
+ghost use Rattle.crn_proto.specs.Ring.{PassesGates, StoreWord, reading, storing};
 ghost use Rattle.crn_proto.specs.Chains.{ProducerReaches, ReaderReaches};
-ghost use Rattle.crn_ring.specs.Seats.{producer_in, reader_in, view_of};
+ghost use Rattle.crn_ring.specs.Seats.{looked_in, passed_in, producer_in, reader_in, spec_in, view_of};
 ghost use Rattle.crn_ring.specs.Gates.{HaveRoom};
+ghost use Rattle.crn_ring.specs.Holds.{HasReader};
+ghost use Rattle.crn_ring.specs.Plays.{ProducerGoesOn};
+ghost use Rattle.crn_ring.specs.Calls.{AfterShown};
 ghost use Rattle.crn_ring.specs.Inner.Plays.{read_many, wrote_many};
 ghost use Rattle.crn_ring.specs.Inner.Seats.{IsProducerSeat, IsReaderSeat, SameSeat, ViewBecomes};
 
@@ -20,6 +23,7 @@ impl Ring {
         requires own { IsProducerSeat self.now seat.old }
         requires at { ((producer_in seat.old).ended ≡ false) × (storing (producer_in seat.old) ≡ block.now.number) × ((producer_in seat.old).stored % BLOCK_WORDS ≡ 0) }
         requires block { (block.now.key ≡ self.now.spec.id.key) × (block.now.number < self.now.spec.id.total) }
+        requires goes_on { ProducerGoesOn self.now.spec (producer_in seat.old) (passed_in seat.old) StoreWord }
         requires room { PassesGates self.now.spec (producer_in seat.old) block.now.number }
         ensures own { SameSeat seat.old seat.new }
         ensures moved { ProducerReaches self.now.spec (producer_in seat.old) BLOCK_WORDS (producer_in seat.new) }
@@ -38,6 +42,7 @@ impl Ring {
         requires at { ((producer_in seat.old).ended ≡ false) × ((producer_in seat.old).stored ≡ 0) }
         requires blocks { (count ≤ length blocks.now) × FollowOn self.now.spec.id.key (producer_in seat.old).published (length blocks.now) blocks.now }
         requires below { (producer_in seat.old).published + count ≤ self.now.spec.id.total }
+        requires goes_on { ProducerGoesOn self.now.spec (producer_in seat.old) (passed_in seat.old) StoreWord }
         requires room { HaveRoom self.now.spec (producer_in seat.old) count }
         ensures own { SameSeat seat.old seat.new }
         ensures moved { ProducerReaches self.now.spec (producer_in seat.old) (BLOCK_WORDS * count) (producer_in seat.new) }
@@ -85,5 +90,34 @@ impl Ring {
             let words = self.load_row(seat, number);
             out[k] = Block::from_words(key, number, words);
         }
+    }
+
+    // Takes as many as fit into `out` of the blocks that reader r has seen, from n on and below `seen`. Returns their number.
+    pub(crate) fn take_seen(
+        &self,
+        seat: &mut Place,
+        r: u32,
+        n: u64,
+        seen: u64,
+        out: &mut [Block],
+    ) -> usize
+        requires own { IsReaderSeat self.now seat.old }
+        requires at { ((reader_in seat.old).left ≡ false) × ((reader_in seat.old).taken ≡ n) × ((reader_in seat.old).read ≡ []) × ((reader_in seat.old).seen ≡ seen) }
+        requires mine { ((view_of seat.old).number ≡ r) × (r < self.now.spec.readers) }
+        requires order { (n ≤ seen) × (seen ≤ self.now.spec.id.total) }
+        ensures own { SameSeat seat.old seat.new }
+        ensures seat { HasReader (view_of seat.new) × ((view_of seat.new).number ≡ r) × (spec_in seat.new ≡ spec_in seat.old) }
+        ensures rests { ((reader_in seat.new).left ≡ false) × ((reader_in seat.new).read ≡ []) }
+        ensures moved { ReaderReaches (reader_in seat.old) (BLOCK_WORDS * result + 1) (reader_in seat.new) }
+        ensures taken { AfterShown self.now.spec (reader_in seat.old) (reader_in seat.new) out.old out.new result }
+        ensures looks { (0 < result → looked_in seat.new ≡ false) × (result ≡ 0 → looked_in seat.new ≡ looked_in seat.old) }
+    {
+        let count = out.len().min((seen - n) as usize);
+        if count == 0 {
+            return 0;
+        }
+        self.load_rows(seat, n, out, count);
+        self.store_taken(seat, r, n + count as u64, count);
+        count
     }
 }

@@ -10,7 +10,7 @@
 //! What is proved: between any two steps of any threads, the words and what each actor knows are lawful (the rule of
 //! `specs/Holds`). Each step is the move of its kind in the ring of `crn_proto`, and every run of that ring shows a
 //! broadcast ([`laws::steps_are_a_run`]). So what a reader gets are the blocks from `first` on, each once and in order.
-//! Nothing is claimed about progress or fairness.
+//! By each step its actor goes on, so the ring cannot stick. Nothing is claimed about fairness.
 //!
 //! Source: Thompson, Farley, Barker, Gee and Stewart, "Disruptor: High performance alternative to bounded queues for
 //! exchanging data between concurrent threads", LMAX, 2011.

@@ -2,11 +2,11 @@
 ghost use Rattle.std.specs.Prelude.{◌≡◌, ◌≤◌};
 ghost use Rattle.crn_ring.specs.Gates.{Remembers};
 ghost use Rattle.crn_ring.specs.Holds.{HasProducer};
-ghost use Rattle.crn_ring.specs.Seats.{producer_in, spec_in, view_of};
+ghost use Rattle.crn_ring.specs.Seats.{passed_in, producer_in, spec_in, view_of};
 
 use crate::answers::{Publish, PublishMany};
 use crate::ring::{Place, Ring};
-use crate::room::{Gauge, Room};
+use crate::room::Room;
 use crn_cipher::{BLOCK_WORDS, Block};
 
 /// The producer of a ring: it publishes the blocks of the ring's stream in order, and then marks the end. A ring has one,
@@ -25,6 +25,7 @@ pub struct Producer {
     pub ghost counts: { published ≡ (producer_in seat).published },
     pub ghost ends: { ended ≡ (producer_in seat).ended },
     pub ghost rests: { (producer_in seat).stored ≡ 0 },
+    pub ghost looks: { passed_in seat ≡ 0 },
     pub ghost within: { published ≤ (spec_in seat).id.total },
     pub ghost remembers: { Remembers (spec_in seat).size published (spec_in seat).readers (producer_in seat).gates least },
 }
@@ -36,7 +37,6 @@ impl Producer {
     ghost use Rattle.crn_proto.specs.Chains.{ProducerReaches};
     ghost use Rattle.crn_ring.specs.Gates.{HaveRoom};
     ghost use Rattle.crn_ring.specs.Calls.{AfterPublish, AfterPublishMany, IsProducerOf, producer_part, producer_spec, spec_of};
-    ghost use Rattle.crn_ring.specs.Inner.Rooms.{Finds};
 
     /// Returns the number of the block that it publishes next, at most the ring's total.
     #[inline(always)]
@@ -53,44 +53,6 @@ impl Producer {
         ensures { result ≡ (producer_part self.now).ended }
     {
         self.ended
-    }
-
-    // Returns whether the remembered count leaves room for the next m blocks.
-    #[inline(always)]
-    fn remembers_room(&self, ring: &Ring, m: usize) -> bool
-        requires ring { IsProducerOf ring.now self.now }
-        requires blocks { self.now.published + m ≤ ring.now.spec.id.total }
-        ensures fits { result ≡ true → self.now.published + m ≤ self.now.least + ring.now.spec.size }
-        ensures known { HaveRoom ring.now.spec (producer_part self.now) m → result ≡ true }
-    {
-        self.published + m as u64 <= self.least + ring.spec.size
-    }
-
-    // Looks for room for the next m blocks. Loads the gates only if the remembered count leaves too little room for all
-    // of them.
-    fn find_room(&mut self, ring: &Ring, m: usize) -> Room
-        requires ring { IsProducerOf ring.now self.old }
-        requires running { self.old.ended ≡ false }
-        requires blocks { (0 < m) × (self.old.published + m ≤ ring.now.spec.id.total) }
-        ensures ring { IsProducerOf ring.now self.new }
-        ensures moved { ProducerReaches ring.now.spec (producer_part self.old) ring.now.spec.readers (producer_part self.new) }
-        ensures found { Finds ring.now.spec (producer_part self.old) (producer_part self.new) m result }
-        ensures quiet { HaveRoom ring.now.spec (producer_part self.old) m → (producer_part self.new).loads ≡ (producer_part self.old).loads }
-    {
-        if self.remembers_room(ring, m) {
-            return Room::Blocks(m);
-        }
-        match ring.gauge(&mut self.seat, self.published) {
-            Gauge::Full { reader, taken } => {
-                self.least = taken;
-                Room::Full { reader, taken }
-            }
-            Gauge::Least(least) => {
-                self.least = least;
-                let free = least + ring.spec.size - self.published;
-                Room::Blocks(m.min(free as usize))
-            }
-        }
     }
 
     /// Publishes the next block if every reader that has not left has room for it.
@@ -116,7 +78,7 @@ impl Producer {
         ensures quiet { HaveRoom (spec_of ring.now) (producer_part self.old) 1 → (producer_part self.new).loads ≡ (producer_part self.old).loads }
         ensures within { (producer_part self.new).published ≤ (spec_of ring.now).id.total }
     {
-        match self.find_room(ring, 1) {
+        match ring.find_room(&mut self.seat, self.published, &mut self.least, 1) {
             Room::Full { reader, taken } => Publish::Full { reader, taken },
             Room::Blocks(_) => {
                 ring.store_row(&mut self.seat, block);
@@ -149,7 +111,8 @@ impl Producer {
         ensures quiet { HaveRoom (spec_of ring.now) (producer_part self.old) (length blocks.now) → (producer_part self.new).loads ≡ (producer_part self.old).loads }
         ensures within { (producer_part self.new).published ≤ (spec_of ring.now).id.total }
     {
-        match self.find_room(ring, blocks.len()) {
+        let most = blocks.len();
+        match ring.find_room(&mut self.seat, self.published, &mut self.least, most) {
             Room::Full { reader, taken } => PublishMany::Full { reader, taken },
             Room::Blocks(count) => {
                 ring.store_rows(&mut self.seat, blocks, count);

@@ -1,7 +1,7 @@
 //! A reader of a ring.
 ghost use Rattle.std.specs.Prelude.{◌≡◌, ◌≤◌, ◌<◌, [], false, true};
 ghost use Rattle.crn_ring.specs.Holds.{HasReader};
-ghost use Rattle.crn_ring.specs.Seats.{reader_in, spec_in, view_of};
+ghost use Rattle.crn_ring.specs.Seats.{looked_in, reader_in, spec_in, view_of};
 
 use crate::answers::{Batch, Take};
 use crate::ring::{Place, Ring};
@@ -27,6 +27,7 @@ pub struct Reader {
     pub ghost below: { number < (spec_in seat).readers },
     pub ghost within: { taken ≤ (spec_in seat).id.total },
     pub ghost seen_within: { seen ≤ (spec_in seat).id.total },
+    pub ghost looks: { looked_in seat ≡ true → seen ≤ taken },
 }
 
 /// A reader that has left its ring: it has stored [`LEFT`](crn_proto::LEFT) in its cursor. It has no calls.
@@ -135,7 +136,8 @@ impl Reader {
         if published == self.taken {
             return Batch::Empty { published };
         }
-        let count = self.take_shown(ring, out);
+        let count = ring.take_seen(&mut self.seat, self.number, self.taken, published, out);
+        self.taken += count as u64;
         Batch::Got { count }
     }
 
@@ -154,14 +156,9 @@ impl Reader {
         ensures answer { AfterShown (spec_of ring.now) (reader_part self.old) (reader_part self.new) out.old out.new result }
         ensures within { (reader_part self.new).taken ≤ (spec_of ring.now).id.total }
     {
-        let count = out.len().min((self.seen - self.taken) as usize);
-        if count == 0 {
-            return 0;
-        }
-        ring.load_rows(&mut self.seat, self.taken, out, count);
-        self.taken += count as u64;
-        ring.store_taken(&mut self.seat, self.number, self.taken, count);
-        count
+        let more = ring.take_seen(&mut self.seat, self.number, self.taken, self.seen, out);
+        self.taken += more as u64;
+        more
     }
 
     /// Leaves the ring by one store; after it the producer no longer waits for this reader. Allocates nothing and never

@@ -1,11 +1,11 @@
 //! The atomic steps of the actors, one function each. A step is one load or one store of one word of the table, and its
-//! contract names the move of the ring that it makes.
+//! contract names the move of the ring that it makes. Each is asked for only where its actor goes on by it.
 ghost use Rattle.std.specs.Prelude.{◌≡◌, ◌≢◌, ◌+◌, ◌-◌, ◌*◌, ◌/◌, ◌%◌, ◌<◌, ◌≤◌, ℕ, false, length, [], slice_index};
 ghost use Rattle.crn_cipher.specs.Blocks.{block_word};
 ghost use Rattle.crn_proto.specs.Ring.{place, left_mark, storing, reading, PassesGates, ProducerMay, ReaderMay, LoadGate, StoreWord, Publish, Finish, LoadCursor, LoadWord, Take, Leave};
 ghost use Rattle.crn_proto.specs.Chains.{ProducerReaches, ReaderReaches};
-ghost use Rattle.crn_ring.specs.Seats.{producer_in, reader_in, view_of};
-ghost use Rattle.crn_ring.specs.Plays.{by_producer, by_reader};
+ghost use Rattle.crn_ring.specs.Seats.{looked_in, passed_in, producer_in, reader_in, view_of};
+ghost use Rattle.crn_ring.specs.Plays.{by_producer, by_reader, ProducerGoesOn, ReaderGoesOn};
 ghost use Rattle.crn_ring.specs.Inner.Seats.{IsProducerSeat, IsReaderSeat, SameSeat, ViewBecomes};
 
 use crate::plays::{
@@ -30,6 +30,7 @@ impl Ring {
     pub(crate) fn load_gate(&self, seat: &mut Place, r: u32) -> u64
         requires own { IsProducerSeat self.now seat.old }
         requires may { ((producer_in seat.old).ended ≡ false) × (r < self.now.spec.readers) }
+        requires goes_on { ProducerGoesOn self.now.spec (producer_in seat.old) (passed_in seat.old) (LoadGate r) }
         ensures own { SameSeat seat.old seat.new }
         ensures moved { ProducerReaches self.now.spec (producer_in seat.old) 1 (producer_in seat.new) }
         ensures view { ViewBecomes seat.old seat.new (by_producer (LoadGate r) result (view_of seat.old)) }
@@ -45,6 +46,7 @@ impl Ring {
         requires own { IsProducerSeat self.now seat.old }
         requires at { ((producer_in seat.old).ended ≡ false) × (n ≡ storing (producer_in seat.old)) × (i ≡ (producer_in seat.old).stored % BLOCK_WORDS) }
         requires below { n < self.now.spec.id.total }
+        requires goes_on { ProducerGoesOn self.now.spec (producer_in seat.old) (passed_in seat.old) StoreWord }
         requires room { PassesGates self.now.spec (producer_in seat.old) n }
         requires word { word ≡ block_word self.now.spec.id.key n i }
         requires base { (base ≡ place self.now.spec n 0) × (base + BLOCK_WORDS ≤ self.now.table.shared.table_id.words) }
@@ -86,6 +88,7 @@ impl Ring {
     pub(crate) fn load_cursor(&self, seat: &mut Place) -> u64
         requires own { IsReaderSeat self.now seat.old }
         requires at { ((reader_in seat.old).left ≡ false) × ((reader_in seat.old).seen_end ≡ false) × ((reader_in seat.old).read ≡ []) }
+        requires goes_on { ReaderGoesOn (reader_in seat.old) (looked_in seat.old) LoadCursor }
         ensures own { SameSeat seat.old seat.new }
         ensures moved { ReaderReaches (reader_in seat.old) 1 (reader_in seat.new) }
         ensures view { ViewBecomes seat.old seat.new (by_reader LoadCursor result (view_of seat.old)) }

@@ -21,4 +21,8 @@ pub struct View {
     pub producer: ProducerPart,
     /// The reader's part; in the producer's view that of each reader that waits in it.
     pub reader: ReaderPart,
+    /// How many readers' cursors the producer has loaded in turn that let the next block in.
+    pub passed: u32,
+    /// Whether the reader has loaded the ring cursor and has taken nothing since.
+    pub looked: bool,
 }

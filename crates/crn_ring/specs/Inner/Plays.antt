@@ -10,9 +10,10 @@ wrote_many k v = record v { producer = record v.producer { stored = v.producer.s
 abbrev pub read_many : List ℕ → View → View
 read_many ns v = record v { reader = record v.reader { read = v.reader.read ++ ns; steps = v.reader.steps + length ns } }
 
--- the gates of the readers below r were loaded, in order, and have room for block n; the gates above are as they were
+-- the gates of the readers below r were loaded, in order, and have room for block n, so the producer has passed them; the
+-- gates above are as they were
 pub record Gauged (size n r : ℕ) (v v' : View) : Type 0 where
-  pub same : v' ≡ record v { producer = record v.producer { gates = v'.producer.gates; loads = v'.producer.loads; steps = v.producer.steps + r } }
+  pub same : v' ≡ record v { producer = record v.producer { gates = v'.producer.gates; loads = v'.producer.loads; steps = v.producer.steps + r }; passed = v.passed + r }
   pub loaded : Loaded r v.producer v'.producer
   pub passed : (q : ℕ) → q < r → Passes size n (slice_index v'.producer.gates q)
   pub kept : (q : ℕ) → r ≤ q → slice_index v'.producer.gates q ≡ slice_index v.producer.gates q

@@ -1,5 +1,5 @@
 -- What the producer's part is after it has looked for room.
-use Rattle.std.specs.Prelude.{◌≡◌, ℕ, ◌+◌, ◌<◌, ◌≤◌, length, slice_index}
+use Rattle.std.specs.Prelude.{◌≡◌, ℕ, ◌+◌, ◌<◌, ◌≤◌, ◌⊎◌, length, slice_index}
 use Rattle.crn_proto.specs.declared.spec.RingSpec.{RingSpec}
 use Rattle.crn_proto.specs.declared.actor_parts.ProducerPart.{ProducerPart}
 use Rattle.crn_proto.specs.Ring.{LoadGate}
@@ -30,3 +30,8 @@ pub record HasFound (spec : RingSpec) (p p' : ProducerPart) (m count : ℕ) : Ty
 abbrev pub Finds : RingSpec → ProducerPart → ProducerPart → ℕ → Room → Type 0
 Finds spec p p' m (Blocks count) = HasFound spec p p' m count
 Finds spec p p' m (Full r taken) = IsFull spec p p' r taken
+
+-- how many readers the producer has passed then: none of them or all if it may store, none if there is no room
+abbrev pub HasPassed : ℕ → ℕ → Room → Type 0
+HasPassed readers passed (Blocks count) = (passed ≡ 0) ⊎ (passed ≡ readers)
+HasPassed readers passed (Full r taken) = passed ≡ 0

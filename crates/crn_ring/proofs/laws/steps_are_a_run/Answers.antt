@@ -1,3 +1,4 @@
+use Rattle.crn_ring.proofs.Going.{steps_go_on, batches_are_bounded}
 use Rattle.crn_ring.proofs.Schedules.{steps_are_a_run, allowed_steps_are_made}
 use Rattle.crn_ring.proofs.Opened.{opens_as_the_open_ring}
 use Rattle.crn_ring.proofs.laws.steps_are_a_run.Goals as goal
@@ -10,3 +11,9 @@ returns-clause-allowed c = allowed_steps_are_made
 
 pub returns-clause-run : goal.returns-clause-run
 returns-clause-run c = steps_are_a_run
+
+pub returns-clause-go_on : goal.returns-clause-go_on
+returns-clause-go_on c = steps_go_on
+
+pub returns-clause-bounded : goal.returns-clause-bounded
+returns-clause-bounded c = batches_are_bounded

@@ -1,15 +1,17 @@
-use Rattle.std.proofs.Common.{rules, ◌≡◌, ℕ, ◌+◌, ◌-◌, ◌*◌, ◌≤◌, ap, subst, arith}
+use Rattle.std.proofs.Common.{rules, ◌≡◌, ℕ, ◌+◌, ◌-◌, ◌*◌, ◌≤◌, inr, ap, sym, subst, arith}
 use Rattle.crn_cipher.specs.declared.TheConstants.{BLOCK_WORDS}
 use Rattle.crn_proto.specs.Chains.{ProducerReaches}
 use Rattle.crn_ring.proofs.Bounds.{producer_steps}
 use Rattle.crn_ring.proofs.Rooms.{publish_moves, publishes}
 use Rattle.crn_ring.specs.Parts.{Publishes}
 use Rattle.crn_ring.specs.Seats.{producer_in}
+use Rattle.crn_proto.specs.declared.spec.RingSpec.{RingSpec}
+use Rattle.crn_ring.specs.Gates.{Remembers}
 use Rattle.crn_ring.proofs.producer.Producer.publish_batch.Goals as goal
 
 pub returns-in-Blocks-clause-answer : goal.returns-in-Blocks-clause-answer
 returns-in-Blocks-clause-answer c = let spec = c.args.ring.now.spec in
-    publishes spec (producer_in c.args.self.now.seat) (producer_in c.find_room.new.self.seat) (producer_in c.store_rows.new.seat) (producer_in c.publish_upto.new.seat) _ c.in-Blocks.count
+    publishes spec (producer_in c.args.self.now.seat) (producer_in c.find_room.new.seat) (producer_in c.store_rows.new.seat) (producer_in c.publish_upto.new.seat) _ c.in-Blocks.count
     c.requires.running c.args.self.now.rests c.in-Blocks.ensures.found c.find_room.ensures.moved (ap (λ m. m.0.producer) c.store_rows.ensures.view) c.store_rows.ensures.moved (ap (λ m. m.0.producer) c.publish_upto.ensures.view)
 
 pub returns-in-Blocks-clause-moves : goal.returns-in-Blocks-clause-moves
@@ -55,11 +57,18 @@ returns-in-Blocks-clause-within c = search rules
 pub invariant_of-self : goal.invariant_of-self
 invariant_of-self c = search rules
 
-pub find_room-requires-clause-ring : goal.find_room-requires-clause-ring
-find_room-requires-clause-ring c = search rules
+pub find_room-requires-clause-own : goal.find_room-requires-clause-own
+find_room-requires-clause-own c = search rules
 
-pub find_room-requires-clause-running : goal.find_room-requires-clause-running
-find_room-requires-clause-running c = search rules
+pub find_room-requires-clause-at : goal.find_room-requires-clause-at
+find_room-requires-clause-at c = let p = c.args.self.now in (c.requires.running, sym p.counts)
+
+pub find_room-requires-clause-rests : goal.find_room-requires-clause-rests
+find_room-requires-clause-rests c = let p = c.args.self.now in (p.rests, p.looks)
+
+pub find_room-requires-clause-remembers : goal.find_room-requires-clause-remembers
+find_room-requires-clause-remembers c = let p = c.args.self.now in
+    subst (λ (z : RingSpec). Remembers z.size p.published z.readers (producer_in p.seat).gates p.least) c.requires.ring.1 p.remembers
 
 pub find_room-requires-clause-blocks : goal.find_room-requires-clause-blocks
 find_room-requires-clause-blocks c = search rules
@@ -75,6 +84,9 @@ store_rows-requires-clause-blocks c = search rules
 
 pub store_rows-requires-clause-below : goal.store_rows-requires-clause-below
 store_rows-requires-clause-below c = search rules
+
+pub store_rows-requires-clause-goes_on : goal.store_rows-requires-clause-goes_on
+store_rows-requires-clause-goes_on c = inr c.in-Blocks.ensures.passed
 
 pub store_rows-requires-clause-room : goal.store_rows-requires-clause-room
 store_rows-requires-clause-room c = search rules

@@ -1,8 +1,10 @@
-use Rattle.std.proofs.Common.{rules, ◌≡◌, ℕ, ap, subst, arith}
+use Rattle.std.proofs.Common.{rules, ◌≡◌, ℕ, inr, ap, sym, subst, arith}
 use Rattle.crn_ring.specs.Inner.Rooms.{HasFound}
 use Rattle.crn_ring.proofs.Bounds.{producer_steps}
 use Rattle.crn_ring.proofs.Rooms.{publish_moves, publishes}
 use Rattle.crn_ring.specs.Seats.{producer_in}
+use Rattle.crn_proto.specs.declared.spec.RingSpec.{RingSpec}
+use Rattle.crn_ring.specs.Gates.{Remembers}
 use Rattle.crn_ring.proofs.producer.Producer.try_publish.Goals as goal
 
 pub returns-in-Blocks-clause-moves : goal.returns-in-Blocks-clause-moves
@@ -13,7 +15,7 @@ returns-in-Blocks-clause-steps c = let spec = c.args.ring.now.spec in
     let most = producer_steps spec _ _ _ (publish_moves spec _ _ _ _ 1 c.find_room.ensures.moved c.store_row.ensures.moved c.publish_upto.ensures.moved) in omega arith
 
 pub returns-in-Blocks-clause-answer : goal.returns-in-Blocks-clause-answer
-returns-in-Blocks-clause-answer c = let spec = c.args.ring.now.spec in let p = producer_in c.args.self.now.seat in let found = producer_in c.find_room.new.self.seat in
+returns-in-Blocks-clause-answer c = let spec = c.args.ring.now.spec in let p = producer_in c.args.self.now.seat in let found = producer_in c.find_room.new.seat in
     let f : HasFound spec p found 1 c.in-Blocks.field-0 = c.in-Blocks.ensures.found in
     let some = f.some in let most = f.at_most in
     let one : c.in-Blocks.field-0 ≡ 1 = omega arith in
@@ -50,11 +52,18 @@ returns-in-Blocks-clause-within c = search rules
 pub invariant_of-self : goal.invariant_of-self
 invariant_of-self c = search rules
 
-pub find_room-requires-clause-ring : goal.find_room-requires-clause-ring
-find_room-requires-clause-ring c = search rules
+pub find_room-requires-clause-own : goal.find_room-requires-clause-own
+find_room-requires-clause-own c = search rules
 
-pub find_room-requires-clause-running : goal.find_room-requires-clause-running
-find_room-requires-clause-running c = search rules
+pub find_room-requires-clause-at : goal.find_room-requires-clause-at
+find_room-requires-clause-at c = let p = c.args.self.now in (c.requires.running, sym p.counts)
+
+pub find_room-requires-clause-rests : goal.find_room-requires-clause-rests
+find_room-requires-clause-rests c = let p = c.args.self.now in (p.rests, p.looks)
+
+pub find_room-requires-clause-remembers : goal.find_room-requires-clause-remembers
+find_room-requires-clause-remembers c = let p = c.args.self.now in
+    subst (λ (z : RingSpec). Remembers z.size p.published z.readers (producer_in p.seat).gates p.least) c.requires.ring.1 p.remembers
 
 pub find_room-requires-clause-blocks : goal.find_room-requires-clause-blocks
 find_room-requires-clause-blocks c = search rules
@@ -67,6 +76,9 @@ store_row-requires-clause-at c = search rules
 
 pub store_row-requires-clause-block : goal.store_row-requires-clause-block
 store_row-requires-clause-block c = search rules
+
+pub store_row-requires-clause-goes_on : goal.store_row-requires-clause-goes_on
+store_row-requires-clause-goes_on c = inr c.in-Blocks.ensures.passed
 
 pub store_row-requires-clause-room : goal.store_row-requires-clause-room
 store_row-requires-clause-room c = search rules

@@ -1,9 +1,13 @@
-use Rattle.std.proofs.Common.{rules}
+use Rattle.std.proofs.Common.{rules, arith}
 use Rattle.crn_ring.proofs.Rooms.{shown_moves, take_moves}
 use Rattle.crn_ring.proofs.reader.Reader.try_take.Goals as goal
 
 pub returns-clause-moves : goal.returns-clause-moves
 returns-clause-moves c = take_moves _ _ _ 1 c.load_cursor-cursor.ensures.moved (shown_moves _ _ _ 1 c.load_row-words.ensures.moved c.store_taken.ensures.moved)
+
+pub load_cursor-cursor-requires-clause-goes_on : goal.load_cursor-cursor-requires-clause-goes_on
+load_cursor-cursor-requires-clause-goes_on c = let p = c.args.self.now in
+    λ looked. let all = p.looks looked in let saw = p.saw in let counts = p.counts in omega arith
 
 pub load_cursor-cursor-requires-clause-own : goal.load_cursor-cursor-requires-clause-own
 load_cursor-cursor-requires-clause-own c = search rules

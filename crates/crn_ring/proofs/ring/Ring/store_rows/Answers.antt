@@ -1,13 +1,19 @@
-use Rattle.std.proofs.Common.{◌≡◌, ℕ, ◌+◌, ◌*◌, ◌≤◌, List, sym, ap, ◌∙◌, arith}
+use Rattle.std.proofs.Common.{◌≡◌, ℕ, ◌+◌, ◌*◌, ◌≤◌, List, sym, ap, subst, ◌∙◌, arith}
 use Rattle.std.specs.Prelude.{slice_index, slice_get, Some}
 use Rattle.std.proofs.lemmas.Option.{slice_get-get_or}
 use Rattle.crn_cipher.specs.declared.TheConstants.{BLOCK_WORDS}
-use Rattle.crn_proto.specs.Ring.{ProducerMay, producer_after}
+use Rattle.crn_proto.specs.Ring.{ProducerMay, StoreWord, producer_after}
 use Rattle.crn_proto.proofs.Chains.{reaches_join, reaches_more}
 use Rattle.crn_ring.specs.Inner.Plays.{wrote_many}
-use Rattle.crn_ring.proofs.Filling.{wrote_many_join}
-use Rattle.crn_ring.specs.Seats.{producer_in}
+use Rattle.crn_ring.proofs.Filling.{stores_on, wrote_many_join}
+use Rattle.crn_ring.specs.declared.view.View.{View}
+use Rattle.crn_ring.specs.Plays.{ProducerGoesOn}
+use Rattle.crn_ring.specs.Seats.{producer_in, view_of}
 use Rattle.crn_ring.proofs.ring.Ring.store_rows.Goals as goal
+
+pub store_row-requires-clause-goes_on : goal.store_row-requires-clause-goes_on
+store_row-requires-clause-goes_on c = let spec = c.args.self.now.spec in
+    subst (λ (v : View). ProducerGoesOn spec v.producer v.passed StoreWord) (sym (ap (λ m. m.0) c.loop-k.invariant.2)) (stores_on spec (BLOCK_WORDS * c.loop-k.k) (view_of c.args.seat.now) c.requires.goes_on)
 
 pub store_row-requires-clause-room : goal.store_row-requires-clause-room
 store_row-requires-clause-room c = λ r h ne.

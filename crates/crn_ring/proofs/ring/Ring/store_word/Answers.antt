@@ -12,7 +12,7 @@ store-requires c = let at = c.requires.at in let spec = c.args.self.now.spec in 
   search rules,
   (let room = c.requires.base.1 in let i = at.2 in omega (arith, c.args.self.now.counted)),
   rw c.args.self.now.keyed (stores_word _ _ _ _ c.requires.own.0.1 c.requires.own.1 _ _ (place_from spec c.args.n c.args.i c.args.base c.requires.base.0 ∙ (λ i. place spec (at.1 i) (at.2 i))) (c.requires.word ∙ (λ i. block_word spec.id.key (at.1 i) (at.2 i)))
-      (at.0, subst (λ (z : ℕ). z < spec.id.total) at.1 c.requires.below, subst (PassesGates spec (producer_in c.args.seat.now)) at.1 c.requires.room)),
+      (at.0, subst (λ (z : ℕ). z < spec.id.total) at.1 c.requires.below, subst (PassesGates spec (producer_in c.args.seat.now)) at.1 c.requires.room) c.requires.goes_on),
 )
 
 pub returns-clause-moved : goal.returns-clause-moved
