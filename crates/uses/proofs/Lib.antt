@@ -1,2 +1,3 @@
 mod Budgets
+mod Leaving
 mod Undone

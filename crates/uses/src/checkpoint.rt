@@ -1,10 +1,13 @@
 //! A run that its gates stop, and the checkpoint where they stopped it.
-ghost use Rattle.std.specs.Prelude.{◌≡◌, ◌≤◌, All, IfOk, false, length, min};
+ghost use Rattle.std.specs.Prelude.{◌≡◌, ◌≤◌, All, IfOk, false, length, min, true};
 ghost use Rattle.crn_stock.specs.Models.{total};
 ghost use Rattle.crn_sequential.specs.Runs.{IsCheckpointOf, EachAt};
+ghost use Rattle.crn_run.specs.Gates.{AllPassed, SomeHeld};
+ghost use Rattle.crn_run.specs.Jobs.{AreReaders};
 ghost use Rattle.crn_checkpoint.specs.Reading.{IsLegOf};
 
 use crn_checkpoint::write_checkpoint;
+use crn_ring::Reader;
 use crn_run::{Checkpoint, Gate, OpenGate, RunFault, run_all};
 use crn_stock::Scenario;
 use std::alloc::{AllocError, Global};
@@ -35,8 +38,18 @@ impl Gate for Budget {
     }
 }
 
-/// Runs a scenario from its start under gates that hold each policy after `blocks` blocks. Returns the block where they held
-/// the run, or the scenario's total if they did not, and the text of the checkpoint there.
+/// Where a run has stopped.
+#[derive(Drop)]
+pub struct Stopped {
+    /// The block before which its gates held it, or the scenario's total if they did not.
+    pub next: u64,
+    /// The text of the checkpoint there.
+    pub text: Vec<u8>,
+    /// The readers of the ring through which the blocks below `next` came, one for each policy.
+    pub readers: Vec<Reader>,
+}
+
+/// Runs a scenario from its start under gates that hold each policy after `blocks` blocks. Returns where they held the run.
 ///
 /// # Errors
 ///
@@ -46,14 +59,46 @@ pub fn run_for<R: Threads + Wait + Sync>(
     alloc: Global,
     scenario: &Scenario,
     blocks: u64,
-) -> Result<(u64, Vec<u8>), RunFault>
-    ensures block { IfOk result (λ r. r.0 ≡ min blocks (total scenario.now.model)) }
-    ensures leg { IfOk result (λ r. IsLegOf scenario.now r.0 r.1.items) }
+) -> Result<Stopped, RunFault>
+    ensures block { IfOk result (λ s. s.next ≡ min blocks (total scenario.now.model)) }
+    ensures leg { IfOk result (λ s. IsLegOf scenario.now s.next s.text.items) }
+    ensures through { IfOk result (λ s. AreReaders scenario.now 0 s.next s.readers.items) }
 {
     let start = Checkpoint::start(alloc, scenario)?;
     let next = stop_of(rt, alloc, scenario, &start, blocks)?;
-    let text = leg_to(rt, alloc, scenario, &start, next)?;
-    Ok((next, text))
+    leg_to(rt, alloc, scenario, &start, next)
+}
+
+/// Runs a scenario from `start` to its total under these gates, and returns whether one of them has held its policy. It knows
+/// nothing of `G.asked` but what calls of the gates tell. So an implementation that does not run under them does not meet its
+/// contract.
+///
+/// # Asks
+///
+/// - `start` is a checkpoint of the scenario, at no later block than its total.
+/// - There is one gate for each policy, and none has answered false.
+///
+/// # Errors
+///
+/// `Thread` if a thread fails to start, `Memory` if an allocation fails.
+pub fn is_held_by<R: Threads + Wait + Sync, G: Gate + Send>(
+    rt: &R,
+    alloc: Global,
+    scenario: &Scenario,
+    start: &Checkpoint,
+    gates: &mut [G],
+) -> Result<bool, RunFault>
+    requires start { (start.now.next ≤ total scenario.now.model) × IsCheckpointOf scenario.now start.now.next start.now.states.items }
+    requires count { length gates.old ≡ length scenario.now.policies }
+    requires gates { All (λ g. G.refused g ≡ false) gates.old }
+    ensures passed { IfOk result (λ held. held ≡ false → AllPassed G.refused G.asked start.now.next (total scenario.now.model) gates.old) }
+    ensures held { IfOk result (λ held. held ≡ true → SomeHeld G.refused G.asked start.now.next (total scenario.now.model) gates.old) }
+{
+    match run_all(rt, alloc, scenario, start, scenario.model().total(), gates) {
+        Ok(_) => Ok(false),
+        Err(RunFault::Gate) => Ok(true),
+        Err(fault) => Err(fault),
+    }
 }
 
 // Returns the block where gates that pass so many blocks hold the run, or the scenario's total if they do not.
@@ -67,13 +112,11 @@ fn stop_of<R: Threads + Wait + Sync>(
     requires start { (start.now.next ≡ 0) × IsCheckpointOf scenario.now start.now.next start.now.states.items }
     ensures { IfOk result (λ n. n ≡ min blocks (total scenario.now.model)) }
 {
-    let total = scenario.model().total();
     let mut gates = budgets(alloc, blocks, scenario.policies().len())?;
-    match run_all(rt, alloc, scenario, start, total, gates.as_mut_slice()) {
-        Ok(_) => Ok(total),
-        Err(RunFault::Gate) => Ok(blocks),
-        Err(fault) => Err(fault),
+    if is_held_by(rt, alloc, scenario, start, gates.as_mut_slice())? {
+        return Ok(blocks);
     }
+    Ok(scenario.model().total())
 }
 
 // Returns gates that pass so many blocks each.
@@ -89,21 +132,28 @@ fn budgets(alloc: Global, blocks: u64, count: usize) -> Result<Vec<Budget>, Allo
     Ok(vec![in alloc; budget; count]?)
 }
 
-// Runs a scenario from its start up to block `next`, and returns the text of the checkpoint there. A run that a gate has held
-// returns no states; this one does, since its gates are open.
+// Runs a scenario from its start up to block `next`, and returns the checkpoint there. A run that a gate has held returns no
+// states; this one does, since its gates are open.
 fn leg_to<R: Threads + Wait + Sync>(
     rt: &R,
     alloc: Global,
     scenario: &Scenario,
     start: &Checkpoint,
     next: u64,
-) -> Result<Vec<u8>, RunFault>
+) -> Result<Stopped, RunFault>
     requires start { (start.now.next ≡ 0) × IsCheckpointOf scenario.now start.now.next start.now.states.items }
     requires at { EachAt scenario.now 0 start.now.states.items }
     requires within { next ≤ total scenario.now.model }
-    ensures { IfOk result (λ text. IsLegOf scenario.now next text.items) }
+    ensures next { IfOk result (λ s. s.next ≡ next) }
+    ensures leg { IfOk result (λ s. IsLegOf scenario.now next s.text.items) }
+    ensures through { IfOk result (λ s. AreReaders scenario.now 0 next s.readers.items) }
 {
     let mut gates = vec![in alloc; OpenGate; scenario.policies().len()]?;
     let finished = run_all(rt, alloc, scenario, start, next, gates.as_mut_slice())?;
-    Ok(write_checkpoint(alloc, scenario, &finished.checkpoint)?)
+    let text = write_checkpoint(alloc, scenario, &finished.checkpoint)?;
+    Ok(Stopped {
+        next,
+        text,
+        readers: finished.readers,
+    })
 }

@@ -5,5 +5,6 @@ pub mod blocks;
 pub mod checkpoint;
 pub mod report;
 pub mod ring;
+pub mod taken;
 #[cfg(test)]
 mod tests;

@@ -1,12 +1,13 @@
 //! A ring between two threads: one publishes all blocks, the other takes some by batches and leaves.
 ghost use Rattle.std.specs.Prelude.{◌≡◌, ◌+◌, ◌≤◌, ◌<◌, true, false, [], IfOk, IfErr, length, min, vec_len, vec_capacity};
-ghost use Rattle.crn_cipher.specs.Following.{FollowOn};
 ghost use Rattle.crn_limits.specs.declared.TheConstants.{BLOCK_LIMIT};
-ghost use Rattle.crn_ring.specs.Calls.{AllFresh, IsFresh, IsProducerOf, IsReaderOf, producer_part, reader_part, spec_of};
+ghost use Rattle.crn_ring.specs.Calls.{AllFresh, IsFresh, IsProducerOf, IsReaderOf, producer_part, reader_number, reader_part};
+ghost use Rattle.uses.specs.Passing.{CameThrough, CameThroughARing};
 
+use crate::taken::Taken;
 use crn_cipher::{Block, StreamId, block};
 use crn_proto::{RingFault, RingSpec};
-use crn_ring::{Batch, Producer, Reader, Ring};
+use crn_ring::{Batch, LeftReader, Producer, Reader, Ring};
 use crn_run::feed;
 use crossbeam_utils::Backoff;
 use std::alloc::{AllocError, Global};
@@ -17,42 +18,6 @@ use std::thread::{Promise, PromisedHandle, Scope, SpawnError, Threads};
 
 // The most blocks that are taken at once.
 const BATCH: usize = 4;
-
-/// Consecutive blocks of a key, in order.
-#[derive(Drop)]
-pub struct Taken {
-    /// The key.
-    pub key: [u64; 4],
-    /// The number of the first block.
-    pub first: u64,
-    /// The blocks.
-    pub blocks: Vec<Block>,
-    pub ghost follow: { FollowOn key first (length blocks.items) blocks.items },
-}
-
-impl Taken {
-    // Appends the first `count` of these blocks, which follow on.
-    fn append(&mut self, batch: &[Block], count: usize)
-        requires next { (count ≤ length batch.now) × FollowOn self.old.key (self.old.first + vec_len self.old.blocks) count batch.now }
-        requires room { vec_len self.old.blocks + count ≤ vec_capacity self.old.blocks }
-        ensures same { (self.new.key ≡ self.old.key) × (self.new.first ≡ self.old.first) × (vec_capacity self.new.blocks ≡ vec_capacity self.old.blocks) }
-        ensures grown { vec_len self.new.blocks ≡ vec_len self.old.blocks + count }
-    {
-        for k in 0..count {
-            self.push(batch[k]);
-        }
-    }
-
-    // Appends the next block.
-    fn push(&mut self, next: Block)
-        requires next { (next.key ≡ self.old.key) × (next.number ≡ self.old.first + vec_len self.old.blocks) }
-        requires room { vec_len self.old.blocks < vec_capacity self.old.blocks }
-        ensures same { (self.new.key ≡ self.old.key) × (self.new.first ≡ self.old.first) × (vec_capacity self.new.blocks ≡ vec_capacity self.old.blocks) }
-        ensures grown { vec_len self.new.blocks ≡ vec_len self.old.blocks + 1 }
-    {
-        self.blocks.push_reserved(next);
-    }
-}
 
 /// Why the first blocks of a key were not taken.
 #[derive(Clone, Copy, Debug, PartialEq, Eq)]
@@ -84,7 +49,8 @@ impl<F: Drop> From<SpawnError<F>> for BlocksFault {
 }
 
 /// Returns the first blocks of a key: `most` of those below `total`, or all if these are fewer. They go through a ring of 16
-/// slots: another thread takes them and then leaves, while the calling thread publishes all blocks below `total`.
+/// slots: another thread takes them and then leaves, while the calling thread publishes all blocks below `total`. What is left
+/// of the ring's reader shows that it has taken just these blocks.
 ///
 /// # Asks
 ///
@@ -99,10 +65,11 @@ pub fn first_blocks<R: Threads + Wait + Sync>(
     key: [u64; 4],
     total: u64,
     most: usize,
-) -> Result<Taken, BlocksFault>
+) -> Result<(Taken, LeftReader), BlocksFault>
     requires { total ≤ BLOCK_LIMIT }
-    ensures blocks { IfOk result (λ taken. (taken.key ≡ key) × (taken.first ≡ 0)) }
-    ensures count { IfOk result (λ taken. vec_len taken.blocks ≡ min most total) }
+    ensures blocks { IfOk result (λ r. (r.0.key ≡ key) × (r.0.first ≡ 0)) }
+    ensures count { IfOk result (λ r. vec_len r.0.blocks ≡ min most total) }
+    ensures through { IfOk result (λ r. CameThroughARing key total (min most total) r.0 r.1) }
 {
     let count = most.min(total as usize);
     let room = Vec::with_capacity(alloc, count)?;
@@ -139,8 +106,8 @@ struct TakesSome {
     most: usize,
 }
 
-impl Promise<Result<Taken, Reader>> for TakesSome {
-    ghost kept_by = { λ p r. IfOk r (λ taken. (taken.key ≡ (spec_of p.ring.value).id.key) × (taken.first ≡ (reader_part p.reader.value).taken) × (vec_len taken.blocks ≡ p.most)) };
+impl Promise<Result<(Taken, LeftReader), Reader>> for TakesSome {
+    ghost kept_by = { λ p r. IfOk r (λ x. CameThrough p.ring.value (reader_number p.reader.value) (reader_part p.reader.value).taken p.most x.0 x.1) };
 }
 
 // Publishes all blocks of the ring's stream, while another thread takes the first `most` of them. If that thread fails to
@@ -152,20 +119,20 @@ fn pass_on<'r, R: Threads + Wait + Sync>(
     reader: Reader,
     most: usize,
     room: Vec<Block>,
-) -> Result<Taken, BlocksFault>
+) -> Result<(Taken, LeftReader), BlocksFault>
     requires producer { IsProducerOf ring.now producer × ((producer_part producer).ended ≡ false) }
     requires reader { IsReaderOf ring.now reader × ((reader_part reader).seen_end ≡ false) }
     requires room { (room.items ≡ []) × (most ≤ vec_capacity room) }
-    ensures blocks { IfOk result (λ taken. (taken.key ≡ (spec_of ring.now).id.key) × (taken.first ≡ (reader_part reader).taken) × (vec_len taken.blocks ≡ most)) }
+    ensures blocks { IfOk result (λ x. CameThrough ring.now (reader_number reader) (reader_part reader).taken most x.0 x.1) }
 {
     thread::scope(
         thread::scope_env(),
         rt,
-        |scope| -> Result<Taken, BlocksFault>
+        |scope| -> Result<(Taken, LeftReader), BlocksFault>
             requires producer { IsProducerOf ring.now producer × ((producer_part producer).ended ≡ false) }
             requires reader { IsReaderOf ring.now reader × ((reader_part reader).seen_end ≡ false) }
             requires room { (room.items ≡ []) × (most ≤ vec_capacity room) }
-            ensures blocks { IfOk result (λ taken. (taken.key ≡ (spec_of ring.entry.now).id.key) × (taken.first ≡ (reader_part reader).taken) × (vec_len taken.blocks ≡ most)) }
+            ensures blocks { IfOk result (λ x. CameThrough ring.entry.now (reader_number reader) (reader_part reader).taken most x.0 x.1) }
         {
             let child = start(rt, scope, ring, reader, most, room)?;
             let mut producer = producer;
@@ -183,7 +150,7 @@ fn start<'s, 'e: 's, R: Wait + Sync>(
     reader: Reader,
     most: usize,
     room: Vec<Block>,
-) -> Result<PromisedHandle<Result<Taken, Reader>, TakesSome>, BlocksFault>
+) -> Result<PromisedHandle<Result<(Taken, LeftReader), Reader>, TakesSome>, BlocksFault>
     requires reader { IsReaderOf ring.now reader × ((reader_part reader).seen_end ≡ false) }
     requires room { (room.items ≡ []) × (most ≤ vec_capacity room) }
     ensures { IfOk result (λ h. (h.promise.ring.value ≡ ring.now) × (h.promise.reader.value ≡ reader) × (h.promise.most ≡ most)) }
@@ -193,16 +160,16 @@ fn start<'s, 'e: 's, R: Wait + Sync>(
         reader: Snapshot::of(&reader),
         most,
     };
-    let work = move || -> Result<Taken, Reader>
+    let work = move || -> Result<(Taken, LeftReader), Reader>
         requires reader { IsReaderOf ring.now reader × ((reader_part reader).seen_end ≡ false) }
         requires room { (room.items ≡ []) × (most ≤ vec_capacity room) }
-        ensures { IfOk result (λ taken. (taken.key ≡ (spec_of ring.entry.now).id.key) × (taken.first ≡ (reader_part reader).taken) × (vec_len taken.blocks ≡ most)) }
+        ensures { IfOk result (λ x. CameThrough ring.entry.now (reader_number reader) (reader_part reader).taken most x.0 x.1) }
     { take_some(rt, ring, reader, most, room) };
     Ok(scope.spawn_with(promise, work)?)
 }
 
 /// Takes the next `most` blocks by batches, and then leaves, so that the producer no longer waits for this reader. Returns them
-/// in the vector that it was given. Between two looks it yields. Allocates nothing.
+/// in the vector that it was given, with what is left of the reader. Between two looks it yields. Allocates nothing.
 ///
 /// # Asks
 ///
@@ -217,11 +184,10 @@ pub fn take_some<R: Wait>(
     mut reader: Reader,
     most: usize,
     room: Vec<Block>,
-) -> Result<Taken, Reader>
+) -> Result<(Taken, LeftReader), Reader>
     requires reader { IsReaderOf ring.now reader × ((reader_part reader).seen_end ≡ false) }
     requires room { (room.items ≡ []) × (most ≤ vec_capacity room) }
-    ensures blocks { IfOk result (λ taken. (taken.key ≡ (spec_of ring.now).id.key) × (taken.first ≡ (reader_part reader).taken)) }
-    ensures count { IfOk result (λ taken. vec_len taken.blocks ≡ most) }
+    ensures through { IfOk result (λ x. CameThrough ring.now (reader_number reader) (reader_part reader).taken most x.0 x.1) }
     ensures early { IfErr result (λ x. ((reader_part x).seen_end ≡ true) × ((reader_part x).taken < (reader_part reader).taken + most)) }
 {
     let key = ring.spec().id.key;
@@ -235,8 +201,7 @@ pub fn take_some<R: Wait>(
     for _ in rt.forever() {
         let places = BATCH.min(most - taken.blocks.len());
         if places == 0 {
-            reader.leave(ring);
-            return Ok(taken);
+            return Ok((taken, reader.into_left(ring)));
         }
         match reader.take_batch(ring, &mut batch[..places]) {
             Batch::Got { count } => {

@@ -4,7 +4,8 @@ ghost use Rattle.std.specs.Prelude.{◌≤◌};
 use crate::blocks::block_with;
 use crate::checkpoint::run_for;
 use crate::report::report_of;
-use crate::ring::{BlocksFault, Taken, first_blocks};
+use crate::ring::{BlocksFault, first_blocks};
+use crate::taken::Taken;
 use crn_cipher::block;
 use crn_scenario::read_scenario;
 use std::alloc::Global;
@@ -36,7 +37,7 @@ fn passed<R: Threads + Wait + Sync>(
     requires { total ≤ 65536 }
 {
     match first_blocks(rt, alloc, [0; 4], total, most) {
-        Ok(taken) => Some((taken.blocks.len(), last_of(&taken))),
+        Ok((taken, _)) => Some((taken.blocks.len(), last_of(&taken))),
         Err(_) => None,
     }
 }
@@ -55,14 +56,18 @@ fn a_reader_takes_some_blocks_or_all(rt: HostRuntime) {
     assert_eq!(rt; passed(&rt, rt.alloc(), 100, 1_000), Some((100, 99)));
 }
 
+// Whether ten blocks come through the ring, or the thread that takes them failed to start.
+fn ten_or_no_thread<R: Threads + Wait + Sync>(rt: &R, alloc: Global) -> bool {
+    match first_blocks(rt, alloc, [0; 4], 100, 10) {
+        Ok((taken, _)) => taken.blocks.len() == 10,
+        Err(fault) => fault == BlocksFault::Thread,
+    }
+}
+
 #[test]
 fn a_refused_thread_is_a_fault(rt: HostRuntime) {
     // Without a thread it ends too: tests/hostile runs it so.
-    let ended = match first_blocks(&rt, rt.alloc(), [0; 4], 100, 10) {
-        Ok(taken) => taken.blocks.len() == 10,
-        Err(fault) => fault == BlocksFault::Thread,
-    };
-    assert!(rt; ended);
+    assert!(rt; ten_or_no_thread(&rt, rt.alloc()));
 }
 
 // Whether a run of so many blocks stops at this block with this text.
@@ -75,7 +80,7 @@ fn stops_at<R: Threads + Wait + Sync>(
 ) -> bool {
     match read_scenario(alloc, TWO_REPLICATIONS.as_bytes()) {
         Ok(scenario) => match run_for(rt, alloc, &scenario, blocks) {
-            Ok((next, made)) => next == block && made.as_slice() == text.as_bytes(),
+            Ok(stopped) => stopped.next == block && stopped.text.as_slice() == text.as_bytes(),
             Err(_) => false,
         },
         Err(_) => false,

@@ -1,4 +1,4 @@
-use Rattle.std.proofs.Common.{rules, ◌≡◌, ◌∙◌, List, ℕ, [], ◌∷◌}
+use Rattle.std.proofs.Common.{rules, ◌≡◌, ◌∙◌, [], ◌∷◌}
 use Rattle.crn_cipher.proofs.Inverse.{state_from}
 use Rattle.uses.proofs.Undone.{counter_of_words}
 use Rattle.uses.proofs.blocks.block_with.Goals as goal
