@@ -28,11 +28,16 @@ the lines `FAILED ..` must contain, so that they fail for the right reason:
 It may also be a command of the repository with PROGRAM for the built program.
 
 Such an edit may also change files of proofs/, so that the crate is proved with it.
+
+tools/by_hand.toml lists, by crate, the edits after which an answer of the function no longer fits its goal. No goal is shown
+to be open then. So the list says what the goal claims that is false.
 """
 import collections
+import functools
 import glob
 import os
 import re
+import tomllib
 
 TOP = os.path.dirname(os.path.dirname(os.path.abspath(__file__)))
 FUNCTION = re.compile(r"( *)(?:pub(?:\([^)]*\))? )?(?:(?:const|unsafe|final) )*fn \w")
@@ -40,7 +45,9 @@ FUNCTION = re.compile(r"( *)(?:pub(?:\([^)]*\))? )?(?:(?:const|unsafe|final) )*f
 # The folders of a crate that have edits. The prover refuses those of the first two; tests see the others.
 FOLDERS = ("must-fail", "wrong", "tested")
 
-Edit = collections.namedtuple("Edit", "crate folder name what refused_by arm measure seen_by fails pairs")
+BY_HAND = "tools/by_hand.toml"
+
+Edit = collections.namedtuple("Edit", "crate folder name what refused_by arm measure seen_by fails by_hand pairs")
 
 
 class BadEdit(Exception):
@@ -51,6 +58,15 @@ def crates():
     """Returns the crates of crates.txt, in its order."""
     with open(f"{TOP}/crates.txt", encoding="utf-8") as file:
         return [line.split(":")[0] for line in file if ":" in line and not line.startswith("#")]
+
+
+@functools.cache
+def reasons():
+    """Reads the list of edits that are judged by hand: for each crate the reasons, by the names of the edits."""
+    if not os.path.exists(f"{TOP}/{BY_HAND}"):
+        return {}
+    with open(f"{TOP}/{BY_HAND}", "rb") as file:
+        return tomllib.load(file)
 
 
 def edits_of(crate, folder="wrong"):
@@ -77,8 +93,9 @@ def read_edit(crate, folder, path):
     name = os.path.basename(path).removesuffix(".edit")
     function, _, part = head.get("refused by", "").partition(", ")
     arm = part.removeprefix("arm ") if part.startswith("arm ") else ""
+    by_hand = "" if folder == "tested" else reasons().get(crate, {}).get(name, "")
     return Edit(crate, folder, name, head.get("what", ""), function, arm, part == "measure", head.get("seen by", ""),
-                head.get("fails", ""), pairs)
+                head.get("fails", ""), by_hand, pairs)
 
 
 def text_of(crate, file):

@@ -4,10 +4,14 @@
 Each file crates/NAME/wrong/*.edit changes the code of a crate into something wrong, and names the function whose proof
 must fail then (tools/edits.py has the format). An edit of a body changes no contract, so wrong bodies of different
 functions are independent: a round applies many of them to a copy of the crate and checks it once. Each edit is judged
-by the function that it names. It passes only if a goal of that function is open; it fails if the function is proved,
-if its proof file only names something that the edit took away, if only a function that it calls is refused, or if the
-check gives no verdict on it. An edit that another one hides is tried again in a later round, at last alone. An edit
+by the function that it names. It passes only if a goal of that function is open: the check's own search has not proved
+it, or a tactic of its answer has not. It fails if the function is proved, if an answer only does not fit its goal any
+more, if its proof file only names something that the edit took away, if only a function that it calls is refused, or if
+the check gives no verdict on it. An edit that another one hides is tried again in a later round, at last alone. An edit
 that names a function that is not there fails, and the others of its round are tried without it.
+
+An edit that tools/by_hand.toml lists, with what its goal claims that is false, passes if an answer does not fit its goal
+any more. It fails if a goal is open, since it then has no place in the list. Such edits are printed and counted.
 
 What was refused is kept, and judged again only after a change of what that depends on (tools/refused.py). One kept
 verdict in twenty, drawn by the commit, is judged anew each time: it fails if the edit is no longer refused.
@@ -17,7 +21,7 @@ verdict in twenty, drawn by the commit, is judged anew each time: it fails if th
     --must-fail      also the edits of must-fail/, which `rt ci` tries one by one
     --tested         the edits of tested/ in place of these: they are proved, and a test must see each (tools/tested.py)
     --alone          each edit anew, in a check of its own, which shows what it costs
-    --goals          prints for each edit the goal that is open
+    --goals          prints for each edit the goal that is open, or the answer that does not fit
     --list           prints the edits as a table and tries none
     --proved         no control first: `rt ci` has just proved the same files
     --lanes N        runs N checks at a time; by default as many as processors and memory allow
@@ -48,7 +52,7 @@ import time
 # Compiled text is not to stand in the repository.
 sys.dont_write_bytecode = True
 import tested
-from edits import FOLDERS, TOP, BadEdit, changes_of, crates, edits_of, functions_of, text_of
+from edits import BY_HAND, FOLDERS, TOP, BadEdit, changes_of, crates, edits_of, functions_of, reasons, text_of
 from refused import Refused, sum_of
 
 MEMORY_OF_A_CHECK = 3_000_000_000
@@ -62,6 +66,9 @@ MEASURE = re.compile(r"expected a measure in")
 # in a declaration that others of it cite.
 ERROR = re.compile(r"(?:note: )?(?:\./)?proofs/(\S+)/[^/\s]+\.antt:\d+:\d+: error: (.*)")
 STALE = re.compile(r"has no field|is not in scope|has no `|was not admitted|that depends? on .*rejected")
+# What such an error says if a tactic of an answer has not proved its goal. If it says neither, the answer does not fit the
+# goal that the edit has changed, and whether that goal is true is open.
+UNPROVED = re.compile(r"`[^`]+`: `(?:search|omega|grind|cc|assumption|first_of)`")
 # What a check says where it is asked for a function that is not there.
 UNKNOWN = re.compile(r"has no function `([^`]+)`")
 # The last line of a check that came to its end.
@@ -183,21 +190,30 @@ def unknown_of(ran, functions):
 
 def goal_of(ran, edit):
     """The first goal that is open of the function, or of the arm, that an edit names, or None. It may be a measure."""
-    if edit.measure:
-        verdict = ran.verdicts[edit.refused_by]
-        return verdict if MEASURE.search(verdict) else None
-    told = [error for error in ran.errors[edit.refused_by] if not STALE.search(error)]
     verdict = ran.verdicts[edit.refused_by]
+    if edit.measure:
+        return verdict if MEASURE.search(verdict) else None
+    told = [error for error in ran.errors[edit.refused_by] if UNPROVED.match(error) and not STALE.search(error)]
     told += [verdict] if "did not prove" in verdict else []
-    if edit.arm:
-        of_arm = re.compile(rf"`[^`\s]*-in-{re.escape(edit.arm)}(-[^`\s]*)?`")
-        told = [it for it in told if of_arm.search(it)]
-    return told[0] if told else None
+    return first_of_arm(told, edit)
+
+
+def misfit_of(ran, edit):
+    """The first error of an answer, of the function or of the arm that an edit names, that does not fit its goal, or
+    None."""
+    told = [error for error in ran.errors[edit.refused_by] if not UNPROVED.match(error) and not STALE.search(error)]
+    return first_of_arm(told, edit)
+
+
+def first_of_arm(told, edit):
+    """The first of some errors, or None. If an edit names an arm, only those of that arm count."""
+    of_arm = re.compile(rf"`[^`\s]*-in-{re.escape(edit.arm)}(-[^`\s]*)?`")
+    return next((it for it in told if not edit.arm or of_arm.search(it)), None)
 
 
 def judged(each, ran, is_alone):
     """What becomes of an edit in a round."""
-    function = each.edit.refused_by
+    edit, function = each.edit, each.edit.refused_by
     verdict = ran.verdicts.get(function)
     if ran.fault:
         return ran.fault if is_alone else HIDDEN
@@ -205,16 +221,21 @@ def judged(each, ran, is_alone):
         return f"its check names no function {function}" if is_alone else HIDDEN
     if PROVED.match(verdict):
         return f"it is not refused: {function} is still proved"
-    if goal_of(ran, each.edit):
+    if goal := goal_of(ran, edit):
+        return f"a goal of {function} is open, so {BY_HAND} must not list it: {goal[:200]}" if edit.by_hand else ""
+    misfit = misfit_of(ran, edit)
+    if misfit and edit.by_hand:
         return ""
     if not is_alone:
         return HIDDEN
-    if each.edit.arm and goal_of(ran, each.edit._replace(arm="")):
-        return f"no goal of the arm {each.edit.arm} of {function} is open"
+    if edit.arm and goal_of(ran, edit._replace(arm="")):
+        return f"no goal of the arm {edit.arm} of {function} is open"
     if BELOW.match(verdict):
         return f"{function} is not refused by itself: {verdict[:200]}"
     if UNDECIDED.match(verdict):
         return f"the prover could not tell of {function}"
+    if misfit:
+        return f"{function} is refused only because an answer does not fit the goal that the edit has changed: {misfit[:200]}"
     if ran.errors[function]:
         return f"{function} is refused only because its proof file names what the edit took away: {ran.errors[function][0][:200]}"
     return f"{function} has no open goal of its own: {verdict[:200]}"
@@ -234,7 +255,15 @@ def tries_of(crate, options):
             tries.append(Try(edit, changes, functions_of(edit, changes)))
         except BadEdit as fault:
             failed.append((edit.name, str(fault)))
+    if not options.names:
+        failed += [(name, f"{BY_HAND} lists it, and there is no such edit") for name in without_edit(crate)]
     return tries, failed
+
+
+def without_edit(crate):
+    """The names of a crate's edits in the list of those that are judged by hand that no file has."""
+    there = {it.name for folder in ("wrong", "must-fail") for it in edits_of(crate, folder)}
+    return [it for it in reasons().get(crate, {}) if it not in there]
 
 
 def packed(left, is_alone):
@@ -259,7 +288,7 @@ class Rounds:
 
     def __init__(self, prover, refused, digest, options):
         self.prover, self.refused, self.digest, self.options = prover, refused, digest, options
-        self.passed, self.kept, self.failed = 0, 0, []
+        self.passed, self.kept, self.by_hand, self.failed = 0, 0, 0, []
 
     def control(self, tries):
         """Checks the crate as it stands; why edits cannot be tried, by the function that they name."""
@@ -328,7 +357,7 @@ class Rounds:
             elif outcome:
                 self.fail(each, outcome if ran.fault else self.contradicted(each.edit, outcome))
             else:
-                goal = goal_of(ran, each.edit)
+                goal = goal_of(ran, each.edit) or misfit_of(ran, each.edit)
                 if can_keep:
                     self.refused.keep(self.key(each.edit), label_of(each.edit), goal)
                 self.succeed(each.edit, goal)
@@ -343,8 +372,11 @@ class Rounds:
         return why
 
     def succeed(self, edit, goal):
-        """Counts an edit that is refused."""
+        """Counts an edit that is refused, and prints it if it is judged by hand."""
         self.passed += 1
+        if edit.by_hand:
+            self.by_hand += 1
+            print(f"{label_of(edit)}, judged by hand: {edit.by_hand}", flush=True)
         if self.options.goals:
             print(f"{label_of(edit)}: {goal[:300]}", flush=True)
 
@@ -388,6 +420,8 @@ def try_all(names, options):
     if refused.fault:
         print(refused.fault)
     failed += sum(len(it.failed) for it, _ in jobs)
+    if by_hand := sum(it.by_hand for it, _ in jobs):
+        print(f"{by_hand} of the edits are judged by hand ({BY_HAND})")
     return sum(it.passed for it, _ in jobs), failed, sum(it.kept for it, _ in jobs)
 
 

@@ -49,6 +49,14 @@ pub fn above(n: u64) -> u64
     first + 2
 }
 
+pub fn last(n: u64) -> u64
+    requires { n < 1000 }
+    ensures { result ≡ n + 1 }
+{
+    let one = next(n);
+    one
+}
+
 pub fn step() -> u64
     ensures { result ≡ 2 }
 {
@@ -92,6 +100,12 @@ first_is c = c.next-first.ensures
 pub returns : goal.returns
 returns c = omega (arith, first_is c)
 """
+# An answer that is a fact, and not a tactic.
+FACT = """use Rattle.tiny.proofs.last.Goals as goal
+
+pub returns : goal.returns
+returns c = c.next-one.ensures
+"""
 # Provers that give no verdict: one that crashes, one that does not end, one that ends with no last line.
 CRASHES = "#!/bin/sh\nkill -SEGV $$\n"
 HANGS = "#!/bin/sh\nexec sleep 600\n"
@@ -117,6 +131,7 @@ OTHER_CONSTANT = ("step", "const STEP: u64 = 2;\n", "const STEP: u64 = 3;\n")
 SAME_CONSTANT = ("step", "const STEP: u64 = 2;\n", "const STEP: u64 = 1 + 1;\n")
 ANOTHER_SUM = ("above", "    first + 2\n", "    first + 1\n")
 ANOTHER_NAME = ("above", "    let first = next(n);\n    first + 2\n", "    let second = next(n);\n    second + 2\n")
+MISFIT = ("last", "    one\n", "    one - 1\n")
 ONLY_ABOVE = ("above", "    n + 1\n", "    n + 2\n")
 UP = ("moved, arm Up", "        Way::Up => n + 1,\n", "        Way::Up => n + 2,\n")
 DOWN = ("moved, arm Down", "        Way::Down => n + 2,\n", "        Way::Down => n + 1,\n")
@@ -137,7 +152,8 @@ CASES = [
       "constant": OTHER_CONSTANT, "up": UP, "down": DOWN, "endless": ENDLESS,
       "harmless": HARMLESS, "same_constant": SAME_CONSTANT, "name": ANOTHER_NAME, "only_above": ONLY_ABOVE,
       "text": NO_TEXT, "function": NO_FUNCTION, "stay": HARMLESS_STAY, "other_arm": UP_AS_STAY, "alone": ENDLESS_ALONE,
-      "sum": ("following, measure", *OTHER_FOLLOWS[1:])},
+      "sum": ("following, measure", *OTHER_FOLLOWS[1:]), "misfit": MISFIT, "misfit_by_hand": MISFIT,
+      "open_by_hand": TWO_MORE, "harmless_by_hand": HARMLESS},
      {"next": "", "again": "", "following": "", "above": "", "constant": "", "up": "", "down": "", "endless": "",
       "harmless": "it is not refused: following is still proved",
       "same_constant": "it is not refused: step is still proved",
@@ -145,7 +161,11 @@ CASES = [
       "only_above": "above is not refused by itself", "text": "stands 0 times",
       "function": "there is no function follows", "stay": "it is not refused: moved is still proved",
       "other_arm": "no goal of the arm Stay of moved is open", "alone": "next has no open goal of its own",
-      "sum": "following has no open goal of its own"},
+      "sum": "following has no open goal of its own",
+      "misfit": "last is refused only because an answer does not fit the goal that the edit has changed",
+      "misfit_by_hand": "", "open_by_hand": "a goal of next is open, so tools/by_hand.toml must not list it",
+      "harmless_by_hand": "it is not refused: following is still proved",
+      "gone_by_hand": "tools/by_hand.toml lists it, and there is no such edit"},
      None),
     ("edits that are hidden by one that does not compile", {"type": NO_TYPE, "next": TWO_MORE, "above": ANOTHER_SUM},
      {"type": "its check ended with status", "next": "", "above": ""}, None),
@@ -261,6 +281,7 @@ def make_repository(room: Path, top: Path) -> None:
     write(crate / "specs" / "Lib.antt", "pub mod Moves\n")
     write(crate / "specs" / "Moves.antt", MOVES)
     write(crate / "proofs" / "above" / "Answers.antt", ANSWERS)
+    write(crate / "proofs" / "last" / "Answers.antt", FACT)
     (room / ".git").mkdir()
     ran = subprocess.run(["rt", "check"], cwd=crate, stdin=subprocess.DEVNULL, capture_output=True, text=True,
                          check=False)
@@ -320,6 +341,8 @@ def test_wrong_implementations(repository: Path, check_all: CheckAll, edits: dic
     """Each edit passes or fails as it must, and so do the last line and the status."""
     for name, edit in edits.items():
         write(repository / "crates" / "tiny" / "wrong" / f"{name}.edit", edit_text(*edit))
+    listed = [it for it in wanted if it.endswith("_by_hand")]
+    write(repository / "tools" / "by_hand.toml", "[tiny]\n" + "".join(f'{it} = "It is false."\n' for it in listed))
     words: list[str | Path] = ["--proved"] * (prover is not None)
     if prover:
         write(repository / "prover", prover, 0o755)
@@ -330,6 +353,9 @@ def test_wrong_implementations(repository: Path, check_all: CheckAll, edits: dic
         yield from ((edit, of_edit(edit, lines, part)) for edit, part in wanted.items())
         if prover == NO_CONTROL:
             yield "the others share a check", any(it.startswith("tiny: 2 edits, ") for it in lines) or str(lines)
+        if listed:
+            yield "the reason", "tiny/misfit_by_hand, judged by hand: It is false." in lines or str(lines)
+            yield "the count", "1 of the edits are judged by hand (tools/by_hand.toml)" in lines or str(lines)
         yield "the last line", lines[-1] == last_line(wanted) or lines[-1]
         yield "the status", status == any(wanted.values()) or str(status)
 
