@@ -232,7 +232,8 @@ def test_all_is_compiled_beforehand(tmp_path: Path, program: Path) -> None:
     """Once all loops are compiled, plans, curves and tests on the past compile none."""
     (tmp_path / "plan.py").write_text(PLANNED, "utf-8")
     top = Path(__file__).resolve().parents[2]
-    environment = {**os.environ, "XDG_CACHE_HOME": str(tmp_path / "caches"), "PYTHONPATH": str(top)}
+    paths = os.pathsep.join(filter(None, [str(top), os.environ.get("PYTHONPATH")]))
+    environment = {**os.environ, "XDG_CACHE_HOME": str(tmp_path / "caches"), "PYTHONPATH": paths}
     subprocess.run([sys.executable, "-m", "crnplan.compiled"], env=environment, check=True)
     words = [sys.executable, "plan.py", str(tmp_path), str(program)]
     ran = subprocess.run(words, cwd=tmp_path, env=environment, check=True, capture_output=True, text=True)

@@ -73,9 +73,12 @@ def test_best_of_all(demand: tuple[tuple[int, ...], tuple[int, ...]], step: int,
     assert (costs <= (by_pair @ [holding, price, order]).min(axis=0) * (1 + 1e-11)).all()
 
 
-def test_vertices_by_hand() -> None:
+@WAYS
+def test_vertices_by_hand(is_compiled: bool, monkeypatch: pytest.MonkeyPatch) -> None:
     """A point that meets no more demand is none, nor one above the line through others, nor one behind the dearest, nor
     one before the best of the lowest price. Levels between two cells have means."""
+    if not is_compiled:
+        leave_as_written(monkeypatch, every_gap)
     sums, kept = np.array([np.arange(6.0), [9.0, 9.0, 5.0, 4.0, 1.0, 0.9]]), np.zeros(6, int)
 
     def vertices(*prices: float, levels: Floats = np.arange(6.0)) -> list[int]:
@@ -127,8 +130,10 @@ def test_best_levels(step: int, low: int, is_compiled: bool, monkeypatch: pytest
 
 def finer(is_compiled: bool, places: Whole, gaps: int, *costs: Sequence[float] | Floats) -> list[int]:
     """Returns what `finer` does one way, of cases with costs by place; all places have equal gaps."""
-    loop = every_gap.finer if is_compiled else every_gap.finer.__wrapped__  # type: ignore[attr-defined]
-    halves: Whole = loop(places, np.full(len(places), gaps), np.transpose(costs).astype(float, order="C"))
+    with pytest.MonkeyPatch.context() as patched:
+        if not is_compiled:
+            leave_as_written(patched, every_gap)
+        halves: Whole = every_gap.finer(places, np.full(len(places), gaps), np.transpose(costs).astype(float, order="C"))
     return halves.tolist()
 
 

@@ -177,3 +177,4 @@ def test_each_gap_beside_all_its_levels(step: int, even: int, share: float, is_c
         assert (level, pytest.approx(cost, rel=1e-12)) == expected[int(gap) - 8]
     best = min(cost for _, cost in expected)
     assert 20 < len(rows) < len(gaps) and rows[:, 2].min() == pytest.approx(best, rel=1e-12)
+    assert not len(least.gaps_walked(*words[:12], 2.0, math.inf))  # No level has a chance of 2 to owe nothing.
