@@ -433,7 +433,7 @@ def today_of(folder: PlannedFolder, answers: Iterable[Decided], tables: Mapping[
     """Returns what a planned folder, whose items have answers, says on a day, with tables of stock and of what is on
     order by kind. Items are by all their periods. Without a table of stock, that of the masters counts. Raises Refused
     if no stock is known, and as `read_holdings` does."""
-    holdings = read_holdings(tables, words, dict(folder.read.values("name", "price")))
+    holdings = read_holdings(tables, words, {name: price for name, price in folder.read.values("name", "price")})
     standings, unknown, dead, ended = list[Standing](), list[tuple[Item, Remark]](), list[Lying](), list[Ended]()
     known = [(item, answer, hand_of(item, holdings)) for item, answer in answers]
     if holdings.on_hand is None and all(hand is None for _, _, hand in known):
