@@ -18,13 +18,12 @@ import shutil
 import socket
 import sqlite3
 import stat
-import subprocess
 import sys
 import tempfile
 import weakref
 from collections.abc import Iterable, Iterator
 from pathlib import Path
-from typing import IO
+from typing import IO, Any
 
 from .digests import sha256
 from .errors import Failed, Refused, escaped
@@ -376,13 +375,14 @@ class Room:
     ends: if by force, then by a guard that waits for that."""
 
     def __init__(self) -> None:
+        import subprocess
         self.path = Path(tempfile.mkdtemp(prefix="crnplan-")).absolute()
         guard = subprocess.Popen(["/bin/sh", "-c", GUARD, "crnplan", self.path], stdin=subprocess.PIPE,
                                  stdout=subprocess.DEVNULL, stderr=subprocess.DEVNULL, cwd="/", start_new_session=True)
         weakref.finalize(self, remove_room, self.path, guard, os.getpid())
 
 
-def remove_room(path: Path, guard: subprocess.Popen[bytes], owner: int) -> None:
+def remove_room(path: Path, guard: Any, owner: int) -> None:
     """Removes a temporary folder of this process, and ends its guard. A process that was forked leaves both."""
     if os.getpid() == owner:
         shutil.rmtree(path, ignore_errors=True)

@@ -17,7 +17,7 @@ import pytest
 from crnplan.crnsim import program as module
 from crnplan.crnsim.program import run_all, run_program
 from crnplan.errors import ProgramFailed
-from crnplan.interrupts import interrupted_later
+from crnplan.interrupts import heeding_interrupts, interrupted_later
 from crnplan.processes import end_with_programs
 from planner.tests.conftest import Command, heed_interrupts, script
 
@@ -163,6 +163,7 @@ LOSING = """
 import ctypes, time
 from crnplan.interrupts import heed_interrupt, heeding_interrupts
 with heeding_interrupts():
+    ctypes.CFUNCTYPE(None)(lambda: int("another error"))()
     try:
         for _ in range(9):  # of C, in which an error is lost
             ctypes.CFUNCTYPE(None)(lambda: print("works", flush=True) or time.sleep(0.2))()
@@ -174,10 +175,15 @@ with heeding_interrupts():
 
 
 def test_an_interrupt_that_is_lost() -> None:
-    """It comes again until it is heeded, and nothing is said of those that are lost."""
+    """It comes again until it is heeded, and nothing is said of those that are lost, but of other errors."""
     with subprocess.Popen([sys.executable, "-c", LOSING], stdout=subprocess.PIPE, stderr=subprocess.PIPE,
                           preexec_fn=heed_interrupts) as process:
         assert process.stdout and process.stdout.readline() == b"works\n"
         process.send_signal(signal.SIGINT)
         output, errors = process.communicate(timeout=LONG)
-    assert output.endswith(b"heeded\n") and (process.returncode, errors) == (0, b"")
+    assert output.endswith(b"heeded\n") and process.returncode == 0
+    assert b"another error" in errors and b"KeyboardInterrupt" not in errors
+    usual = signal.signal(signal.SIGINT, signal.SIG_IGN)
+    with heeding_interrupts():  # It stays ignored if it is.
+        assert signal.getsignal(signal.SIGINT) is signal.SIG_IGN
+    signal.signal(signal.SIGINT, usual)

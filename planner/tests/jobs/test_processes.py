@@ -14,7 +14,7 @@ import threading
 import time
 import warnings
 from collections.abc import Callable, Sequence
-from concurrent.futures import BrokenExecutor, ProcessPoolExecutor, ThreadPoolExecutor
+from concurrent.futures import BrokenExecutor, CancelledError, ProcessPoolExecutor, ThreadPoolExecutor
 from pathlib import Path
 from typing import Any
 
@@ -141,6 +141,18 @@ def test_a_process_that_has_ended_idle() -> None:
         assert [*workers.in_order(pow, [(2, 3)] * 4)] == [8] * 4 and not first & children()
     with jobs.processes(1) as workers:
         assert [*workers.in_order(os.getpid, [()])] == [os.getpid()]
+
+
+def test_what_waits_for_a_process_at_the_end() -> None:
+    """It is cancelled."""
+    with jobs.processes(2) as workers:
+        assert isinstance(workers, jobs.Processes) and [*workers.in_order(pow, [(2, 3)])] == [8]
+        for _ in range(2):  # as if both had ended by force
+            workers.idle.get()
+        future = workers.submit(pow, [2, 3])
+        wait_until(future.running)
+    with pytest.raises(CancelledError):
+        future.result()
 
 
 def test_a_pipe_that_others_hold(monkeypatch: pytest.MonkeyPatch) -> None:
