@@ -176,7 +176,7 @@ def test_errors_come_back() -> None:
         assert has_failed and type(fault) is kind and part in str(fault)
         with jobs.processes(2) as workers, pytest.raises(kind, match=part):
             [*workers.in_order(function, [[word]])]
-    assert "int" not in fault.args[0] and "fail_unsent" in fault.args[0]
+    assert "fail_unsent" in fault.args[0]
     assert pickle.loads(processes.answered(pickle.dumps((pow, [2, 3])))) == (False, 8)
 
 
