@@ -252,8 +252,9 @@ class Finder:
     def _role_of_beginning(self, plain: str) -> str | None:
         """Returns the role with the longest name that a plain name begins with: a minimum order value is no minimum
         order. None if there is none."""
-        names = [name for name in self.role_of if len(name) > 1 and plain.startswith(f"{name} ")]
-        return self.role_of[max(names, key=len)] if names else None
+        words = plain.split()
+        beginnings = (" ".join(words[:count]) for count in range(len(words) - 1, 0, -1))
+        return next((self.role_of[name] for name in beginnings if len(name) > 1 and name in self.role_of), None)
 
     def _add(self, role: str, column: Column) -> None:
         """Adds the column of a role with its unit: the stated one, else that of its heading; and with the currency that

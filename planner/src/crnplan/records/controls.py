@@ -117,6 +117,13 @@ def counted(keys: Numbers, size: int) -> tuple[Numbers, Numbers]:
     return found, counts[found]
 
 
+def whole_numbers(numbers: Iterable[Fraction | None]) -> tuple[list[int], int]:
+    """Returns numbers, of which None is 0, as whole ones, and how many of these are 1."""
+    known = [number or Fraction(0) for number in numbers]
+    scale = math.lcm(*(number.denominator for number in known))
+    return [number.numerator * (scale // number.denominator) for number in known], scale
+
+
 class Controller:
     """Computes the controls of the rows of a table. Each row is of a group: its file and its state."""
 
@@ -165,10 +172,10 @@ class Controller:
 
     def _sums(self, role: str) -> dict[int, Fraction]:
         """Returns the sum of a column's numbers by group."""
-        numbers, sums = self._numbers(role), dict[int, Fraction]()
+        (numbers, scale), sums = whole_numbers(self._numbers(role)), dict[int, int]()
         for group, code, count in self._pairs(role):
-            sums[group] = sums.get(group, Fraction(0)) + count * (numbers[code] or 0)
-        return sums
+            sums[group] = sums.get(group, 0) + count * numbers[code]
+        return {group: Fraction(total, scale) for group, total in sums.items()}
 
     def _ends(self) -> dict[int, tuple[Day, Day]]:
         """Returns the first and the last date of each group, in the first column with dates."""
@@ -186,28 +193,30 @@ class Controller:
                 factors: Mapping[str, int]) -> dict[int, Fraction]:
         """Returns by group what the items of a column are worth; nothing for groups without a price."""
         items, scale = self._items(role, factors)
-        width, values = len(self.rows.columns["item"].distinct), dict[int, Fraction]()
+        width, values = len(self.rows.columns["item"].distinct), dict[int, int]()
         keys = self.groups * width + self.rows.codes["item"]
         if items.dtype == object:
             sums = np.zeros(self.count * width, object)
             np.add.at(sums, keys, items)
         else:
             sums = sums_of(keys, items, self.count * width)
-        for key in counted(keys, self.count * width)[0].tolist():
+        known = counted(keys, self.count * width)[0].tolist()
+        prices = {item: price for item in {key % width for key in known} if (price := price_of(item)) is not None}
+        numbers, part = whole_numbers(prices.values())
+        whole_prices = dict(zip(prices, numbers))
+        for key in known:
             group, item = divmod(key, width)
-            price = price_of(item)
-            if price is not None:
-                values[group] = values.get(group, Fraction(0)) + Fraction(int(sums[key]), scale) * price
-        return values
+            if item in whole_prices:
+                values[group] = values.get(group, 0) + int(sums[key]) * whole_prices[item]
+        return {group: Fraction(value, scale * part) for group, value in values.items()}
 
     def _items(self, role: str, factors: Mapping[str, int]) -> tuple[npt.NDArray[Any], int]:
         """Returns how many items each row says, as whole numbers, and how many of these are one item."""
         unit = self.rows.sheet.columns[role].unit
-        numbers = [number or Fraction(0) for number in self._numbers(role)]
+        numbers, scale = whole_numbers(self._numbers(role))
         sizes = [factors.get(text_of(cell), 1) for cell in self.rows.columns["measure"].distinct] if (
             "measure" in self.rows.columns) else [1]
-        scale = math.lcm(*(number.denominator for number in numbers))
-        whole = [int(number * scale) * (int(unit) if unit.isdecimal() else 1) for number in numbers]
+        whole = [number * (int(unit) if unit.isdecimal() else 1) for number in numbers]
         most = max([abs(number) for number in whole], default=0) * max(sizes, default=1) * len(self.rows)
         kind: type = np.int64 if most < MOST_EXACT else object
         items: npt.NDArray[Any] = np.array(whole, kind)[self.rows.codes[role]]

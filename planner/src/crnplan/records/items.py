@@ -410,7 +410,7 @@ class Reader:
         said = [Remark(code, facts) for code, holds, facts in remarks if holds]
         said += [quiet_remark(its, self.words.every)] * (past == STOPPED and not its.status)
         said += filter(None, [remark_on(its, self.words.lead_from)])
-        return overridden(replace(its, remarks=tuple(said)), its.override)
+        return overridden(replace(its, remarks=tuple(said)) if said else its, its.override)
 
     def _first(self, since: int | None, moves: Moves) -> int:
         """Returns where the history of an item begins: in the period since when its master has it, which may be behind the
