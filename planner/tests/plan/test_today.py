@@ -270,6 +270,8 @@ def test_command(folder: Path, stock: pd.DataFrame, tmp_path: Path, monkeypatch:
     assert "stock.csv: 8 rows = 5 used + 2 rejected + 1 left out with their item" in answer.output
     assert "1 left out: stock.csv:8, item X-1: no item of the plan has this name; add it to" in answer.output
     controls = pd.read_csv("today/today_controls.csv").set_index(["file", "rows_are"])
+    in_python = crn.open_plan(folder).orders_today("stock.csv", "open.csv", "2026-11-27").controls
+    assert in_python.units.tolist() == controls.units.tolist()
     assert controls.loc["stock.csv"].units.to_dict() == {
         "read": 1.5 + 2 + 3 - 2 + 4, "used": 1.5 + 2 - 2, "rejected": 3, "left out with their item": 4}
     assert re.search("stock.csv +read +8 +8.5 ", answer.output) and re.search("open.csv +used +1 +1 ", answer.output)

@@ -9,7 +9,7 @@ from hypothesis import example, given, settings, strategies as st
 
 from crnplan.decide.sensitivity import Case, move_of
 from crnplan.scenario import Costs, Scenario
-from crnplan.theory import feasible, least, long_run, one_lead
+from crnplan.theory import feasible, least, one_lead
 from crnplan.theory.grid import search
 from crnplan.theory.lattice import NoTheory, shape_of, theory_on
 from crnplan.theory.long_run import NO_POLICY, Candidate
@@ -137,8 +137,7 @@ def test_the_greatest_level(share: float) -> None:
 
 def test_no_policy_within_the_range(monkeypatch: pytest.MonkeyPatch) -> None:
     """Finds no policy if each period asks for 5 items, orders take 2 periods, and S is at most 14."""
-    for module in (long_run, one_lead, feasible):
-        monkeypatch.setattr(module, "MOST_ITEMS", 14)
+    monkeypatch.setattr(feasible, "MOST_ITEMS", 14)
     scenario = scenario_of(([5], [1]), ([2], [1]))
     theory = theory_of(scenario)
     assert theory.best(0.98) == NO_POLICY
