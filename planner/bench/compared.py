@@ -22,7 +22,8 @@ from crnplan.plan.question import ALL, Question, Settings, question_of
 from crnplan.records.items import Words
 from crnplan.records.catalogue_reading import CATALOGUE, Catalogued, read_alone
 from crnplan.records.item import Item
-from crnplan.stored import Facts
+from crnplan.plan.answer import Answer
+from crnplan.stored import Store
 from crnplan.jobs import processes
 from crnplan.demand.learning import Prior
 from crnplan.files import own_folder
@@ -115,7 +116,7 @@ def compare(folder: Path, items: int, jobs: int) -> list[Compared]:
     made, plan = make(folder / "files", items), folder / "plan"
     path = read_alone(plan, made.paths, Words(), jobs)
     with (own_folder(plan, CATALOGUE) as own, contextlib.closing(Catalogued(path)) as read,
-          contextlib.closing(Facts(own.store(ANSWERS))) as answers, processes(jobs) as workers):
+          contextlib.closing(Store(own.store(ANSWERS), Answer)) as answers, processes(jobs) as workers):
         prior = learned_of(answers, read, SETTINGS, False).prior
         return [it for _, its in workers.answers(compared_batch, batches_of(read, prior)) for it in its]
 

@@ -18,7 +18,7 @@ import click
 from crnplan.curve import gathered
 from crnplan.pages.catalogue_page import MOST_ROWS, PAGE
 from crnplan.pages.catalogue_tables import DECISIONS, EXACT
-from crnplan.plan.catalogue import IN_CHUNKS, PlannedFolder, planned_folder
+from crnplan.plan.catalogue import ANSWERS, PlannedFolder, planned_folder
 from crnplan.plan.survey import Survey
 from crnplan.records.catalogue_reading import CATALOGUE, READ
 from crnplan.files import own_folder
@@ -38,23 +38,13 @@ def row_bytes(path: Path, table: str) -> float:
     return float(mean)
 
 
-def folder_bytes(folder: Path) -> int:
-    """Returns the bytes of the files in a folder."""
-    return sum(path.stat().st_size for path in folder.iterdir())
-
-
 def bytes_of(plan: PlannedFolder, items: int) -> Iterator[Measured]:
     """Yields what is sent and kept for an item."""
     folder = plan.path
-    sent, curve = folder / READ, folder_bytes(folder / gathered.IN_CHUNKS) / items
-    plans = folder_bytes(folder / IN_CHUNKS) / items
-    facts, answer, candidates = SENT
-    yield facts, row_bytes(sent, "items"), "bytes an item"
-    yield answer, plans, "bytes an item"
-    yield candidates, curve, "bytes an item"
-    yield "hulls of the curve, on disk", folder_bytes(folder / gathered.HULLS) / items, "bytes an item"
-    for path in (sent, folder / DECISIONS, folder / EXACT):
-        yield f"{path.name}, on disk", path.stat().st_size / items, "bytes an item"
+    for what, name, table in zip(SENT, (READ, ANSWERS, gathered.CANDIDATES), ("items", "answers", "answers")):
+        yield what, row_bytes(folder / name, table), "bytes an item"
+    for name in (READ, ANSWERS, gathered.CANDIDATES, gathered.HULLS, DECISIONS, EXACT):
+        yield f"{Path(name).name}, on disk", (folder / name).stat().st_size / items, "bytes an item"
     yield f"{PAGE}, up to 5,000 items", (folder / PAGE).stat().st_size / items, "bytes an item"
 
 

@@ -19,8 +19,8 @@ MACHINES = 10
 FAR = (100_000, MILLION, 10 * MILLION)  # items of catalogues of which the hours are extrapolated
 # What some stored figures are.
 LOOK, CANDIDATES = "one look at all items with their plans", "reading all candidates"
-# What is sent if workers don't see the folder. All but the first is kept in files of chunks.
-SENT = ("an item's facts, to a worker", "the answer of a plan, kept in a chunk", "candidates of the curve, kept in a chunk")
+# What is sent to workers and back.
+SENT = ("an item's facts", "the answer of a plan", "candidates of the curve")
 SUMS, MOSTS = ("wall", "processor", "bytes"), ("own", "all", "load")
 Rows = Sequence[Mapping[str, Any]]
 
@@ -84,13 +84,13 @@ def needs_of(figures: Mapping[str, Any]) -> Iterator[tuple[str, float, str]]:
     its = {row["what"]: row["figure"] for row in figures["million"]["rows"]}
     for what in (LOOK, CANDIDATES):
         yield what, its[what] * MILLION / 1e6 / 60, "minutes"
-    yield "to workers and back, if they don't see the folder", sum(its[name] for name in SENT) / 1000, "GB"
-    kept = [name for name in its if name.endswith("on disk") or name in SENT[1:]]
+    yield "to workers and back", sum(its[name] for name in SENT) / 1000, "GB"
+    kept = [name for name in its if name.endswith("on disk")]
     yield "kept in the folder", sum(its[name] for name in kept) / 1000, "GB"
 
 
 def handed_table(rows: Rows) -> str:
-    """Returns the table of how fast chunks are handed out as Markdown."""
+    """Returns the table of how fast items are handed out as Markdown."""
     return str(markdown(pd.DataFrame([
         {"items": f"{row['items']:,}", "workers": row["jobs"], "way": row["way"], "items a second": f"{row['rate']:,.0f}",
          "a second of the main process": f"{row['own']:,.0f}", "MB, main process": f"{row['memory']:.0f}"}

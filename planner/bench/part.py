@@ -30,9 +30,10 @@ def learn(folder: Path, jobs: int) -> None:
     from crnplan.plan.catalogue import ANSWERS
     from crnplan.plan.learned import learned_of
     from crnplan.plan.question import Settings
-    from crnplan.stored import Facts
+    from crnplan.plan.answer import Answer
+    from crnplan.stored import Store
     with (own_folder(folder / PLAN, CATALOGUE) as own, contextlib.closing(Catalogued(own.path / READ)) as its,
-          contextlib.closing(Facts(own.store(ANSWERS))) as answers):
+          contextlib.closing(Store(own.store(ANSWERS), Answer)) as answers):
         learned_of(answers, its, Settings(), True)
 
 

@@ -13,8 +13,7 @@ from pathlib import Path
 from typing import Any
 
 import crnplan as crn
-from crnplan.chunks import Chunked
-from crnplan.curve.gathered import CANDIDATES, IN_CHUNKS, OnCurve
+from crnplan.curve.gathered import CANDIDATES, OnCurve
 from crnplan.decide.keys import check_long_run
 from crnplan.decide.long_run import corrected_decision, long_run_decision
 from crnplan.decide.sensitivity import moves_of
@@ -22,9 +21,10 @@ from crnplan.demand.checks import check_history
 from crnplan.plan.answer import CHOSEN, Answer
 from crnplan.plan.catalogue import planned_folder
 from crnplan.plan.item import Depth, planned, read_item
-from crnplan.records.catalogue_reading import Catalogued
+from crnplan.records.catalogue_reading import READ, Catalogued
 from crnplan.records.item import Item
 from crnplan.remarks import Remark
+from crnplan.stored import Store
 from crnplan.theory.suggestions import suggestions_of
 
 Figures = dict[str, Any]
@@ -152,7 +152,7 @@ def answer_figures(item: Item, answer: Answer | Remark) -> Figures:
 
 def read_rows(folder: Path) -> Figures:
     """Returns what became of the rows of a catalogue: counts, and the places of what was left out."""
-    with contextlib.closing(Catalogued(folder / "catalogue.sqlite")) as read:
+    with contextlib.closing(Catalogued(folder / READ)) as read:
         files = {kind: {name: value for name, value in its.items() if name != "name"}
                  for kind, its in read.fact("counts")["files"].items()}
         rejects = [[it.kind, it.line, it.item, it.column, it.text, it.rows] for it in read.rejects()]
@@ -167,7 +167,7 @@ def curve_rows(folder: Path, program: str, jobs: int, **budget: float) -> list[F
 def candidate_rows(folder: Path, names: Iterable[str]) -> dict[str, Figures]:
     """Returns the candidates of items by variant of costs: in full as they are, and the sums of each column else."""
     found: dict[str, Figures] = {}
-    with contextlib.closing(Chunked(folder / CANDIDATES, OnCurve, folder / IN_CHUNKS)) as answers:
+    with contextlib.closing(Store(folder / CANDIDATES, OnCurve)) as answers:
         for name in names:
             answer = answers.answer(name)
             if not isinstance(answer, OnCurve):

@@ -21,6 +21,8 @@ import pytest
 
 from crnplan.errors import CrnplanError, Failed, Fault, RefusedFaults
 from crnplan.files import faults_of, own_folder
+from crnplan.plan.catalogue import ANSWERS
+from crnplan.records.catalogue_reading import READ
 from crnplan.scenario import Scenario
 from planner.tests.conftest import Command
 
@@ -32,7 +34,8 @@ SETTINGS = (Path(__file__).with_name("item") / "settings.toml").read_text("utf-8
 PLANT = "not of crnplan\n"
 # Files that earlier commands of crnplan wrote, or looked for.
 NAMES = ["parts/mine.csv", "lock", "catalogue.sqlite", "catalogue.sqlite.part", "answers.sqlite", "decisions.csv",
-         "state.json", "summary.txt", "00000.toml", "key_1.csv", "unfinished-0123456789abcdef/mine"]
+         "state.json", "summary.txt", "00000.toml", "key_1.csv", "kept/answers.sqlite",
+         "unfinished-0123456789abcdef/mine"]
 # The commands that keep a folder, with their words.
 CATALOGUE = ["catalogue", "demand.csv", "items.csv", "--jobs", "1", "--out", "plan"]
 ITEM = ["item", "demand.csv", "settings.toml", "--out", "plan"]
@@ -125,18 +128,19 @@ def test_what_is_put_into_a_folder_of_ours(room: Path, crnplan: Command, words: 
     assert (replaced or words is SWEEP) and not any(path.is_symlink() for path in replaced)
 
 
-@pytest.mark.parametrize("name", ["answers.sqlite", "answers.sqlite-wal", "items"])
+@pytest.mark.parametrize("name", ["kept/answers.sqlite", "kept/answers.sqlite-wal", "kept", "items"])
 def test_symlinks_to_what_is_written_in_place(plan: Path, crnplan: Command, name: str) -> None:
     """Refuses a symlink at the place of a file that is not replaced whole."""
     report, target = ("report", "plan", "--item", "A"), plan.parent / "outside"
     assert crnplan(*report).status == 0
-    target.mkdir() if name == "items" else plant(target)
+    is_folder = name in ("kept", "items")
+    target.mkdir() if is_folder else plant(target)
     if (plan / name).exists():
         os.rename(plan / name, plan.parent / "moved")
     (plan / name).symlink_to(target)
     told = crnplan(*(report if name == "items" else CATALOGUE))
     assert told.status == 2 and "is a symlink, which is not followed" in told.errors
-    assert [*target.iterdir()] == [] if name == "items" else target.read_text("utf-8") == PLANT
+    assert [*target.iterdir()] == [] if is_folder else target.read_text("utf-8") == PLANT
 
 
 def test_a_folder_of_another_kind(plan: Path, crnplan: Command) -> None:
@@ -293,8 +297,7 @@ DAMAGES: dict[str, Callable[[Path], object]] = {
 
 
 @pytest.mark.parametrize("damage", DAMAGES)
-@pytest.mark.parametrize("name, words", [("answers.sqlite", CATALOGUE), ("answers.sqlite", REPORT),
-                                         ("catalogue.sqlite", REPORT), ("catalogue.sqlite", ["curve", "plan"])],
+@pytest.mark.parametrize("name, words", [(ANSWERS, CATALOGUE), (ANSWERS, REPORT), (READ, REPORT), (READ, ["curve", "plan"])],
                          ids=lambda it: it if isinstance(it, str) else it[0])
 def test_a_damaged_store(plan: Path, crnplan: Command, name: str, words: Sequence[str], damage: str) -> None:
     """Names a store that was damaged, with what to remove. Without it the plan is made again."""
@@ -309,7 +312,7 @@ def test_a_damaged_store(plan: Path, crnplan: Command, name: str, words: Sequenc
 
 def test_a_plan_that_was_refused(room: Path, crnplan: Command) -> None:
     """Finds no plan in a folder of which only the rows were read: one item is too few to learn from."""
-    assert crnplan(*CATALOGUE, "--borrow", "all").status == 2 and (room / "plan/answers.sqlite").is_file()
+    assert crnplan(*CATALOGUE, "--borrow", "all").status == 2 and (room / "plan" / ANSWERS).is_file()
     told = crnplan(*REPORT)
     assert told.status == 2 and "plan: no plan is in it" in told.errors
 
@@ -317,15 +320,14 @@ def test_a_plan_that_was_refused(room: Path, crnplan: Command) -> None:
 def test_an_answer_that_was_changed(plan: Path, crnplan: Command) -> None:
     """Names a file in which one figure was changed, and a store that SQLite can't open, which is not damaged."""
     before = (plan / "decisions.csv").read_bytes()
-    file, = (plan / "answers").iterdir()
-    file.write_bytes(file.read_bytes().replace(b'"theory",', b'"theorY",'))
-    for words in (REPORT, CATALOGUE):
-        status, _, errors = crnplan(*words)
-        assert status == 3 and f"{file.name}: a line is not as it was written: the file is damaged" in errors, errors
-    file.unlink()
-    assert crnplan(*REPORT).status == 3
+    for change in ("UPDATE answers SET chosen_cost = 2 * chosen_cost", "DELETE FROM answers"):
+        with contextlib.closing(sqlite3.connect(plan / ANSWERS)) as base, base:
+            base.execute(change)
+        for words in (REPORT, CATALOGUE)[:1 + change.startswith("UPDATE")]:
+            status, _, errors = crnplan(*words)
+            assert status == 3 and "answers.sqlite: the answer to 'A' is not as it was kept" in errors, errors
     assert crnplan(*CATALOGUE).status == 0 and (plan / "decisions.csv").read_bytes() == before
-    (plan / "answers.sqlite-wal").mkdir()
+    (plan / f"{ANSWERS}-wal").mkdir()
     status, _, errors = crnplan(*CATALOGUE)
     assert status == 3 and "plan: " in errors and "name a folder that can be written" in errors, errors
 

@@ -236,7 +236,7 @@ def take_tables(folder: Folder, sales: Table | Catalogue, masters: Table | None,
     if not isinstance(sales, Catalogue):
         read_into(folder, {"demand": sales, "items": masters, "orders": orders}, words, jobs)
     elif sales.path.resolve() != folder.store(READ).resolve():
-        part = folder.room() / READ
+        part = folder.room() / Path(READ).name
         shutil.copyfile(sales.path, part)
         folder.take(part, READ)
 

@@ -186,5 +186,4 @@ def plan_catalogue(folder: Folder, settings: Settings, *, after: Path | None = N
         run.keep_changes(folder)
         missing = missing_of(run.planned.counts, survey.totals.answered)
         summary = write_catalogue(folder, run.planned, survey, run.learned, missing)
-        items, kept = (sum(getattr(made, name) for made in run.planned.store.made) for name in ("items", "kept"))
-        return Done(items - kept, kept, run.has_learned, survey.totals, run.learned, missing, summary)
+        return Done(run.work.now, run.work.kept, run.has_learned, survey.totals, run.learned, missing, summary)

@@ -31,6 +31,7 @@ from .errors import Failed, Refused, escaped
 MARKER = "crnplan-folder.txt"
 SIGNATURE = "crnplan folder, version 1: {kind}. Only the files named below are overwritten or removed by crnplan."
 KEPT = "what was done before is kept"
+IN_KEPT = "kept/"  # the folder, in one of ours, with what only crnplan reads
 # Errors of a name that can't be used. All others are of the disk.
 NO_SUCH_PLACE = {errno.EACCES, errno.EPERM, errno.EROFS, errno.EEXIST, errno.ENOTDIR, errno.EISDIR, errno.ENOENT,
                  errno.ELOOP, errno.ENAMETOOLONG, errno.EBUSY, errno.ETXTBSY, errno.ENXIO, errno.ENODEV,
@@ -262,7 +263,9 @@ class Folder:
         self._keep()
 
     def store(self, name: str) -> Path:
-        """Returns the path of a file of SQLite that is written in place, and claims it."""
+        """Returns the path of a file of SQLite that is written in place, and claims it. It may be one in `IN_KEPT`."""
+        if name.startswith(IN_KEPT):
+            self.inner(IN_KEPT.rstrip("/"))
         self.claim(*(f"{name}{end}" for end in ("", "-journal", "-wal", "-shm")), in_place=True)
         return self.path / name
 

@@ -8,6 +8,7 @@ from __future__ import annotations
 import contextlib
 import importlib
 import itertools
+import math
 import operator
 import os
 import queue
@@ -24,15 +25,14 @@ from .digests import sha256
 from .errors import Failed, Refused, argument
 from .files import KEPT, package_digest
 from .interrupts import interrupted_later
-from .processes import Worker, end_with_programs
-from .remarks import Remark
-from .stored import Store
+from .processes import Shared, Worker, end_with_programs
 
 if TYPE_CHECKING:
     from distributed import Client
 
-# Items of a batch, of which each worker has one under way: so much at most is lost if all ends by force.
-BATCH = 8
+# Items of a batch. So much of each worker is lost at most if all ends by force. A cluster takes some milliseconds for a
+# batch, so if there are many items, they are sent in larger ones.
+BATCH, LARGE_BATCH = 8, 32
 # A batch of items takes seconds. After so many it is given to a further worker, and after so many workers all ends.
 LIMIT_SECONDS, MOST_TRIES = 900.0, 3
 LOOKS = 8  # for late batches, in that time
@@ -40,8 +40,7 @@ LOOKS = 8  # for late batches, in that time
 LOST_SECONDS = 60.0
 MOST_ENDS = 4  # of processes by force while they had the same batch
 CONNECT_SECONDS, WORKER_SECONDS = 10, 30
-MOST_LINES = 10
-Answer = TypeVar("Answer")
+COUNT_SECONDS = 1.0  # after which the processors of a cluster are counted again
 Key = TypeVar("Key")
 Value = TypeVar("Value")
 # A Dask scheduler: its address, or a client of it.
@@ -59,6 +58,7 @@ class Workers:
     """What runs functions: this process, or others. Those that are others take all batches at once."""
 
     most, are_others = 1, False
+    largest = BATCH  # items of a batch
 
     def share(self, words: Sequence[Any]) -> Sequence[Any]:
         """Returns words as they are sent to many functions."""
@@ -69,10 +69,6 @@ class Workers:
         future: futures.Future[Any] = futures.Future()
         future.set_result(function(*words))
         return future
-
-    def submit_all(self, function: Callable[..., Any], many: Sequence[Sequence[Any]]) -> list[Any]:
-        """Begins to run a function with many words, and returns the futures."""
-        return [self.submit(function, words) for words in many]
 
     def begun(self, waiting: Iterable[Any]) -> list[Any]:
         """Returns those of some futures that a worker has."""
@@ -95,31 +91,30 @@ class Workers:
         return result
 
     def answers(self, function: Callable[..., Any], batches: Iterable[tuple[Key, Sequence[Any]]],
-                ahead: int | None = 1) -> Iterator[tuple[Key, Any]]:
-        """Yields the key of each batch of words with what a function returns for these, as it comes. Each worker has
-        `ahead` batches under way, or if that is None, all are given at once: so one that joins late gets work. Raises
-        Failed."""
+                ahead: int = 1) -> Iterator[tuple[Key, Any]]:
+        """Yields the key of each batch of words with what a function returns for these, as it comes. Each of other
+        processes has `ahead` batches under way, this one has one. Raises Failed."""
         run = _Run[Key](self, function)
         rest = itertools.starmap(_Batch[Key], batches)
         try:
             while True:
-                run.begin([*itertools.islice(rest, run.room(ahead))])
+                for batch in itertools.islice(rest, run.room(ahead)):
+                    run.begin(batch)
                 if not run.under_way:
                     return
-                if batch := run.next_done():
-                    yield batch.key, batch.result
-                    del batch
+                if done := run.next_done():
+                    yield done.key, done.result
+                    del done
         finally:
             run.under_way.clear()  # A cluster drops what nobody waits for.
 
-    def in_order(self, function: Callable[..., Any], many: Iterable[Sequence[Any]],
-                 ahead: int | None = 1) -> Iterator[Any]:
+    def in_order(self, function: Callable[..., Any], many: Iterable[Sequence[Any]], ahead: int = 1) -> Iterator[Any]:
         """Yields what a function returns for each of many words, in their order, as `answers` does."""
-        come, place = dict[int, Any](), 0
+        results, place = dict[int, Any](), 0
         for at, result in self.answers(function, enumerate(many), ahead):
-            come[at] = result
-            while place in come:
-                yield come.pop(place)
+            results[at] = result
+            while place in results:
+                yield results.pop(place)
                 place += 1
 
 
@@ -144,19 +139,14 @@ class _Run(Generic[Key]):
         self.under_way, self.done = dict[Any, _Batch[Key]](), queue.SimpleQueue[Any]()
         self.due = time.monotonic() + workers.look_seconds
 
-    def room(self, ahead: int | None) -> int | None:
-        """Returns how many more batches are given; None for all."""
-        if ahead is None and self.workers.are_others:
-            return None
-        return max(0, self.workers.most * (ahead or 1) - len(self.under_way))
+    def room(self, ahead: int) -> int:
+        """Returns how many more batches are given."""
+        each = ahead if self.workers.are_others else 1
+        return max(0, self.workers.most * each - len(self.under_way))
 
-    def begin(self, batches: Sequence[_Batch[Key]]) -> None:
-        """Gives batches to workers."""
-        begun = self.workers.submit_all(self.function, [batch.words for batch in batches])
-        for batch, future in zip(batches, begun, strict=True):
-            self._watch(batch, future)
-
-    def _watch(self, batch: _Batch[Key], future: Any) -> None:
+    def begin(self, batch: _Batch[Key], late: Sequence[Any] = ()) -> None:
+        """Gives a batch to a worker, not where it is late."""
+        future = self.workers.submit(self.function, batch.words, late)
         batch.futures.append(future)
         self.under_way[future] = batch
         future.add_done_callback(self.done.put)
@@ -181,7 +171,7 @@ class _Run(Generic[Key]):
             if batch.ends == MOST_ENDS:
                 raise
             batch.futures.remove(future)
-            self._watch(batch, self.workers.submit(self.function, batch.words))
+            self.begin(batch)
             return None
         for each in batch.futures:
             self.under_way.pop(each, None)
@@ -199,7 +189,7 @@ class _Run(Generic[Key]):
                 raise Failed(f"a batch has taken longer than {LIMIT_SECONDS:g} seconds on each of {MOST_TRIES} workers",
                              f"{KEPT}; look at these workers, and run again")
             batch.since = now
-            self._watch(batch, self.workers.submit(self.function, batch.words, batch.futures))
+            self.begin(batch, batch.futures)
 
 
 class Processes(Workers):
@@ -211,6 +201,9 @@ class Processes(Workers):
     def __init__(self, most: int) -> None:
         self.most, self.workers = most, list[Worker]()
         self.idle, self.threads = queue.SimpleQueue[Worker | None](), futures.ThreadPoolExecutor(most)
+
+    def share(self, words: Sequence[Any]) -> Sequence[Any]:
+        return [*map(Shared, words)]
 
     def submit(self, function: Callable[..., Any], words: Sequence[Any], late: Sequence[Any] = ()) -> Any:
         while len(self.workers) < self.most:
@@ -287,13 +280,14 @@ class Cluster(Workers):
     """The workers of a Dask scheduler that have the crnplan and the program of this machine. Some may end, and others
     may come."""
 
-    are_others = True
+    are_others, largest = True, LARGE_BATCH
 
     def __init__(self, client: Any, program: str) -> None:
         """Asks all workers that are there what they have. Raises Refused if one has something else."""
         client.wait_for_workers(1, WORKER_SECONDS)
         self.client, self.program, self.own = client, program, identity(program)
         self.signs, self.heard = dict[str, tuple[Any, float]](), time.monotonic()
+        self.counted = -math.inf, 1  # when processors were counted, and how many there were
         answers, workers = client.run(identity, program, on_error="return"), client.scheduler_info()["workers"]
         if not self.own["crnsim"]:
             self.own["crnsim"] = next((answer["crnsim"] for answer in answers.values() if isinstance(answer, dict)), "")
@@ -303,8 +297,11 @@ class Cluster(Workers):
 
     @property
     def most(self) -> int:  # type: ignore[override]
-        """Returns how many processors the workers have that are there now."""
-        return max(1, int(sum(self.client.ncores().values())))
+        """Returns how many processors the workers have that are there now, or were there less than a second ago."""
+        now = time.monotonic()
+        if now - self.counted[0] > COUNT_SECONDS:
+            self.counted = now, max(1, int(sum(self.client.ncores().values())))
+        return self.counted[1]
 
     def share(self, words: Sequence[Any]) -> Sequence[Any]:
         """Returns words that go to each worker once. What is scattered is lost with the worker that has it; these are
@@ -317,10 +314,6 @@ class Cluster(Workers):
         others = [address for address, running in busy.items() if not keys & {*running}]
         return self.client.submit(run_as_here, function, self.own, self.program, *words, pure=False, retries=2,
                                   workers=others or None)
-
-    def submit_all(self, function: Callable[..., Any], many: Sequence[Sequence[Any]]) -> list[Any]:
-        own = [[word] * len(many) for word in (function, self.own, self.program)]
-        return [*self.client.map(run_as_here, *own, *zip(*many, strict=True), pure=False, retries=2)] if many else []
 
     @property
     def look_seconds(self) -> float:
@@ -401,85 +394,3 @@ def program_digest(program: str, scheduler: Scheduler | None) -> str:
         with cluster(scheduler, program) as workers:
             digest = workers.own["crnsim"]
     return digest
-
-
-class Work(Generic[Answer]):
-    """Which names are to be answered, of few: `kept` is how many of them were, and `left` has the others. Answers come
-    back to this process, which keeps them. `chunks.py` has what is done for many."""
-
-    def __init__(self, answers: Store[Answer], digests: Mapping[str, str]) -> None:
-        """Takes for each name the digest of all that its answer depends on."""
-        kept = answers.digests()
-        self.answers, self.digests = answers, digests
-        self.left = [name for name, digest in digests.items() if kept.get(name) != digest]
-        self.kept = len(digests) - len(self.left)
-
-    def finish(self, function: Callable[..., list[Answer | Remark]], asked: Callable[[str], object], *words: Any,
-               workers: contextlib.AbstractContextManager[Workers], shown: bool, unit: str = "items",
-               batch: int = BATCH) -> None:
-        """Answers the names that are left, if any. Workers call the function with what is `asked` of the names of a
-        batch, and with further words."""
-        if not self.left:
-            return
-        with progress(len(self.digests), shown, unit, self.kept) as done, workers as running:
-            done.add(0)
-            shared = running.share(words)
-            asked_of = ((some, [[*map(asked, some)], *shared]) for some in batched(self.left, batch))
-            for some, answers in running.answers(function, asked_of):
-                rows = zip(some, answers, strict=True)
-                self.answers.keep([(name, self.digests[name], answer) for name, answer in rows])
-                done.add(len(some))
-
-
-class Progress:
-    """How many of a total are done, of which some are `kept` from before. It is shown on standard error: as a bar on a
-    terminal; in a log as a line at once, and whenever a further ninth of them is done."""
-
-    def __init__(self, total: int, unit: str, kept: int, show: Callable[[Progress], object]) -> None:
-        self.total, self.unit, self.done, self.kept, self.show = total, unit, kept, kept, show
-        self.start, self.ninths = time.monotonic(), set[int]()
-
-    def add(self, done: int, kept: int = 0) -> None:
-        """Counts and shows more that are done, of which some are kept from before."""
-        self.done, self.kept = self.done + done, self.kept + kept
-        self.show(self)
-
-    @property
-    def text(self) -> str:
-        """Returns a line: how many are done and kept, how many a second, and the time that is left."""
-        from tqdm import tqdm
-        line, new = f"{self.done} of {self.total} {self.unit} ({self.kept} kept)", self.done - self.kept
-        rate = new / max(1e-9, time.monotonic() - self.start)
-        return f"{line}, {rate:.3g} a second, {tqdm.format_interval((self.total - self.done) / rate)} left" if new else line
-
-    def log(self) -> None:
-        """Writes a line if a further ninth is done."""
-        if (ninth := self.done * (MOST_LINES - 1) // max(1, self.total)) not in self.ninths:
-            print(self.text, file=sys.stderr, flush=True)
-            self.ninths.add(ninth)
-
-
-@contextlib.contextmanager
-def progress(total: int, shown: bool, unit: str, kept: int = 0,
-             kept_now: Callable[[Progress], int] = lambda its: its.done) -> Iterator[Progress]:
-    """Gives what counts how much is done, and shows it from the first call of `add` on, if it is to be shown. If work
-    ends early, it says how much is kept then."""
-    with contextlib.ExitStack() as stack:
-        bars = list[Any]()
-
-        def move(its: Progress) -> None:
-            from tqdm import tqdm
-            if not bars:
-                bars.append(stack.enter_context(tqdm(file=sys.__stderr__, total=total, initial=kept, unit=f" {unit}",
-                                                     dynamic_ncols=True)))
-            bars[0].set_description(f"{its.kept} kept", refresh=False)
-            bars[0].update(its.done - bars[0].n)
-        show = move if sys.stderr.isatty() else Progress.log
-        its = Progress(total, unit, kept, show if shown else lambda its: None)
-        try:
-            yield its
-        except BaseException:
-            stack.close()
-            if shown and (done := kept_now(its)):
-                print(f"{done:,} of {total:,} {unit} are done and kept; run again to go on", file=sys.stderr)
-            raise

@@ -5,6 +5,7 @@ Processes of others, which this one or a user's own code has begun, are left alo
 from __future__ import annotations
 
 import contextlib
+import functools
 import multiprocessing
 import os
 import pickle
@@ -57,6 +58,22 @@ def compiler_lock() -> contextlib.AbstractContextManager[object]:
     lock: contextlib.AbstractContextManager[object] = getattr(
         sys.modules.get("numba.core.compiler_lock"), "global_compiler_lock", contextlib.nullcontext())
     return lock
+
+
+@functools.lru_cache(maxsize=16)
+def loaded(data: bytes) -> Any:
+    """Returns what was pickled: the same value each time, in this process."""
+    return pickle.loads(data)
+
+
+class Shared:
+    """A value that is sent to worker processes many times. Each of them makes it once."""
+
+    def __init__(self, value: object) -> None:
+        self.data = pickle.dumps(value, pickle.HIGHEST_PROTOCOL)
+
+    def __reduce__(self) -> tuple[Callable[[bytes], Any], tuple[bytes]]:
+        return loaded, (self.data,)
 
 
 class Worker:

@@ -21,7 +21,8 @@ from crnplan.plan.backtest.sums import TIME
 from crnplan.plan.question import NONE, Settings
 from crnplan.records.catalogue_reading import CATALOGUE
 from crnplan.records.item import Item
-from crnplan.stored import Facts
+from crnplan.plan.backtest.one import Backtest
+from crnplan.stored import Store
 from planner.tests.conftest import Command, rows_of
 from planner.tests.pages.page_reader import Page
 from planner.tests.plan.items import several
@@ -190,7 +191,7 @@ def test_line_on_the_page_of_the_plan(items: Mapping[str, Item], tmp_path: Path,
     crnplan(*plan, "--config", tmp_path / "crnplan.toml")
     assert "is said by crnplan backtest FOLDER" in Page(out / name).words
     with own_folder(out, CATALOGUE) as folder:
-        Facts(folder.store(TESTS)).close()  # a test that was broken off at once
+        Store(folder.store(TESTS), Backtest).close()  # a test that was broken off at once
     crnplan("report", out)
     assert "is said by crnplan backtest FOLDER" in Page(out / name).words
     crnplan("backtest", out, *WORDS, "--jobs", 1)

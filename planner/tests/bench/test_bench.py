@@ -11,6 +11,7 @@ import pytest
 from hypothesis import given, settings, strategies as st
 
 from crnplan.catalogues import read_catalogue
+from crnplan.records.catalogue_reading import READ
 from crnplan.files import MARKER
 from crnplan.scenario import Costs
 from crnplan.theory.lattice import theories_of
@@ -76,7 +77,7 @@ def test_usage(tmp_path: Path, monkeypatch: pytest.MonkeyPatch) -> None:
     assert 50 < its.own < 90 < 140 < its.all < 220
     assert its.wall > 1 and 0 < its.processor < 10
     row, = whole.measured_parts(tmp_path, ITEMS, 1, ["read"])
-    assert row["bytes"] == sum((tmp_path / "plan" / it).stat().st_size for it in ("catalogue.sqlite", MARKER))
+    assert row["bytes"] == sum((tmp_path / "plan" / it).stat().st_size for it in (READ, MARKER))
     assert row["items"] == ITEMS and 0 < row["processor"] and 0 < row["own"]
 
 
@@ -108,7 +109,7 @@ def test_needs_of_a_million() -> None:
     rows = [{"what": what, "figure": figure} for what, figure in {
         **sizes, page.LOOK: 60, page.CANDIDATES: 120, "other": 7}.items()]
     assert [*page.needs_of({"million": {"rows": rows}})] == [
-        (page.LOOK, 1, "minutes"), (page.CANDIDATES, 2, "minutes"), ("to workers and back, if they don't see the folder", 3, "GB"), ("kept in the folder", 5.5, "GB")]
+        (page.LOOK, 1, "minutes"), (page.CANDIDATES, 2, "minutes"), ("to workers and back", 3, "GB"), ("kept in the folder", 3.5, "GB")]
     handed = {"way": "processes", "rate": 10_000, "items": 9, "jobs": 2, "own": 8.0, "memory": 70.0}
     assert page.handed_table([handed]).splitlines()[2] == "| 9 | 2 | processes | 10,000 | 8 | 70 |"
 

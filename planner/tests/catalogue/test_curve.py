@@ -18,7 +18,7 @@ from crnplan.curve import candidates, gathered
 from crnplan.curve.candidates import Candidates, candidates_of
 from crnplan.curve.exchange import Budget, chosen_by, with_more_orders
 from crnplan.curve.exchange_curve import CURVE, LEFT_OUT, POLICIES, Drawn, exchange_curve, points_of
-from crnplan.curve.gathered import CANDIDATES, HULLS, IN_CHUNKS
+from crnplan.curve.gathered import CANDIDATES, HULLS
 from crnplan.plan.catalogue import ANSWERS, planned_folder
 from crnplan.plan.one import figures_of
 from crnplan.plan.question import Terms
@@ -65,7 +65,6 @@ def drawn(plan: Path, budget: Budget = Budget()) -> Drawn:
 
 def remove_candidates(plan: Path) -> None:
     (plan / CANDIDATES).unlink()
-    shutil.rmtree(plan / IN_CHUNKS)
 
 
 def tables_of(plan: Path) -> dict[str, bytes]:
@@ -167,7 +166,8 @@ def test_budget_is_kept(plan: Path, budget: Budget) -> None:
 def test_bytes_and_what_is_kept(plan: Path, twenty: Path) -> None:
     """Computes only candidates that are not there or whose item has changed; two processes write the same bytes."""
     assert drawn(plan).gathered.new == 0 and tables_of(plan) == tables_of(twenty)
-    min((plan / IN_CHUNKS).iterdir()).unlink()
+    with sqlite3.connect(plan / CANDIDATES) as base:
+        base.execute("DELETE FROM answers WHERE item IN (SELECT item FROM answers ORDER BY item LIMIT 8)")
     assert 0 < drawn(plan).gathered.new < ITEMS and tables_of(plan) == tables_of(twenty)
     remove_candidates(plan)
     crn.exchange_curve(plan, jobs=2)
@@ -183,20 +183,20 @@ def test_bytes_and_what_is_kept(plan: Path, twenty: Path) -> None:
 
 @pytest.mark.parametrize("size", [1, 7])
 def test_parts_of_any_size(plan: Path, twenty: Path, size: int, monkeypatch: pytest.MonkeyPatch) -> None:
-    """Writes the same bytes from parts of any size, also if other processes are asked, and what is kept of hulls is
-    damaged, or of other parts. Files beside the hulls that are not named as ours are kept."""
+    """Writes the same bytes from parts of any size, also if other processes are asked, and what is kept of hulls is of
+    other parts, or missing."""
     monkeypatch.setattr(gathered, "MOST_ITEMS", size)
     monkeypatch.setattr(gathered, "MOST_PARTS", 2)
-    *ours, mine = (plan / HULLS / name for name in (f"{'0a' * 16}.as_is", ".0123456789abcdef.part", "mine.as_is"))
-    for path in (*ours, mine):
-        path.touch()
     for jobs in (2, 1):
         crn.exchange_curve(plan, jobs=jobs)
         assert tables_of(plan) == tables_of(twenty)
-        assert mine.exists() and not any(path.exists() for path in ours)
-        for path in (plan / HULLS).iterdir():
-            path.write_bytes(path.read_bytes()[:-jobs])
         gathered.part_of.cache_clear()
+        with sqlite3.connect(plan / HULLS) as base:
+            base.execute("DELETE FROM answers WHERE item LIKE 'A-04%'")
+    with sqlite3.connect(plan / HULLS) as base:
+        base.execute("UPDATE answers SET hulls_prices = hulls_owner")
+    with pytest.raises(crn.Failed, match="hulls.sqlite: the answer to .* is not as it was kept: .* remove it"):
+        drawn(plan)
 
 
 def test_items_that_are_left_out(twenty: Path, planned: Path, tmp_path: Path) -> None:

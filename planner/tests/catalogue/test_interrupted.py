@@ -23,7 +23,7 @@ from crnplan.curve.exchange_curve import CURVE, LEFT_OUT, POLICIES, exchange_cur
 from crnplan.files import MARKER
 from crnplan.jobs import BATCH
 from crnplan.plan import catalogue
-from crnplan.plan.catalogue import IN_CHUNKS
+from crnplan.plan.catalogue import ANSWERS
 from planner.tests.catalogue.conftest import FAST, FILES, TABLES, WORDS, leave_few
 from planner.tests.catalogue.made import Made, name_of, teaching
 from planner.tests.conftest import Command, heed_interrupts, script, shared
@@ -33,9 +33,9 @@ from planner.tests.jobs.clusters import SECONDS, Cluster
 # batch at least is kept then, however the runs are spread.
 JOBS, FEW, PASSES = 2, 20, 17
 CURVE_TABLES = (CURVE, POLICIES, LEFT_OUT)
-# What is killed at random: a command with its words, the folder with the answers that it keeps, and its tables.
-PLAN = ["catalogue", *WORDS, "--out", "plan"], IN_CHUNKS, TABLES
-DRAW = ["curve", "plan", "--fill", "0.9", "--confirm", "0"], gathered.IN_CHUNKS, CURVE_TABLES
+# What is killed at random: a command with its words, the file with the answers that it keeps, and its tables.
+PLAN = ["catalogue", *WORDS, "--out", "plan"], ANSWERS, TABLES
+DRAW = ["curve", "plan", "--fill", "0.9", "--confirm", "0"], gathered.CANDIDATES, CURVE_TABLES
 KILLS, MOST_DELAY = 2, 0.5  # the delay in seconds, from when so many answers are kept
 HOLDING = """echo run >> "{folder}/runs"
 [ "$(wc -l < "{folder}/runs")" -le {passes} ] || until [ -e "{folder}/go_on" ]; do sleep 0.05; done
@@ -100,17 +100,15 @@ def start(folder: Path, holding: Path) -> Iterator[Start]:
         process.communicate()
 
 
-def answers(folder: Path, name: str = IN_CHUNKS) -> set[bytes]:
-    """Returns the answers that are kept, by a look from outside: the lines of files and parts. What a run renames or
-    removes meanwhile is left out."""
-    lines = list[bytes]()
-    for path in (folder / "plan" / name).glob("*"):
-        with contextlib.suppress(FileNotFoundError):
-            lines += path.read_bytes().splitlines(True)[1:]
-    return {line for line in lines if line[32:34] == b" [" and line.endswith(b"]\n")}
+def answers(folder: Path, name: str = ANSWERS) -> set[tuple[Any, ...]]:
+    """Returns the answers that are kept, by a look from outside; none if there is no store yet."""
+    with contextlib.suppress(sqlite3.OperationalError), contextlib.closing(
+            sqlite3.connect(f"file:{folder / 'plan' / name}?mode=ro", uri=True)) as base:
+        return {*base.execute("SELECT * FROM answers")}
+    return set()
 
 
-def kept(folder: Path, name: str = IN_CHUNKS) -> int:
+def kept(folder: Path, name: str = ANSWERS) -> int:
     return len(answers(folder, name))
 
 
@@ -173,9 +171,9 @@ def test_killed_at_random(folder: Path, drawn: Path, crnplan: Command, start: St
     """Killed at random moments, a command loses nothing that was kept, and goes on to the same bytes."""
     source, before = random.Random(seed), set[bytes]()
     (folder / "go_on").touch()
-    if file != IN_CHUNKS:
+    if file != ANSWERS:
         shutil.copytree(drawn, folder / "plan", ignore=shutil.ignore_patterns(
-            file, gathered.HULLS, f"{gathered.CANDIDATES}*", *CURVE_TABLES))
+            f"{Path(gathered.CANDIDATES).name}*", f"{Path(gathered.HULLS).name}*", *CURVE_TABLES))
     for _ in range(KILLS):
         process, most = start("--jobs", str(JOBS), command=command), source.randrange(FEW)
         wait_until(lambda: kept(folder, file) >= most or process.poll() is not None)
@@ -185,7 +183,7 @@ def test_killed_at_random(folder: Path, drawn: Path, crnplan: Command, start: St
         process.wait()
         assert before <= (there := answers(folder, file))
         before = there
-    if file == IN_CHUNKS:
+    if file == ANSWERS:
         told = crnplan(*command, "--jobs", "1", "--program", holding)
         now = int(told.errors.split("plan: ")[1].split()[0])
     else:
@@ -257,7 +255,7 @@ def all_files(folder: Path) -> dict[str, object]:
         found[str(path.relative_to(folder))] = path.read_bytes()
         if path.suffix == ".sqlite":
             with contextlib.closing(sqlite3.connect(path)) as base:
-                found[path.name] = [*base.iterdump()]
+                found[str(path.relative_to(folder))] = [*base.iterdump()]
     return found
 
 
@@ -344,7 +342,7 @@ def test_a_cluster_that_loses_a_worker(folder: Path, drawn: Path, holding: Path,
                               shared_cluster.address)
         shared_cluster.wait_until("the first batch", lambda: kept(folder, file) >= 1, "driver")
         shared_cluster.end("leaves")
-        assert kept(folder, PLAN[1]) < FEW or file != IN_CHUNKS
+        assert kept(folder, PLAN[1]) < FEW or file != ANSWERS
         assert children(shared_cluster.processes["driver"]) == []
         (folder / "go_on").touch()
         assert shared_cluster.wait_for_end("driver") == 0, shared_cluster.last_words("driver")

@@ -16,6 +16,8 @@ from crnplan import plan
 from crnplan.errors import CrnplanError, Refused
 from crnplan.pages.catalogue_page import file_name, file_of, report
 from crnplan.catalogues import read_catalogue
+from crnplan.plan.catalogue import ANSWERS
+from crnplan.records.catalogue_reading import READ
 from planner.tests.catalogue.conftest import FILES
 from planner.tests.catalogue.made import IDLE, NO_PLAN, TODAY, made, teaching
 from planner.tests.conftest import rows_of, script, shared
@@ -105,7 +107,7 @@ def test_figures_are_those_of_the_tables(folder: Path, pages: dict[str, Page]) -
 
 def forget(folder: Path) -> None:
     """Changes what the plan of an item depends on, as if a row had changed since."""
-    with contextlib.closing(sqlite3.connect(folder / "catalogue.sqlite")) as base, base:
+    with contextlib.closing(sqlite3.connect(folder / READ)) as base, base:
         base.execute("UPDATE items SET setup = '1/3' WHERE name = 'A-040'")
 
 
@@ -114,7 +116,7 @@ REFUSED: dict[str, tuple[str, Callable[[Path], object], str]] = {
     "left out": ("A-031", lambda folder: None, "item 'A-031' is left out: Artikel.csv:"),
     "not planned": (NO_PLAN, lambda folder: None, "it could not be planned: costs: these are too far apart"),
     "changed": ("A-040", forget, "its plan is not as the rows that were read last; run crnplan catalogue again"),
-    "no plan": ("A-040", lambda folder: (folder / "answers.sqlite").unlink(), "no plan is in it; run crnplan "),
+    "no plan": ("A-040", lambda folder: (folder / ANSWERS).unlink(), "no plan is in it; run crnplan "),
     "no folder": ("A-040", shutil.rmtree, "no plan is in it; run crnplan catalogue")}
 
 

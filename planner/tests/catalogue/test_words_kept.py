@@ -18,6 +18,7 @@ import crnplan as crn
 from crnplan.commands.catalogues import catalogue
 from crnplan.plan.question import Settings
 from crnplan.plan.settings import CATALOGUE_RULES, read_config
+from crnplan.records.catalogue_reading import READ
 from crnplan.records.cells import Unreadable
 from crnplan.records.dates import DateReader
 from crnplan.records.told import made_from, merged, told_of, words_from
@@ -251,7 +252,7 @@ def orders_on(crnplan: Command, *words: str) -> dict[str, float]:
 def test_folder_of_an_older_version(room: Path, crnplan: Command, program: Path, without: Path) -> None:
     """A folder without a fact that is needed is refused with advice."""
     shutil.copytree(without, "old")
-    with contextlib.closing(sqlite3.connect("old/catalogue.sqlite")) as base:
+    with contextlib.closing(sqlite3.connect(f"old/{READ}")) as base:
         base.execute("DELETE FROM facts WHERE name = 'told'")
         base.commit()
     answer = crnplan("today", "old", "--date", "2026-11-02")

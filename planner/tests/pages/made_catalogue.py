@@ -2,6 +2,7 @@
 from __future__ import annotations
 
 import contextlib
+import json
 import math
 import random
 from collections.abc import Iterable, Sequence
@@ -10,7 +11,6 @@ from fractions import Fraction
 from pathlib import Path
 from typing import Any
 
-from crnplan.chunks import Answering, Chunked, finishing
 from crnplan.curve.parts import Point
 from crnplan.curve.exchange_curve import keep_curve
 from crnplan.demand.learning import Prior
@@ -19,16 +19,18 @@ from crnplan.jobs import Workers
 from crnplan.law import Law
 from crnplan.pages.catalogue_page import CATALOGUE_FILES, write_catalogue, write_tables
 from crnplan.plan.answer import CHEAPER, RUN, SAME, SERVICE, THEORY, UNCOMPARED, UNDECIDED, Answer, Figures, LawFacts, Laws, Run
-from crnplan.plan.catalogue import ANSWERS, IN_CHUNKS, PlanAsking, Planned, PlannedFolder, sums_of
+from crnplan.plan.catalogue import ANSWERS, TOTALS, Planned, PlannedFolder
 from crnplan.plan.question import Settings
 from crnplan.plan.survey import Survey
 from crnplan.plan.swings import CASES, SWINGS, Swing, drawn_items
+from crnplan.plan.totals import Totals
 from crnplan.records.catalogue_reading import ADD_ITEM, ADD_REJECT, CATALOGUE, READ, Catalogued, Writer
 from crnplan.records.items import Reject
 from crnplan.records.item import Item
 from crnplan.records.parts import ITEM, REJECT
 from crnplan.remarks import Remark
-from crnplan.stored import Store
+from crnplan.stored import Store, sealed
+from crnplan.work import Work
 
 DECIMALS = 2
 # The quantile of Student's t at 95% with 23 degrees of freedom (24 replications), from a published table.
@@ -63,10 +65,11 @@ def made_folder(path: Path, items: int, names: Sequence[str] = (), has_curve: bo
                        "told": {}, "controls": []})
         planned = Planned(Settings(), Prior("none"), "made")
         with (contextlib.closing(Catalogued(path / READ)) as read,
-              contextlib.closing(Chunked(folder.store(ANSWERS), Answer, folder.inner(IN_CHUNKS))) as answers):
-            making = Answering(answers.folder, folder.room(), Answer, PlanAsking(read.path, planned), made_answers,
-                               ({item.name: answer for item, answer in pairs},), sums_of)
-            [*finishing(answers, making, read.names, contextlib.nullcontext(Workers()), planned.facts, shown=False)]
+              contextlib.closing(Store(folder.store(ANSWERS), Answer)) as answers):
+            work = Work(answers, lambda: read.digests(planned.common), str, made_answers, [dict(
+                (item.name, answer) for item, answer in pairs)])
+            work.finish(contextlib.nullcontext(Workers()), {
+                **planned.facts, TOTALS: json.dumps(Totals.of(pairs).tree)}, shown=False)
             if has_curve:
                 keep_curve(answers, made_curve((item, answer) for item, answer in pairs if isinstance(answer, Answer)))
             its = PlannedFolder(path, read, answers, planned)
@@ -76,21 +79,24 @@ def made_folder(path: Path, items: int, names: Sequence[str] = (), has_curve: bo
     return path
 
 
-def made_answers(asked: Sequence[tuple[Item, Any]], answers: dict[str, Answer | Remark]) -> list[Answer | Remark]:
+def made_answers(names: Sequence[str], answers: dict[str, Answer | Remark]) -> list[Answer | Remark]:
     """Answers what is asked by what was made."""
-    return [answers[item.name] for item, _ in asked]
+    return [answers[name] for name in names]
 
 
 def keep_made(folder: Folder, planned: PlannedFolder) -> None:
     """Keeps what would change the answer: in each case each drawn item costs a tenth more than planned, and a fifth more
     of its demand is not met at once. The best policy costs what the chosen one does as planned."""
     with contextlib.closing(Store(folder.store(SWINGS), Swing)) as kept:
-        for name, digest in drawn_items(planned, Survey.of(planned)).items():
+        drawn = drawn_items(planned, Survey.of(planned))
+        for name, digest in drawn.items():
             answer = planned.store.answer(name)
             assert isinstance(answer, Answer)
             assert answer.today is not None
             today, cost, fill = 1.1 * answer.today.cost, answer.chosen.cost, 1 - 1.2 * (1 - answer.chosen.fill)
-            kept.keep([(name, digest, Swing(((today, 1.1 * cost, cost, fill),) * len(CASES)))])
+            swing = Swing(((today, 1.1 * cost, cost, fill),) * len(CASES))
+            kept.keep([sealed(Swing, name, digest, swing)])
+        kept.finish(drawn.items(), {})
 
 
 def made_pair(source: random.Random, name: str) -> Pair:

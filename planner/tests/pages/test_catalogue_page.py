@@ -34,7 +34,7 @@ from crnplan.records.items import Reject
 from crnplan.records.overrides import DO_NOT_ORDER
 from crnplan.records.parts import ITEM
 from crnplan.remarks import Remark
-from crnplan.stored import Facts
+from crnplan.stored import Store
 from planner.tests.catalogue.conftest import FILES, SETTINGS, leave_few
 from planner.tests.catalogue.made import TODAY, made
 from planner.tests.conftest import Command, shared
@@ -222,7 +222,7 @@ def test_left_out_and_curve(large: Path, large_page: Page) -> None:
     first = next(row for row in rejects if row["kind"] == "row")
     assert f"{first['file']}:{first['line']}, item {first['item']}: {first['reason']}; {first['advice']}" in page.words
     page = large_page
-    with contextlib.closing(Facts(large / ANSWERS)) as store:
+    with contextlib.closing(Store(large / ANSWERS, Answer)) as store:
         named = [it for it in json.loads(store.fact("curve") or "")["points"] if it["name"]]
     points = page.tables["Points of the curve"][1:]
     assert [[row[0].strip(), row[3]] for row in points] == [[it["name"], f"{it['orders']:g}"] for it in named]
@@ -302,7 +302,7 @@ def test_no_curve(kept: dict[str, str] | None, said: str, tmp_path: Path) -> Non
     same: what the items with a price hold and serve, with today's levels and with the chosen ones."""
     folder = made_folder(tmp_path / "plan", 12, has_curve=kept is not None)
     if kept:
-        with contextlib.closing(Facts(folder / ANSWERS)) as store:
+        with contextlib.closing(Store(folder / ANSWERS, Answer)) as store:
             store.keep_facts({"curve": json.dumps(json.loads(store.fact("curve") or "") | kept)})
     page = Page(crn.report(folder))
     assert said in page.words and CURVE not in page.pictures

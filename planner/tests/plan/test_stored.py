@@ -5,21 +5,24 @@ import json
 import math
 import sqlite3
 from collections import Counter
+from dataclasses import dataclass
 from fractions import Fraction
 from pathlib import Path
 
+import numpy as np
 import pytest
 from hypothesis import given, settings, strategies as some, strategies as st
 
 from crnplan import formats
+from crnplan.chances import Floats
 from crnplan.errors import Refused
 from crnplan.money import rounded_costs
-from crnplan.plan.answer import Answer, LawFacts
+from crnplan.plan.answer import Answer
 from crnplan.plan.totals import Totals, add_exactly
 from crnplan.plan.question import finest
 from crnplan.records.item import Item
 from crnplan.remarks import Remark
-from crnplan.stored import Columns, Damaged, Store
+from crnplan.stored import Columns, Damaged, Store, sealed
 
 FLOATS = some.floats(allow_nan=False)
 WHOLE = some.integers(-2**80, 2**80)
@@ -43,45 +46,71 @@ def item(name: str) -> Item:
     return Item(name, (1, 2), (3,), (4, 5), Fraction(1, 3), Fraction(2))
 
 
+def keep(store: Store[Item], *answers: tuple[str, str, Item | Remark]) -> None:
+    """Keeps answers, which are those to the questions that were asked last."""
+    store.keep(sealed(Item, *answer) for answer in answers)
+    store.finish(((name, digest) for name, digest, _ in answers), {"one": "text"})
+    store.close()
+
+
 def test_a_store_keeps_answers_and_faults(tmp_path: Path) -> None:
     """Answers come back by name with what they depend on. A file with other bytes, or cut in its middle, is named."""
-    store = Store(tmp_path / "kept", Item)
-    store.keep([("b", "2", item("b")), ("a", "1", Remark("none", {"x": 1}))])
-    store.keep([("b", "3", item("c"))])
-    store.keep_facts({"one": "text"})
-    store.close()
-    again = Store(tmp_path / "kept", Item)
-    assert [*again.answers()] == [("a", "1", Remark("none", {"x": 1})), ("b", "3", item("c"))]
-    assert again.digests() == {"a": "1", "b": "3"} and again.digest("b") == "3" and again.digest("c") is None
-    assert again.answer("b") == item("c") and (again.fact("one"), again.fact("two")) == ("text", None)
+    path, fault = tmp_path / "kept", Remark("none", {"x": 1})
+    keep(Store(path, Item), ("b", "2", item("b")), ("a", "1", fault))
+    keep(Store(path, Item), ("b", "3", item("c")), ("a", "1", fault))
+    again = Store(path, Item)
+    assert [*again.answers()] == [("a", "1", fault), ("b", "3", item("c"))] and [*again.answers("b", "b")][0][0] == "b"
+    assert [*again.digests()] == [("a", "1"), ("b", "3")]
+    assert again.digest_for("b") == "3" and again.digest_for("c") is None
+    assert again.answer("b") == again.found("b", "3") == item("c") and again.answer("c") is again.found("b", "2") is None
+    assert [*again.cells("holding")] == [("a", fault, None), ("b", None, "2")]
+    assert again.lacking([("a", "1"), ("b", "2")]) == [("b", "2")] and again.lacking([]) == []
+    assert (again.fact("one"), again.fact("two")) == ("text", None)
+    again.replace("b", "4", item("d"))
+    assert again.found("b", "3") is None and again.found("b", "4") == item("d")
     again.close()
-    store = Store(tmp_path / "kept", LawFacts)
-    store.keep([("a", "1", LawFacts("auto", 1.0, None, 2.0, 1.0))])
-    store.close()
-    assert Store(tmp_path / "kept", Item).digests() == {}
-    path = tmp_path / "kept"
     path.write_bytes(b"no store" * 999)
     with pytest.raises(Damaged, match="kept: "):
         Store(path, Item)
     path.unlink()
-    store = Store(path, Item)
-    store.keep([(f"{place:04}", "1", item("a")) for place in range(2_000)])
-    store.close()
+    keep(Store(path, Item), *((f"{place:04}", "1", item("a")) for place in range(2_000)))
     data = path.read_bytes()
     path.write_bytes(data[:len(data) // 2] + bytes(4_096) + data[len(data) // 2 + 4_096:])
     with pytest.raises(Damaged, match="kept: "):
         [*Store(path, Item).answers()]
 
 
-@pytest.mark.parametrize("change", ["UPDATE answers SET holding = 3", "UPDATE answers SET digest = 'x'"])
+@pytest.mark.parametrize("change", ["UPDATE answers SET holding = 3", "UPDATE answers SET seal = 'x'",
+                                    "UPDATE answers SET digest = 'x'", "DELETE FROM answers"])
 def test_a_changed_answer_is_damaged(tmp_path: Path, change: str) -> None:
-    """An answer that is not as it was kept is named, with what to do."""
+    """An answer that is not as it was kept, or is missing, is named, with what to do."""
+    keep(Store(tmp_path / "kept", Item), ("a", "1", item("a")))
     store = Store(tmp_path / "kept", Item)
-    store.keep([("a", "1", item("a"))])
     with store.base:
         store.base.execute(change)
     with pytest.raises(Damaged, match="kept: the answer to 'a' is not as it was kept: .* remove it"):
         store.answer("a")
+
+
+@dataclass(frozen=True)
+class Arrays:
+    """Values of which numpy has the bytes."""
+
+    data: bytes
+    numbers: Floats
+
+
+def test_arrays_and_bytes(tmp_path: Path) -> None:
+    """Arrays come back with their form and type, also from a file that is only read, beside which nothing is written."""
+    value = Arrays(b"\0\xff", np.array([[1.5, -0.0, np.inf]] * 2))
+    store = Store(tmp_path / "kept", Arrays)
+    store.keep([sealed(Arrays, "a", "1", value)])
+    store.close()
+    read = Store(tmp_path / "kept", Arrays, is_read=True)
+    found = read.found("a", "1")
+    assert isinstance(found, Arrays) and found.data == value.data
+    assert found.numbers.tobytes() == value.numbers.tobytes() and found.numbers.shape == (2, 3)
+    assert [path.name for path in tmp_path.iterdir()] == ["kept"]
 
 
 @given(some.lists(some.floats(-1e15, 1e15), max_size=50), some.integers(1, 100))

@@ -31,7 +31,7 @@ from crnplan.records.items import Words
 from crnplan.records.quiet import is_dead, quiet_periods
 from crnplan.records.stock import Arrival, OnHand
 from crnplan.remarks import Remark
-from crnplan.stored import Facts
+from crnplan.stored import Store
 from planner.tests.conftest import Command
 from planner.tests.pages.made_catalogue import made_folder, made_pair
 from planner.tests.plan.items import item_of
@@ -234,7 +234,7 @@ def test_stock_of_the_masters_and_dead_stock(tmp_path: Path, crnplan: Command, m
                                      ("left", Remark("no demand"), Fraction(6), 0)):
         item: Any = replace(quiet, stock=stock, past=NO_DEMAND if its == idle else ""), its
         made_folder(tmp_path / name, 12, has_curve=False, change=item)
-        with contextlib.closing(Facts(tmp_path / name / ANSWERS)) as store:
+        with contextlib.closing(Store(tmp_path / name / ANSWERS, Answer)) as store:
             store.keep_facts({PLANNED: (store.fact(PLANNED) or "").replace('"window": null', '"window": 5')})
         today = crn.open_plan(tmp_path / name).orders_today(date="2026-11-27")
         assert today.frame[today.frame.item == "Q-1"].placed.notna().sum() == orders
@@ -307,11 +307,11 @@ def test_plan_of_another_version(tmp_path: Path, crnplan: Command) -> None:
     """Answers with other columns are refused, and stay."""
     made_folder(tmp_path / "plan", 12, has_curve=False)
     with contextlib.closing(sqlite3.connect(tmp_path / "plan" / ANSWERS)) as base, base:
-        base.execute("UPDATE facts SET value = 'other' WHERE name = 'columns'")
+        base.execute("ALTER TABLE answers RENAME COLUMN verdict TO outcome")
     answer = crnplan("today", tmp_path / "plan")
     assert answer.status == 2 and "run crnplan catalogue" in answer.errors
     with contextlib.closing(sqlite3.connect(tmp_path / "plan" / ANSWERS)) as base:
-        assert base.execute("SELECT sum(items) FROM chunks").fetchone() == (12,)
+        assert base.execute("SELECT count(outcome) FROM answers").fetchone() == (12,)
 
 
 def test_status_of_tables_that_say_nothing(folder: Path, stock: pd.DataFrame, tmp_path: Path, crnplan: Command,

@@ -19,6 +19,7 @@ from crnplan.commands import catalogues
 from crnplan.records.bounds import Bounds
 from crnplan.records.item import Item
 from crnplan.catalogues import Catalogue
+from crnplan.records.catalogue_reading import READ
 
 Answers = Callable[..., Any]
 WEEKS = 26
@@ -364,7 +365,7 @@ def test_two_exports_of_a_system_lead_to_a_plan(crnplan: Answers, program: Path,
     assert answer.status == 0 and "2 named = 2 planned + 0 left out" in answer.output
     assert "saved: EUR " in answer.output
     first, second = csv.DictReader((tmp_path / "plan/decisions.csv").open(encoding="utf-8", newline=""))
-    with Catalogue(tmp_path / "plan/catalogue.sqlite").opened() as read:
+    with Catalogue(tmp_path / "plan" / READ).opened() as read:
         bearing, ring = read.items()
     assert sum(bearing.counts) == 2 + sum((3, 1, 0, 2)[week % 4] for week in range(1, WEEKS))
     assert (bearing.levels, bearing.stock, bearing.price, bearing.leads) == ((5, 12), 7, Fraction(25, 2), (2,))

@@ -10,12 +10,13 @@ from .. import formats
 from ..digests import digest_of
 from ..errors import Refused
 from ..files import own_folder
-from ..jobs import Scheduler, Work, program_digest, workers_of
+from ..jobs import Scheduler, program_digest, workers_of
 from ..money import Number, whole
 from ..remarks import Remark
 from ..scenario import Policy, Scenario
 from ..stored import Store
 from ..toml.scenarios import checked_tree, plain_text
+from ..work import Work
 from .program import program_for, run_program
 from .report import Report, joined, parts_of, rows_of
 
@@ -76,9 +77,9 @@ def sweep(scenario: Scenario, s: Iterable[Number], S: Iterable[Number], *, jobs:
     with contextlib.nullcontext() if out is None else own_folder(Path(out), "sweep") as folder:
         place = folder.store(REPORTS) if folder else Path(":memory:")
         with contextlib.closing(Store(place, Kept)) as reports:
-            work = Work(reports, {name: digest_of(plain_text(part.tree), digest) for name, part in parts.items()})
-            work.finish(run_parts, parts.__getitem__, path, workers=workers_of(jobs, cluster, path),
-                        shown=progress, unit="scenarios", batch=1)
+            asked_of = [(name, digest_of(plain_text(part.tree), digest)) for name, part in parts.items()]
+            work = Work(reports, lambda: asked_of, parts.__getitem__, run_parts, (path,), unit="scenarios", batch=1)
+            work.finish(workers_of(jobs, cluster, path), shown=progress)
             texts = {name: answer.report for name, _, answer in reports.answers() if isinstance(answer, Kept)}
             base, *rows = joined([rows_of(part, texts[name], path) for name, part in parts.items()], path)
     ranked = base, *sorted(rows, key=lambda row: row.diff_total)

@@ -16,7 +16,6 @@ from typing import TYPE_CHECKING, NamedTuple
 import numpy as np
 
 from ..chances import Floats
-from ..chunks import Chunked
 from ..crnsim.long_run import long_run_of
 from ..crnsim.report import counting
 from ..errors import Refused
@@ -28,6 +27,7 @@ from ..plan.question import Levels, Question
 from ..records.catalogue_reading import CATALOGUE, Catalogued
 from ..remarks import Remark
 from ..scenario import Policy
+from ..stored import Store
 from ..table import MONEY, Column, DataTable, Result, aligned, number, text, whole
 from ..theory.least import NEAR
 from ..words import PREMISE, advice, sentence
@@ -289,14 +289,14 @@ def gap_text(gap: float) -> str:
     return f"{math.ceil(gap * 10_000 - 1e-6) / 100:.2f}%" if gap < math.inf else "not known"
 
 
-def keep_curve(answers: Chunked[Answer], points: Iterable[tuple[str, Point]]) -> None:
+def keep_curve(answers: Store[Answer], points: Iterable[tuple[str, Point]]) -> None:
     """Keeps the points of the curve of these answers for its page, the named ones first. Each has what it is for a
     reader: nothing on the line itself."""
     rows = [{"name": name, **point._asdict()} for name, point in points]
     answers.keep_facts({DRAWN: json.dumps({"plan": answers.digest, "points": rows})})
 
 
-def kept_curve(answers: Chunked[Answer]) -> list[tuple[str, Point]] | None:
+def kept_curve(answers: Store[Answer]) -> list[tuple[str, Point]] | None:
     """Returns the points of the curve that is kept beside answers: none if they are of an earlier plan, None if there
     is no curve."""
     text = answers.fact(DRAWN)

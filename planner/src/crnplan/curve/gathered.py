@@ -1,4 +1,4 @@
-"""Keeps the candidates of a planned folder in chunks, and sends questions on the exchange curve to these.
+"""Keeps the candidates of a planned folder, and sends questions on the exchange curve to parts of these.
 
 Workers compute candidates, perhaps on a cluster. Questions are answered where the folder is: in this process if there
 are few items, else in others of this machine.
@@ -8,38 +8,32 @@ from __future__ import annotations
 import contextlib
 import functools
 import itertools
-import json
-import re
-import zipfile
-from collections.abc import Callable, Iterable, Iterator, Mapping, Sequence
+from collections.abc import Callable, Iterable, Iterator, Sequence
 from dataclasses import dataclass
 from pathlib import Path
-from typing import Any, NamedTuple, cast
+from typing import Any, NamedTuple
 
 import numpy as np
 
-from ..chunks import HEX, LEFT, Answering, Chunk, Chunked, Lines, finishing
+from ..chances import Floats
 from ..digests import digest_of
 from ..errors import Refused
-from ..files import Folder, new_bytes
-from ..jobs import Scheduler, Workers, workers_of
+from ..files import IN_KEPT, Folder
+from ..jobs import Scheduler, Workers, batched, workers_of
 from ..plan.answer import CHOSEN, TODAY, Answer
-from ..plan.catalogue import PlannedFolder, planned_folder
+from ..plan.catalogue import PlannedFolder
 from ..plan.question import Settings
 from ..records.item import Item
 from ..remarks import Remark
-from ..table import Json
+from ..stored import Question, Store
 from ..words import advice, sentence
+from ..work import Known, Work
 from .candidates import VERSION, Candidates, candidates_batch
 from .exchange import Items
 from .parts import AS_IS, Dearer, Hulls, Part, Point
 
-# The index of the candidates, the folder with their files, and that with what is made of these.
-CANDIDATES, IN_CHUNKS, HULLS = "curve.sqlite", "curve", "hulls"
-DEARER = "dearer"  # an array of a file with hulls
-# How files with what is made of candidates end: items, and hulls at costs as they are, and at others.
-ENDINGS = "items", "as_is", "dearer"
-OURS = re.compile(rf"{HEX}\.({'|'.join(ENDINGS)})|{LEFT}")
+# The candidates, and what is made of those of a part.
+CANDIDATES, HULLS = f"{IN_KEPT}curve.sqlite", f"{IN_KEPT}hulls.sqlite"
 # Codes of remarks on items that are not on the curve.
 NO_PRICE, NO_PLAN = "no price", "not planned"
 # Items of a part, and parts that a process keeps in memory. So many are looked at in this process alone.
@@ -60,9 +54,11 @@ class OnCurve:
 
 def on_curve_batch(batch: Sequence[tuple[Item, Answer]], settings: Settings) -> list[OnCurve | Remark]:
     """Returns items on the curve, or why one can't be there."""
-    found = candidates_batch([(item, answer.laws) for item, answer in batch], settings)
-    return [its if isinstance(its, Remark) else on_curve(item, answer, its)
-            for (item, answer), its in zip(batch, found)]
+    answers = list[OnCurve | Remark]()
+    candidates = candidates_batch([(item, answer.laws) for item, answer in batch], settings)
+    for (item, answer), some in zip(batch, candidates, strict=True):
+        answers.append(some if isinstance(some, Remark) else on_curve(item, answer, some))
+    return answers
 
 
 def on_curve(item: Item, answer: Answer, candidates: Candidates) -> OnCurve:
@@ -72,127 +68,118 @@ def on_curve(item: Item, answer: Answer, candidates: Candidates) -> OnCurve:
     return OnCurve(float(item.price or 0), item.levels is not None, now, candidates)
 
 
+def questions_of(planned: PlannedFolder) -> Iterator[Question]:
+    """Yields the items of a planned folder, each with the digest of all that its candidates depend on."""
+    prices = planned.read.cells("price")
+    for (name, digest), (price,) in zip(planned.read.digests(planned.planned.common), prices, strict=True):
+        is_planned = planned.store.digest_for(name) == digest
+        yield name, digest_of(digest if is_planned else NO_PLAN, VERSION, price)
+
+
+def asked_of(planned: PlannedFolder, name: str) -> tuple[Item, Answer] | Known:
+    """Returns an item with its answer, or why it can't be on the curve."""
+    item = planned.read.item(name)
+    assert item is not None
+    answer = planned.store.found(name, planned.read.digest(name, planned.planned.common))
+    if answer is None:
+        return Known(Remark(NO_PLAN))
+    if isinstance(answer, Remark):
+        return Known(answer)
+    if item.price and item.price > 0:
+        return item, answer
+    return Known(Remark(NO_PRICE))
+
+
+class Names(NamedTuple):
+    """The items of a part: from one name to another, and the digest of all that they depend on."""
+
+    first: str
+    last: str
+    digest: str
+
+
 @dataclass(frozen=True)
-class CurveAsking:
-    """What is asked of the items of a planned folder: those with a price and a plan."""
+class Held:
+    """What is needed of a part in each round: its names, its demand, the figures of now, and its hulls."""
 
-    folder: Path
-
-    def _folder(self) -> contextlib.AbstractContextManager[PlannedFolder]:
-        return planned_folder(self.folder, is_known=True)
-
-    def digests(self, chunk: Chunk) -> list[tuple[str, str]]:
-        with self._folder() as planned:
-            digests = planned.read.digests(planned.planned.common, *chunk)
-            return [(name, digest_of(digest if planned.store.digest_of(name) == digest else NO_PLAN, VERSION,
-                                     item.price))
-                    for (name, digest), item in zip(digests, planned.read.items(*chunk), strict=True)]
-
-    def asked(self, chunk: Chunk) -> list[tuple[Item, Answer | Remark]]:
-        """Returns each item with its answer, or why it is left out."""
-        with self._folder() as planned:
-            digests = planned.read.digests(planned.planned.common, *chunk)
-            return [(item, answer_of(planned, item, digest))
-                    for item, (_, digest) in zip(planned.read.items(*chunk), digests, strict=True)]
-
-    def taken(self, chunk: Chunk, left: Mapping[str, str],
-              asked: Sequence[tuple[Item, Answer | Remark]]) -> list[tuple[str, Remark]]:
-        return [(item.name, answer) for item, answer in asked if item.name in left and isinstance(answer, Remark)]
+    names: tuple[str, ...]
+    demand: Floats
+    now: Floats
+    hulls: Hulls
 
 
-def answer_of(planned: PlannedFolder, item: Item, digest: str) -> Answer | Remark:
-    """Returns the answer to an item whose plan depends on what a digest says, or why it can't be on the curve."""
-    answer = planned.store.answer(item.name, digest)
-    if isinstance(answer, Answer) and not (item.price and item.price > 0):
-        return Remark(NO_PRICE)
-    return answer or Remark(NO_PLAN)
-
-
-def counts_of(answered: Iterable[tuple[Any, OnCurve | Remark]]) -> Json:
-    """Returns the counts of a `File`."""
-    answers = [answer for _, answer in answered]
-    on = [answer for answer in answers if isinstance(answer, OnCurve)]
-    return [len(on), sum(not answer.has_today for answer in on), len(answers) - len(on)]
-
-
-class File(NamedTuple):
-    """A file with the items of a chunk, and how many there are on the curve, without a policy today, and left out."""
-
-    name: str
-    on: int
-    without_today: int
-    out: int
-
-
-def in_parts(files: Iterable[File]) -> list[tuple[File, ...]]:
-    """Returns the files of each part: those with items on the curve, some at a time."""
-    parts, size = list[list[File]](), MOST_ITEMS
-    for file in files:
-        if file.on and size + file.on > MOST_ITEMS:
-            parts.append([])
-            size = 0
-        if file.on:
-            parts[-1].append(file)
-            size += file.on
-    return [tuple(part) for part in parts]
-
-
-def whole_part(folder: Path, files: Iterable[File]) -> Part:
-    """Returns the part of the items in some files, read line by line. Raises Damaged."""
-    lines = Lines(OnCurve)
-    return Part.of([(name, its.price, its.candidates, np.array(its.now)) for file in files
-                    for name, _, its in lines.answers(folder / file.name) if isinstance(its, OnCurve)])
-
-
-def kept_arrays(path: Path, make: Callable[[], Mapping[str, Any]], dearer: Dearer = AS_IS) -> Mapping[str, Any]:
-    """Returns the arrays in a file; if it isn't there and whole, or is of other costs, they are made and kept there."""
-    with contextlib.suppress(OSError, ValueError, LookupError, zipfile.BadZipFile), np.load(path) as kept:
-        arrays = dict(kept)
-        if tuple(arrays.pop(DEARER)) == dearer:
-            return arrays
-    made = make()
-    with new_bytes(path) as file:
-        np.savez(file, **made, **{DEARER: np.array(dearer)})
-    return made
+def whole_part(folder: Path, names: Names) -> Part:
+    """Returns the part of some items, with their candidates. Raises Damaged."""
+    items = list[tuple[str, float, Candidates, Floats]]()
+    with contextlib.closing(Store(folder / CANDIDATES, OnCurve, is_known=True)) as kept:
+        for name, _, answer in kept.answers(names.first, names.last):
+            if isinstance(answer, OnCurve):
+                items.append((name, answer.price, answer.candidates, np.array(answer.now)))
+    return Part.of(items)
 
 
 class KeptPart(Part):
-    """The part of the items in some files. What is needed in each round is kept as arrays in another folder."""
+    """The part of the items of some names. What is needed in each round is kept."""
 
-    def __init__(self, folder: Path, files: tuple[File, ...]) -> None:
-        self._path = folder.with_name(HULLS) / digest_of(*files)
-        whole = functools.cache(lambda: whole_part(folder, files))
-        kept = kept_arrays(self._path.with_suffix(f".{ENDINGS[0]}"), lambda: {
-            "names": np.frombuffer(json.dumps(whole().names).encode(), np.uint8), "demand": whole().demand,
-            "now": whole().now})
-        super().__init__(tuple(json.loads(kept["names"].tobytes())), kept["demand"], kept["now"], lambda: whole().rows)
+    def __init__(self, folder: Path, names: Names) -> None:
+        self._folder, self._part = folder, names
+        held = self._held(AS_IS)
+        super().__init__(held.names, held.demand, held.now, lambda: self._whole.rows)
+        self._known[AS_IS] = held.hulls
+
+    @functools.cached_property
+    def _whole(self) -> Part:
+        return whole_part(self._folder, self._part)
 
     def _hulls(self, dearer: Dearer) -> Hulls:
-        path = self._path.with_suffix(f".{ENDINGS[1 if dearer == AS_IS else 2]}")
-        return Hulls(**kept_arrays(path, lambda: vars(super(KeptPart, self)._hulls(dearer)), dearer))
+        return self._held(dearer).hulls
+
+    def _held(self, dearer: Dearer) -> Held:
+        """Returns what is kept of the part at some costs. If there is nothing, it is made and kept."""
+        name, digest = held_as(self._part, dearer)
+        with contextlib.closing(Store(self._folder / HULLS, Held, is_known=True)) as kept:
+            held = kept.found(name, digest)
+            if not isinstance(held, Held):
+                part = self._whole
+                held = Held(part.names, part.demand, part.now, Hulls.of(part.rows, dearer))
+                kept.replace(name, digest, held)
+        return held
+
+
+def held_as(names: Names, dearer: Dearer = AS_IS) -> Question:
+    """Returns under which name, and with which digest, it is kept what is needed of a part: at costs as they are, or at
+    the last other ones."""
+    return f"{names.first} {dearer == AS_IS}", digest_of(*names, *dearer)
 
 
 part_of = functools.lru_cache(MOST_PARTS)(KeptPart)
 
 
-def ask_part(folder: Path, files: tuple[File, ...], function: Callable[..., Any], *words: Any) -> Any:
-    """Returns what a function returns for the part of some files, and further words."""
-    return function(part_of(folder, files), *words)
-
-
-def out_of(folder: Path, file: str) -> list[tuple[str, Remark]]:
-    """Returns the items of a file that are left out, and why."""
-    return [(name, its) for name, _, its in Lines(OnCurve).answers(folder / file) if isinstance(its, Remark)]
+def ask_part(folder: Path, names: Names, function: Callable[..., Any], *words: Any) -> Any:
+    """Returns what a function returns for the part of some names, and further words."""
+    return function(part_of(folder, names), *words)
 
 
 class Parts:
-    """The items of a folder in parts, by their files. Workers are asked while there are any, else this process."""
+    """The items of a folder in parts. Workers are asked while there are any, else this process."""
 
-    def __init__(self, kept: Chunked[OnCurve]) -> None:
-        self.folder, self.workers = kept.folder, Workers()
-        self.files = [File(made.file, *cast(Sequence[int], sums)) for made, sums in zip(kept.made, kept.sums())]
-        self.parts = in_parts(self.files)
-        self.without_today, self.out = sum(it.without_today for it in self.files), sum(it.out for it in self.files)
+    def __init__(self, folder: Path, kept: Store[OnCurve]) -> None:
+        self.folder, self.workers = folder, Workers()
+        self.out = self.without_today = 0
+        self.parts = list[Names]()
+        for some in batched(self._on_curve(kept), MOST_ITEMS):
+            self.parts.append(Names(some[0][0], some[-1][0], digest_of(*some)))
+
+    def _on_curve(self, kept: Store[OnCurve]) -> Iterator[Question]:
+        """Yields the items on the curve, each with what it depends on, and counts others and those without a policy
+        today."""
+        states = zip(kept.digests(), kept.cells("has_today"), strict=True)
+        for question, (_, fault, has_today) in states:
+            if fault:
+                self.out += 1
+                continue
+            self.without_today += not has_today
+            yield question
 
     def __call__(self, function: Callable[..., Any], *columns: Iterable[Any]) -> Iterator[Any]:
         """Yields what a function returns for each part, with words from further columns, in order."""
@@ -201,8 +188,10 @@ class Parts:
 
     def left_out(self) -> Iterator[tuple[str, Remark]]:
         """Yields the items that are left out, and why, in order."""
-        words = ((self.folder, file.name) for file in self.files if file.out)
-        return itertools.chain.from_iterable(self.workers.in_order(out_of, words, AHEAD))
+        with contextlib.closing(Store(self.folder / CANDIDATES, OnCurve, is_known=True)) as kept:
+            for name, fault, _ in kept.cells("fault"):
+                if fault:
+                    yield name, fault
 
 
 @dataclass
@@ -224,22 +213,20 @@ class Gathered:
 def gather(own: Folder, folder: PlannedFolder, jobs: int | None, address: Scheduler | None, shown: bool) -> Iterator[Gathered]:
     """Computes the candidates of a planned folder that are not kept yet, and gives all. Raises Refused if no item can
     be on the curve."""
-    with contextlib.closing(Chunked(own.store(CANDIDATES), OnCurve, own.inner(IN_CHUNKS))) as kept:
-        making = Answering(kept.folder.resolve(), own.room().resolve(), OnCurve, CurveAsking(folder.path.resolve()),
-                           on_curve_batch, (folder.settings,), counts_of)
-        made = [*finishing(kept, making, folder.read.names, workers_of(jobs, address), {}, shown=shown)]
-        parts = Parts(kept)
+    with contextlib.closing(Store(own.store(CANDIDATES), OnCurve)) as kept:
+        work = Work(kept, lambda: questions_of(folder), lambda name: asked_of(folder, name), on_curve_batch,
+                    (folder.settings,))
+        work.finish(workers_of(jobs, address), shown=shown)
+        parts = Parts(folder.path.resolve(), kept)
     if not parts.parts:
         raise no_item(folder, parts)
-    hulls, stems = own.inner(HULLS), {digest_of(*files) for files in parts.parts}
-    for path in hulls.iterdir():
-        if OURS.fullmatch(path.name) and path.stem not in stems:
-            path.unlink()
+    with contextlib.closing(Store(own.store(HULLS), Held)) as hulls:
+        hulls.renew()
+        hulls.finish(map(held_as, parts.parts), {})
     with workers_of(jobs if len(parts.parts) > MOST_PARTS else 1, None) as workers:
         parts.workers = workers
         items = Items(parts)
-        yield Gathered(folder, parts, items, dict(zip((TODAY, CHOSEN), items.now)),
-                       sum(one.items - one.kept for one in made))
+        yield Gathered(folder, parts, items, dict(zip((TODAY, CHOSEN), items.now)), work.now)
         parts.workers = Workers()
 
 

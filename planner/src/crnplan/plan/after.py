@@ -6,16 +6,17 @@ import dataclasses
 import heapq
 import itertools
 import json
-from collections.abc import Container, Iterable, Iterator
+from collections.abc import Iterable, Iterator
 from typing import TYPE_CHECKING
 
-from ..chunks import Chunk
 from ..errors import Refused
-from ..files import Folder
+from ..files import IN_KEPT, Folder
 from ..jobs import batched
 from ..records.catalogue_reading import Catalogued
+from ..records.item import Item
 from ..remarks import Remark, Value
-from ..stored import Store
+from ..stored import Store, sealed
+from ..work import Known
 from .answer import Answer
 from .changes import Change, Pair, change_of
 from .question import Levels
@@ -23,7 +24,7 @@ from .question import Levels
 if TYPE_CHECKING:
     from .catalogue import Planned, PlannedFolder
 
-CHANGES = "changes.sqlite"
+CHANGES = f"{IN_KEPT}changes.sqlite"
 PLAN = "plan"  # a fact of the store: of which plan its changes are
 AT_ONCE = 1_000  # answers that are kept together
 
@@ -44,27 +45,22 @@ def check_records(earlier: PlannedFolder, read: Catalogued) -> None:
                       "name the later files as DEMAND.csv, and the folder of the earlier plan behind --after")
 
 
-def policy_before(earlier: PlannedFolder | None, name: str) -> Levels | None:
-    """Returns s and S of an item in an earlier plan; None if it has none there."""
+def asked_after(read: Catalogued, planned: Planned, earlier: PlannedFolder | None,
+                name: str) -> tuple[Item, Levels | None] | Known:
+    """Returns what is asked of an item that was read: its facts, with its s and S in an earlier plan, if it has any
+    there. The answer of that plan to the same question is known, but for a policy that stayed by another least gain."""
+    item = read.item(name)
+    assert item is not None
     answer = earlier.store.answer(name) if earlier else None
-    return answer.chosen.levels if isinstance(answer, Answer) else None
-
-
-def taken(answer: Answer | Remark) -> Answer | Remark:
-    """Returns the answer of an earlier plan to a question that has not changed. The policy before is its own."""
-    return answer if isinstance(answer, Remark) else dataclasses.replace(answer, before=answer.chosen)
-
-
-def taken_over(read: Catalogued, planned: Planned, earlier: PlannedFolder, chunk: Chunk,
-               left: Container[str]) -> Iterator[tuple[str, Answer | Remark]]:
-    """Yields the answers of an earlier plan to those questions of a chunk, among those that are left, that have not
-    changed, but for those whose policy stayed by another least gain."""
-    before = dict(earlier.read.digests(earlier.planned.base, *chunk))
-    is_other = planned.settings.least_gain != earlier.settings.least_gain
-    for name, base in read.digests(planned.base, *chunk):
-        answer = earlier.store.answer(name) if name in left and before.get(name) == base else None
-        if answer is not None and (isinstance(answer, Remark) or not (answer.undamped and is_other)):
-            yield name, taken(answer)
+    if earlier is None or answer is None:
+        return item, None
+    is_same = read.digest(name, planned.base) == earlier.read.digest(name, earlier.planned.base)
+    if isinstance(answer, Remark):
+        return Known(answer) if is_same else (item, None)
+    if is_same and not (answer.undamped and planned.settings.least_gain != earlier.settings.least_gain):
+        # The policy before is its own.
+        return Known(dataclasses.replace(answer, before=answer.chosen))
+    return item, answer.chosen.levels
 
 
 def common_changes(earlier: Planned, planned: Planned) -> Iterator[Remark]:
@@ -104,8 +100,10 @@ def changes_since(earlier: PlannedFolder, now: PlannedFolder) -> Iterator[Change
 
 def keep_changes(folder: Folder, plan: str, changes: Iterable[Change]) -> None:
     """Keeps the changes of a plan in its folder, in place of others."""
-    folder.remove(CHANGES)
+    names = list[str]()
     with contextlib.closing(Store(folder.store(CHANGES), Change)) as store:
+        store.renew()
         for some in batched(changes, AT_ONCE):
-            store.keep((change.name, "", change) for change in some)
-        store.keep_facts({PLAN: plan})
+            store.keep(sealed(Change, change.name, plan, change) for change in some)
+            names += [change.name for change in some]
+        store.finish(((name, plan) for name in names), {PLAN: plan})

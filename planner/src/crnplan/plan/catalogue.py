@@ -5,38 +5,41 @@ import contextlib
 import dataclasses
 import json
 import shutil
-from collections.abc import Iterable, Iterator, Mapping, Sequence
+from collections.abc import Generator, Iterable, Iterator, Sequence
 from dataclasses import dataclass
 from difflib import get_close_matches
 from pathlib import Path
+from typing import Any
 
-from ..chunks import Answering, Chunk, Chunked, Made, finishing
 from ..crnsim.program import program_for
 from ..demand.learning import Prior
 from ..digests import digest_of, sum_of_digests
 from ..errors import Refused, argument
-from ..files import Folder, faults_of, read_folder
+from ..files import IN_KEPT, Folder, faults_of, read_folder
 from ..jobs import Scheduler, program_digest, workers_of
 from ..money import Currency
 from ..records.catalogue_reading import CATALOGUE, READ, Catalogued
 from ..records.item import Item
 from ..remarks import Remark
-from ..stored import Damaged, Facts, Store
-from ..table import Column, DataTable, Json
+from ..stored import Damaged, Store, reading
+from ..table import Column, DataTable
 from ..words import advice, sentence
-from .after import CHANGES, PLAN, check_records, changes_since, keep_changes, policy_before, taken_over
+from ..work import Work
+from .after import CHANGES, PLAN, asked_after, check_records, changes_since, keep_changes
 from .aims import Aims
 from .answer import Answer
 from .changes import Change
 from .correction import AIMS, aims_of
 from .learned import PRIOR, PRIOR_WINDOW, learned_of
 from .one import plan_batch
-from .question import NONE, Levels, Question, Settings, question_of
+from .question import NONE, Question, Settings, question_of
 from .totals import Totals
 
-ANSWERS, IN_CHUNKS = "answers.sqlite", "answers"
-PLANNED = "planned"  # a fact beside the answers
+ANSWERS = f"{IN_KEPT}answers.sqlite"
+PLANNED, TOTALS = "planned", "totals"  # facts beside the answers
 AGAIN = "run crnplan catalogue again"
+OLDER = "answers.sqlite"  # what an older version has kept beside the tables
+Decided = tuple[Item, Answer | Remark]
 
 
 @dataclass(frozen=True)
@@ -62,14 +65,16 @@ class Planned:
         return {PLANNED: json.dumps(tree)}
 
     @classmethod
-    def of(cls, answers: Facts) -> Planned | None:
+    def of(cls, answers: Store[Answer]) -> Planned | None:
         """Returns what is kept beside answers; None if nothing is. Raises Damaged."""
         text = answers.fact(PLANNED)
         if text is None:
             return None
         try:
             tree = json.loads(text)
-            prior = Prior(NONE) if tree["borrow"] == NONE else Prior.parse(answers.fact(PRIOR) or "", str(answers.path))
+            prior = Prior(NONE)
+            if tree["borrow"] != NONE:
+                prior = Prior.parse(answers.fact(PRIOR) or "", str(answers.named))
             aims = tree["settings"].pop("aims", None)
             settings = Settings(**tree["settings"], aims=None if aims is None else Aims.parse(aims))
             return cls(settings, prior, str(tree["common"]), str(tree.get("earlier", "")))
@@ -80,7 +85,7 @@ class Planned:
 class PlannedFolder:
     """A folder whose items are all answered, as their rows are now. `planned_folder` opens it."""
 
-    def __init__(self, path: Path, read: Catalogued, answers: Chunked[Answer], planned: Planned) -> None:
+    def __init__(self, path: Path, read: Catalogued, answers: Store[Answer], planned: Planned) -> None:
         self.path, self.read, self.store, self.planned = path, read, answers, planned
         self.settings = planned.settings
         self.every, self.decimals, self.counts = (read.fact(name) for name in ("every", "decimals", "counts"))
@@ -88,9 +93,9 @@ class PlannedFolder:
 
     def check(self) -> None:
         """Raises Refused if an item is not planned as its rows are now."""
-        common = self.planned.common
-        if any(made.digest != whole_digest(self.read, common, made.chunk) for made in self.store.made) or (
-                not self.store.made):
+        if not self.store.is_ours:
+            raise Refused(f"{self.path}: another version of crnplan has planned it", AGAIN)
+        if self.store.digest != whole_digest(self.read, self.planned.common):
             raise Refused(f"{self.path}: its plan is not as the rows that were read last", AGAIN)
 
     @property
@@ -100,8 +105,9 @@ class PlannedFolder:
 
     @property
     def totals(self) -> Totals:
-        """Returns what the answers add up to."""
-        return Totals.together(self.store.sums())
+        """Returns what the answers add up to. Raises Damaged."""
+        with reading(self.store.named):
+            return Totals.together([json.loads(self.store.fact(TOTALS) or "")])
 
     def table(self, columns: Sequence[Column], things: Iterable[object]) -> DataTable:
         """Returns a table with a row for each thing, with the money and the periods of the plan."""
@@ -116,16 +122,12 @@ class PlannedFolder:
                 raise Refused(f"{self.path}: what has changed since the earlier plan is not known", AGAIN)
             yield from (change for _, _, change in store.answers() if isinstance(change, Change))
 
-    def answers(self, is_whole: bool = False,
-                files: Iterable[Made] | None = None) -> Iterator[tuple[Item, Answer | Remark]]:
+    def answers(self, is_whole: bool = False) -> Iterator[Decided]:
         """Yields the items in order of their names, each with its answer, or with the fault for which it has none; with
-        the periods by which they were planned, or with all of the record. `files` are perhaps not yet those of the
-        store."""
-        items = self.read.whole_items if is_whole else self.read.items
-        for made in self.store.made if files is None else files:
-            kept = self.store.lines.answers(self.store.folder / made.file)
-            for item in items(*made.chunk):
-                yield item, next(answer for name, _, answer in kept if name == item.name)
+        the periods by which they were planned, or with all of the record."""
+        items = self.read.whole_items() if is_whole else self.read.items()
+        for item, (_, _, answer) in zip(items, self.store.answers(), strict=True):
+            yield item, answer
 
     def item(self, name: str) -> tuple[Item, Answer]:
         """Returns an item with its answer. Raises Refused if it is not there, left out, or not planned as its rows are
@@ -133,7 +135,7 @@ class PlannedFolder:
         item = self.read.item(name)
         if item is None:
             raise self._why_not(name)
-        if self.store.digest_of(name) != self.read.digest(name, self.planned.common):
+        if self.store.digest_for(name) != self.read.digest(name, self.planned.common):
             raise Refused(f"{self.path}: item {name!r}: it is not planned as its rows are now", AGAIN)
         answer = self.store.answer(name)
         if isinstance(answer, Remark):
@@ -156,9 +158,9 @@ class PlannedFolder:
                        f"did you mean {close[0]!r}?" if close else "decisions.csv has all items")
 
 
-def whole_digest(read: Catalogued, common: str, chunk: Chunk = Chunk()) -> str:
-    """Returns the digest of what the plans of the items of a chunk depend on."""
-    return sum_of_digests(digest_of(*pair) for pair in read.digests(common, *chunk))
+def whole_digest(read: Catalogued, common: str) -> str:
+    """Returns the digest of what the plans of all items depend on."""
+    return sum_of_digests(digest_of(*question) for question in read.digests(common))
 
 
 def check_earlier(after: Path | None, out: Path | None, settings: Settings) -> None:
@@ -175,14 +177,18 @@ def check_earlier(after: Path | None, out: Path | None, settings: Settings) -> N
 
 @contextlib.contextmanager
 def copied_folder(path: Path, room: Path) -> Iterator[PlannedFolder]:
-    """Opens the plan in a folder, with a copy of its index in a room, so that nothing is written into the folder, and
-    no run works in it. Raises Refused if no finished plan is in it, or if a run works there."""
+    """Opens the plan in a folder so that nothing is written into that, and no run works there. What a run that was
+    ended by force has left is copied into a room. Raises Refused if no finished plan is in it, or if a run works
+    there."""
     with read_folder(path, CATALOGUE), contextlib.ExitStack() as stack:
+        index = path / ANSWERS
         with faults_of(path):
-            for name in (ANSWERS, f"{ANSWERS}-wal", f"{ANSWERS}-journal"):
-                if (path / name).is_file():
-                    shutil.copyfile(path / name, room / name)
-        planned = stack.enter_context(planned_folder(path, room / ANSWERS))
+            left = [file for end in ("-wal", "-journal") for file in [path / f"{ANSWERS}{end}"] if file.is_file()]
+            if left and index.is_file():
+                for file in (index, *left):
+                    shutil.copyfile(file, room / file.name)
+                index = room / index.name
+        planned = stack.enter_context(planned_folder(path, index, is_read=not left))
         planned.check()
         yield planned
 
@@ -199,23 +205,29 @@ def earlier_folder(path: Path | None, folder: Folder) -> Iterator[PlannedFolder 
         yield planned
 
 
+def no_plan(path: Path) -> Refused:
+    """Returns why a folder has no plan."""
+    if (path / OLDER).is_file():
+        return Refused(f"{path}: an older version of crnplan has planned it", AGAIN)
+    return Refused(f"{path}: no plan is in it", f"run crnplan catalogue DEMAND.csv ITEMS.csv --out {path} first")
+
+
 @contextlib.contextmanager
-def planned_folder(path: Path, index: Path | None = None, is_known: bool = False) -> Iterator[PlannedFolder]:
-    """Opens a folder of `crnplan catalogue`, perhaps by a copy of its index. Raises Refused if no plan is in it, and
-    Damaged, but for files that are known to be whole."""
+def planned_folder(path: Path, index: Path | None = None, is_read: bool = False) -> Iterator[PlannedFolder]:
+    """Opens a folder of `crnplan catalogue`, perhaps by a copy of its answers, or only to read them. Raises Refused if no
+    plan is in it, and Damaged."""
     index = index or path / ANSWERS
-    no_plan = Refused(f"{path}: no plan is in it", f"run crnplan catalogue DEMAND.csv ITEMS.csv --out {path} first")
     if not (path / READ).is_file() or not index.is_file():
-        raise no_plan
-    with contextlib.closing(Chunked(index, Answer, path / IN_CHUNKS, is_known, path / ANSWERS)) as answers:
+        raise no_plan(path)
+    with contextlib.closing(Store(index, Answer, is_read=is_read, named=path / ANSWERS)) as answers:
         planned = Planned.of(answers)
         if planned is None:
-            raise no_plan
-        with contextlib.closing(Catalogued(path / READ, planned.settings.window, is_known)) as read:
+            raise no_plan(path)
+        with contextlib.closing(Catalogued(path / READ, planned.settings.window)) as read:
             yield PlannedFolder(path, read, answers, planned)
 
 
-def take_prior(answers: Facts, earlier: PlannedFolder, again: bool) -> None:
+def take_prior(answers: Store[Answer], earlier: PlannedFolder, again: bool) -> None:
     """Keeps what the items of an earlier plan have learned, and where they aim, unless it is to be learned again."""
     facts = {name: earlier.store.fact(name) for name in (PRIOR, PRIOR_WINDOW, AIMS)}
     if not again:
@@ -223,45 +235,13 @@ def take_prior(answers: Facts, earlier: PlannedFolder, again: bool) -> None:
 
 
 @dataclass(frozen=True)
-class PlanAsking:
-    """What is asked of the items of a catalogue that was read: their facts, and their policy in an `earlier` plan, whose
-    folder and index are named."""
-
-    read: Path
-    planned: Planned
-    earlier: tuple[Path, Path] | None = None
-
-    def _read(self) -> contextlib.closing[Catalogued]:
-        return contextlib.closing(Catalogued(self.read, self.planned.settings.window, is_known=True))
-
-    def _earlier(self) -> contextlib.AbstractContextManager[PlannedFolder | None]:
-        return planned_folder(*self.earlier, is_known=True) if self.earlier else contextlib.nullcontext()
-
-    def digests(self, chunk: Chunk) -> list[tuple[str, str]]:
-        with self._read() as read:
-            return [*read.digests(self.planned.common, *chunk)]
-
-    def asked(self, chunk: Chunk) -> list[tuple[Item, Levels | None]]:
-        with self._read() as read, self._earlier() as earlier:
-            return [(item, policy_before(earlier, item.name)) for item in read.items(*chunk)]
-
-    def taken(self, chunk: Chunk, left: Mapping[str, str], asked: object) -> list[tuple[str, Answer | Remark]]:
-        with self._read() as read, self._earlier() as earlier:
-            return [*taken_over(read, self.planned, earlier, chunk, left)] if earlier else []
-
-
-def sums_of(answered: Iterable[tuple[tuple[Item, Levels | None], Answer | Remark]]) -> Json:
-    """Returns what answers add up to, by what was asked."""
-    return Totals.of((item, answer) for (item, _), answer in answered).tree
-
-
-@dataclass(frozen=True)
 class Run:
-    """A run that plans a catalogue: its folder, the items with their answers, which come once and in order, what was
-    learned, now or in an earlier run, and the earlier plan."""
+    """A run that plans a catalogue: its folder, the items with their answers, which come once and in order, how many of
+    these were planned now or before, what was learned, now or in an earlier run, and the earlier plan."""
 
     planned: PlannedFolder
-    answers: Iterator[tuple[Item, Answer | Remark]]
+    answers: Iterator[Decided]
+    work: Work[Answer]
     learned: tuple[Remark, ...]
     has_learned: bool
     earlier: PlannedFolder | None
@@ -270,6 +250,22 @@ class Run:
         """Keeps what has changed since the earlier plan, once all answers have come."""
         if self.earlier:
             keep_changes(folder, self.planned.digest, changes_since(self.earlier, self.planned))
+
+
+def answered(planned: PlannedFolder, work: Work[Answer], workers: contextlib.AbstractContextManager[Any],
+             shown: bool) -> Generator[Decided, None, None]:
+    """Yields the items in order with their answers, as these come, and keeps what they add up to at the end. It has to
+    be closed."""
+    totals = Totals()
+    with contextlib.closing(work.answered(workers, shown=shown)) as questions:
+        for name, digest, asked in questions:
+            item = asked[0] if asked else planned.read.item(name)
+            answer = work.store.found(name, digest)
+            assert item is not None and answer is not None
+            totals.note(item, answer)
+            yield item, answer
+    facts = {**planned.planned.facts, TOTALS: json.dumps(totals.tree)}
+    work.store.finish(work.questions(), facts)
 
 
 @contextlib.contextmanager
@@ -281,7 +277,7 @@ def planning(folder: Folder, settings: Settings, *, after: Path | None = None, j
     path = program_for(program, address)
     with (faults_of(folder.path), earlier_folder(after, folder) as earlier,
           contextlib.closing(Catalogued(folder.path / READ, settings.window)) as read,
-          contextlib.closing(Chunked(folder.store(ANSWERS), Answer, folder.inner(IN_CHUNKS))) as answers):
+          contextlib.closing(Store(folder.store(ANSWERS), Answer)) as answers):
         if earlier:
             check_records(earlier, read)
             take_prior(answers, earlier, again)
@@ -294,11 +290,8 @@ def planning(folder: Folder, settings: Settings, *, after: Path | None = None, j
                 folder, answers, read, settings, prior, again=again, workers=workers_of(jobs, address), shown=shown))
         planned = Planned(settings, prior, settings.common(program_digest(path, address), prior),
                           earlier.digest if earlier else "")
-        asking = PlanAsking(read.path.resolve(), planned,
-                            (earlier.path.resolve(), earlier.store.path.resolve()) if earlier else None)
-        making = Answering(answers.folder.resolve(), folder.room().resolve(), Answer, asking, plan_batch,
-                           (settings, prior, path), sums_of)
+        work = Work(answers, lambda: read.digests(planned.common),
+                    lambda name: asked_after(read, planned, earlier, name), plan_batch, (settings, prior, path))
         opened = PlannedFolder(folder.path, read, answers, planned)
-        with contextlib.closing(finishing(answers, making, read.names, workers_of(jobs, address, path), planned.facts,
-                                          shown=shown)) as files:
-            yield Run(opened, opened.answers(files=files), learned, has_learned, earlier)
+        with contextlib.closing(answered(opened, work, workers_of(jobs, address, path), shown)) as decided:
+            yield Run(opened, decided, work, learned, has_learned, earlier)

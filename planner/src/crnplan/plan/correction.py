@@ -14,26 +14,28 @@ import itertools
 import json
 import math
 from collections.abc import Iterator, Sequence
+from typing import Any
 
 import numpy as np
 
 from ..chances import Floats
 from ..demand.learning import Prior
 from ..errors import Refused, argument
-from ..files import Folder
-from ..jobs import Work, Workers
+from ..files import IN_KEPT, Folder
+from ..jobs import Workers
 from ..records.catalogue_reading import Catalogued
 from ..records.item import TEACHING, Item
 from ..remarks import Remark
-from ..stored import Facts, Store
+from ..stored import Store
 from ..theory.long_run import LongRun
+from ..work import Work
 from .aims import FILLS, Aims, Trial
 from .backtest.periods import Past, periods_of
 from .learned import drawn_from
 from .one import or_fault
 from .question import Levels, Settings, question_of
 
-TRIALS, AIMS = "trials.sqlite", "aims"  # a store, and a fact of that of answers
+TRIALS, AIMS = f"{IN_KEPT}trials.sqlite", "aims"  # a store, and a fact of that of answers
 LEAST_ITEMS, MOST_ITEMS = 30, 1_000  # that are tried
 BLOCKS = 4  # of a record
 WIDE = 10  # Policies whose gap has so many cells keep it at all fill rates.
@@ -95,7 +97,7 @@ def tried_names(read: Catalogued) -> frozenset[str]:
     return drawn_from((name for name, fill, past in facts if fill is not None and past in TEACHING), MOST_ITEMS)
 
 
-def aims_of(folder: Folder, answers: Facts, read: Catalogued, settings: Settings, prior: Prior, *, again: bool,
+def aims_of(folder: Folder, answers: Store[Any], read: Catalogued, settings: Settings, prior: Prior, *, again: bool,
             workers: contextlib.AbstractContextManager[Workers], shown: bool) -> Aims:
     """Returns at which fill rates the items of a catalogue aim. What was learned before is used again as it is, also if
     items change, unless it is to be learned `again`, or items are planned in another way. Trials are kept in the
@@ -106,9 +108,10 @@ def aims_of(folder: Folder, answers: Facts, read: Catalogued, settings: Settings
         return Aims.parse(kept["aims"])
     names = tried_names(read)
     with contextlib.closing(Store(folder.store(TRIALS), Trial)) as trials:
-        work = Work(trials, {name: read.digest(name, common) for name in sorted(names)})
-        work.finish(try_batch, read.item, on, prior, workers=workers, shown=shown, unit="trials")
-        tried = [trial for name, _, trial in trials.answers() if name in names and isinstance(trial, Trial)]
+        work = Work(trials, lambda: ((name, read.digest(name, common)) for name in sorted(names)), read.item, try_batch,
+                    (on, prior), unit="trials")
+        work.finish(workers, shown=shown)
+        tried = [trial for _, _, trial in trials.answers() if isinstance(trial, Trial)]
     if len(tried) < LEAST_ITEMS:
         raise Refused(f"{len(tried)} items with a wanted fill rate can be tried on their past, and a correction needs "
                       f"{LEAST_ITEMS}", f"plan without {argument('correct')}")

@@ -14,7 +14,7 @@ from ..errors import Refused
 from ..records.catalogue_reading import Catalogued
 from ..records.item import NO_DEMAND, TEACHING, Item
 from ..remarks import Remark
-from ..stored import Facts
+from ..stored import Store
 from .question import ALL, CLASS, NONE, Settings
 
 PRIOR, PRIOR_WINDOW = "prior", "window of prior"  # facts beside answers
@@ -67,10 +67,12 @@ def learners(read: Catalogued, by_class: bool) -> Iterator[Item]:
         most = MOST_READ
     drawn = drawn_of_groups(((name, group if by_class else "") for name, past, group in
                              read.cells("name", "past", "group") if past in TEACHING), most)
-    yield from (item for item in read.some_items(drawn) if item.box == 1)
+    for item in map(read.item, drawn):
+        if item and item.box == 1:
+            yield item
 
 
-def learned_of(answers: Facts, read: Catalogued, settings: Settings, again: bool) -> Learned:
+def learned_of(answers: Store[Any], read: Catalogued, settings: Settings, again: bool) -> Learned:
     """Returns what the items of a catalogue learn from one another.
 
     With `settings.borrow` None an item learns from all if there are 100 items. What was learned before in this way is
@@ -100,7 +102,7 @@ def learned_of(answers: Facts, read: Catalogued, settings: Settings, again: bool
     return Learned(prior, usual, (*own, remark, *otherwise), prior is earlier)
 
 
-def kept_prior(answers: Facts, window: int | None, way: str, least: int) -> Prior | None:
+def kept_prior(answers: Store[Any], window: int | None, way: str, least: int) -> Prior | None:
     """Returns what at least so many items have learned in this way and by this window in an earlier run; None if that
     is not kept."""
     text = answers.fact(PRIOR)
@@ -108,7 +110,7 @@ def kept_prior(answers: Facts, window: int | None, way: str, least: int) -> Prio
     return prior if prior and prior.borrow == way and prior.items - prior.outside >= least else None
 
 
-def learned_now(answers: Facts, read: Catalogued, way: str, least: int) -> Prior:
+def learned_now(answers: Store[Any], read: Catalogued, way: str, least: int) -> Prior:
     """Returns what items learn now, and keeps it. Raises Refused if there are fewer than `least` items."""
     histories, groups = list[Any](), list[str]()
     for item in learners(read, way == CLASS):

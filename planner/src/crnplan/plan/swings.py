@@ -20,13 +20,14 @@ from ..chances import Floats
 from ..decide.sensitivity import changed_demand
 from ..digests import digest_of
 from ..errors import Refused
-from ..files import Folder
-from ..jobs import Scheduler, Work, workers_of
+from ..files import IN_KEPT, Folder
+from ..jobs import Scheduler, workers_of
 from ..law import Law
 from ..records.item import Item
 from ..remarks import Remark
 from ..stored import Store
 from ..theory.long_run import LongRun
+from ..work import Work
 from .answer import CHOSEN, TODAY as TODAY_POLICY, Answer
 from .catalogue import PlannedFolder
 from .drawn import Drawn, Estimate, estimated
@@ -35,7 +36,7 @@ from .question import Levels, Settings, Terms, rates_of, terms_of
 from .survey import Survey, size_of
 from .totals import Totals, asked_value
 
-SWINGS = "swings.sqlite"
+SWINGS = f"{IN_KEPT}swings.sqlite"
 VERSION = 2  # Answers of others are not used again.
 # What differs, and how many tenths of it there are.
 HOLDING, BACKLOG, DEMAND, LEADS, NOTHING = "holding", "backlog", "demand", "lead", ""
@@ -112,17 +113,18 @@ def swing_batch(batch: Sequence[tuple[Item, Answer]], settings: Settings) -> lis
 
 def drawn_items(folder: PlannedFolder, survey: Survey) -> dict[str, str]:
     """Returns the items of a survey that are drawn, each with the digest of all that its figures depend on."""
-    return {name: digest_of(folder.store.digest_of(name), VERSION) for name in survey.drawn.names}
+    return {name: digest_of(folder.store.digest_for(name), VERSION) for name in survey.drawn.names}
 
 
 def keep_swings(own: Folder, folder: PlannedFolder, survey: Survey, *, jobs: int | None = None, address: Scheduler | None = None,
                 shown: bool = False) -> None:
     """Computes the figures of a planned folder that are not kept yet, and keeps them."""
     with contextlib.closing(Store(own.store(SWINGS), Swing)) as kept:
-        work = Work(kept, drawn_items(folder, survey))
-        if work.left:  # One item has this process load the compiled loops, which workers then have from the start.
-            swing_batch([folder.item(work.left[0])], folder.settings)
-        work.finish(swing_batch, folder.item, folder.settings, workers=workers_of(jobs, address), shown=shown, batch=1)
+        drawn = sorted(drawn_items(folder, survey).items())
+        work = Work(kept, lambda: drawn, folder.item, swing_batch, (folder.settings,), batch=1)
+        if work.now:  # One item has this process load the compiled loops, which workers then have from the start.
+            swing_batch([folder.item(kept.lacking(drawn)[0][0])], folder.settings)
+        work.finish(workers_of(jobs, address), shown=shown)
 
 
 def kept_swings(folder: PlannedFolder, survey: Survey) -> Swings | None:
@@ -131,7 +133,7 @@ def kept_swings(folder: PlannedFolder, survey: Survey) -> Swings | None:
     if not path.is_file():
         return None
     with contextlib.closing(Store(path, Swing)) as kept:
-        digests, drawn = kept.digests(), drawn_items(folder, survey)
+        digests, drawn = dict(kept.digests()), drawn_items(folder, survey)
         if not drawn or any(digests.get(name) != digest for name, digest in drawn.items()):
             return None
         pairs = [(folder.item(name), kept.answer(name)) for name in drawn]

@@ -100,16 +100,20 @@ class Totals:
         """Adds up items with their answers, or their faults."""
         totals = cls()
         for item, answer in answers:
-            if isinstance(answer, Answer):
-                totals.add(item, answer)
-            elif item.past in UNORDERED:
-                totals.verdicts[item.past] += 1
-                name = "value_idle" if item.past == NO_DEMAND else "value_ended"
-                add_exactly(totals.parts[name], float(item.value or 0))
-            else:
-                totals.faults += 1
-                totals.broken += answer.code in OURS
+            totals.note(item, answer)
         return totals
+
+    def note(self, item: Item, answer: Answer | Remark) -> None:
+        """Adds an item with its answer, or its fault."""
+        if isinstance(answer, Answer):
+            self.add(item, answer)
+        elif item.past in UNORDERED:
+            self.verdicts[item.past] += 1
+            name = "value_idle" if item.past == NO_DEMAND else "value_ended"
+            add_exactly(self.parts[name], float(item.value or 0))
+        else:
+            self.faults += 1
+            self.broken += answer.code in OURS
 
     @classmethod
     def together(cls, trees: Iterable[Any]) -> Totals:

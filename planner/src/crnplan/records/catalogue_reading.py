@@ -14,7 +14,7 @@ from typing import Any, cast
 
 from ..digests import digest_of
 from ..errors import Refused, RefusedFaults
-from ..files import Folder, faults_of, own_folder
+from ..files import IN_KEPT, Folder, faults_of, own_folder
 from ..jobs import workers_of
 from ..money import Currency
 from ..remarks import Remark
@@ -30,7 +30,7 @@ from .found import found_of
 from .item import NEW, NO_DEMAND, PHASE_OUT, PLANNED, STOPPED, Item
 from .items import Counts, FileCounts, Reject, Words
 from .opening import Table
-from .parts import ITEM, REJECT, PartRead, read_parts, rows_in
+from .parts import ADD_ITEM, ADD_REJECT, ITEM, REJECT, TABLES, PartRead, read_parts
 from .repeated import files_within, zeros_apart
 from .settled import settle_times
 from .several import open_tables
@@ -39,9 +39,8 @@ from .successors import succeeded
 from .told import told_of
 
 CATALOGUE = "catalogue"  # the kind of the folder
-READ = "catalogue.sqlite"
+READ = f"{IN_KEPT}catalogue.sqlite"
 OVERRIDE_KIND = "override_kind"  # the first column of an override
-ADD_ITEM, ADD_REJECT = ITEM.insert("items"), REJECT.insert("rejects")
 
 
 class Catalogued:
@@ -50,9 +49,9 @@ class Catalogued:
     def __init__(self, path: Path, window: int | None = None, is_known: bool = False) -> None:
         """Opens a file that was written by `Writer`, whose items are given by their last `window` periods, or by all.
         Raises Refused if it is not there, and Damaged, but for a file that is known to be whole."""
+        self.path, self.window, self.folder = path, window, path.parent.parent
         if not path.is_file():
-            raise Refused(f"{path.parent}: no catalogue was read into this folder", "run crnplan catalogue first")
-        self.path, self.window = path, window
+            raise Refused(f"{self.folder}: no catalogue was read into this folder", "run crnplan catalogue first")
         self.base = sqlite3.connect(f"{path.absolute().as_uri()}?mode=ro", uri=True)
         if not is_known:
             check_whole(self.base, path)
@@ -62,7 +61,7 @@ class Catalogued:
         with reading(self.path):
             row = self.base.execute("SELECT value FROM facts WHERE name = ?", [name]).fetchone()
             if row is None:
-                raise Refused(f"{self.path.parent}: another version of crnplan has read it", "run crnplan catalogue again")
+                raise Refused(f"{self.folder}: another version of crnplan has read it", "run crnplan catalogue again")
             return json.loads(row[0])
 
     def controls(self) -> Controls:
@@ -82,32 +81,23 @@ class Catalogued:
             yield from map(REJECT.value, base.execute(
                 'SELECT * FROM rejects ORDER BY file, line, item, kind, "column", text, remark'))
 
-    def _selected(self, columns: str, where: str, names: Iterable[str]) -> Iterator[tuple[Any, ...]]:
-        """Yields the rows of items in order of their names."""
+    def _rows(self, columns: str, *name: str) -> Iterator[tuple[Any, ...]]:
+        """Yields the rows of all items in order of their names, or of the item of a name."""
+        where = "WHERE name = ?" * len(name)
         with reading(self.path):
             # A loop, since `yield from` would close the cursor of a base that may be closed already.
-            for row in self.base.execute(f"SELECT {columns} FROM items {where} ORDER BY name", [*names]):
+            for row in self.base.execute(f"SELECT {columns} FROM items {where} ORDER BY name", name):
                 yield row
 
-    def _rows(self, columns: str, *name: str) -> Iterator[tuple[Any, ...]]:
-        """Yields the rows of all items in order, or of the item of a name."""
-        return self._selected(columns, "WHERE name = ?" * len(name), name)
-
-    def _range(self, columns: str, start: str, stop: str | None) -> Iterator[tuple[Any, ...]]:
-        """Yields the rows, in order, of the items whose names are not before one, but before another, if there is one.
-        """
-        if stop is None:
-            return self._selected(columns, "WHERE name >= ?", [start])
-        return self._selected(columns, "WHERE name >= ? AND name < ?", [start, stop])
-
-    def _items(self, rows: Iterable[tuple[Any, ...]]) -> Iterator[Item]:
-        """Yields the items of rows, by all their periods."""
+    def _items(self, *name: str) -> Iterator[Item]:
+        """Yields the items in order, or that of a name, by all their periods."""
         with reading(self.path):
-            yield from map(ITEM.value, rows)
+            yield from map(ITEM.value, self._rows("*", *name))
 
-    def digests(self, common: str, start: str = "", stop: str | None = None) -> Iterator[tuple[str, str]]:
+    def digests(self, common: str) -> Iterator[tuple[str, str]]:
         """Yields the name of each item with the digest of what its plan depends on, and of what is common to all."""
-        yield from ((row[0], digest_of(common, row)) for row in self._range(quoted(PLANNED), start, stop))
+        for row in self._rows(quoted(PLANNED)):
+            yield row[0], digest_of(common, row)
 
     def digest(self, name: str, common: str) -> str:
         """Returns the digest of what the plan of an item depends on."""
@@ -128,24 +118,25 @@ class Catalogued:
         """Yields the names of the items with one of these pasts, or of all."""
         yield from (name for name, past in self.cells("name", "past") if not pasts or past in pasts)
 
-    def whole_items(self, start: str = "", stop: str | None = None) -> Iterator[Item]:
+    def whole_items(self) -> Iterator[Item]:
         """Yields the items by all their periods."""
-        yield from self._items(self._range("*", start, stop))
+        yield from self._items()
+
+    def whole_item(self, name: str) -> Item | None:
+        """Returns the item of a name by all its periods; None if there is none."""
+        return next(self._items(name), None)
 
     def counting(self, item: Item) -> Item:
         """Returns an item by the periods that count."""
         return item.last(self.window)
 
-    def items(self, start: str = "", stop: str | None = None) -> Iterator[Item]:
-        yield from map(self.counting, self.whole_items(start, stop))
-
-    def some_items(self, names: Iterable[str]) -> Iterator[Item]:
-        """Yields the items of some names, as `items` does."""
-        yield from (self.counting(item) for name in names for item in self._items(self._rows("*", name)))
+    def items(self) -> Iterator[Item]:
+        yield from map(self.counting, self.whole_items())
 
     def item(self, name: str) -> Item | None:
-        """Returns the item of a name; None if there is none."""
-        return next(self.some_items([name]), None)
+        """Returns the item of a name, as `items` does; None if there is none."""
+        item = self.whole_item(name)
+        return None if item is None else self.counting(item)
 
     def overridden(self) -> Iterator[Item]:
         """Yields the items with an override; none of a file of a version that had none."""
@@ -160,16 +151,23 @@ class Writer:
     """Writes what is read of a catalogue. The file stands under its name only when `finish` is called."""
 
     def __init__(self, folder: Folder) -> None:
-        self.folder, self.path, self.part = folder, folder.store(READ), folder.room() / READ
+        self.folder, self.path, self.part = folder, folder.store(READ), folder.room() / Path(READ).name
         self.base = sqlite3.connect(self.part)
-        self.base.executescript("PRAGMA journal_mode = OFF; PRAGMA synchronous = OFF;"
-                                f"CREATE TABLE items ({quoted(ITEM.names)}, PRIMARY KEY (name)) WITHOUT ROWID;"
-                                "CREATE TABLE facts (name TEXT PRIMARY KEY, value TEXT);"
-                                f"CREATE TABLE rejects ({quoted(REJECT.names)});")
+        self.base.executescript(f"{TABLES} CREATE TABLE facts (name TEXT PRIMARY KEY, value TEXT);")
 
     def add_rows(self, insert: str, rows: Iterable[Sequence[Cell]]) -> None:
         """Adds the cells of items, or of what is left out or named."""
         self.base.executemany(insert, rows)
+
+    def add_parts(self, parts: Iterable[PartRead]) -> None:
+        """Adds the cells of parts, as they were written there: items in order of names."""
+        with contextlib.ExitStack() as stack:
+            items = list[Iterator[Sequence[Cell]]]()
+            for part in parts:
+                base = stack.enter_context(contextlib.closing(sqlite3.connect(part.path)))
+                self.add_rows(ADD_REJECT, base.execute("SELECT * FROM rejects"))
+                items.append(base.execute("SELECT * FROM items ORDER BY name"))
+            self.add_rows(ADD_ITEM, heapq.merge(*items, key=itemgetter(0)))
 
     def _items(self, where: str, *values: str) -> Iterator[Item]:
         """Yields items that were added."""
@@ -243,9 +241,7 @@ def read_into(folder: Folder, tables: Mapping[str, Table | None], words: Words, 
         repeated = [*files_within(sheets, (part.shared for part in read))] if words.twice is None else []
         if repeated:
             raise RefusedFaults(repeated)
-        for its in read:
-            writer.add_rows(ADD_REJECT, rows_in(its.rejects))
-        writer.add_rows(ADD_ITEM, heapq.merge(*(rows_in(its.items) for its in read), key=itemgetter(0)))
+        writer.add_parts(read)
         writer.succeed(words)
         currency = next(iter(distinct(whole.currencies)), "")
         periods = whole.record.periods

@@ -1,16 +1,16 @@
 """Makes the items of a catalogue part by part, each where its rows are: in one process or in several."""
 from __future__ import annotations
 
-import pickle
+import contextlib
+import sqlite3
 from collections import Counter
-from collections.abc import Iterator, Mapping, Sequence
+from collections.abc import Mapping, Sequence
 from dataclasses import dataclass
 from fractions import Fraction
 from pathlib import Path
-from pickle import HIGHEST_PROTOCOL as HIGHEST
 
 from ..jobs import Workers
-from ..stored import Cell, Columns
+from ..stored import Columns, quoted
 from .classes import abc_of
 from .controls import Controls
 from .filed import FiledTable, Part, Whole
@@ -19,17 +19,21 @@ from .items import Counts, Reader, Reject, Words
 from .repeated import Shared, names_apart, shared_in
 
 ITEM, REJECT = Columns(Item), Columns(Reject)
+ADD_ITEM, ADD_REJECT = ITEM.insert("items"), REJECT.insert("rejects")
+# The file has no other use if the process ends before it is whole.
+TABLES = ("PRAGMA journal_mode = OFF; PRAGMA synchronous = OFF;"
+          f"CREATE TABLE items ({quoted(ITEM.names)}, PRIMARY KEY (name)) WITHOUT ROWID;"
+          f"CREATE TABLE rejects ({quoted(REJECT.names)});")
 
 
 @dataclass(frozen=True)
 class PartRead:
-    """A part of the items that was read: the files with the cells of its items, in order of names, and of what is left
-    out or named; what became of its rows and what they come to, from where its values are, over which columns of places its
-    items are summed, how many rows its files share, the names that only masters or only
-    demand has, and the decimals of its money."""
+    """A part of the items that was read: the file with the cells of its items and of what is left out or named; what
+    became of its rows and what they come to, from where its values are, over which columns of places its items are
+    summed, how many rows its files share, the names that only masters or only demand has, and the decimals of its
+    money."""
 
-    items: Path
-    rejects: Path
+    path: Path
     counts: Counts
     sources: Counter[tuple[str, str]]
     split: Counter[tuple[str, str]]
@@ -39,39 +43,39 @@ class PartRead:
     decimals: int
 
 
-def rows_in(path: Path) -> Iterator[Sequence[Cell]]:
-    """Yields the rows of cells of a file."""
-    with path.open("rb") as file:
-        while file.peek(1):
-            yield pickle.load(file)
-
-
 def values_of_part(part: Part, words: Words, whole: Whole) -> list[Fraction | None]:
     """Returns the value of the mean demand of each item of a part, in order of names."""
     return Reader(part.rows(), words, whole).values()
 
 
-def items_of_part(part: Part, words: Words, whole: Whole, letters: Sequence[str], room: Path, number: int) -> PartRead:
-    """Writes the items of a part, with their classes in order of names, into files of a folder."""
-    paths = room / f"part-{number}-items", room / f"part-{number}-rejects"
-    with paths[0].open("xb") as items, paths[1].open("xb") as rejects:
-        reader = Reader(part.rows(), words, whole, lambda its: pickle.dump(REJECT.cells(its), rejects, HIGHEST))
-        for item in reader.read(letters):
-            pickle.dump(ITEM.cells(item), items, HIGHEST)
-    return PartRead(*paths, reader.counts, reader.sources, reader.split, reader.controls(), shared_in(reader.rows),
+def items_of_part(part: Part, words: Words, whole: Whole, letters: Sequence[str], path: Path) -> PartRead:
+    """Writes the items of a part, with their classes in order of names, into a new file."""
+    with contextlib.closing(sqlite3.connect(path)) as base:
+        base.executescript(TABLES)
+        reader = Reader(part.rows(), words, whole, lambda reject: base.execute(ADD_REJECT, REJECT.cells(reject)))
+        base.executemany(ADD_ITEM, map(ITEM.cells, reader.read(letters)))
+        base.commit()
+    return PartRead(path, reader.counts, reader.sources, reader.split, reader.controls(), shared_in(reader.rows),
                     names_apart(reader.rows), reader.decimals)
 
 
 def read_parts(tables: Mapping[str, FiledTable], whole: Whole, words: Words, workers: Workers, room: Path,
                count: int) -> list[PartRead]:
-    """Returns what was read of each of so many parts. The classes of items by value depend on all of them. Raises
-    Refused for stated classes that there are not."""
-    parts = [Part({kind: (its.sheet, its.pieces(part)) for kind, its in tables.items()}) for part in range(count)]
-    found = [*workers.in_order(values_of_part, ((part, words, whole) for part in parts))]
-    values = {(part, place): value for part, its in enumerate(found) for place, value in enumerate(its)
-              if value is not None}
-    by_value = abc_of(values, words.defaults.abc)
-    words.defaults.check_classes(whole.groups if any(whole.groups) else {*by_value.values()})
-    letters = [[by_value.get((part, place), "") for place in range(len(its))] for part, its in enumerate(found)]
-    return [*workers.in_order(items_of_part, ((part, words, whole, letters[place], room, place)
-                                              for place, part in enumerate(parts)))]
+    """Returns what was read of each of so many parts, whose files stand in a folder. The classes of items by value
+    depend on all of them. Raises Refused for stated classes that there are not."""
+    parts = list[Part]()
+    for number in range(count):
+        parts.append(Part({kind: (table.sheet, table.pieces(number)) for kind, table in tables.items()}))
+    values = [*workers.in_order(values_of_part, ((part, words, whole) for part in parts))]
+    known = dict[tuple[int, int], Fraction]()
+    for number, of_part in enumerate(values):
+        for place, value in enumerate(of_part):
+            if value is not None:
+                known[number, place] = value
+    classes = abc_of(known, words.defaults.abc)
+    words.defaults.check_classes(whole.groups if any(whole.groups) else {*classes.values()})
+    asked = list[tuple[Part, Words, Whole, list[str], Path]]()
+    for number, part in enumerate(parts):
+        letters = [classes.get((number, place), "") for place in range(len(values[number]))]
+        asked.append((part, words, whole, letters, room / f"part-{number}.sqlite"))
+    return [*workers.in_order(items_of_part, asked)]

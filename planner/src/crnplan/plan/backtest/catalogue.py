@@ -5,24 +5,25 @@ from __future__ import annotations
 import contextlib
 import dataclasses
 import json
-from collections.abc import Container, Iterable, Sequence
+from collections.abc import Iterable, Sequence
 from dataclasses import dataclass
 from pathlib import Path
 
-from ...chunks import Answering, Chunk, Chunked, finishing
 from ...demand.learning import Prior
-from ...files import Folder, faults_of
+from ...files import IN_KEPT, Folder, faults_of
 from ...jobs import Scheduler, workers_of
 from ...records.catalogue_reading import READ, Catalogued
 from ...records.item import Item
 from ...remarks import Remark
+from ...stored import Store
+from ...work import Work
 from ..catalogue import PlannedFolder, whole_digest
 from ..learned import learned_of
 from ..question import Settings
 from .one import Backtest, Walk, backtest_item
 from .sums import ALL_ITEMS, Sums, sums_of
 
-TESTS, IN_CHUNKS = "backtest.sqlite", "backtest"
+TESTS = f"{IN_KEPT}backtest.sqlite"
 TESTED = "tested"  # a fact of the store: the text that all digests have, and the settings
 
 
@@ -85,7 +86,7 @@ def past_of(planned: PlannedFolder) -> Past | None:
     """Returns what the test in the folder of a plan says; None if there is none."""
     if not (planned.path / TESTS).is_file():
         return None
-    with contextlib.closing(Chunked(planned.path / TESTS, Backtest, planned.path / IN_CHUNKS)) as tests:
+    with contextlib.closing(Store(planned.path / TESTS, Backtest)) as tests:
         fact = tests.fact(TESTED)
         if fact is None:
             return None
@@ -101,43 +102,20 @@ def backtest_batch(batch: Sequence[Item], settings: Settings, prior: Prior, walk
     return [backtest_item(item, settings, prior, walk) for item in batch]
 
 
-@dataclass(frozen=True)
-class TestAsking:
-    """What is asked of the items of a catalogue that was read, to test them: their facts. `common` is what all tests
-    depend on."""
-
-    read: Path
-    common: str
-
-    def digests(self, chunk: Chunk) -> list[tuple[str, str]]:
-        with contextlib.closing(Catalogued(self.read, is_known=True)) as read:
-            return [*read.digests(self.common, *chunk)]
-
-    def asked(self, chunk: Chunk) -> list[Item]:
-        with contextlib.closing(Catalogued(self.read, is_known=True)) as read:
-            return [*read.items(*chunk)]
-
-    def taken(self, chunk: Chunk, left: Container[str], asked: object) -> Iterable[tuple[str, Backtest | Remark]]:
-        return ()
-
-
 def backtest_into(folder: Folder, settings: Settings, walk: Walk, *, jobs: int | None = None,
                   address: Scheduler | None = None, shown: bool = False) -> Tested:
     """Tests the catalogue that was read into a folder, and keeps all tests there. Items learn from one another as they
     would have at the end of their records."""
     with (faults_of(folder.path),
           contextlib.closing(Records(folder.path / READ, walk.record, settings.window)) as read,
-          contextlib.closing(Chunked(folder.store(TESTS), Backtest, folder.inner(IN_CHUNKS))) as tests):
+          contextlib.closing(Store(folder.store(TESTS), Backtest)) as tests):
         prior, usual, learned, _ = learned_of(tests, read, settings, again=True)
         settings = dataclasses.replace(uncorrected(settings), borrow=usual, every=read.fact("every"))
         common = settings.common(repr(walk), prior)
-        making = Answering(tests.folder.resolve(), folder.room().resolve(), Backtest,
-                           TestAsking(read.path.resolve(), common), backtest_batch, (settings, prior, walk))
-        made = [*finishing(tests, making, read.names, workers_of(jobs, address),
-                           {TESTED: json.dumps([common, dataclasses.asdict(settings)])}, shown=shown)]
+        work = Work(tests, lambda: read.digests(common), read.whole_item, backtest_batch, (settings, prior, walk))
+        work.finish(workers_of(jobs, address), {TESTED: json.dumps([common, dataclasses.asdict(settings)])}, shown=shown)
         answers = (test for _, _, test in tests.answers())
         items = [*zip(read.whole_items(), answers, strict=True)]
-        kept = sum(one.kept for one in made)
         sums = sums_of(test for _, test in items if isinstance(test, Backtest))
         return Tested(walk, read.fact("every"), read.fact("decimals"), read.fact("counts")["items"]["named"], items,
-                      sums, learned, len(items) - kept, kept)
+                      sums, learned, work.now, work.kept)
