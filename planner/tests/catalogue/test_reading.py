@@ -18,11 +18,13 @@ from crnplan.errors import Refused, RefusedFaults
 from crnplan.files import MARKER
 from crnplan.records.blocks import Sizes
 from crnplan.records.catalogue_reading import read_alone
+from crnplan.records.controls import OPEN, PLACES, USED, States
 from crnplan.records.dates import period_of
 from crnplan.records.item import Item
-from crnplan.records.items import Reader, Words
+from crnplan.records.items import Words
 from crnplan.records.observed import Record, record_of
 from crnplan.records.rows import far_above
+from crnplan.records.tables import TableReader
 from crnplan.catalogues import Catalogue, read_catalogue
 from crnplan.words import sentence
 from planner.tests.catalogue.audit import Audit, audit
@@ -148,15 +150,15 @@ def test_ranges_and_order_change_nothing(files: Path, catalogue: Catalogue, tmp_
 
 
 def test_a_lost_row_is_said(files: Path, monkeypatch: pytest.MonkeyPatch) -> None:
-    """Says how many rows and items are lost if some are, as if a part of the reader were wrong."""
-    own = Reader._item
+    """Says how many rows are lost if some are, as if a part of the reader were wrong."""
+    own = TableReader.close
 
-    def without(self: Reader, item: int, *more: Any) -> Any:
-        """Loses a row of an item."""
-        if self.names[item] == "A-002":
-            self.counts["files"]["demand"]["used"] -= 1
-        return own(self, item, *more)
-    monkeypatch.setattr(Reader, "_item", without)
+    def without(self: TableReader, became: States) -> None:
+        """Loses a row that was used."""
+        own(self, became)
+        if self.kind == "demand":
+            self.states[np.flatnonzero(self.states == PLACES[USED])[0]] = PLACES[OPEN]
+    monkeypatch.setattr(TableReader, "close", without)
     missing = read_catalogue(*(files / it for it in FILES), today=TODAY).missing
     assert len(missing) == 1 and missing[0].startswith("demand: ") and missing[0].endswith("+1 rows are lost")
 

@@ -40,7 +40,7 @@ tables = st.lists(st.tuples(rows, ends), max_size=12).map(lambda its: "".join(",
 
 def by_csv(text: str) -> list[Row]:
     """Returns of each row that is not blank the line, the cells without blanks around, whether it is of use, and the
-    line of the first one with the same cells."""
+    line of the first one of use with the same cells."""
     found, firsts, line = list[Row](), dict[tuple[str, ...], int](), 1
     reader = csv.reader(io.StringIO(text, newline=""), strict=True, skipinitialspace=True)
     for cells in reader:
@@ -49,14 +49,14 @@ def by_csv(text: str) -> list[Row]:
         bare = [cell.strip() for cell in row]
         if begin > 1 and (wide or any(bare)):
             is_good = not wide and bare[0] != "" and not CONTROL & {*bare[0]}
-            found.append((begin, *bare[:3], is_good, firsts.setdefault(row, begin)))
+            found.append((begin, *bare[:3], is_good, firsts.setdefault(row, begin) if is_good else begin))
     return found
 
 
 def by_rows(its: Rows) -> list[Row]:
     """Returns of each row what `by_csv` does."""
     return [(line, *(its.cell(role, row) for role in ("item", "date", "quantity")), bool(its.good[row]),
-             int(its.lines[first])) for row, (line, first) in enumerate(zip(its.lines.tolist(), its.twins().tolist()))]
+             int(its.lines[first])) for row, (line, first) in enumerate(zip(its.lines.tolist(), its.firsts(its.good).tolist()))]
 
 
 def in_ranges(data: bytes, sizes: Sizes, encoding: str | None = None) -> tuple[list[Row], Sequence[Fault]]:

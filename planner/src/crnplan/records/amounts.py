@@ -246,6 +246,13 @@ class AmountReader(ColumnReader[Amount]):
             raise Unreadable(self.none, cell)
         return checked(amount.number, kind, cell)
 
+    def known(self, cell: Cell) -> Fraction | None:
+        """Returns the number of a cell; None if it has none."""
+        try:
+            return None if cell == "" else self.number(cell)
+        except Unreadable:
+            return None
+
     def share(self, cell: Cell, unit: str, role: str) -> Fraction:
         """Returns a share above 0, of a column in shares or in percent. Raises Unreadable."""
         if cell == "":

@@ -5,10 +5,10 @@ import datetime
 import re
 import tomllib
 import unicodedata
-from collections.abc import Sequence
+from collections.abc import Callable, Collection, Mapping, Sequence
 from dataclasses import dataclass
 from pathlib import Path
-from typing import Union
+from typing import Any, Union
 
 import numpy as np
 import numpy.typing as npt
@@ -60,6 +60,30 @@ class Unreadable(ValueError):
         return worded(message(self.remark))
 
 
+class CellReader:
+    """Reads cells by their roles, each distinct one once."""
+
+    def __init__(self, readers: Mapping[str, Callable[[Cell], Any]], needed: Collection[str]) -> None:
+        """Takes by role what returns the value of a cell, or raises Unreadable. An empty cell of a role that is not needed
+        has none."""
+        self.readers, self.needed = readers, needed
+        self.known: dict[tuple[str, Cell], Any] = {}  # by role and cell, its value, or what is wrong with it
+
+    def value(self, role: str, cell: Cell, faults: list[CellFault]) -> Any:
+        """Returns the value of a cell; None if it has none, or has a fault, which is added."""
+        key = role, cell
+        if key not in self.known:
+            try:
+                self.known[key] = None if cell == "" and role not in self.needed else self.readers[role](cell)
+            except Unreadable as why:
+                self.known[key] = why.remark
+        value = self.known[key]
+        if isinstance(value, Remark):
+            faults.append((role, cell, value))
+            return None
+        return value
+
+
 def shown(text: str) -> str:
     """Returns a text, cut if it is long."""
     return text if len(text) <= 30 else f"{text[:30]}..."
@@ -67,14 +91,14 @@ def shown(text: str) -> str:
 
 def on_one_line(text: str) -> str:
     """Returns a text, cut if it is long, with escapes for its control characters."""
-    return UNPRINTABLE.sub(lambda it: it[0].encode("unicode_escape").decode(), shown(text))
+    return UNPRINTABLE.sub(lambda signs: signs[0].encode("unicode_escape").decode(), shown(text))
 
 
 def plain_name(name: str) -> str:
     """Returns the words of a name in lower case, without signs and accents; s and S stay as they are."""
     words: list[str] = re.findall(r"[^\W_]+|%", re.sub("/ *(?=[0-9])", " per ", name))
     letters = unicodedata.normalize("NFKD", " ".join(words).casefold().translate(LETTERS))
-    plain = "".join(it for it in letters if not unicodedata.combining(it))
+    plain = "".join(letter for letter in letters if not unicodedata.combining(letter))
     return words[0] + plain[1:] if words[:1] in (["s"], ["S"]) else plain
 
 

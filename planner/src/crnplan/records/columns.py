@@ -64,8 +64,10 @@ def unit_fault(role: str, unit: str) -> str | None:
     counted = COUNTED[kind]
     if unit in counted["units"] or counted["may_be_packs"] and unit.isdecimal() and int(unit):
         return None
-    known = ", ".join([*counted["units"], *["or a number, as 12 for packs of 12"] * counted["may_be_packs"]])
-    return f"the {role} counts {counted['what']}, and {unit!r} is none of its units: {known}"
+    known = [*counted["units"]]
+    if counted["may_be_packs"]:
+        known.append("or a number, as 12 for packs of 12")
+    return f"the {role} counts {counted['what']}, and {unit!r} is none of its units: {', '.join(known)}"
 
 
 def periods_a_year(every: str) -> Fraction:
@@ -76,19 +78,22 @@ def periods_a_year(every: str) -> Fraction:
 def conversion(role: str, unit: str, every: str) -> tuple[Fraction, str]:
     """Returns by what the numbers of a role are multiplied, and the words for it. A share is one of a year."""
     kind = ROLE_UNITS.get(role)
+    if unit.isdecimal() and kind == "price":
+        return 1 / Fraction(unit), f"a price for {unit} to items"
     if unit.isdecimal():
-        return ((1 / Fraction(unit), f"a price for {unit} to items") if kind == "price" else
-                (Fraction(unit), f"packs of {unit} to items"))
+        return Fraction(unit), f"packs of {unit} to items"
     if unit in DAYS:
         periods = DAYS[unit] / DAYS[every]
         if kind not in TIMES:
             return 1 / periods, f"money a {unit} to money a {every}"
-        return periods, f"{unit}s to {every}s" + ", for orders that are placed on any day" * (kind == "length")
+        words = f"{unit}s to {every}s"
+        return periods, f"{words}, for orders that are placed on any day" if kind == "length" else words
     if kind == "size":
         return Fraction(1), "money to items, by their price"
     share = Fraction(1, 100) if unit == "percent" else Fraction(1)
-    return ((share / periods_a_year(every), f"{unit} of the price and year to money an item and {every}")
-            if kind == "rate" else (share, f"{unit} to shares"))
+    if kind == "rate":
+        return share / periods_a_year(every), f"{unit} of the price and year to money an item and {every}"
+    return share, f"{unit} to shares"
 
 
 def is_converted(column: Column, every: str) -> bool:
@@ -106,30 +111,35 @@ def periods_of(lead: Fraction) -> tuple[int, ...]:
     one: as those of dated orders, of which an order takes at least 1."""
     low = int(lead)
     rest = (lead - low).limit_denominator(7)
-    lows = (max(1, low),) * (rest.denominator - rest.numerator)
-    leads = lows + (max(1, low + 1),) * rest.numerator
-    return leads if len({*leads}) > 1 else leads[:1]
+    leads = [max(1, low)] * (rest.denominator - rest.numerator) + [low + 1] * rest.numerator
+    return tuple(leads) if len({*leads}) > 1 else (leads[0],)
 
 
 def is_number(words: Sequence[str], place: int) -> bool:
     """Returns whether a word of a name is a number of items, as in `per 100` and `pack of 12`, and no year."""
-    if place == 0 or not words[place].isdecimal() or not words[place].isascii():
+    word = words[place]
+    if place == 0 or not word.isdecimal() or not word.isascii():
         return False
-    is_beside = words[place - 1] in BESIDE or UNITS.get(words[place - 1]) == "pack"
-    return is_beside and int(words[place]) > 1 and not 1900 <= int(words[place]) <= 2200
+    before = words[place - 1]
+    is_beside = before in BESIDE or UNITS.get(before) == "pack"
+    return is_beside and int(word) > 1 and not 1900 <= int(word) <= 2200
 
 
 def bare_name(name: str) -> tuple[str, str]:
     """Returns a plain name without the words of its unit, and the unit: one of headings.toml, a number of items, or the
     empty text."""
-    words = name.split()
-    units = [UNITS.get(word, word if is_number(words, place) else "") for place, word in enumerate(words)]
-    if not any(units[1:]) and (len(words) < 2 or not units[0]):
+    words, bare = name.split(), list[str]()
+    units = dict[int, str]()
+    for place, word in enumerate(words):
+        unit = word if is_number(words, place) else UNITS.get(word)
+        if unit:
+            units[place] = unit
+        elif word not in BESIDE:
+            bare.append(word)
+    if not units or [*units] == [0] == [*range(len(words))]:
         return name, IMPLIED.get(name, "")
-    bare = " ".join(word for word, unit in zip(words, units) if not unit and word not in BESIDE)
     # A number says more than a share, that more than a time, and that more than items.
-    return bare, min(filter(None, units),
-                     key=lambda unit: (not unit.isdecimal(), unit not in SHARES, unit == "item"))
+    return " ".join(bare), min(units.values(), key=lambda unit: (not unit.isdecimal(), unit not in SHARES, unit == ITEM))
 
 
 def currency_in_name(name: str) -> str:
@@ -137,21 +147,24 @@ def currency_in_name(name: str) -> str:
     sign = SYMBOL.search(name)
     if sign:
         return SIGNS.get(sign[0], sign[0])
-    return next((CURRENCIES[word] for word in plain_name(name).split()[1:] if word in CURRENCIES), "")
+    words = plain_name(name).split()[1:]
+    return next((CURRENCIES[word] for word in words if word in CURRENCIES), "")
 
 
 class Finder:
     """Finds the columns of a table in its heading, by the words of a planner and by usual names."""
 
     def __init__(self, kind: str, words: Words, is_wide: bool = False) -> None:
-        self.kind, self.every, self.needed = kind, words.every, NEEDED[kind] - words.defaults.roles
+        self.kind, self.every, self.is_wide = kind, words.every, is_wide
+        self.needed = NEEDED[kind] - words.defaults.roles
         self.stated, self.units = words.columns.get(kind, {}), words.units.get(kind, {})
-        self.is_wide = is_wide
         if is_wide:
             self.stated = {NO_WIDE_ROLE: "", **self.stated, **WIDE_ROLES}
         more = words.names.get(kind, {})
-        self.names = {role: {*HEADINGS["all"].get(role, ()), *HEADINGS[kind].get(role, ()),
-                             *map(plain_name, more.get(role, ()))} for role in ROLES[kind]}
+        self.names: dict[str, set[str]] = {}
+        for role in ROLES[kind]:
+            self.names[role] = {*HEADINGS["all"].get(role, ()), *HEADINGS[kind].get(role, ()),
+                                *map(plain_name, more.get(role, ()))}
         self.role_of = {name: role for role, names in self.names.items() for name in names}
         self.columns: dict[str, Column] = {}
         self.wrong: list[str] = []
@@ -159,9 +172,11 @@ class Finder:
     def usual_role(self, cell: str) -> str | None:
         """Returns the role of which a cell has a usual name."""
         plain = plain_name(cell)
-        known = self.role_of.get(plain) or self.role_of.get(bare_name(plain)[0])
-        begun = None if known else self._role_of_beginning(plain)
-        return begun if begun and not self._unknown_behind(plain, begun) else known
+        role = self.role_of.get(plain) or self.role_of.get(bare_name(plain)[0])
+        if role is None:
+            begun = self._role_of_beginning(plain)
+            role = begun if begun and not self._unknown_behind(plain, begun) else None
+        return role
 
     @property
     def may_be_wide(self) -> bool:
@@ -180,20 +195,19 @@ class Finder:
         if self.is_wide and self.stated[NO_WIDE_ROLE]:
             self._refuse("no role of a wide table", NO_WIDE_ROLE)
         for role in ROLES[self.kind]:
-            self._find(role, heading)
+            if not self.stated.get(role):
+                self._find(role, heading)
         return self.columns, self.wrong
 
     def _find(self, role: str, heading: Sequence[str]) -> None:
         """Adds the column that has a role, or says what is wrong. One that is stated as none is not looked for."""
-        if self.stated.get(role):
-            return
-        places, unclear = ([], []) if role in self.stated else (self._places(role), [*self._unclear(role)])
+        places, unclear = ([], {}) if role in self.stated else self._places(role)
         if len(places) > 1:
             self._refuse("two columns", role, names=" and ".join(repr(heading[place]) for place in places))
         elif places:
             self._add(role, Column(heading[places[0]], places[0], True))
         elif unclear:
-            for place, words in unclear:
+            for place, words in unclear.items():
                 self._refuse("unknown words", role, name=heading[place], words=", ".join(map(repr, words)))
         elif role in self.needed or role not in self.stated and self._has_other(role):
             self._refuse(f"no column of {role}" if role in ("setup", "holding") else "no column", role,
@@ -201,51 +215,51 @@ class Finder:
 
     def _has_other(self, role: str) -> bool:
         """Returns whether a role is s or S, and there is a column of the other one."""
-        other = LEVELS.get(role, "")
-        return other in self.columns or other not in self.stated and bool(other and self._places(other))
+        other = LEVELS.get(role)
+        if other is None or other in self.columns:
+            return other is not None
+        return other not in self.stated and self._places(other)[0] != []
 
     def _refuse(self, code: str, role: str, **facts: Value) -> None:
         own = {"role": role, "place": f"{self.kind}.{role}", "every": self.every}
         self.wrong.append(message(Remark(code, {**own, **facts})))
 
-    def _places(self, role: str) -> list[int]:
-        """Returns the places of the columns that have a role: those with its very name, else those with its name and a
-        unit, or with words behind it that are known."""
-        mine, free = self.names[role], self._free(role)
-        exact = [place for place in free if self.plain[place] in mine]
-        if exact or role in WHOLE_NAMES:
-            return exact
-        bare = [place for place in free if role in ROLE_UNITS and self.bare[place][0] in mine]
-        known = [place for place, words in self._begun(role) if not words]
-        return sorted({*bare, *known})
-
-    def _unclear(self, role: str) -> Iterator[tuple[int, list[str]]]:
-        """Yields the places of columns that begin with a name of a role, and may be something else by words behind it,
-        with these."""
-        yield from ((place, words) for place, words in self._begun(role) if words and role not in WHOLE_NAMES)
-
-    def _free(self, role: str) -> list[int]:
-        """Returns the places of columns that no role has, and that don't have the very name of another role."""
-        taken, others = {column.place for column in self.columns.values()}, self.role_of.keys() - self.names[role]
-        return [place for place, name in enumerate(self.plain) if place not in taken and name not in others]
-
-    def _begun(self, role: str) -> Iterator[tuple[int, list[str]]]:
-        """Yields the places of columns that begin with a name of a role, each with the words behind it that are not
-        known."""
-        others = self.role_of.keys() - self.names[role]
-        for place in self._free(role):
-            plain = self.plain[place]
-            if self.bare[place][0] not in others and self._role_of_beginning(plain) == role:
-                yield place, self._unknown_behind(plain, role)
+    def _places(self, role: str) -> tuple[list[int], dict[int, list[str]]]:
+        """Returns the places of the columns that have a role, and those that may have it, each with what is not known
+        behind its name. A column has one by its very name; if none has, by its name with a unit, or with words behind it
+        that are known. No other role has it, nor its very name."""
+        taken, mine = {column.place for column in self.columns.values()}, self.names[role]
+        others = self.role_of.keys() - mine
+        exact, near, unclear = list[int](), list[int](), dict[int, list[str]]()
+        for place, plain in enumerate(self.plain):
+            bare, _ = self.bare[place]
+            if place in taken or plain in others:
+                continue
+            if plain in mine:
+                exact.append(place)
+            elif role in ROLE_UNITS and bare in mine:
+                near.append(place)
+            elif bare not in others and self._role_of_beginning(plain) == role:
+                words = self._unknown_behind(plain, role)
+                if words:
+                    unclear[place] = words
+                else:
+                    near.append(place)
+        return (exact, {}) if exact or role in WHOLE_NAMES else (near, unclear)
 
     def _unknown_behind(self, plain: str, role: str) -> list[str]:
         """Returns the words behind the longest name of a role, with which a plain name begins, that are not known. A
         description may have any."""
-        words, has_unit = plain.split(), role in ROLE_UNITS or role in MONEY
         if role == "description":
             return []
-        known = {*BESIDE, *HEADINGS["behind"].get(role, ())} | (UNITS.keys() | CURRENCIES.keys() if has_unit else set())
-        first = max(len(name.split()) for name in self.names[role] if f"{plain} ".startswith(f"{name} "))
+        has_unit = role in ROLE_UNITS or role in MONEY
+        known = {*BESIDE, *HEADINGS["behind"].get(role, ())}
+        if has_unit:
+            known |= UNITS.keys() | CURRENCIES.keys()
+        words, first = plain.split(), 0
+        for name in self.names[role]:
+            if f"{plain} ".startswith(f"{name} "):
+                first = max(first, len(name.split()))
         return [word for place, word in enumerate(words) if place >= first and word not in known
                 and not (has_unit and is_number(words, place))]
 
@@ -253,17 +267,21 @@ class Finder:
         """Returns the role with the longest name that a plain name begins with: a minimum order value is no minimum
         order. None if there is none."""
         words = plain.split()
-        beginnings = (" ".join(words[:count]) for count in range(len(words) - 1, 0, -1))
-        return next((self.role_of[name] for name in beginnings if len(name) > 1 and name in self.role_of), None)
+        for count in range(len(words) - 1, 0, -1):
+            name = " ".join(words[:count])
+            if len(name) > 1 and name in self.role_of:
+                return self.role_of[name]
+        return None
 
     def _add(self, role: str, column: Column) -> None:
         """Adds the column of a role with its unit: the stated one, else that of its heading; and with the currency that
         this says."""
         plain, stated, kind = self.plain[column.place], self.units.get(role), ROLE_UNITS.get(role)
+        is_money = role in MONEY
         is_plain = kind is None or plain in self.names[role] and plain not in IMPLIED
-        currency = currency_in_name(column.name) if kind or role in MONEY else ""
+        currency = currency_in_name(column.name) if kind or is_money else ""
         unit = stated or ("" if is_plain else self.bare[column.place][1])
-        if currency and not stated and role not in MONEY:
+        if currency and not stated and not is_money:
             unit = "money" if kind == "size" else currency
         reason = unit_fault(role, unit) if unit else None
         if reason:
@@ -271,10 +289,10 @@ class Finder:
                          name=column.name)
         if kind == "rate" and not unit and self.every != "week":
             self._refuse("no unit", role, name=column.name)
-        own = {"item", "period", "order", self.every, *["share"] * (role == "fill")}
-        is_own = unit in own and kind not in TIMES
+        own = {ITEM, "period", "order", self.every}
+        is_own = kind not in TIMES and (unit in own or role == "fill" and unit == "share")
         self.columns[role] = replace(column, unit="" if is_own else unit, counts=unit,
-                                     currency=currency if role in MONEY else "")
+                                     currency=currency if is_money else "")
 
 
 def listed(heading: Sequence[str]) -> str:
@@ -284,15 +302,17 @@ def listed(heading: Sequence[str]) -> str:
 def stated_columns(heading: Sequence[str], names: Mapping[str, str]) -> tuple[dict[str, Column], list[str]]:
     """Returns the columns that are stated for roles, and what is wrong with those that a heading doesn't have once. A
     heading may name packs of so many items, and a time of lead times. Other units are the item's own, as kilograms."""
-    columns = {}
-    for role, name in ((role, name) for role, name in names.items() if name and heading.count(name) == 1):
-        unit, kind = bare_name(plain_name(name))[1], ROLE_UNITS.get(role)
-        is_known = unit.isdecimal() if kind in ("count", "size") else kind in TIMES and unit in DAYS
-        columns[role] = Column(name, heading.index(name), unit=unit if is_known else "")
-    wrong = []
-    for role in (role for role, name in names.items() if name and role not in columns):
-        facts = {"name": names[role], "role": role, "columns": listed(heading)}
-        wrong.append(message(Remark("same columns" if names[role] in heading else "no stated column", facts)))
+    columns, wrong = dict[str, Column](), list[str]()
+    for role, name in names.items():
+        count = heading.count(name)
+        if name and count != 1:
+            facts = {"name": name, "role": role, "columns": listed(heading)}
+            wrong.append(message(Remark("same columns" if count else "no stated column", facts)))
+        elif name:
+            _, unit = bare_name(plain_name(name))
+            kind = ROLE_UNITS.get(role)
+            is_known = unit.isdecimal() if kind in ("count", "size") else kind in TIMES and unit in DAYS
+            columns[role] = Column(name, heading.index(name), unit=unit if is_known else "")
     return columns, wrong
 
 

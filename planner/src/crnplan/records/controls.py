@@ -5,21 +5,23 @@ from __future__ import annotations
 import datetime
 import math
 from collections.abc import Callable, Iterable, Iterator, Mapping, Sequence
-from dataclasses import dataclass, field, replace
+from dataclasses import dataclass, field
 from fractions import Fraction
-from typing import Any
+from typing import TYPE_CHECKING, Any
 
 import numpy as np
 import numpy.typing as npt
 
-from .amounts import AmountReader
 from .cells import Numbers, Unreadable, text_of
-from .dates import DateReader
 from .observed import Day, sums_of
 from .rows import Rows
 from .sources import FILE_BITS, Sheet
 
+if TYPE_CHECKING:
+    from .tables import TableReader
+
 States = npt.NDArray[np.int8]  # of each row what became of it, as a place in STATES
+PriceOf = Callable[[int], Fraction | None]  # of an item by its code
 # What becomes of rows: they are used, rejected, left out with their item, or others than are wanted. At the end none is
 # open.
 STATES = USED, REJECTED, WITH_ITEM, OTHER, OPEN = "used", "rejected", "with_item", "other", "open"
@@ -31,6 +33,7 @@ SUMMED = {"demand": ("quantity", "returned"), "items": ("stock",), "orders": (),
 DATED = {"demand": "date", "orders": "ordered", "on_order": "due"}
 DENSE = 8  # times as many possible keys as there are keys, up to which counting is faster than sorting
 MOST_EXACT = 1 << 62  # of sums of whole numbers of 64 bits
+NONE = Fraction(0)
 
 
 @dataclass(frozen=True)
@@ -46,27 +49,28 @@ class Control:
 
     def __add__(self, other: Control) -> Control:
         """Returns what the rows of both come to."""
-        amounts = {role: self.amounts.get(role, Fraction(0)) + other.amounts.get(role, Fraction(0))
-                   for role in {**self.amounts, **other.amounts}}
+        amounts = dict(self.amounts)
+        for role, amount in other.amounts.items():
+            amounts[role] = amounts.get(role, NONE) + amount
         values = [value for value in (self.value, other.value) if value is not None]
-        days = [day for day in (self.first, self.last, other.first, other.last) if day is not None]
-        return Control(self.rows + other.rows, amounts, sum(values, Fraction(0)) if values else None,
+        days = [day for day in (self.first, self.last, other.first, other.last) if day]
+        return Control(self.rows + other.rows, amounts, sum(values, NONE) if values else None,
                        min(days, default=None), max(days, default=None))
 
     @property
     def tree(self) -> list[Any]:
         """Returns it as JSON has it."""
-        return [self.rows, {role: str(amount) for role, amount in self.amounts.items()},
-                None if self.value is None else str(self.value), self.first and str(self.first),
-                self.last and str(self.last)]
+        amounts = {role: str(amount) for role, amount in self.amounts.items()}
+        others = (self.value, self.first, self.last)
+        return [self.rows, amounts, *(None if value is None else str(value) for value in others)]
 
     @classmethod
     def of(cls, tree: Sequence[Any]) -> Control:
         """Returns what was kept as a tree."""
         rows, amounts, value, *days = tree
-        first, last = (None if day is None else datetime.date.fromisoformat(day) for day in days)
-        return cls(rows, {role: Fraction(amount) for role, amount in amounts.items()},
-                   None if value is None else Fraction(value), first, last)
+        first, last = (day and datetime.date.fromisoformat(day) for day in days)
+        return cls(rows, {role: Fraction(amount) for role, amount in amounts.items()}, value and Fraction(value), first,
+                   last)
 
 
 # Controls by kind of table, file and state.
@@ -113,113 +117,109 @@ def counted(keys: Numbers, size: int) -> tuple[Numbers, Numbers]:
     if size > DENSE * len(keys):
         return np.unique(keys, return_counts=True)
     counts = np.bincount(keys, minlength=1)
-    found = np.flatnonzero(counts)
-    return found, counts[found]
+    different = np.flatnonzero(counts)
+    return different, counts[different]
 
 
 def whole_numbers(numbers: Iterable[Fraction | None]) -> tuple[list[int], int]:
     """Returns numbers, of which None is 0, as whole ones, and how many of these are 1."""
-    known = [number or Fraction(0) for number in numbers]
+    known = [number or NONE for number in numbers]
     scale = math.lcm(*(number.denominator for number in known))
     return [number.numerator * (scale // number.denominator) for number in known], scale
 
 
-class Controller:
-    """Computes the controls of the rows of a table. Each row is of a group: its file and its state."""
+class _Groups:
+    """The rows of a table by group: their file, and what became of them."""
 
-    def __init__(self, kind: str, rows: Rows, states: States, readers: Mapping[str, AmountReader], dates: DateReader) -> None:
-        """Takes what reads the amounts by role, and the dates."""
-        self.kind, self.rows, self.readers, self.dates = kind, rows, readers, dates
-        self.groups = (rows.lines >> FILE_BITS) * len(STATES) + states
-        self.count = (int(self.groups.max()) // len(STATES) + 1) * len(STATES) if len(rows) else 0
+    def __init__(self, table: TableReader) -> None:
+        self.table, self.rows = table, table.rows
+        self.codes: Numbers = (self.rows.lines >> FILE_BITS) * len(STATES) + table.states
+        self.count = int(self.codes.max(initial=-1)) + 1
 
-    def controls(self, price_of: Callable[[int], Fraction | None],
-                 factors: Mapping[str, int]) -> Controls:
-        """Returns the controls, by the price of each item, by its code. A unit of measure counts so many items as
-        `factors` says."""
-        sizes = np.bincount(self.groups, minlength=self.count).tolist()
-        controls = {group: Control(size) for group, size in enumerate(sizes) if size}
-        roles = [role for role in SUMMED[self.kind] if role in self.rows.columns]
-        for role in roles:
-            for group, amount in self._sums(role).items():
-                amounts = {**controls[group].amounts, role: amount}
-                controls[group] = replace(controls[group], amounts=amounts)
-        for group, value in self._values(roles[0], price_of, factors).items() if roles else ():
-            controls[group] = replace(controls[group], value=value)
-        for group, (first, last) in self._ends().items():
-            controls[group] = replace(controls[group], first=first, last=last)
-        return {self._key(group): control for group, control in controls.items()}
-
-    def _key(self, group: int) -> tuple[str, str, str]:
-        place, state = divmod(group, len(STATES))
-        return self.kind, names_of_files(self.rows.sheet)[place], STATES[state]
-
-    def _numbers(self, role: str) -> list[Fraction | None]:
-        """Returns the number of each distinct value of a column; None of one that is none."""
-        numbers: list[Fraction | None] = []
-        for cell in self.rows.columns[role].distinct:
-            try:
-                numbers.append(None if cell == "" else self.readers[role].number(cell))
-            except Unreadable:
-                numbers.append(None)
-        return numbers
-
-    def _pairs(self, role: str) -> Iterator[tuple[int, int, int]]:
+    def values(self, role: str) -> Iterator[tuple[int, int, int]]:
         """Yields groups, the values of a column that their rows have, as codes, and how many rows have each."""
-        width = len(self.rows.columns[role].distinct)
-        pairs, counts = counted(self.groups * width + self.rows.codes[role], self.count * width)
-        yield from zip((pairs // width).tolist(), (pairs % width).tolist(), counts.tolist())
+        size = len(self.rows.columns[role].distinct)
+        pairs, counts = counted(self.codes * size + self.rows.codes[role], self.count * size)
+        yield from zip((pairs // size).tolist(), (pairs % size).tolist(), counts.tolist())
 
-    def _sums(self, role: str) -> dict[int, Fraction]:
-        """Returns the sum of a column's numbers by group."""
-        (numbers, scale), sums = whole_numbers(self._numbers(role)), dict[int, int]()
-        for group, code, count in self._pairs(role):
+    def numbers(self, role: str) -> tuple[list[int], int]:
+        """Returns the number of each distinct value of a column, 0 of one that is none, as `whole_numbers` does."""
+        return whole_numbers(map(self.table.amounts[role].known, self.rows.columns[role].distinct))
+
+    def sums(self, role: str) -> Iterator[tuple[int, Fraction]]:
+        """Yields the sum of a column's numbers in each group."""
+        numbers, scale = self.numbers(role)
+        sums = dict[int, int]()
+        for group, code, count in self.values(role):
             sums[group] = sums.get(group, 0) + count * numbers[code]
-        return {group: Fraction(total, scale) for group, total in sums.items()}
+        for group, total in sums.items():
+            yield group, Fraction(total, scale)
 
-    def _ends(self) -> dict[int, tuple[Day, Day]]:
-        """Returns the first and the last date of each group, in the first column with dates."""
-        role, ends = DATED.get(self.kind, ""), dict[int, tuple[Day, Day]]()
-        for group, code, _ in self._pairs(role) if role in self.rows.columns else ():
+    def ends(self, role: str) -> dict[int, tuple[Day, Day]]:
+        """Returns the first and the last date of each group that has one."""
+        ends = dict[int, tuple[Day, Day]]()
+        for group, code, _ in self.values(role):
             try:
-                day, _ = self.dates.read(self.rows.columns[role].distinct[code])
+                day, _ = self.table.dates.read(self.rows.columns[role].distinct[code])
             except Unreadable:
                 continue
             first, last = ends.get(group, (day, day))
             ends[group] = min(first, day), max(last, day)
         return ends
 
-    def _values(self, role: str, price_of: Callable[[int], Fraction | None],
-                factors: Mapping[str, int]) -> dict[int, Fraction]:
-        """Returns by group what the items of a column are worth; nothing for groups without a price."""
-        items, scale = self._items(role, factors)
-        width, values = len(self.rows.columns["item"].distinct), dict[int, int]()
-        keys = self.groups * width + self.rows.codes["item"]
-        if items.dtype == object:
-            sums = np.zeros(self.count * width, object)
-            np.add.at(sums, keys, items)
-        else:
-            sums = sums_of(keys, items, self.count * width)
-        known = counted(keys, self.count * width)[0].tolist()
-        prices = {item: price for item in {key % width for key in known} if (price := price_of(item)) is not None}
-        numbers, part = whole_numbers(prices.values())
-        whole_prices = dict(zip(prices, numbers))
-        for key in known:
-            group, item = divmod(key, width)
-            if item in whole_prices:
-                values[group] = values.get(group, 0) + int(sums[key]) * whole_prices[item]
-        return {group: Fraction(value, scale * part) for group, value in values.items()}
-
-    def _items(self, role: str, factors: Mapping[str, int]) -> tuple[npt.NDArray[Any], int]:
-        """Returns how many items each row says, as whole numbers, and how many of these are one item."""
+    def items(self, role: str, factors: Mapping[str, int]) -> tuple[npt.NDArray[Any], int]:
+        """Returns how many items each row says, as `whole_numbers` does."""
         unit = self.rows.sheet.columns[role].unit
-        numbers, scale = whole_numbers(self._numbers(role))
-        sizes = [factors.get(text_of(cell), 1) for cell in self.rows.columns["measure"].distinct] if (
-            "measure" in self.rows.columns) else [1]
-        whole = [number * (int(unit) if unit.isdecimal() else 1) for number in numbers]
-        most = max([abs(number) for number in whole], default=0) * max(sizes, default=1) * len(self.rows)
+        pack = int(unit) if unit.isdecimal() else 1
+        numbers, scale = self.numbers(role)
+        sizes = [1]
+        if "measure" in self.rows.columns:
+            sizes = [factors.get(text_of(cell), 1) for cell in self.rows.columns["measure"].distinct]
+        most = max((abs(number) for number in numbers), default=0) * pack * max(sizes, default=1) * len(self.rows)
         kind: type = np.int64 if most < MOST_EXACT else object
-        items: npt.NDArray[Any] = np.array(whole, kind)[self.rows.codes[role]]
+        items: npt.NDArray[Any] = np.array(numbers, kind)[self.rows.codes[role]] * pack
         if "measure" in self.rows.columns:
             items = items * np.array(sizes, kind)[self.rows.codes["measure"]]
         return items, scale
+
+    def worths(self, role: str, price_of: PriceOf, factors: Mapping[str, int]) -> Iterator[tuple[int, Fraction]]:
+        """Yields what the items of a column are worth in each group with a price."""
+        items, scale = self.items(role, factors)
+        size = len(self.rows.columns["item"].distinct)
+        keys = self.codes * size + self.rows.codes["item"]
+        sums = sums_of(keys, items, self.count * size)
+        known = counted(keys, self.count * size)[0].tolist()
+        prices = {item: price_of(item) for item in {key % size for key in known}}
+        numbers, part = whole_numbers(prices.values())
+        whole_prices, worths = dict(zip(prices, numbers)), dict[int, int]()
+        for key in known:
+            group, item = divmod(key, size)
+            if prices[item] is not None:
+                worths[group] = worths.get(group, 0) + int(sums[key]) * whole_prices[item]
+        for group, worth in worths.items():
+            yield group, Fraction(worth, scale * part)
+
+
+def controls_of(table: TableReader, price_of: PriceOf, factors: Mapping[str, int]) -> Controls:
+    """Returns the controls of the rows of a table, by the price of each item. A unit of measure counts so many items as
+    `factors` says."""
+    groups, columns = _Groups(table), table.rows.columns
+    facts: dict[int, dict[str, Any]] = {}
+    for group, size in enumerate(np.bincount(groups.codes).tolist()):
+        if size:
+            facts[group] = {"rows": size, "amounts": {}}
+    roles = [role for role in SUMMED[table.kind] if role in columns]
+    for role in roles:
+        for group, amount in groups.sums(role):
+            facts[group]["amounts"][role] = amount
+    for group, value in groups.worths(roles[0], price_of, factors) if roles else ():
+        facts[group]["value"] = value
+    date = DATED.get(table.kind)
+    for group, (first, last) in groups.ends(date).items() if date in columns else ():
+        facts[group] |= {"first": first, "last": last}
+    names = names_of_files(table.rows.sheet)
+    controls: Controls = {}
+    for group, fact in facts.items():
+        file, state = divmod(group, len(STATES))
+        controls[table.kind, names[file], STATES[state]] = Control(**fact)
+    return controls

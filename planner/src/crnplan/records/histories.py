@@ -5,10 +5,11 @@ from __future__ import annotations
 import datetime
 from collections.abc import Iterator, Mapping, Sequence
 from dataclasses import dataclass, replace
+from fractions import Fraction
 from pathlib import Path
+from typing import NamedTuple
 
 import numpy as np
-import numpy.typing as npt
 
 from ..errors import Fault, Refused, RefusedFaults, argument, worded
 from ..files import named_text
@@ -18,20 +19,18 @@ from ..table import DataTable, text, whole
 from ..words import message
 from .amounts import DECIMALS, KINDS, NAMES, other_reading
 from .blocks import DATES
-from .cells import MOST_NAMED, TOTAL, Numbers, named_lines, shown, text_of
+from .cells import MOST_NAMED, Numbers, named_lines, shown, text_of
 from .columns import NO_ROW, conversion, converted, periods_of, stated_columns
 from .dates import EVERY, NEED_PERIOD, first_day, period_name, period_of, periods_of_days
 from .observed import Day, History, LeadTimes, ends_of, summed
 from .opening import Table, opened
-from .rows import TIMES_NEXT, far_above, rows_of
-from .sources import Rules, Sheet, sample
+from .repeated import total_of
+from .rows import TIMES_NEXT, far_above
+from .sources import Column, Rules, Sheet, sample
+from .tables import TableReader
 
-# What is said: the line of a row, 0 for the file, the place of a cell in the row, -1 for the row, and a text.
-Said = tuple[int, int, str]
 # A way of writing that at most one row in so many has is suspicious.
 RARE = 10
-# A sum of fewer rows may well come again below them.
-LEAST_SUMMED = 6
 # So many faults are printed. The rejects have all.
 MOST_PRINTED = 20
 # By whether the first and the last period of a record may be partial.
@@ -144,6 +143,14 @@ def column_names(table: Table, rules: Rules) -> list[str]:
         return [*filter(None, sheet.heading)][:100]
 
 
+class Said(NamedTuple):
+    """What is to be said of a file, of the row in a line, or of its cell in a column: a remark, or the text of the cell."""
+
+    what: Remark | str
+    line: int = 0
+    column: Column | None = None
+
+
 class Reading:
     """A table of one item while it is read: the rows of use, the numbers of all rows by role (a date is its ordinal
     number), what is wrong with cells, and what is to be said of them."""
@@ -157,30 +164,30 @@ class Reading:
         sheet.find_heading([*names.values(), *(() if own_item else self.rules.item)])
         items = {f"item {name}": name for name in self.rules.item if not own_item or name in sheet.heading}
         sheet.columns, wrong = stated_columns(sheet.heading, {**names, **items})
+        amounts = [role for role in names if role not in DATES]
         try:
             if wrong:
                 raise RefusedFaults([Fault(what, sheet.name, sheet.line) for what in wrong])
-            self.rows = rows_of(sheet)
+            self.table = TableReader.of("history", sheet, amounts)
+            self.rows = self.table.rows
             if not len(self.rows):
                 raise RefusedFaults([Fault(NO_ROW, sheet.name, sheet.line + 1)])
         except RefusedFaults as refused:
             # What else is wrong may come from the encoding.
             raise RefusedFaults([sheet.fault] if sheet.fault else refused.faults) from refused
-        self.reader = self.rows.date_reader()
-        self.numbers, self.wrong = dict[str, Numbers](), dict[str, Mapping[int, Remark]]()
-        self.has_rest = sum(map(bool, sheet.heading)) > sum(role not in DATES for role in names)
+        self.numbers = dict[str, Numbers]()
+        self.has_rest = sum(map(bool, sheet.heading)) > len(amounts)
         self._faults, self._notes = list[Said](), list[Said]()
         if sheet.titles:
-            texts = ", ".join(repr(shown(" ".join(filter(None, cells)))) for _, cells in sheet.titles)
-            self.note("titles", lines=named_lines([line for line, _ in sheet.titles]), texts=texts)
+            texts = [repr(shown(" ".join(filter(None, cells)))) for _, cells in sheet.titles]
+            self.note("titles", lines=named_lines([line for line, _ in sheet.titles]), texts=", ".join(texts))
         if sheet.hidden:
             self.note("hidden rows", count=sheet.hidden)
         blank = [] if items else [line for line in self.rows.blank if line < self.rows.lines[-1]]
         self.missing = blank if counts_blank else []
         if blank and not counts_blank:
             self.note("blank rows", count=len(blank), lines=named_lines(blank))
-        for remark in self.reader.notes.values():
-            self._notes.append(self.said(remark))
+        self._notes += map(Said, self.table.dates.notes.values())
         self._choose(items)
 
     def _choose(self, items: Mapping[str, str]) -> None:
@@ -188,28 +195,28 @@ class Reading:
         fault. Raises Refused if there are none."""
         chosen = np.ones(len(self.rows), bool)
         for role, name in items.items():
-            text, values = self.rules.item[name], list(map(text_of, self.rows.columns[role].distinct))
+            text, values = self.rules.item[name], [text_of(cell) for cell in self.rows.columns[role].distinct]
             if text not in values:
-                others = [repr(shown(it)) for it in values if it]
+                others = [repr(shown(value)) for value in values if value]
                 some = ", ".join([*others[:MOST_NAMED], *[".."] * (len(others) > MOST_NAMED)])
                 raise self.refused("no row of the item", text=text, name=name, count=len(others), others=some)
             chosen &= self.rows.having(role, [code for code, value in enumerate(values) if value == text])
         if items:
             wanted = " and ".join(f"{name} = {self.rules.item[name]}" for name in items.values())
             self.note("rows of the item", wanted=wanted, count=int(chosen.sum()), rows=len(self.rows))
-        for row in (row for row in self.rows.wide if chosen[row]):
-            words = message(self.rows.long(row))
-            self._faults.append((int(self.rows.lines[row]), len(self.sheet.heading), words))
+        for row in self.rows.wide:
+            if chosen[row]:
+                behind = Column("", len(self.sheet.heading))
+                self._faults.append(Said(self.rows.long(row), int(self.rows.lines[row]), behind))
         self.count = int(chosen.sum()) + len(self.missing)
-        self.used: npt.NDArray[np.int64] = np.flatnonzero(chosen & self.rows.good)
+        self.used: Numbers = np.flatnonzero(chosen & self.rows.good)
 
     def text(self, role: str, row: int) -> str:
         return text_of(self.rows.cell(role, row))
 
-    def said(self, what: str | Remark, row: int | None = None, role: str = "") -> Said:
-        line, column = 0 if row is None else int(self.rows.lines[row]), self.sheet.columns.get(role)
-        words = what if isinstance(what, str) else message(what)
-        return (line, column.place, f"column {column.name!r}: {words}") if column else (line, -1, words)
+    def said(self, what: Remark | str, row: int | None = None, role: str = "") -> Said:
+        """Returns what is said of the file, of a row or of its cell."""
+        return Said(what, 0 if row is None else int(self.rows.lines[row]), self.sheet.columns.get(role))
 
     def note(self, code: str, row: int | None = None, role: str = "", **facts: Value) -> None:
         self._notes.append(self.said(Remark(code, facts), row, role))
@@ -221,7 +228,7 @@ class Reading:
 
     def note_unit(self, role: str, every: str = "") -> None:
         """Notes that the numbers of a column are converted from its unit."""
-        self._notes.append((0, -1, converted(self.sheet.columns[role], role, every)))
+        self._notes.append(Said(converted(self.sheet.columns[role], role, every)))
 
     def refused(self, code: str, row: int | None = None, role: str = "", **facts: Value) -> RefusedFaults:
         """Returns the error of the file, or of a cell for which the whole file is refused."""
@@ -236,43 +243,48 @@ class Reading:
         """Returns the cells of a column in the rows of use, each with its text."""
         return [self.said(self.text(role, row), row, role) for row in self.used.tolist()]
 
-    def read_dates(self, role: str) -> None:
-        self.numbers[role], self.wrong[role] = self.rows.days(role, lambda cell: self.reader.read(cell)[0])
-
     def read_amounts(self, role: str, kind: str) -> None:
         """Reads the amounts of a column, which are of a kind of KINDS."""
-        reader, unit = self.rows.amount_reader(role), self.sheet.columns[role].unit
-        packs = unit if unit.isdecimal() else ""
+        reader = self.table.amounts[role]
         if reader.is_doubtful and reader.sign and not reader.stated:
             self.note("decimal sign", role=role, sign=f"{NAMES[reader.sign]} in {shown(reader.sides[reader.sign])}")
-        if packs:
+        if self.sheet.columns[role].unit.isdecimal():
             self.note_unit(role)
-        _, place, words = self.said(Remark(KINDS[kind][0]), role=role)
-        self._faults += [(line, place, words) for line in self.missing]
-        self.numbers[role], self.wrong[role] = self.rows.amounts(role, reader, kind, packs)
+        empty = self.said(Remark(KINDS[kind][0]), role=role)
+        self._faults += [empty._replace(line=line) for line in self.missing]
+        self.numbers[role] = self.table.read_amounts(role, kind)
 
     def keep(self) -> None:
         """Keeps the rows whose cells were all read. Raises RefusedFaults for faults. If rows with faults are to be left
         out, this is noted, and one at least must be left."""
-        bad = self.rows.faulty(self.wrong)[self.used]
-        self._faults += [self.said(remark, row, role) for row in self.used[bad].tolist()
-                         for role, _, remark in self.rows.faults(row, self.wrong)]
+        bad = self.table.bad[self.used]
+        for row in self.used[bad].tolist():
+            self._faults += [self.said(remark, row, role) for role, _, remark in self.table.faults(row)]
         self.used = self.used[~bad]
         of_file = [self.sheet.fault] if self.sheet.fault else []
         if of_file or self._faults and not self.rules.leave_out:
             notes, faults = self.finish()
             raise RefusedFiles([*of_file, *faults], notes)
         if self._faults:
-            lines = sorted({line for line, _, _ in self._faults})
+            lines = sorted({fault.line for fault in self._faults})
             self.note("rows left out", count=len(lines), rows=self.count, lines=named_lines(lines))
         if not len(self.used):
             raise RefusedFiles([*self.finish()[1], *self.refused("no row left").faults])
 
     def placed(self, said: Sequence[Said]) -> list[Reject]:
-        """Returns what is said with its places, and with the texts of rows."""
-        texts = self.sheet.texts({line for line, place, _ in said if line and place >= 0})
-        return [Reject(what, self.sheet.name, *self.sheet.place(texts[line], line, place), texts[line])
-                if line in texts and place >= 0 else Reject(what, self.sheet.name, line) for line, place, what in said]
+        """Returns what is said in words, with its places, and with the texts of rows."""
+        texts = self.sheet.texts({line for _, line, column in said if line and column})
+        rejects = list[Reject]()
+        for what, line, column in said:
+            words = what if isinstance(what, str) else message(what)
+            if column and column.name:
+                words = f"column {column.name!r}: {words}"
+            if column and line in texts:
+                place = self.sheet.place(texts[line], line, column.place)
+                rejects.append(Reject(words, self.sheet.name, *place, texts[line]))
+            else:
+                rejects.append(Reject(words, self.sheet.name, line))
+        return rejects
 
     def finish(self) -> tuple[tuple[Fault, ...], tuple[Fault, ...]]:
         """Returns all notes, and the faults of the rows that were left out, by place."""
@@ -292,30 +304,29 @@ class Reading:
                 for role in counts}
         return replace(made["quantity"], returns=made.get("returned"))
 
-    def total_reason(self, row: int, number: int | None, others: Sequence[int]) -> str | None:
-        """Returns why a row looks like a total of the rows above, whose numbers are given; None if it doesn't."""
-        text = self.sheet.texts([self.rows.lines[row]])[int(self.rows.lines[row])]
-        cells = (cell for _, row in sample(text, self.sheet.delimiter) for cell in row)
-        word = next(filter(TOTAL.match, cells), None)
-        if word is not None:
-            return f"it has {shown(word)!r}"
-        is_sum = len(others) >= LEAST_SUMMED and number == sum(others) and sum(map(bool, others)) > 1
-        return f"{number} is the sum of all others" if is_sum else None
+    def total(self, place: str, row: int, number: int | None, others: Sequence[int]) -> Remark | None:
+        """Returns that a row in a place looks like a total of the rows above, whose numbers are given; None if it doesn't."""
+        line = int(self.rows.lines[row])
+        cells = [cell for _, cells in sample(self.sheet.texts([line])[line], self.sheet.delimiter) for cell in cells]
+        return total_of(place, cells, number, others)
 
     def suspect(self) -> None:
         """Notes what is suspicious in the rows of use: several forms of dates, rows that stand twice, and amounts."""
-        for role in (it for it in self.numbers if it in DATES):
-            self._note_forms(role)
+        for role in self.table.wrong:
+            if role in DATES:
+                self._note_forms(role)
         self._note_twins()
-        for role in (it for it in self.numbers if it not in DATES):
-            self._note_amounts(role)
+        for role in self.table.wrong:
+            if role not in DATES:
+                self._note_amounts(role)
 
     def _note_amounts(self, role: str) -> None:
         """Notes a last row that looks like a total, amounts far above all others, and rare ways of writing."""
         rows, numbers = self.used.tolist(), self.of(role)
-        why = self.total_reason(rows[-1], numbers[-1], numbers[:-1]) if rows[-1] == len(self.rows) - 1 else None
-        if why:
-            self.note("last total", rows[-1], role, why=why)
+        is_last = rows[-1] == len(self.rows) - 1
+        total = self.total("last", rows[-1], numbers[-1], numbers[:-1]) if is_last else None
+        if total:
+            self._notes.append(self.said(total, rows[-1], role))
             rows, numbers = rows[:-1], numbers[:-1]
         amounts = np.array(numbers, np.int64)
         far, ranked = far_above(amounts, TIMES_NEXT), np.argsort(-amounts, kind="stable").tolist()
@@ -329,17 +340,20 @@ class Reading:
 
     def _note_twins(self) -> None:
         """Notes rows that are the same as others, but for rows of nothing but amounts, which can't be told apart."""
-        first = self.rows.twins()
-        again = self.used[self.has_rest & (first[self.used] != self.used) & np.isin(first[self.used], self.used)]
-        if len(again):
-            more = self.rows.lines[again[1:]].tolist()
-            self.note("twin rows" if more else "twin row", int(again[0]), count=len(more), lines=named_lines(more),
-                      first=int(self.rows.lines[first[again[0]]]))
+        used = np.zeros(len(self.rows), bool)
+        used[self.used] = self.has_rest
+        twins = self.rows.twins(used)
+        if twins:
+            (row, first), *more = twins.items()
+            lines = [int(self.rows.lines[other]) for other, _ in more]
+            self.note("twin rows" if more else "twin row", row, count=len(lines), lines=named_lines(lines),
+                      first=int(self.rows.lines[first]))
 
     def _note_forms(self, role: str) -> None:
         firsts: dict[str, tuple[int, str]] = {}
-        for row in self.used[np.sort(np.unique(self.rows.codes[role][self.used], return_index=True)[1])].tolist():
-            day, form = self.reader.read(self.rows.cell(role, row))
+        _, places = np.unique(self.rows.codes[role][self.used], return_index=True)
+        for row in self.used[np.sort(places)].tolist():
+            day, form = self.table.dates.read(self.rows.cell(role, row))
             firsts.setdefault(form, (row, f"{shown(self.text(role, row))!r} (line {self.rows.lines[row]}) is {day}"))
         if len(firsts) > 1:
             rows, named = zip(*firsts.values())
@@ -355,10 +369,12 @@ class Reading:
 def rare_signs(texts: Mapping[int, str], decimal: str | None) -> Iterator[tuple[int, int, str]]:
     """Yields the row of the first number that another decimal sign than the stated one would make a thousand times
     smaller, or larger, how many are written so, if they are few, and what it would be."""
-    others = {text: other_reading(text, decimal) for text in {*texts.values()} if decimal}
+    if not decimal:
+        return
+    others = {text: other_reading(text, decimal) for text in {*texts.values()}}
+    group = DECIMALS[decimal == "."]
     for is_grouped in (True, False):
-        rows = [row for row, text in texts.items() if others.get(text) and (
-            DECIMALS[decimal == "."] in text) == is_grouped]
+        rows = [row for row, text in texts.items() if others[text] and (group in text) == is_grouped]
         if 0 < len(rows) <= max(1, len(texts) // RARE):
             yield rows[0], len(rows), others[texts[rows[0]]] or ""
 
@@ -374,16 +390,16 @@ def _undated(reading: Reading, roles: Sequence[str]) -> History:
 
 def _read_movements(reading: Reading, roles: Sequence[str], net: bool) -> None:
     """Reads dated movements. A last row without a date that looks like a total has this fault alone."""
-    reading.read_dates("date")
+    reading.numbers["date"] = reading.table.read_days("date")
     for role in roles:
         reading.read_amounts(role, "whole" if net else "movement")
-    rows, is_bad = reading.used, reading.rows.having("quantity", reading.wrong["quantity"])
-    if len(rows) and reading.rows.codes["date"][rows[-1]] in reading.wrong["date"]:
-        others = reading.numbers["quantity"][[row for row in rows[:-1] if not is_bad[row]]].tolist()
-        number = None if is_bad[rows[-1]] else int(reading.numbers["quantity"][rows[-1]])
-        why = reading.total_reason(rows[-1], number, others)
-        if why:
-            reading.reject(Remark("undated total", {"why": why}), rows[-1], "date")
+    rows, wrong, amounts = reading.used, reading.table.wrong, reading.numbers["quantity"]
+    if len(rows) and reading.rows.codes["date"][rows[-1]] in wrong["date"]:
+        is_good = ~reading.rows.having("quantity", wrong["quantity"])
+        number = int(amounts[rows[-1]]) if is_good[rows[-1]] else None
+        total = reading.total("undated", rows[-1], number, amounts[rows[:-1][is_good[rows[:-1]]]].tolist())
+        if total:
+            reading.reject(total, rows[-1], "date")
     reading.keep()
 
 
@@ -403,7 +419,9 @@ def _spanned(reading: Reading, every: str, start: Day | None, end: Day | None, w
     """Returns the numbers of the periods of the record, with a note: of all items, if the rows are those of one. Raises
     RefusedFaults for none, or for too many."""
     days, rows = reading.numbers["date"], reading.used
-    known = days[~reading.rows.faulty({"date": reading.wrong["date"]})] if reading.rules.item else days[rows]
+    known = days[rows]
+    if reading.rules.item:
+        known = days[~reading.rows.having("date", reading.table.wrong["date"])]
     first = period_of(start or Day.fromordinal(int(known.min())), every)
     last = period_of(end or Day.fromordinal(int(known.max())), every)
     partial = (start is None or first_day(first, every) != start,
@@ -434,20 +452,21 @@ def _summed(reading: Reading, roles: Sequence[str], every: str, periods: range) 
         if moved:
             reading.note("undone earlier", role=role, every=every, count=moved)
         if place is not None:
-            row, period = rows[place], period_name(periods[numbers[place]], every)
-            facts: dict[str, Value] = {"amount": int(reading.numbers[role][row]), "every": every, "period": period}
-            unmet.append(reading.said(Remark("more undone", facts), row, role))
+            facts: dict[str, Value] = {"amount": int(reading.numbers[role][rows[place]]), "every": every,
+                                       "period": period_name(periods[numbers[place]], every)}
+            unmet.append(reading.said(Remark("more undone", facts), rows[place], role))
     if unmet:
         raise RefusedFiles(reading.placed(unmet), reading.finish()[0])
     firsts = dict(zip(reversed(numbers.tolist()), reversed(rows.tolist())))
     sizes = np.bincount(numbers, minlength=len(periods)).tolist()
-
-    def cell(role: str, number: int, count: int) -> Said | None:
-        """Returns the first cell of a period, and how a message names its sum."""
-        what = f"{every} {period_name(periods[number], every)}, which comes to {count} in {sizes[number]} row"
-        return reading.said(f"{what}{'s' * (sizes[number] > 1)},", firsts[number], role) if sizes[number] else None
-    return reading.history(counts, {role: [cell(role, *it) for it in enumerate(counts[role])] for role in counts},
-                           every, periods[0])
+    cells = dict[str, list[Said | None]]()
+    for role, amounts in counts.items():
+        cells[role] = [None] * len(periods)
+        for number, row in firsts.items():
+            name, count = period_name(periods[number], every), sizes[number]
+            facts = {"every": every, "period": name, "amount": amounts[number], "rows": count}
+            cells[role][number] = reading.said(Remark("sum of rows" if count > 1 else "sum of a row", facts), row, role)
+    return reading.history(counts, cells, every, periods[0])
 
 
 def _lead_times(reading: Reading, every: str | None) -> LeadTimes:
@@ -457,38 +476,39 @@ def _lead_times(reading: Reading, every: str | None) -> LeadTimes:
     reading.keep()
     reading.suspect()
     unit = reading.sheet.columns["lead"].unit
-    leads: list[tuple[int, ...]] = [(number,) for number in reading.of("lead")]
+    factor = Fraction(1)
     if unit and every is None:
         reading.note("leads in periods", role="lead")
     elif unit and unit != every:
         reading.note_unit("lead", str(every))
-        leads = [periods_of(number * conversion("lead", unit, str(every))[0]) for number in reading.of("lead")]
-    places = reading.places([cell for cell, its in zip(reading.cells("lead"), leads) for _ in its])
-    return LeadTimes(tuple(lead for its in leads for lead in its), places, *reading.finish(), None)
+        factor, _ = conversion("lead", unit, str(every))
+    leads, cells = list[int](), list[Said | None]()
+    for number, cell in zip(reading.of("lead"), reading.cells("lead")):
+        of_row = (number,) if factor == 1 else periods_of(number * factor)
+        leads += of_row
+        cells += [cell] * len(of_row)
+    return LeadTimes(tuple(leads), reading.places(cells), *reading.finish(), None)
 
 
 def _orders(reading: Reading, every: str) -> LeadTimes:
     """Returns the lead times between the dates of orders and of their receipts."""
-    orders = reading.used
-    reading.used = orders[~reading.rows.empty("received")[orders]]
-    received = len(reading.used)
-    if len(orders) and not received:
-        raise reading.refused("no receipt", orders[0], "received")
-    reading.count -= len(orders) - received
+    placed, orders = reading.used, reading.table.read_orders(every)
+    reading.used = placed[~orders.is_open[placed]]
+    is_open = len(placed) - len(reading.used)
+    if len(placed) and is_open == len(placed):
+        raise reading.refused("no receipt", placed[0], "received")
+    reading.count -= is_open
     reading.check_count("ordered", "orders")
-    for role in ("ordered", "received"):
-        reading.read_dates(role)
-    placed, there = reading.numbers.values()
-    for row in reading.used[(there < placed)[reading.used]].tolist():
-        if not reading.rows.faults(row, reading.wrong):
+    for row in reading.used[(orders.days < 0)[reading.used]].tolist():
+        if not reading.table.faults(row):
             texts: dict[str, Value] = {role: reading.text(role, row) for role in ("ordered", "received")}
             reading.reject(Remark("received before", texts), row, "received")
     reading.keep()
-    leads = [max(1, last - first) for first, last in zip(*(
-        periods_of_days(days[reading.used], every).tolist() for days in (placed, there)))]
-    reading.note("orders", every=every, count=len(leads), open=len(orders) - received)
+    leads = orders.leads[reading.used].tolist()
+    reading.note("orders", every=every, count=len(leads), open=is_open)
     reading.suspect()
-    places = reading.places([reading.said(f"the lead time of {lead} {every}s since the order of "
-                                          f"{reading.text('ordered', row)}", row, "received")
-                             for row, lead in zip(reading.used.tolist(), leads)])
-    return LeadTimes(tuple(leads), places, *reading.finish(), every)
+    cells = list[Said | None]()
+    for row, lead in zip(reading.used.tolist(), leads):
+        facts: dict[str, Value] = {"lead": lead, "every": every, "ordered": reading.text("ordered", row)}
+        cells.append(reading.said(Remark("lead of an order", facts), row, "received"))
+    return LeadTimes(tuple(leads), reading.places(cells), *reading.finish(), every)

@@ -3,30 +3,34 @@ planner states for all items if a row lacks it."""
 from __future__ import annotations
 
 import math
-from collections.abc import Callable, Mapping, Sequence
+from collections.abc import Callable, Iterable, Mapping, Sequence
 from fractions import Fraction
 from functools import partial
 from typing import Any, NamedTuple
 
 from ..money import MOST_DECIMALS
-from ..remarks import Remark
-from .amounts import PERCENT, AmountReader
+from .amounts import PERCENT
 from .bounds import Bounds
-from .cells import UNPRINTABLE, Cell, CellFault, Unreadable, fault, shown
-from .columns import DAYS, MONEY, NEEDED, ROLES, SHARES, conversion
-from .dates import DateReader, period_of
-from .defaults import DEFAULT, MASTERS, ORDERS, Defaults, currency_in, distinct
+from .cells import UNPRINTABLE, Cell, CellFault, CellReader, Unreadable, fault, shown
+from .columns import DAYS, MONEY, NEEDED, ROLES, SHARES, conversion, periods_a_year
+from .dates import period_of
+from .defaults import DEFAULT, MASTERS, ORDERS, currency_in, distinct
+from .filed import Whole
 from .item import BORROW, Item, value_of
+from .items import Words
 from .leads import counts_receipts, leads_from
 from .overrides import Override, level_faults, override_faults, word_of
-from .status import NOTHING, status_of
 from .sources import Column
-from .times import TimeReader
+from .status import NOTHING, status_of
 
-# The kinds of numbers in the cells of masters. Others are shares, lead times and texts.
+# The kinds of numbers in the cells of masters.
 READ_AS = {"setup": "money", "backlog": "cost", "s": "items", "S": "items", "stock": "number", "price": "money",
            "price_for": "cost", "order_min": "money", "pack": "items", "s_min": "items",
            "supplier_min": "money", "override_s": "items", "override_S": "items"}
+SPANS = ("coverage", "shelf_life")
+TEXTS = ("description", "class", "supplier", "override_reason")
+# The roles whose readers convert their numbers.
+CONVERTED = {"lead", "fill", *SPANS}
 OVERRIDE = "override_s", "override_S", "override", "override_reason"
 
 
@@ -36,6 +40,10 @@ def borrowed_from(cell: Cell) -> str:
     if source not in BORROW:
         raise Unreadable("no borrow", cell, known=f"{', '.join(BORROW[:-1])} or {BORROW[-1]}")
     return source
+
+
+def printable(cell: Cell) -> str:
+    return UNPRINTABLE.sub(" ", str(cell))
 
 
 class Master(NamedTuple):
@@ -49,36 +57,38 @@ class Master(NamedTuple):
 
 
 class Masters:
-    """Reads the rows of masters, with the unit of each column, and what holds if they say nothing. `currencies` has the
-    first text of each currency in them, `statuses` what texts of a status mean, if that is stated, and `lead_from` says
-    from where lead times are."""
+    """Reads the rows of masters, with the unit of each column, and what holds if they say nothing."""
 
-    def __init__(self, amounts: Mapping[str, AmountReader], times: Mapping[str, TimeReader], dates: DateReader,
-                 columns: Mapping[str, Column], every: str, defaults: Defaults, currencies: Mapping[str, str],
-                 statuses: Mapping[str, str], lead_from: str) -> None:
-        units = {role: column.unit for role, column in columns.items() if column.unit}
-        factors = {role: conversion(role, unit, every)[0] for role, unit in units.items()
-                   if role not in ("lead", "fill", "coverage", "shelf_life")}
-        self.price_factor, self.factors = factors.pop("price", Fraction(1)), factors
-        self.is_money = units.get("order_min") == "money"
-        self.share = units["holding"] if units.get("holding") in SHARES else ""
-        self.defaults, self.currencies, self.usual_leads = defaults, distinct(currencies), defaults.leads(every)
-        self.lead_from, self.days = lead_from, DAYS[every]
-        self.a_year = conversion("holding", "share", every)[0]
-        self.needed, self.blank = NEEDED["items"] - defaults.roles, dict.fromkeys(ROLES["items"][1:])
-        self.known: dict[tuple[str, Cell], Any] = {}  # by role and cell, its value, or what is wrong with it
-        self.readers: dict[str, Callable[[Cell], Any]] = {
-            **{role: partial(amounts[role].number, kind=kind) for role, kind in READ_AS.items()},
-            **dict.fromkeys(("description", "class", "supplier", "override_reason"), lambda cell: UNPRINTABLE.sub(" ", str(cell))),
-            "holding": partial(self._holding, amounts["holding"]), "borrow": borrowed_from, "currency": currency_in,
-            "lead": partial(times["lead"].leads, unit=units.get("lead", ""), every=every),
-            **{role: partial(times[role].span, unit=units.get(role, ""), every=every) for role in ("coverage", "shelf_life")},
-            "fill": partial(amounts["fill"].share, unit=units.get("fill", ""), role="fill"),
-            "status": partial(status_of, stated=statuses), "override": word_of,
-            "since": lambda cell: period_of(dates.read(cell)[0], every)}
+    def __init__(self, whole: Whole, words: Words, columns: Mapping[str, Column]) -> None:
+        self.whole, self.words, self.defaults = whole, words, words.defaults
+        self.units = {role: column.unit for role, column in columns.items() if column.unit}
+        self.factors = {role: conversion(role, unit, words.every)[0] for role, unit in self.units.items()
+                        if role not in CONVERTED}
+        self.price_factor = self.factors.pop("price", Fraction(1))
+        self.is_money = self.units.get("order_min") == "money"
+        self.share = self.units["holding"] if self.units.get("holding") in SHARES else ""
+        self.currencies, self.usual_leads = distinct(whole.currencies), self.defaults.leads(words.every)
+        self.blank = dict.fromkeys(ROLES["items"][1:])
+        self.cells = CellReader(self._readers(), NEEDED["items"] - self.defaults.roles)
 
-    def _holding(self, reader: AmountReader, cell: Cell) -> Fraction:
+    def _readers(self) -> dict[str, Callable[[Cell], Any]]:
+        """Returns what reads the cells of each role."""
+        amounts, times, every = self.whole.amounts, self.whole.times, self.words.every
+        readers: dict[str, Callable[[Cell], Any]] = {
+            "holding": self._holding, "borrow": borrowed_from, "currency": currency_in, "override": word_of,
+            "status": partial(status_of, stated=self.words.statuses),
+            "since": lambda cell: period_of(self.whole.dates["items"].read(cell)[0], every),
+            "fill": partial(amounts["fill"].share, unit=self.units.get("fill", ""), role="fill"),
+            "lead": partial(times["lead"].leads, unit=self.units.get("lead", ""), every=every)}
+        for role in SPANS:
+            readers[role] = partial(times[role].span, unit=self.units.get(role, ""), every=every)
+        for role, kind in READ_AS.items():
+            readers[role] = partial(amounts[role].number, kind=kind)
+        return readers | dict.fromkeys(TEXTS, printable)
+
+    def _holding(self, cell: Cell) -> Fraction:
         """Returns a holding cost: money, or a share of the price, which is in percent if the column is."""
+        reader = self.whole.amounts["holding"]
         if self.share:
             share = reader.share(cell, self.share, "holding")
             return share * 100 if self.share == PERCENT else share
@@ -88,11 +98,11 @@ class Masters:
 
     def price(self, cells: Mapping[str, Cell]) -> Fraction | None:
         """Returns the price of one item of a row; None if it has none that can be read."""
-        return self._price({role: self._value(role, cells.get(role, ""), []) for role in ("price", "price_for")})
+        return self._price({role: self.cells.value(role, cells.get(role, ""), []) for role in ("price", "price_for")})
 
     def value(self, cells: Mapping[str, Cell]) -> Fraction | None:
         """Returns what the stock of a row is worth; None if its stock or its price is missing or can't be read."""
-        stock = self._value("stock", cells.get("stock", ""), [])
+        stock = self.cells.value("stock", cells.get("stock", ""), [])
         return value_of(None if stock is None else stock * self.factors.get("stock", 1), self.price(cells))
 
     def _price(self, read: Mapping[str, Any]) -> Fraction | None:
@@ -100,25 +110,14 @@ class Masters:
         price: Fraction | None = read["price"]
         return None if price is None else price / (read["price_for"] or 1) * self.price_factor
 
-    def _value(self, role: str, cell: Cell, faults: list[CellFault]) -> Any:
-        """Returns the value of a cell; None if it is empty and may be so, or has a fault, which is added."""
-        if (role, cell) not in self.known:
-            try:
-                self.known[role, cell] = None if cell == "" and role not in self.needed else self.readers[role](cell)
-            except Unreadable as why:
-                self.known[role, cell] = why.remark
-        value = self.known[role, cell]
-        if isinstance(value, Remark):
-            faults.append((role, cell, value))
-            return None
-        return value
-
     def read(self, cells: Mapping[str, Cell], observed: Sequence[int],
              group: str) -> tuple[dict[str, Any], list[CellFault]]:
         """Returns the values of a row by role, None of an empty cell, and all that is wrong with the row. `observed`
         are lead times of orders, for a row that says none, and `group` is the class of the item."""
-        faults: list[CellFault] = []
-        read = self.blank | {role: self._value(role, cells[role], faults) for role in self.blank if role in cells}
+        read, faults = dict[str, Any](self.blank), list[CellFault]()
+        for role in read:
+            if role in cells:
+                read[role] = self.cells.value(role, cells[role], faults)
         unread = {role for role, _, _ in faults}
         fill, _ = self.defaults.fill_of(group, read["fill"])
         if not unread & {"backlog", "fill"} and read["backlog"] is None and fill is None:
@@ -141,27 +140,29 @@ class Masters:
 
     def item(self, name: str, line: int, read: dict[str, Any], observed: Sequence[int], group: str) -> Master:
         """Returns the master of an item, of a class, by the values of its row without units."""
-        defaults, price = self.defaults, self._price(read)
+        defaults, price, stated = self.defaults, self._price(read), read["lead"] or ()
         sources = {role: DEFAULT if read[role] is None else MASTERS for role in ("setup", "holding")}
         fill, sources["fill"] = defaults.fill_of(group, read["fill"])
-        stated = read["lead"] or ()
-        is_seen = counts_receipts(bool(stated), len(observed), self.lead_from)
+        is_seen = counts_receipts(bool(stated), len(observed), self.words.lead_from)
         sources["lead"] = ORDERS if is_seen else MASTERS if stated else DEFAULT
-        read["setup"] = setup = defaults.setup if read["setup"] is None else read["setup"]
-        unit = math.lcm(*(read[role].denominator for role in MONEY if read[role] is not None))
-        decimals = next(digits for digits in range(MOST_DECIMALS + 1) if 10**digits % unit == 0)
-        read |= {role: read[role] * factor for role, factor in self.factors.items() if read[role] is not None}
-        rate = self.a_year * (defaults.holding_rate or 0) if read["holding"] is None else read["holding"]
-        holding = rate * (price or 0) if self.share or read["holding"] is None else rate
-        levels = None if read["s"] is None else (int(read["s"]), int(read["S"]))
+        read["setup"] = defaults.setup if read["setup"] is None else read["setup"]
+        setup, decimals = read["setup"] or Fraction(0), decimals_of(read[role] for role in MONEY)
+        for role, factor in self.factors.items():
+            if read[role] is not None:
+                read[role] *= factor
+        holding = read["holding"]
+        is_share = bool(self.share) or holding is None
+        if holding is None:
+            holding = (defaults.holding_rate or 0) / periods_a_year(self.words.every)
         status, predecessor = read["status"] or NOTHING
-        leads = leads_from(stated, observed, self.lead_from) or self.usual_leads
-        item = Item(name, (), leads, levels, setup or Fraction(0), holding, read["backlog"], fill,
+        item = Item(name, (), leads_from(stated, observed, self.words.lead_from) or self.usual_leads,
+                    None if read["s"] is None else (int(read["s"]), int(read["S"])), setup,
+                    holding * (price or 0) if is_share else holding, read["backlog"], fill,
                     group=read["class"] or "", borrow=read["borrow"] or "", bounds=self._bounds(read, price),
                     stock=read["stock"], price=price, description=read["description"] or "",
                     supplier=read["supplier"] or "", supplier_min=read["supplier_min"], category=group, status=status,
                     predecessor=predecessor, line=line,
-                    stated=Fraction(sum(stated), len(stated)) * self.days if stated else None,
+                    stated=Fraction(sum(stated), len(stated)) * DAYS[self.words.every] if stated else None,
                     override=Override.of(*(read[role] for role in OVERRIDE)))
         return Master(item, decimals, sources, read["since"])
 
@@ -174,3 +175,9 @@ class Masters:
         return Bounds(int(read["pack"] or 1), least and math.ceil(least),
                       None if read["s_min"] is None else int(read["s_min"]), read["coverage"] or None,
                       read["shelf_life"] or None)
+
+
+def decimals_of(amounts: Iterable[Fraction | None]) -> int:
+    """Returns the least number of decimals with which amounts of money are exact."""
+    unit = math.lcm(*(amount.denominator for amount in amounts if amount is not None))
+    return next(decimals for decimals in range(MOST_DECIMALS + 1) if 10**decimals % unit == 0)

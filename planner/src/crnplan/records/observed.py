@@ -5,9 +5,10 @@ import datetime
 import functools
 from collections.abc import Mapping, Sequence
 from dataclasses import dataclass, field
-from typing import TYPE_CHECKING
+from typing import TYPE_CHECKING, Any
 
 import numpy as np
+import numpy.typing as npt
 
 from ..errors import Fault, Refused, argument
 from ..formats import MOST_WEIGHT
@@ -156,11 +157,11 @@ def _met(counts: list[int], period: int, amount: int) -> bool:
     return amount == 0
 
 
-def sums_of(periods: Numbers, amounts: Numbers, count: int) -> Numbers:
-    """Returns the sum of the amounts in each of so many periods from 0."""
+def sums_of(periods: Numbers, amounts: npt.NDArray[Any], count: int) -> npt.NDArray[Any]:
+    """Returns the sum of the amounts, whole numbers, in each of so many periods from 0."""
     if np.abs(amounts).sum() < 1 << 53:  # So all sums are exact in floating point, in which numpy is fast.
-        return np.bincount(periods, amounts, count).astype(np.int64)
-    sums = np.zeros(count, np.int64)
+        return np.bincount(periods, amounts.astype(float), count).astype(np.int64)
+    sums = np.zeros(count, amounts.dtype)
     np.add.at(sums, periods, amounts)
     return sums
 

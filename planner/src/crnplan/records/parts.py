@@ -15,7 +15,8 @@ from .classes import abc_of
 from .controls import Controls
 from .filed import FiledTable, Part, Whole
 from .item import Item
-from .items import Counts, Reader, Reject, Words
+from .items import Counts, Reject, Words
+from .reader import Reader
 from .repeated import Shared, names_apart, shared_in
 
 ITEM, REJECT = Columns(Item), Columns(Reject)

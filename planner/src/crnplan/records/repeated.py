@@ -1,4 +1,4 @@
-"""Finds what tables say twice: files whose rows are all in another file, and rows of masters that are the sum of others."""
+"""Finds what tables say twice: files whose rows are all in another file, and rows of totals."""
 from __future__ import annotations
 
 from collections.abc import Iterable, Iterator, Mapping, Sequence
@@ -10,7 +10,7 @@ import numpy as np
 from ..errors import Fault
 from ..remarks import Remark
 from ..words import message
-from .cells import TOTAL, Cell, Flags, Numbers, Unreadable
+from .cells import TOTAL, Cell, Flags, Numbers, shown
 from .sources import FILE_BITS, Sheet
 
 if TYPE_CHECKING:
@@ -19,6 +19,8 @@ if TYPE_CHECKING:
 
 # The columns of masters of which a total has the sum.
 ADDED = ("stock", "s", "S", "price", "setup", "holding", "backlog", "pack", "order_min")
+# A sum of fewer rows may well come again below them.
+LEAST_SUMMED = 6
 Shared = Numbers  # how many different rows two files of a table share, a row and a column for each file
 
 
@@ -81,16 +83,22 @@ def sums_of_columns(counts: Mapping[str, Mapping[Cell, int]], readers: Mapping[s
     sums = dict[str, Fraction]()
     for role in ADDED:
         for cell, count in counts.get(role, {}).items():
-            sums[role] = sums.get(role, Fraction(0)) + count * (number_of(readers[role], cell) or Fraction(0))
+            sums[role] = sums.get(role, Fraction(0)) + count * (readers[role].known(cell) or 0)
     return sums
 
 
-def number_of(reader: AmountReader, cell: Cell) -> Fraction | None:
-    """Returns the number of a cell; None if it is none."""
-    try:
-        return None if cell == "" else reader.number(cell)
-    except Unreadable:
-        return None
+def is_called_total(name: object) -> bool:
+    return TOTAL.match(str(name)) is not None
+
+
+def total_of(place: str, cells: Iterable[str], number: int | None, others: Sequence[int]) -> Remark | None:
+    """Returns that a row of a history in a place looks like a total of the rows above: it is called so, or its number is
+    the sum of theirs. None if it doesn't."""
+    word = next(filter(is_called_total, cells), None)
+    if word is not None:
+        return Remark(f"{place} total", {"text": shown(word)})
+    is_sum = len(others) >= LEAST_SUMMED and number == sum(others) and sum(map(bool, others)) > 1
+    return Remark(f"{place} sum", {"number": number}) if is_sum else None
 
 
 def total_rows(tables: Mapping[str, Rows], sums: Mapping[str, Fraction],
@@ -99,12 +107,14 @@ def total_rows(tables: Mapping[str, Rows], sums: Mapping[str, Fraction],
     all others in a column, or nothing beside their name."""
     rows = tables["items"]
     totals: Flags = np.zeros(len(rows), bool)
-    moved = [its.codes["item"][its.good] for kind, its in tables.items() if kind != "items"]
-    called = [code for code, name in enumerate(rows.columns["item"].distinct) if TOTAL.match(str(name))]
-    own = np.setdiff1d(called, np.concatenate(moved))
-    for row in np.flatnonzero(rows.good & np.isin(rows.codes["item"], own)).tolist():
-        cells = {role: rows.cell(role, row) for role in rows.sheet.columns if role != "item"}
-        numbers = {role: number_of(readers[role], cells[role]) for role in sums}
+    called = [code for code, name in enumerate(rows.columns["item"].distinct) if is_called_total(name)]
+    for kind, others in tables.items():
+        if kind != "items":
+            called = np.setdiff1d(called, others.codes["item"][others.good]).tolist()
+    for row in np.flatnonzero(rows.good & np.isin(rows.codes["item"], called)).tolist():
+        cells = rows.cells(row)
+        del cells["item"]
+        numbers = {role: readers[role].known(cells[role]) for role in sums}
         is_sum = any(number and 2 * number == sums[role] for role, number in numbers.items())
-        totals[row] = is_sum or not any(cell != "" for cell in cells.values())
+        totals[row] = is_sum or all(cell == "" for cell in cells.values())
     return totals

@@ -7,8 +7,7 @@ from __future__ import annotations
 
 import datetime
 import itertools
-from collections.abc import Callable, Collection, Iterable, Iterator, Mapping, Sequence
-from dataclasses import replace
+from collections.abc import Callable, Collection, Iterable, Iterator, Mapping
 from typing import TypeVar
 
 import numpy as np
@@ -23,10 +22,11 @@ from .dates import DateReader
 from .sources import FILE_BITS, Sheet
 
 Value = TypeVar("Value")
-Kind = TypeVar("Kind", bound=np.generic)
 # An amount is far above all others if it is so many times the next largest; TIMES_OF_FEW times if it has fewer others
 # than LEAST_OTHERS. At most MOST_FAR are.
 TIMES_NEXT, TIMES_OF_FEW, LEAST_OTHERS, MOST_FAR = 30, 300, 4, 3
+# The columns of blocks that are put together.
+JOINED = {"lines": np.int64, "good": np.bool_, "other": np.bool_, "hashes": np.uint64}
 
 
 class Codes:
@@ -48,34 +48,49 @@ class Rows:
     its value. `wide` has how many cells those rows have that have more than the heading, and their texts. `good` says
     which rows are of use: the others decide nothing. `other` rows have another value than is wanted."""
 
+    lines: Numbers
+    good: Flags
+    other: Flags
+    hashes: npt.NDArray[np.uint64]
+
     def __init__(self, sheet: Sheet, blocks: Iterable[tuple[int, Block]], names: Codes | None = None) -> None:
         """Puts blocks together, each with the lines that stand before it. Tables of one catalogue share the names of
         items."""
         self.sheet = sheet
-        self.columns = {role: names if role == "item" and names is not None else Codes()
-                        for role in (*sheet.columns, *sheet.marks)}
+        self.columns = {role: Codes() for role in (*sheet.columns, *sheet.marks)}
+        if names is not None:
+            self.columns["item"] = names
         self.blank, self.wide = list[int](), dict[int, tuple[int, str]]()
         count, parts = 0, list[Block]()
         for before, block in blocks:
-            codes = {role: its.of(block.distinct[role])[block.codes[role]] for role, its in self.columns.items()}
+            for role, column in self.columns.items():
+                block.codes[role] = column.of(block.distinct[role])[block.codes[role]]
+            block.lines = block.lines + before
             self.blank += [before + line for line in block.blank]
-            self.wide |= {count + row: its for row, its in block.wide.items()}
-            parts.append(replace(block, codes=codes, lines=block.lines + before))
+            self.wide |= {count + row: cells for row, cells in block.wide.items()}
+            parts.append(block)
             count += len(block)
-        self.codes = {role: joined([its.codes[role] for its in parts], np.int32) for role in self.columns}
-        self.lines = joined([its.lines for its in parts], np.int64)
-        self.good = joined([its.good for its in parts], np.bool_)
-        self.other = joined([its.other for its in parts], np.bool_)
-        self.hashes = joined([its.hashes for its in parts], np.uint64)
+        for name, kind in JOINED.items():
+            setattr(self, name, np.concatenate([np.zeros(0, kind), *(getattr(part, name) for part in parts)]))
+        self.codes = {role: np.concatenate([np.zeros(0, np.int32), *(part.codes[role] for part in parts)])
+                      for role in self.columns}
 
     def __len__(self) -> int:
         return len(self.lines)
 
-    def twins(self) -> Numbers:
-        """Returns for each row the first row with the same cells, by hashes of 64 bits: in a million rows, two different
-        ones collide once in 37 million files."""
-        _, first, which = np.unique(self.hashes, return_index=True, return_inverse=True)
-        return first[which]
+    def firsts(self, good: Flags) -> Numbers:
+        """Returns for each good row the first good one with the same cells, and for others themselves. They are compared by
+        hashes of 64 bits: in a million rows, two different ones collide once in 37 million files."""
+        firsts, rows = np.arange(len(self)), np.flatnonzero(good)
+        _, places, which = np.unique(self.hashes[rows], return_index=True, return_inverse=True)
+        firsts[rows] = rows[places[which]]
+        return firsts
+
+    def twins(self, good: Flags) -> dict[int, int]:
+        """Returns the good rows that are the same as one above them, each with the first such one."""
+        firsts = self.firsts(good)
+        again = np.flatnonzero(firsts != np.arange(len(self)))
+        return dict(zip(again.tolist(), firsts[again].tolist()))
 
     def long(self, row: int) -> Remark:
         """Returns what is wrong with a row that has more cells than the heading."""
@@ -83,23 +98,33 @@ class Rows:
 
     def faulty(self, faults: Mapping[str, Mapping[int, Remark]]) -> Flags:
         """Returns which rows have a cell that can't be read, by role and the code of the value."""
-        has: Flags = np.any([self.having(role, its) for role, its in faults.items()], axis=0)
-        return has
+        bad = np.zeros(len(self), bool)
+        for role, codes in faults.items():
+            bad |= self.having(role, codes)
+        return bad
 
     def faults(self, row: int, faults: Mapping[str, Mapping[int, Remark]]) -> list[CellFault]:
         """Returns what is wrong with the cells of a row, by role and the code of the value."""
-        return [(role, self.cell(role, row), its[self.codes[role][row]]) for role, its in faults.items()
-                if self.codes[role][row] in its]
+        wrong = list[CellFault]()
+        for role, remarks in faults.items():
+            remark = remarks.get(self.codes[role][row])
+            if remark:
+                wrong.append((role, self.cell(role, row), remark))
+        return wrong
 
     def cell(self, role: str, row: int) -> Cell:
         """Returns the value of a row's cell; the empty text if the table has no such column."""
         return self.columns[role].distinct[self.codes[role][row]] if role in self.columns else ""
 
+    def cells(self, row: int) -> dict[str, Cell]:
+        """Returns the values of a row by role."""
+        return {role: self.cell(role, row) for role in self.sheet.columns}
+
     def counts(self, role: str) -> Iterator[tuple[Cell, int]]:
         """Yields each value of a column that good rows have, and how many have it; nothing if there is no column."""
         if role in self.columns:
             counts = np.bincount(self.codes[role][self.good]).tolist()
-            yield from ((cell, count) for cell, count in zip(self.columns[role].distinct, counts) if count)
+            yield from (pair for pair in zip(self.columns[role].distinct, counts) if pair[1])
 
     def by_item(self, good: Flags, values: Numbers | None = None) -> Callable[[int], Numbers]:
         """Returns the function that gives the good rows of an item, in their order, by its code; or their columns in a
@@ -108,16 +133,19 @@ class Rows:
         codes, count = self.codes["item"][rows], len(self.columns["item"].distinct)
         # numpy sorts whole numbers of 16 bits by their digits.
         order = rows[np.argsort(codes.astype(np.uint16) if count <= 1 << 16 else codes, kind="stable")]
-        ends, its = [0, *np.cumsum(np.bincount(codes, minlength=count)).tolist()], order if values is None else values[:, order]
-        return lambda item: its[..., ends[item]:ends[item + 1]]
+        ends = [0, *np.cumsum(np.bincount(codes, minlength=count)).tolist()]
+        sorted_values = order if values is None else values[:, order]
+        return lambda item: sorted_values[..., ends[item]:ends[item + 1]]
 
     def nameless(self) -> Iterator[tuple[int, CellFault]]:
         """Yields the rows that are not good: those that name no item, and those with too many cells, with what is
         wrong."""
         for row in np.flatnonzero(~self.good & ~self.other).tolist():
+            if row in self.wide:
+                yield row, ("", self.wide[row][1], self.long(row))
+                continue
             name = self.cell("item", row)
-            yield row, ("", self.wide[row][1], self.long(row)) if row in self.wide else fault(
-                "item", name, "unprintable name" if name else "no item")
+            yield row, fault("item", name, "unprintable name" if name else "no item")
 
     def date_reader(self) -> DateReader:
         """Returns what reads the dates of the table, after a look at all of them."""
@@ -150,26 +178,25 @@ class Rows:
         values, faults = self.values(role, read, datetime.date.min)
         return np.array([day.toordinal() for day in values], np.int64)[self.codes[role]], faults
 
-    def amounts(self, role: str, reader: AmountReader, kind: str, packs: str = "") -> tuple[Numbers, dict[int, Remark]]:
-        """Returns the amount of each row, of a kind of KINDS, in items of which a pack has so many, and what is wrong
+    def amounts(self, role: str, reader: AmountReader, kind: str) -> tuple[Numbers, dict[int, Remark]]:
+        """Returns the amount of each row, of a kind of KINDS, in items if its column counts packs, and what is wrong
         with values, by code."""
-        values, faults = self.values(role, lambda cell: int(reader.number(cell, kind)) * int(packs or 1), 0)
+        unit = self.sheet.columns[role].unit
+        pack = int(unit) if unit.isdecimal() else 1
+        values, faults = self.values(role, lambda cell: int(reader.number(cell, kind)) * pack, 0)
         return np.array(values, np.int64)[self.codes[role]], faults
 
     def empty(self, role: str) -> Flags:
         """Returns which rows have nothing in a column."""
-        return self.having(role, [code for code, cell in enumerate(self.columns[role].distinct) if cell == ""])
+        code = self.columns[role].places.get("")
+        return self.having(role, () if code is None else (code,))
 
     def having(self, role: str, codes: Collection[int]) -> Flags:
         """Returns which rows have one of these values in a column."""
-        has = np.zeros(len(self.columns[role].distinct), bool)
+        has: Flags = np.zeros(len(self.columns[role].distinct), bool)
         has[[*codes]] = True
-        return has[self.codes[role]]
-
-
-def joined(parts: Sequence[npt.NDArray[Kind]], kind: type[Kind]) -> npt.NDArray[Kind]:
-    """Returns arrays as one."""
-    return np.concatenate(parts) if parts else np.zeros(0, kind)
+        flags: Flags = has[self.codes[role]]
+        return flags
 
 
 def rows_of(sheet: Sheet) -> Rows:
@@ -180,7 +207,8 @@ def rows_of(sheet: Sheet) -> Rows:
 
 def far_above(amounts: Numbers, times_of_few: int = TIMES_OF_FEW) -> int:
     """Returns how many amounts, at most MOST_FAR, are far above all others."""
-    ranked = [it for it in np.sort(amounts)[:-MOST_FAR - LEAST_OTHERS - 1:-1].tolist() if it > 0]
+    ranked = np.sort(amounts)[:-MOST_FAR - LEAST_OTHERS - 1:-1]
+    ranked = ranked[ranked > 0].tolist()
     for far, next_largest in enumerate(ranked[1:1 + MOST_FAR], 1):
         times = TIMES_NEXT if len(ranked) - far >= LEAST_OTHERS else times_of_few
         if ranked[far - 1] >= times * next_largest:

@@ -10,16 +10,16 @@ from typing import Any
 import numpy as np
 
 from ..remarks import Remark
-from .cells import Cell, CellFault, Unreadable, fault
+from .cells import Cell, CellFault, CellReader, fault
 from .choosing import said_of_marks, split_items
 from .columns import conversion
-from .controls import OTHER, PLACES, REJECTED, USED, WITH_ITEM, Controller, Controls, no_rows, states_of, together
-from .dates import DateReader
-from .items import FileCounts, Reject, Words, reject_of
+from .controls import OPEN, PLACES, USED, WITH_ITEM, Controls, no_rows, together
+from .items import FileCounts, Reject, Words
 from .observed import Day
 from .opening import Table
-from .rows import Rows, rows_of
 from .several import open_tables
+from .sources import Sheet
+from .tables import TableReader
 
 STOCK, ON_ORDER = "stock", "on_order"  # the kinds of the tables
 NONE = Fraction(0)
@@ -38,6 +38,9 @@ class OnHand:
     def of(cls, stock: Fraction, owed: Fraction = NONE) -> OnHand:
         """Returns what a stock says, of which what is below 0 is owed, with more that is."""
         return cls(max(stock, NONE), owed + max(-stock, NONE))
+
+    def __add__(self, other: OnHand) -> OnHand:
+        return OnHand(self.stock + other.stock, self.owed + other.owed)
 
 
 @dataclass(frozen=True)
@@ -63,93 +66,73 @@ class Holdings:
     controls: Controls = field(default_factory=dict)
 
 
-def day_of(reader: DateReader, cell: Cell) -> Day | None:
-    """Returns the day of a cell; None of an empty one. Raises Unreadable."""
-    return None if cell == "" else reader.read(cell)[0]
-
-
 class _Reader:
     """Reads the rows of a table for the items of a plan, whose prices are known, and names those that it leaves out."""
 
-    def __init__(self, kind: str, rows: Rows, prices: Mapping[str, Fraction | None], every: str) -> None:
-        self.kind, self.rows, self.prices = kind, rows, prices
-        self.unread, self.rejects, self.states = set[str](), list[Reject](), states_of(rows)
-        for row, wrong in rows.nameless():
-            self._reject("row", row, "", [wrong])
-        self.firsts = rows.twins()
-        self.amounts, self.dates = {role: rows.amount_reader(role) for role in AMOUNTS[kind]}, rows.date_reader()
-        self.readers: dict[str, Callable[[Cell], Any]] = {
-            role: partial(self.amounts[role].number, kind=number) for role, number in AMOUNTS[kind].items()}
-        if "due" in rows.columns:
-            self.readers["due"] = partial(day_of, self.dates)
-            self.rejects += [reject_of("suspicious", rows.sheet, 0, "", [("due", "", remark)])
-                             for remark in self.dates.notes.values()]
-        self.factors = {role: conversion(role, column.unit, every)[0] for role, column in rows.sheet.columns.items()
+    def __init__(self, kind: str, sheet: Sheet, prices: Mapping[str, Fraction | None], every: str) -> None:
+        self.prices, self.unread, self.rejects = prices, set[str](), list[Reject]()
+        self.table = TableReader.of(kind, sheet, AMOUNTS[kind], self.rejects.append)
+        self.rows = self.table.rows
+        self.names = [str(name) for name in self.rows.columns["item"].distinct]
+        readers: dict[str, Callable[[Cell], Any]] = {
+            role: partial(self.table.amounts[role].number, kind=number) for role, number in AMOUNTS[kind].items()}
+        needed = {*readers}
+        if "due" in self.rows.columns:
+            readers["due"] = lambda cell: self.table.dates.read(cell)[0]
+            for remark in self.table.dates.notes.values():
+                self.table.name("suspicious", 0, "", [("due", "", remark)])
+        self.cells = CellReader(readers, needed)
+        self.factors = {role: conversion(role, column.unit, every)[0] for role, column in sheet.columns.items()
                         if column.unit}
-
-    def _reject(self, what: str, row: int, name: str, faults: Sequence[CellFault]) -> None:
-        if what == "row":
-            self.states[row] = PLACES[REJECTED]
-        self.rejects.append(reject_of(what, self.rows.sheet, int(self.rows.lines[row]), name, faults))
 
     def _read(self, row: int) -> tuple[dict[str, Any], list[CellFault]]:
         """Returns the values of a row by role, and what is wrong with its cells."""
         values, faults = dict[str, Any](), list[CellFault]()
-        for role, read in self.readers.items():
-            cell = self.rows.cell(role, row)
-            try:
-                values[role] = read(cell) * self.factors[role] if role in self.factors else read(cell)
-            except Unreadable as why:
-                faults.append((role, cell, why.remark))
-        stock, owed = values.get("stock", NONE), values.get("owed", NONE)
+        for role in self.cells.readers:
+            value = self.cells.value(role, self.rows.cell(role, row), faults)
+            values[role] = value * self.factors[role] if value is not None and role in self.factors else value
+        stock, owed = values.get("stock") or NONE, values.get("owed") or NONE
         if stock < 0 < owed:
             faults.append(fault("owed", self.rows.cell("owed", row), "owed twice", stock=f"{float(stock):g}",
                                 least=f"{float(max(-stock, owed)):g}", most=f"{float(owed - stock):g}"))
         return values, faults
 
     @property
-    def counts(self) -> FileCounts:
-        """Returns what became of the rows."""
-        used, rejected, with_item, other = (int((self.states == PLACES[state]).sum())
-                                            for state in (USED, REJECTED, WITH_ITEM, OTHER))
-        return {"name": self.rows.sheet.file_name, "read": len(self.rows), "blank": len(self.rows.blank), "used": used,
-                "rejected": rejected, "with_item": with_item, "other": other}
-
-    @property
     def controls(self) -> Controls:
         """Returns what the rows come to, by file and by what became of them."""
-        names = self.rows.columns["item"].distinct
-        controller = Controller(self.kind, self.rows, self.states, self.amounts, self.dates)
-        return together([no_rows(self.kind, self.rows.sheet),
-                         controller.controls(lambda code: self.prices.get(str(names[code])), {})])
+        controls = self.table.controls(lambda item: self.prices.get(self.names[item]), {})
+        return together([no_rows(self.table.kind, self.rows.sheet), controls])
 
     def remarks(self) -> Iterator[Remark]:
         """Yields what is to be said of the rows: over which places items are summed, and states of rows."""
         counts = {name: dict(self.rows.counts(name)) for name in self.rows.sheet.marks}
-        yield from said_of_marks(self.kind, self.rows.sheet, counts, split_items(self.rows))
+        yield from said_of_marks(self.table.kind, self.rows.sheet, counts, split_items(self.rows))
 
     def items(self) -> Iterator[tuple[str, list[dict[str, Any]]]]:
         """Yields the items of the plan with the values of their rows, but for those with a row that can't be read."""
-        rows, rows_of = self.rows, self.rows.by_item(self.rows.good)
-        for code in np.unique(rows.codes["item"][rows.good]).tolist():
-            mine, name = rows_of(code).tolist(), str(rows.columns["item"].distinct[code])
-            read = [self._read(row) for row in mine]
-            wrong = [(row, faults) for row, (_, faults) in zip(mine, read) if faults]
-            for row, faults in wrong:
-                self._reject("row", row, name, faults)
-            for row in (row for row in mine if self.firsts[row] != row):
-                first = rows.sheet.called(int(rows.lines[self.firsts[row]]))
-                self._reject("suspicious", row, name, [fault("item", name, "equal rows", first=first)])
-            left_out = [row for row in mine if self.states[row] != PLACES[REJECTED]]
-            if wrong:
+        good, lines = self.rows.good, self.rows.lines.tolist()
+        twins, rows_of = self.rows.twins(good), self.rows.by_item(good)
+        became = np.full(len(self.names), PLACES[OPEN], np.int8)
+        for item in np.unique(self.rows.codes["item"][good]).tolist():
+            rows, name, is_read = rows_of(item).tolist(), self.names[item], True
+            values = list[dict[str, Any]]()
+            for row in rows:
+                value, faults = self._read(row)
+                values.append(value)
+                if faults:
+                    self.table.reject(row, faults)
+                    is_read = False
+                if row in twins:
+                    first = self.rows.sheet.called(lines[twins[row]])
+                    self.table.name("suspicious", lines[row], name, [fault("item", name, "equal rows", first=first)])
+            became[item] = PLACES[USED if is_read and name in self.prices else WITH_ITEM]
+            if not is_read:
                 self.unread.add(name)
-            elif name not in self.prices:
-                self._reject("item", mine[0], name, [fault("item", name, "not in the plan")])
+            elif name in self.prices:
+                yield name, values
             else:
-                self.states[mine] = PLACES[USED]
-                yield name, [values for values, _ in read]
-                continue
-            self.states[left_out] = PLACES[WITH_ITEM]
+                self.table.name("item", lines[rows[0]], name, [fault("item", name, "not in the plan")])
+        self.table.close(became)
 
 
 def read_holdings(tables: Mapping[str, Table | None], words: Words, prices: Mapping[str, Fraction | None]) -> Holdings:
@@ -158,17 +141,19 @@ def read_holdings(tables: Mapping[str, Table | None], words: Words, prices: Mapp
     Raises Refused and RefusedFaults for tables that can't be read. Rows with faults are in `rejects`.
     """
     with open_tables(tables, words) as sheets:
-        readers = {kind: _Reader(kind, rows_of(sheet), prices, words.every) for kind, sheet in sheets.items()}
+        readers = {kind: _Reader(kind, sheet, prices, words.every) for kind, sheet in sheets.items()}
     on_hand, arrivals = dict[str, OnHand](), dict[str, Sequence[Arrival]]()
-    for name, rows in readers[STOCK].items() if STOCK in readers else ():
-        parts = [OnHand.of(row["stock"], row["owed"]) for row in rows]
-        on_hand[name] = OnHand(sum((it.stock for it in parts), NONE), sum((it.owed for it in parts), NONE))
-    for name, rows in readers[ON_ORDER].items() if ON_ORDER in readers else ():
-        arrivals[name] = [Arrival(row["quantity"], row.get("due")) for row in rows]
-    rejects = [reject for reader in readers.values() for reject in reader.rejects]
-    return Holdings(on_hand if STOCK in readers else None, arrivals,
-                    frozenset[str]().union(*(reader.unread for reader in readers.values())),
-                    {kind: reader.counts for kind, reader in readers.items()},
-                    tuple(sorted(rejects, key=lambda reject: (reject.file, reject.line))),
-                    tuple(remark for reader in readers.values() for remark in reader.remarks()),
+    rejects, remarks, unread = list[Reject](), list[Remark](), set[str]()
+    for kind, reader in readers.items():
+        for name, rows in reader.items():
+            if kind == STOCK:
+                on_hand[name] = sum((OnHand.of(row["stock"], row["owed"]) for row in rows), OnHand(NONE))
+            else:
+                arrivals[name] = [Arrival(row["quantity"], row.get("due")) for row in rows]
+        rejects += reader.rejects
+        remarks += reader.remarks()
+        unread |= reader.unread
+    return Holdings(on_hand if STOCK in readers else None, arrivals, frozenset(unread),
+                    {kind: reader.table.counts for kind, reader in readers.items()},
+                    tuple(sorted(rejects, key=lambda reject: (reject.file, reject.line))), tuple(remarks),
                     together(reader.controls for reader in readers.values()))
