@@ -98,18 +98,3 @@ lawful_moved {spec} {words} {new} {parts} {before} {after} k law apart at moved 
     ]
   ],
 )
-
--- The two theorems that a ring of threads needs: a move that a part allows keeps all parts that are known lawful.
-pub producer_moves : (spec : RingSpec) → IsRing spec → (words : List ℕ) (parts : List Part) (k : ℕ) (p : Producer) (m : ProducerMove)
-    → Lawful spec words parts → Apart parts → slice_get parts k ≡ Some (OfProducer p) → ProducerMay spec p m
-    → Lawful spec (words_by_producer spec words p m) (set parts k (OfProducer (producer_after p m (slice_index words (producer_word spec p m)))))
-    × Apart (set parts k (OfProducer (producer_after p m (slice_index words (producer_word spec p m)))))
-producer_moves spec ring words parts k p m law apart at may =
-    lawful_moved k law apart at (moved_by_producer p (producer_keeps spec ring words p m law.of_words (law.of_parts k (OfProducer p) at) may))
-
-pub reader_moves : (spec : RingSpec) → IsRing spec → (words : List ℕ) (parts : List Part) (k r : ℕ) (q : Reader) (m : ReaderMove)
-    → Lawful spec words parts → Apart parts → slice_get parts k ≡ Some (OfReader r q) → ReaderMay q m
-    → Lawful spec (words_by_reader spec words r q m) (set parts k (OfReader r (reader_after q m (slice_index words (reader_word spec r q m)))))
-    × Apart (set parts k (OfReader r (reader_after q m (slice_index words (reader_word spec r q m)))))
-reader_moves spec ring words parts k r q m law apart at may =
-    lawful_moved k law apart at (moved_by_reader q (reader_keeps spec ring words r q m law.of_words (law.of_parts k (OfReader r q) at) may))

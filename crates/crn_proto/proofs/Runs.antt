@@ -10,7 +10,7 @@ use Rattle.crn_proto.specs.Ring.{IsRing, Reader, Ring, Move, ByProducer, ByReade
 use Rattle.crn_proto.specs.Lawful.{ProducerLaw, ReaderLaw, OfProducer, OfReader, Lawful, parts_of}
 use Rattle.crn_proto.proofs.Fronts.{length-front, front_append}
 use Rattle.crn_proto.proofs.ProducerMoves.{publish_near}
-use Rattle.crn_proto.proofs.Parts.{producer_moves, reader_moves}
+use Rattle.crn_proto.proofs.Parts.{lawful_moved, moved_by_producer, moved_by_reader, producer_keeps, reader_keeps}
 use Rattle.crn_proto.proofs.Opening.{part_of_reader, parts_after_set, parts_apart, open_lawful}
 
 -- ---- the law
@@ -26,10 +26,11 @@ reader_law s law r q at = law.of_parts (suc r) (OfReader r q) (reader_at s r q a
 
 pub step_lawful : (s t : Ring) (move : Move) → IsRing s.spec → Lawful s.spec s.words (parts_of s) → LeadsTo s move t → (t.spec ≡ s.spec) × Lawful t.spec t.words (parts_of t)
 step_lawful s t (ByProducer m) ring law (may, is) =
-    rw is (refl, (producer_moves s.spec ring s.words (parts_of s) 0 s.producer m law (parts_apart s) refl may).0)
+    let keeps = producer_keeps s.spec ring s.words s.producer m law.of_words (producer_law s law) may in
+    rw is (refl, (lawful_moved 0 law (parts_apart s) refl (moved_by_producer s.producer keeps)).0)
 step_lawful s t (ByReader r m) ring law (q, at, may, is) =
-    let moved = (reader_moves s.spec ring s.words (parts_of s) (suc r) r q m law (parts_apart s) (reader_at s r q at) may).0 in
-    rw (is, parts_after_set, zero-add) (refl, moved)
+    let keeps = reader_keeps s.spec ring s.words r q m law.of_words (reader_law s law r q at) may in
+    rw (is, parts_after_set, zero-add) (refl, (lawful_moved (suc r) law (parts_apart s) (reader_at s r q at) (moved_by_reader q keeps)).0)
 
 -- ---- what is shown
 

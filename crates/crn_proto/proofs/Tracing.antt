@@ -391,12 +391,13 @@ open_beside spec ring = record {
   });
 }
 
-pub runs_of : (moves : List Move) (s t : Ring) (w v : Watch) → GoesOnTo 1 s w moves t v → Runs s moves t
-runs_of [] s t w v goes = goes.0
-runs_of (move ∷ moves) s t w v (mid, step, on, goes) = (mid, step, runs_of moves mid t (watch_after s w move) v goes)
+-- the moves of actors that go on are a run
+pub runs_of : (b : ℕ) (moves : List Move) (s t : Ring) (w v : Watch) → GoesOnTo b s w moves t v → Runs s moves t
+runs_of b [] s t w v goes = goes.0
+runs_of b (move ∷ moves) s t w v (mid, step, on, goes) = (mid, step, runs_of b moves mid t (watch_after s w move) v goes)
 
 pub every_replay_is_a_run : EveryReplayIsARun
 every_replay_is_a_run spec actors ring all =
     let run = replay_from actors (open_machine spec) ring (open_beside spec ring) all in
     let m = machine_after (open_machine spec) actors in
-    (run.moves, ring_by m run.end, runs_of run.moves _ _ _ _ run.goes, run.traces, matches m (rw run.same_spec ring) run.end)
+    (run.moves, ring_by m run.end, runs_of 1 run.moves _ _ _ _ run.goes, run.traces, matches m (rw run.same_spec ring) run.end)

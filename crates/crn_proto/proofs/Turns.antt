@@ -159,17 +159,10 @@ progress_shown m at who known adv =
 
 -- ---- a schedule
 
-moves_append : (a : ℕ) (made moves : List Move) → moves_by a (made ++ moves) ≡ moves_by a made + moves_by a moves
-moves_append a [] moves = omega arith
-moves_append a (move ∷ made) moves = let e = moves_append a made moves in omega arith
-
-stores_append : (a : ℕ) (made moves : List Move) → stores_by a (made ++ moves) ≡ stores_by a made + stores_by a moves
-stores_append a [] moves = omega arith
-stores_append a (move ∷ made) moves = let e = stores_append a made moves in omega arith
-
-all_append : (made moves : List Move) → stores_in (made ++ moves) ≡ stores_in made + stores_in moves
-all_append [] moves = omega arith
-all_append (move ∷ made) moves = let e = all_append made moves in omega arith
+-- what is counted move by move is added up
+sums : (f : List Move → ℕ) → f [] ≡ 0 → ((m : Move) (ms : List Move) → f (m ∷ ms) ≡ f (m ∷ []) + f ms) → (xs ys : List Move) → f (xs ++ ys) ≡ f xs + f ys
+sums f none one [] ys = omega (arith, none)
+sums f none one (m ∷ xs) ys = omega (arith, sums f none one xs ys, one m (xs ++ ys), one m xs)
 
 -- what a schedule counts for actor a, and its run for the actor's moves
 record Counts (a : ℕ) (m : MachineState) (actors : List Actor) (s : Ring) (moves : List Move) (t : Ring) : Type 0 where
@@ -198,8 +191,8 @@ counts (who ∷ actors) m ring at all a few =
     let more = counts actors next ring' adv.next later a few' in
     let (moves, stores, finishes) = counted who (ring_by m at) adv.made (machine_steps m who).1 (ring_by next adv.next) a adv.took in
     let shown = progress_shown m at who known adv in
-    let sum = moves_append a adv.made rest.moves in
-    let all_stores = stores_append a adv.made rest.moves in
+    let sum = sums (moves_by a) refl (λ m ms. omega arith) adv.made rest.moves in
+    let all_stores = sums (stores_by a) refl (λ m ms. omega arith) adv.made rest.moves in
     let more_stores = more.stores in
     let own = own_turn a who in
     let here : stores_by a adv.made ≤ bit ((owner who == a) && makes_progress m who) = rw shown stores in
@@ -207,7 +200,7 @@ counts (who ∷ actors) m ring at all a few =
     let one = answer_sees m.spec ring (ring_by m at) (watch_by m at) at.fits t adv.onward who adv.made (machine_steps m who).1 adv.took (owner_few m.spec who known) in
     let sees_here : bit (makes_progress m who) + seen m.spec (ring_by m at) ≤ stores_in adv.made + seen m.spec t = rw shown one in
     let sees_later = subst (λ x. progress next actors + seen x t ≤ stores_in rest.moves + seen x (end_of rest)) same more.sees in
-    let all_sum = all_append adv.made rest.moves in
+    let all_sum = sums stores_in refl (λ m ms. omega arith) adv.made rest.moves in
     record {
       turns = elim more.turns [
         | inl fin ↦ inl fin
@@ -236,7 +229,7 @@ progress_is_bounded spec actors ring all =
     let at = open_beside spec ring in
     let run = replay_from actors (open_machine spec) ring at all in
     let most = (counts actors (open_machine spec) ring at all 0 (omega arith)).sees in
-    omega (arith, count_few (ring_mark (end_of run)).seen_end spec.readers, stores_are_bounded spec run.moves (end_of run) ring (runs_of run.moves _ _ _ _ run.goes))
+    omega (arith, count_few (ring_mark (end_of run)).seen_end spec.readers, stores_are_bounded spec run.moves (end_of run) ring (runs_of 1 run.moves _ _ _ _ run.goes))
 
 pub never_stuck : NeverStuck
 never_stuck spec actors ring all unfinished =

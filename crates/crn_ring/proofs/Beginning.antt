@@ -13,6 +13,7 @@ use Rattle.crn_proto.specs.Views.{waiting_parts}
 use Rattle.crn_proto.proofs.Opening.{open_words_law}
 use Rattle.crn_proto.proofs.Waiting.{waiting_lawful, waiting_single}
 use Rattle.crn_proto.proofs.Views.{rule_cut}
+use Rattle.crn_ring.specs.declared.view.Role.TheVariants.{Producer}
 use Rattle.crn_ring.specs.declared.view.View.{View}
 use Rattle.crn_ring.specs.Holds.{parts_of_view, Holds, opened}
 use Rattle.crn_ring.specs.Plays.{cut_left, cut_right}
@@ -48,16 +49,16 @@ begins spec ring = record {
     one (suc k) v h = cc
 
 -- a reader that waits is the first of the parts
-cut_parts : (spec : RingSpec) (r : ℕ) → r < spec.readers → parts_of_view (opened spec r) ≡ parts_of_view (cut_right (opened spec r)) ++ parts_of_view (cut_left (opened spec r))
-cut_parts spec r inside =
-    let more : spec.readers - r ≡ suc (spec.readers - (r + 1)) = omega arith in
-    let next : suc r ≡ r + 1 = omega arith in
-    rw (more, next) refl
+pub parts_cut : (v : View) → v.role ≡ Producer → v.number < v.spec.readers → parts_of_view v ≡ parts_of_view (cut_right v) ++ parts_of_view (cut_left v)
+parts_cut v role waits =
+    let more : v.spec.readers - v.number ≡ suc (v.spec.readers - (v.number + 1)) = omega arith in
+    let next : suc v.number ≡ v.number + 1 = omega arith in
+    rw (role, more, next) refl
 
 pub cuts : (spec : RingSpec) (id r : ℕ) → r < spec.readers → Splits {S = Unit {0}} (Holds spec) id (opened spec r) (cut_left (opened spec r)) (cut_right (opened spec r))
 cuts spec id r inside s law at = record {
   ring = law.ring;
-  rule = rule_cut parts_of_view spec s.words s.views id (opened spec r) (cut_left (opened spec r)) (cut_right (opened spec r)) law.rule (got s.views id (opened spec r) at) (cut_parts spec r inside);
+  rule = rule_cut parts_of_view spec s.words s.views id (opened spec r) (cut_left (opened spec r)) (cut_right (opened spec r)) law.rule (got s.views id (opened spec r) at) (parts_cut (opened spec r) refl inside);
   same_ring = pushed (set s.views id (cut_left (opened spec r))) (cut_right (opened spec r)) refl (spec_stays spec s.views id (cut_left (opened spec r)) refl law.same_ring);
 }
   where

@@ -1,33 +1,40 @@
--- So many moves are so many steps.
-use Rattle.std.proofs.Common.{◌≡◌, ℕ, ◌+◌, ◌≤◌, List, [], ◌∷◌, length, refl, ap, ◌∙◌, arith}
+-- A step is a move, and so many moves are so many steps.
+use Rattle.std.proofs.Common.{◌≡◌, ℕ, ◌+◌, ◌≤◌, List, [], ◌∷◌, length, refl, ap, ◌∙◌, subst, arith}
+use Rattle.atomic_table.specs.Table.{Step}
 use Rattle.crn_proto.specs.declared.spec.RingSpec.{RingSpec}
 use Rattle.crn_proto.specs.declared.actor_parts.ProducerPart.{ProducerPart}
 use Rattle.crn_proto.specs.declared.actor_parts.ReaderPart.{ReaderPart}
-use Rattle.crn_proto.specs.Ring.{ProducerMove, LoadGate, StoreWord, Publish, Finish, ProducerMay, producer_after, ReaderMove, LoadCursor, LoadWord, Take, Leave, ReaderMay, reader_after}
+use Rattle.crn_proto.specs.Ring.{ProducerMove, LoadGate, ProducerMay, producer_after, ReaderMove, LoadCursor, ReaderMay, reader_after}
 use Rattle.crn_proto.specs.Chains.{Chain, ProducerReaches, ReaderReaches}
+use Rattle.crn_proto.proofs.Chains.{reaches_one}
+use Rattle.crn_ring.specs.Plays.{Sat, MadeByProducer, MadeByReader}
+
+-- a step that is a move leads by one move
+pub producer_goes : (spec : RingSpec) (move : ProducerMove) (st : Step (Unit {0})) (m m' : Sat) (n : ℕ) → m.0.spec ≡ spec → MadeByProducer move st m n m' → ProducerReaches spec m.0.producer 1 m'.0.producer
+producer_goes spec move st m m' n same made =
+    reaches_one (ProducerMay spec) producer_after move n m.0.producer m'.0.producer (subst (λ (z : RingSpec). ProducerMay z m.0.producer move) same made.may) (ap (λ (z : Sat). z.0.producer) made.view)
+
+pub reader_goes : (move : ReaderMove) (st : Step (Unit {0})) (m m' : Sat) (n : ℕ) → MadeByReader move st m n m' → ReaderReaches m.0.reader 1 m'.0.reader
+reader_goes move st m m' n made = reaches_one ReaderMay reader_after move n m.0.reader m'.0.reader made.may (ap (λ (z : Sat). z.0.reader) made.view)
 
 producer_step : (p : ProducerPart) (m : ProducerMove) (x : ℕ) → (producer_after p m x).steps ≡ p.steps + 1
 producer_step p (LoadGate r) x = refl
-producer_step p StoreWord x = refl
-producer_step p (Publish c) x = refl
-producer_step p Finish x = refl
+producer_step p m x = refl
 
 producer_chain : (spec : RingSpec) (p q : ProducerPart) (xs : List (ProducerMove × ℕ)) → Chain (ProducerMay spec) producer_after p xs q → q.steps ≡ p.steps + length xs
 producer_chain spec p q [] c = ap (λ (z : ProducerPart). z.steps) c ∙ omega arith
 producer_chain spec p q (x ∷ xs) c = producer_chain spec (producer_after p x.0 x.1) q xs c.1 ∙ (let one = producer_step p x.0 x.1 in omega arith)
 
-pub producer_steps : (spec : RingSpec) (p q : ProducerPart) (most : ℕ) → ProducerReaches spec p most q → q.steps ≤ p.steps + most
-producer_steps spec p q most reaches = let e = producer_chain spec p q reaches.0 reaches.1 in let few = reaches.2 in omega arith
+pub producer_steps : (spec : RingSpec) (p q : ProducerPart) (a b c : ℕ) → ProducerReaches spec p (a + b + c) q → q.steps ≤ p.steps + a + b + c
+producer_steps spec p q a b c reaches = let e = producer_chain spec p q reaches.0 reaches.1 in let few = reaches.2 in omega arith
 
 reader_step : (p : ReaderPart) (m : ReaderMove) (x : ℕ) → (reader_after p m x).steps ≡ p.steps + 1
 reader_step p LoadCursor x = refl
-reader_step p LoadWord x = refl
-reader_step p (Take c) x = refl
-reader_step p Leave x = refl
+reader_step p m x = refl
 
 reader_chain : (p q : ReaderPart) (xs : List (ReaderMove × ℕ)) → Chain ReaderMay reader_after p xs q → q.steps ≡ p.steps + length xs
 reader_chain p q [] c = ap (λ (z : ReaderPart). z.steps) c ∙ omega arith
 reader_chain p q (x ∷ xs) c = reader_chain (reader_after p x.0 x.1) q xs c.1 ∙ (let one = reader_step p x.0 x.1 in omega arith)
 
-pub reader_steps : (p q : ReaderPart) (most : ℕ) → ReaderReaches p most q → q.steps ≤ p.steps + most
-reader_steps p q most reaches = let e = reader_chain p q reaches.0 reaches.1 in let few = reaches.2 in omega arith
+pub reader_steps : (p q : ReaderPart) (a b : ℕ) → ReaderReaches p (a + b) q → q.steps ≤ p.steps + a + b
+reader_steps p q a b reaches = let e = reader_chain p q reaches.0 reaches.1 in let few = reaches.2 in omega arith

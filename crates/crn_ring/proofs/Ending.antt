@@ -1,8 +1,9 @@
 -- What the words of a state that meets the rule say to the producer.
-use Rattle.std.proofs.Common.{◌≡◌, ℕ, zero, suc, ◌+◌, ◌*◌, ◌/◌, ◌%◌, ◌<◌, ◌≤◌, ◌≢◌, Bool, true, false, List, [], ◌∷◌, get_or, eqb, inl, inr, sym, ◌∙◌, arith}
-use mathlib.Core.Option.{some, some-injective, some-ne-none}
+use Rattle.std.proofs.Common.{◌≡◌, ℕ, ◌+◌, ◌*◌, ◌/◌, ◌%◌, ◌<◌, ◌≤◌, ◌≢◌, Bool, true, false, List, get_or, eqb, inl, inr, sym, ◌∙◌, arith}
+use mathlib.Core.Option.{some}
 use lib.ListN.{get_elem?}
 use Rattle.std.specs.Prelude.{slice_index}
+use Rattle.std.proofs.lemmas.Option.{get_or_from_slice_get}
 use Rattle.atomic_table.specs.Table.{State}
 use Rattle.crn_proto.specs.declared.spec.RingSpec.{RingSpec}
 use Rattle.crn_proto.specs.Ring.{left_mark, bit}
@@ -10,12 +11,10 @@ use Rattle.crn_proto.specs.declared.actor_parts.Part.TheVariants.{OfProducer}
 use Rattle.crn_proto.specs.Lawful.{ProducerLaw}
 use Rattle.crn_ring.specs.declared.view.View.{View}
 use Rattle.crn_ring.specs.Holds.{Holds, HasProducer}
-use Rattle.crn_ring.proofs.Allowed.{producer_alone, own_law}
+use Rattle.crn_ring.proofs.Allowed.{got, producer_alone, own_law}
 
 pub at_get : (l : List ℕ) (i a : ℕ) → get_elem? l i ≡ some a → get_or l i 0 ≡ a
-at_get [] i a e = absurd (some-ne-none a (sym e))
-at_get (x ∷ xs) zero a e = some-injective x a e
-at_get (x ∷ xs) (suc i) a e = at_get xs i a e
+at_get l i a e = get_or_from_slice_get l i a 0 (got l i a e)
 
 marked : (n : ℕ) (b : Bool) (c : ℕ) → c ≡ 2 * n + bit b → (c / 2 ≡ n) × (eqb (c % 2) 1 ≡ b)
 marked n true c e = (omega arith, grind (arith, e))

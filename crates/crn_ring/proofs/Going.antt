@@ -14,15 +14,18 @@ use Rattle.crn_proto.specs.Traces.{reader_at}
 use Rattle.crn_proto.specs.Views.{parts_named, waiting_parts}
 use Rattle.crn_proto.specs.Batches.{Watch, open_watch, watch_after, GoingOn, GoesOnTo}
 use Rattle.crn_proto.proofs.Parts.{get_set_cases}
+use Rattle.crn_proto.proofs.Schedules.{shows_a_broadcast}
+use Rattle.crn_proto.proofs.Tracing.{runs_of}
 use Rattle.crn_proto.proofs.Views.{counted, parts_append, view_part}
 use Rattle.crn_ring.specs.declared.view.Role.{Role}
 use Rattle.crn_ring.specs.declared.view.Role.TheVariants.{Producer, Reader}
 use Rattle.crn_ring.specs.declared.view.View.{View}
 use Rattle.crn_ring.specs.Holds.{Holds, HasProducer, HasReader, opened, parts_of_view}
 use Rattle.crn_ring.specs.Plays.{Sat, by_producer, by_reader, publishing, taking, cut_left, cut_right}
-use Rattle.crn_ring.specs.Schedules.{TableState, opened_table, StepKind, LoadsGate, StoresWord, Publishes, StoresEnd, LoadsCursor, LoadsWord, StoresTaken, StoresLeft, OnWord, TableStep, Made, Cut, Picks, MakesAll, move_as, moves_of, Shows, IsInBatch, AreInBatches, StepsGoOn, BatchesAreBounded}
+use Rattle.crn_ring.specs.Schedules.{TableState, opened_table, StepKind, LoadsGate, StoresWord, Publishes, StoresEnd, LoadsCursor, LoadsWord, StoresTaken, StoresLeft, OnWord, TableStep, Made, Cut, Picks, MakesAll, move_as, moves_of, Shows, IsInBatch, AreInBatches, StepsAreARun, StepsGoOn, BatchesAreBounded}
 use Rattle.crn_ring.proofs.Allowed.{got, own_law, producer_alone, reader_alone}
 use Rattle.crn_ring.proofs.Beginning.{begins}
+use Rattle.crn_ring.proofs.Fresh.{last_cases}
 use Rattle.crn_ring.proofs.Opened.{waiting_reader, waiting_producer}
 use Rattle.crn_ring.proofs.Schedules.{step_of_kind, cut_shows, open_shown}
 
@@ -48,20 +51,18 @@ Single views = (a : ℕ) → parts_named a (flat_map parts_of_view views) ≤ 1
 
 named_in : (views : List View) (k a : ℕ) (v : View) → slice_get views k ≡ Some v → 1 ≤ parts_named a (parts_of_view v) → 1 ≤ parts_named a (flat_map parts_of_view views)
 named_in [] k a v h named = cc
-named_in (x ∷ xs) zero a v h named =
-    let same : x ≡ v = cc in
-    let here : 1 ≤ parts_named a (parts_of_view x) = subst (λ (z : View). 1 ≤ parts_named a (parts_of_view z)) (sym same) named in
-    let all = parts_append a (parts_of_view x) (flat_map parts_of_view xs) in
-    let goal : 1 ≤ parts_named a (parts_of_view x ++ flat_map parts_of_view xs) = omega arith in
-    goal
-named_in (x ∷ xs) (suc k) a v h named =
-    let more = named_in xs k a v h named in
-    let all = parts_append a (parts_of_view x) (flat_map parts_of_view xs) in
-    let goal : 1 ≤ parts_named a (parts_of_view x ++ flat_map parts_of_view xs) = omega arith in
-    goal
+named_in (x ∷ xs) zero a v h named = let same : x ≡ v = cc in rw same (simp parts_append (omega arith))
+named_in (x ∷ xs) (suc k) a v h named = let more = named_in xs k a v h named in simp parts_append (omega arith)
 
 single_rest : (x : View) (xs : List View) → Single (x ∷ xs) → Single xs
 single_rest x xs few a =
+    let one : parts_named a (parts_of_view x ++ flat_map parts_of_view xs) ≤ 1 = few a in
+    let all = parts_append a (parts_of_view x) (flat_map parts_of_view xs) in
+    omega arith
+
+-- no actor is named in the first view and in another
+not_both : (x : View) (xs : List View) (a : ℕ) → Single (x ∷ xs) → 1 ≤ parts_named a (parts_of_view x) → 1 ≤ parts_named a (flat_map parts_of_view xs) → ⊥
+not_both x xs a few here there =
     let one : parts_named a (parts_of_view x ++ flat_map parts_of_view xs) ≤ 1 = few a in
     let all = parts_append a (parts_of_view x) (flat_map parts_of_view xs) in
     omega arith
@@ -70,20 +71,8 @@ single_rest x xs few a =
 one_seat : (views : List View) (j k a : ℕ) (u v : View) → Single views → slice_get views j ≡ Some u → slice_get views k ≡ Some v → 1 ≤ parts_named a (parts_of_view u) → 1 ≤ parts_named a (parts_of_view v) → j ≡ k
 one_seat [] j k a u v few h l named named' = cc
 one_seat (x ∷ xs) zero zero a u v few h l named named' = refl
-one_seat (x ∷ xs) zero (suc k) a u v few h l named named' =
-    let same : x ≡ u = cc in
-    let here : 1 ≤ parts_named a (parts_of_view x) = subst (λ (z : View). 1 ≤ parts_named a (parts_of_view z)) (sym same) named in
-    let there = named_in xs k a v l named' in
-    let all = parts_append a (parts_of_view x) (flat_map parts_of_view xs) in
-    let one : parts_named a (parts_of_view x ++ flat_map parts_of_view xs) ≤ 1 = few a in
-    absurd (omega arith)
-one_seat (x ∷ xs) (suc j) zero a u v few h l named named' =
-    let same : x ≡ v = cc in
-    let here : 1 ≤ parts_named a (parts_of_view x) = subst (λ (z : View). 1 ≤ parts_named a (parts_of_view z)) (sym same) named' in
-    let there = named_in xs j a u h named in
-    let all = parts_append a (parts_of_view x) (flat_map parts_of_view xs) in
-    let one : parts_named a (parts_of_view x ++ flat_map parts_of_view xs) ≤ 1 = few a in
-    absurd (omega arith)
+one_seat (x ∷ xs) zero (suc k) a u v few h l named named' = let same : x ≡ u = cc in absurd (not_both x xs a few (rw same named) (named_in xs k a v l named'))
+one_seat (x ∷ xs) (suc j) zero a u v few h l named named' = let same : x ≡ v = cc in absurd (not_both x xs a few (rw same named') (named_in xs j a u h named))
 one_seat (x ∷ xs) (suc j) (suc k) a u v few h l named named' = ap suc (one_seat xs j k a u v (single_rest x xs few) h l named named')
 
 -- ---- how far the actors of the seats have looked
@@ -123,12 +112,6 @@ module _ (w w' : Watch) (views : List View) (id : ℕ) (v : View) (few : Single 
       others k u Reader is_one ne here old =
           looked u.number (λ e. ne (one_seat views k id (1 + v.number) u v few here at (subst (λ (z : ℕ). 1 ≤ parts_named (1 + z) (parts_of_view u)) e (reader_named u is_one)) (reader_named v is))) ∙ old
 
-last_cases : {A : Type 0} (xs : List A) (y x : A) (k : ℕ) → slice_get (xs ++ y ∷ []) k ≡ Some x → (slice_get xs k ≡ Some x) ⊎ (x ≡ y)
-last_cases [] y x zero h = let same : y ≡ x = cc in inr (sym same)
-last_cases [] y x (suc k) h = cc
-last_cases (z ∷ zs) y x zero h = inl h
-last_cases (z ∷ zs) y x (suc k) h = last_cases zs y x k h
-
 cut_watched : (w : Watch) (views : List View) (id : ℕ) (v : View) → Watched w views → slice_get views id ≡ Some v → v.role ≡ Producer → v.number < v.spec.readers → Watched w (set views id (cut_left v) ++ cut_right v ∷ [])
 cut_watched w views id v watched at role waits k u h =
     let old : WatchedAs w v Producer = subst (WatchedAs w v) role (watched id v at) in
@@ -137,7 +120,7 @@ cut_watched w views id v watched at role waits k u h =
         | inl mine ↦ subst (λ (z : View). WatchedAs w z z.role) (sym mine.1) (subst (WatchedAs w (cut_left v)) (sym role) (old.0, λ r low high. old.1 r (let next : v.number + 1 ≤ r = low in omega arith) high))
         | inr other ↦ watched k u other.1
       ]
-      | inr right ↦ subst (λ (z : View). WatchedAs w z z.role) (sym right) (old.1 v.number (omega arith) waits)
+      | inr right ↦ subst (λ (z : View). WatchedAs w z z.role) (sym right.1) (old.1 v.number (omega arith) waits)
     ]
 
 -- ---- a step on a word
@@ -296,14 +279,10 @@ steps_go_on spec b steps later s t ring made made_later few few_later =
 
 step_in_batch : (spec : RingSpec) (b : ℕ) (s s' : TableState) (kind : StepKind) (id i x : ℕ) (v : View) (carried : List (ℕ × Unit {0})) → spec.id.total ≤ b → Holds spec s
     → Picks spec s record { kind = kind; id = id; view = v; carried = carried; i = i; x = x } s' → IsInBatch b kind v
-step_in_batch spec b s s' LoadsGate id i x v carried all law p = tt
 step_in_batch spec b s s' StoresWord id i x v carried all law p =
     let more : v.producer.published + v.producer.stored / BLOCK_WORDS < v.spec.id.total = p.told.may.1 in
     let total = ap (λ (z : RingSpec). z.id.total) (law.same_ring id v p.at) in
     omega arith
-step_in_batch spec b s s' Publishes id i x v carried all law p = tt
-step_in_batch spec b s s' StoresEnd id i x v carried all law p = tt
-step_in_batch spec b s s' LoadsCursor id i x v carried all law p = tt
 step_in_batch spec b s s' LoadsWord id i x v carried all law p =
     let made = p.told.0 in
     let own = own_law spec s id v (OfReader v.number v.reader) law p.at (reader_alone v made.seat) in
@@ -311,8 +290,7 @@ step_in_batch spec b s s' LoadsWord id i x v carried all law p =
     let seen = (own.here made.may.0).seen_published in
     let total = law.rule.lawful.of_words.in_total in
     omega arith
-step_in_batch spec b s s' StoresTaken id i x v carried all law p = tt
-step_in_batch spec b s s' StoresLeft id i x v carried all law p = tt
+step_in_batch spec b s s' kind id i x v carried all law p = tt
 
 in_batches_from : (spec : RingSpec) (b : ℕ) (steps : List TableStep) (s s' : TableState) → spec.id.total ≤ b → Holds spec s → MakesAll spec s steps s' → AreInBatches b steps
 in_batches_from spec b [] s s' all law made = tt
@@ -321,3 +299,16 @@ in_batches_from spec b (Cut id v ∷ steps) s s' all law (mid, c, rest) = in_bat
 
 pub batches_are_bounded : BatchesAreBounded
 batches_are_bounded spec b steps s ring made all = in_batches_from spec b steps (opened_table spec) s all (begins spec ring) made
+
+-- so whatever steps a table makes are a run
+pub steps_are_a_run : StepsAreARun
+steps_are_a_run spec steps s ring made =
+    let total = spec.id.total in
+    let few = batches_are_bounded spec total steps s ring made (omega arith) in
+    let stands = stands_from spec total steps (opened_table spec) s (open_ring spec) open_watch (begins spec ring) (open_shown spec) (open_watched spec) few made in
+    let run = runs_of total (moves_of steps) (open_ring spec) stands.ring open_watch stands.watch stands.goes_on in record {
+      ring = stands.ring;
+      run = run;
+      shown = stands.shown;
+      broadcast = shows_a_broadcast spec (moves_of steps) stands.ring ring run;
+    }

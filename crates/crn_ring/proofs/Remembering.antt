@@ -49,7 +49,6 @@ pub all_fit : (size n m readers least : ℕ) (gates : List ℕ) → n + m ≤ le
 all_fit size n m readers least gates few old fit = elim (cases_lt (n + m) size) [
   | inl small ↦ omega arith
   | inr large ↦
-      let rest = (n + m) - size in
       let at = old.exact ((n + m) - size) (omega arith) (λ q h. elim (cases_eq (get_or gates q 0) left_mark) [ inl e ↦ omega arith | inr ne ↦ let f = fit q h ne in omega arith ]) in
       omega arith
 ]

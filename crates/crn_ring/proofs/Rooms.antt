@@ -164,13 +164,10 @@ pub publish_moves : (spec : RingSpec) (p found stored p' : ProducerPart) (count 
 publish_moves spec p found stored p' count a b c =
     reaches_join (ProducerMay spec) producer_after p stored p' (spec.readers + BLOCK_WORDS * count) 1 (reaches_join (ProducerMay spec) producer_after p found stored spec.readers (BLOCK_WORDS * count) a b) c
 
--- and of a taking of what was seen, and of what a look has shown
-pub shown_moves : (q read q' : ReaderPart) (count : ℕ) → ReaderReaches q (BLOCK_WORDS * count) read → ReaderReaches read 1 q' → ReaderReaches q (BLOCK_WORDS * count + 1) q'
-shown_moves q read q' count a b = reaches_join ReaderMay reader_after q read q' (BLOCK_WORDS * count) 1 a b
-
+-- and of a taking of what a look has shown
 pub take_moves : (q looked q' : ReaderPart) (count : ℕ) → ReaderReaches q 1 looked → ReaderReaches looked (BLOCK_WORDS * count + 1) q' → ReaderReaches q (BLOCK_WORDS * count + 2) q'
 take_moves q looked q' count a b = reaches_more ReaderMay reader_after q q' (1 + (BLOCK_WORDS * count + 1)) (BLOCK_WORDS * count + 2) (omega arith) (reaches_join ReaderMay reader_after q looked q' 1 (BLOCK_WORDS * count + 1) a b)
 
--- where each gate has room for all, the count remembered leaves room for all
-pub never_late : (spec : RingSpec) (p : ProducerPart) (n m least : ℕ) → p.published ≡ n → n + m ≤ left_mark → Remembers spec.size n spec.readers p.gates least → HaveRoom spec p m → n + m ≤ least + spec.size
-never_late spec p n m least counts small old room = all_fit spec.size n m spec.readers least p.gates small old (λ r h ne. let fits = room r h ne in omega arith)
+-- where each gate has room for all, the count remembered leaves no fewer
+pub never_late : (spec : RingSpec) (p : ProducerPart) (n m least : ℕ) → p.published ≡ n → n + m ≤ left_mark → least + spec.size < n + m → Remembers spec.size n spec.readers p.gates least → HaveRoom spec p m → ⊥
+never_late spec p n m least counts small late old room = let fits = all_fit spec.size n m spec.readers least p.gates small old (λ r h ne. let near = room r h ne in omega arith) in omega arith

@@ -1,16 +1,17 @@
--- The steps of a ring's table are a run of the ring.
-use Rattle.std.proofs.Common.{◌≡◌, ℕ, suc, zero, ◌+◌, ◌-◌, ◌<◌, ◌≤◌, ◌≢◌, List, [], ◌∷◌, ◌++◌, replicate, set, Some, inl, inr, refl, sym, ap, ◌∙◌, subst, arith}
+-- Each step of a ring's table is a move of the ring.
+use Rattle.std.proofs.Common.{◌≡◌, ℕ, suc, zero, ◌+◌, ◌-◌, ◌<◌, ◌≤◌, ◌≢◌, List, [], ◌∷◌, ◌++◌, replicate, set, Some, inl, inr, refl, sym, ap, ◌∙◌, subst, arith, length-set, get_or-set_same}
 use Rattle.std.specs.Prelude.{slice_get, slice_index, slice_set}
 use Rattle.std.specs.List.{flat_map}
 use mathlib.Core.Option.{some, none}
 use lib.ListN.{get_elem?}
-use Rattle.std.proofs.lemmas.List.{append-nil}
+use Rattle.std.proofs.lemmas.List.{append-nil, length-replicate, get_or-replicate}
 use Rattle.std.proofs.lemmas.Grind.{flat_map-append}
+use Rattle.std.proofs.lemmas.Option.{slice_get-get_or, slice_get_within}
 use Rattle.atomic_table.specs.Table.{step, stepped}
 use Rattle.crn_proto.specs.declared.spec.RingSpec.{RingSpec}
 use Rattle.crn_proto.specs.declared.actor_parts.Part.{Part}
 use Rattle.crn_proto.specs.declared.actor_parts.Part.TheVariants.{OfProducer, OfReader}
-use Rattle.crn_proto.specs.Ring.{Ring, ProducerMove, LoadGate, StoreWord, Finish, ReaderMove, LoadCursor, LoadWord, Leave, ByProducer, ByReader, LeadsTo, Runs, ProducerMay, ReaderMay, producer_word, producer_leaves, producer_after, reader_word, reader_leaves, reader_after, open_ring, open_producer, open_reader}
+use Rattle.crn_proto.specs.Ring.{Ring, ProducerMove, LoadGate, StoreWord, Finish, ReaderMove, LoadCursor, LoadWord, Leave, ByProducer, ByReader, LeadsTo, ProducerMay, ReaderMay, producer_word, producer_leaves, producer_after, reader_word, reader_leaves, reader_after, open_ring, open_producer, open_reader}
 use Rattle.crn_proto.specs.declared.actor_parts.ReaderPart.{ReaderPart}
 use Rattle.crn_proto.specs.declared.actor_parts.ProducerPart.{ProducerPart}
 use Rattle.crn_proto.specs.Lawful.{own_cursor, Apart}
@@ -20,19 +21,15 @@ use Rattle.crn_proto.proofs.Views.{view_part, apart_from_counts, cut_each, each_
 use Rattle.crn_ring.specs.declared.view.View.{View}
 use Rattle.crn_ring.specs.Holds.{Holds, HasProducer, HasReader, parts_of_view}
 use Rattle.crn_ring.specs.Plays.{Sat, by_producer, by_reader, publishing, taking, MadeByProducer, MadeByReader, cut_left, cut_right}
-use Rattle.crn_ring.specs.declared.view.Role.TheVariants.{Producer}
-use Rattle.crn_ring.specs.Schedules.{TableState, opened_table, StepKind, LoadsGate, StoresWord, Publishes, StoresEnd, LoadsCursor, LoadsWord, StoresTaken, StoresLeft, becomes, OnWord, TableStep, Made, Cut, Picks, Cuts, MakesAll, move_as, moves_of, Shows, IsPartOf, StepsAreARun, AllowedStepsAreMade}
-use Rattle.crn_proto.proofs.Schedules.{shows_a_broadcast}
-use Rattle.crn_ring.proofs.Beginning.{begins}
+use Rattle.crn_ring.specs.Schedules.{TableState, opened_table, StepKind, LoadsGate, StoresWord, Publishes, StoresEnd, LoadsCursor, LoadsWord, StoresTaken, StoresLeft, becomes, OnWord, Picks, Cuts, move_as, Shows, IsPartOf, AllowedStepsAreMade}
+use Rattle.crn_ring.proofs.Beginning.{begins, parts_cut}
 use Rattle.crn_ring.proofs.Allowed.{got, producer_alone, reader_alone}
 
 -- what stands in a list after a write, at the place written and elsewhere
-pub get_set_here : {A : Type 0} (xs : List A) (i : ℕ) (x y : A) → slice_get xs i ≡ Some x → slice_get (set xs i y) i ≡ Some y
-get_set_here [] i x y h = cc
-get_set_here (z ∷ zs) zero x y h = refl
-get_set_here (z ∷ zs) (suc i) x y h = get_set_here zs i x y h
+get_set_here : {A : Type 0} (xs : List A) (i : ℕ) (x y : A) → slice_get xs i ≡ Some x → slice_get (set xs i y) i ≡ Some y
+get_set_here xs i x y h = let within = slice_get_within xs i x h in slice_get-get_or (set xs i y) i y (omega (arith, length-set xs i y)) ∙ ap Some (get_or-set_same xs i y y within)
 
-pub get_set_other : {A : Type 0} (xs : List A) (i k : ℕ) (y : A) → k ≢ i → slice_get (set xs i y) k ≡ slice_get xs k
+get_set_other : {A : Type 0} (xs : List A) (i k : ℕ) (y : A) → k ≢ i → slice_get (set xs i y) k ≡ slice_get xs k
 get_set_other [] i k y ne = refl
 get_set_other (z ∷ zs) zero zero y ne = absurd (ne refl)
 get_set_other (z ∷ zs) zero (suc k) y ne = refl
@@ -145,12 +142,6 @@ step_of_kind spec s s' ring StoresLeft id i x v carried law shown p = by_a_reade
 
 -- ---- the cut of a seat, which is no move
 
-parts_cut : (v : View) → v.role ≡ Producer → v.number < v.spec.readers → parts_of_view v ≡ parts_of_view (cut_right v) ++ parts_of_view (cut_left v)
-parts_cut v role waits =
-    let more : v.spec.readers - v.number ≡ suc (v.spec.readers - (v.number + 1)) = omega arith in
-    let next : suc v.number ≡ v.number + 1 = omega arith in
-    rw (role, more, next) refl
-
 pub cut_shows : (spec : RingSpec) (s s' : TableState) (ring : Ring) (id : ℕ) (v : View) → Shows spec s ring → Cuts spec s id v s' → Shows spec s' ring
 cut_shows spec s s' ring id v shown c =
     let left = cut_left v in
@@ -163,16 +154,6 @@ cut_shows spec s s' ring id v shown c =
       parts = rw (ap (λ (t : TableState). t.views) c.after, all) (each_append parts_of_view (IsPartOf ring) (flat_map parts_of_view (slice_set s.views id left)) (parts_of_view right) lefts rights);
     }
 
--- ---- all steps
-
-run_from : (spec : RingSpec) (steps : List TableStep) (s s' : TableState) (ring : Ring) → Holds spec s → Shows spec s ring → MakesAll spec s steps s' → (last : Ring) × Runs ring (moves_of steps) last × Shows spec s' last
-run_from spec [] s s' ring law shown made = (ring, refl, subst (λ (t : TableState). Shows spec t ring) (sym made) shown)
-run_from spec (Made o ∷ steps) s s' ring law shown (mid, p, rest) =
-    let (after, move, shown') = step_of_kind spec s mid ring o.kind o.id o.i o.x o.view o.carried law shown p in
-    let (last, run, shows) = run_from spec steps mid s' after p.keeps shown' rest in
-    (last, (after, move, run), shows)
-run_from spec (Cut id v ∷ steps) s s' ring law shown (mid, c, rest) = run_from spec steps mid s' ring c.keeps (cut_shows spec s mid ring id v shown c) rest
-
 -- ---- the table as a ring is opened
 
 waiting_shown : (ring : Ring) (p : ProducerPart) (q : ReaderPart) (r count : ℕ) → ring.producer ≡ p → ((k : ℕ) → r ≤ k → k < r + count → slice_get ring.readers k ≡ Some q)
@@ -183,9 +164,7 @@ waiting_shown ring p q r (suc count) is all zero part h = let same : OfReader r 
 waiting_shown ring p q r (suc count) is all (suc j) part h = waiting_shown ring p q (suc r) count is (λ k low high. all k (omega arith) (omega arith)) j part h
 
 replicate_at : {A : Type 0} (n k : ℕ) (x : A) → k < n → slice_get (replicate n x) k ≡ Some x
-replicate_at zero k x h = absurd (omega arith)
-replicate_at (suc n) zero x h = refl
-replicate_at (suc n) (suc k) x h = replicate_at n k x (omega arith)
+replicate_at n k x h = slice_get-get_or (replicate n x) k x (omega (arith, length-replicate n x)) ∙ ap Some (get_or-replicate n k x x h)
 
 pub open_shown : (spec : RingSpec) → Shows spec (opened_table spec) (open_ring spec)
 open_shown spec = record {
@@ -193,15 +172,6 @@ open_shown spec = record {
   spec_of = refl;
   parts = rw append-nil (waiting_shown (open_ring spec) (open_producer spec) (open_reader spec) 0 (spec.readers - 0) refl (λ k low high. replicate_at spec.readers k (open_reader spec) (omega arith)));
 }
-
-pub steps_are_a_run : StepsAreARun
-steps_are_a_run spec steps s ring made =
-    let (last, run, shown) = run_from spec steps (opened_table spec) s (open_ring spec) (begins spec ring) (open_shown spec) made in record {
-      ring = last;
-      run = run;
-      shown = shown;
-      broadcast = shows_a_broadcast spec (moves_of steps) last ring run;
-    }
 
 pub allowed_steps_are_made : AllowedStepsAreMade
 allowed_steps_are_made = (

@@ -78,14 +78,9 @@ impl Producer {
         ensures quiet { HaveRoom (spec_of ring.now) (producer_part self.old) 1 → (producer_part self.new).loads ≡ (producer_part self.old).loads }
         ensures within { (producer_part self.new).published ≤ (spec_of ring.now).id.total }
     {
-        match ring.find_room(&mut self.seat, self.published, &mut self.least, 1) {
-            Room::Full { reader, taken } => Publish::Full { reader, taken },
-            Room::Blocks(_) => {
-                ring.store_row(&mut self.seat, block);
-                self.published += 1;
-                ring.publish_upto(&mut self.seat, self.published, 1);
-                Publish::Done
-            }
+        match self.publish_batch(ring, &[*block]) {
+            PublishMany::Done { count: _ } => Publish::Done,
+            PublishMany::Full { reader, taken } => Publish::Full { reader, taken },
         }
     }
 

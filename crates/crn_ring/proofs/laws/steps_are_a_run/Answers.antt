@@ -1,5 +1,5 @@
-use Rattle.crn_ring.proofs.Going.{steps_go_on, batches_are_bounded}
-use Rattle.crn_ring.proofs.Schedules.{steps_are_a_run, allowed_steps_are_made}
+use Rattle.crn_ring.proofs.Going.{steps_are_a_run, steps_go_on, batches_are_bounded}
+use Rattle.crn_ring.proofs.Schedules.{allowed_steps_are_made}
 use Rattle.crn_ring.proofs.Opened.{opens_as_the_open_ring}
 use Rattle.crn_ring.proofs.laws.steps_are_a_run.Goals as goal
 

@@ -1,4 +1,4 @@
-use Rattle.std.proofs.Common.{rules, ◌≡◌, ℕ, ◌+◌, ◌-◌, ◌*◌, ◌≤◌, inr, ap, sym, subst, arith}
+use Rattle.std.proofs.Common.{◌≡◌, ℕ, ◌+◌, ◌-◌, ◌*◌, inr, ap, sym, subst, arith}
 use Rattle.crn_cipher.specs.declared.TheConstants.{BLOCK_WORDS}
 use Rattle.crn_proto.specs.Chains.{ProducerReaches}
 use Rattle.crn_ring.proofs.Bounds.{producer_steps}
@@ -24,41 +24,7 @@ returns-in-Blocks-clause-moves c = let spec = c.args.ring.now.spec in let count 
     (publish_moves spec p _ _ p' count c.find_room.ensures.moved c.store_rows.ensures.moved c.publish_upto.ensures.moved)
 
 pub returns-in-Blocks-clause-steps : goal.returns-in-Blocks-clause-steps
-returns-in-Blocks-clause-steps c = let spec = c.args.ring.now.spec in let p = producer_in c.args.self.now.seat in let p' = producer_in c.publish_upto.new.seat in
-    let most : p'.steps ≤ p.steps + (spec.readers + BLOCK_WORDS * (p'.published - p.published) + 1) = producer_steps spec p p' _ (returns-in-Blocks-clause-moves c) in omega arith
-
-pub returns-in-Full-clause-ring : goal.returns-in-Full-clause-ring
-returns-in-Full-clause-ring c = search rules
-
-pub returns-in-Full-clause-moves : goal.returns-in-Full-clause-moves
-returns-in-Full-clause-moves c = search rules
-
-pub returns-in-Full-clause-steps : goal.returns-in-Full-clause-steps
-returns-in-Full-clause-steps c = search rules
-
-pub returns-in-Full-clause-answer : goal.returns-in-Full-clause-answer
-returns-in-Full-clause-answer c = search rules
-
-pub returns-in-Full-clause-quiet : goal.returns-in-Full-clause-quiet
-returns-in-Full-clause-quiet c = search rules
-
-pub returns-in-Full-clause-within : goal.returns-in-Full-clause-within
-returns-in-Full-clause-within c = search rules
-
-pub returns-in-Blocks-clause-ring : goal.returns-in-Blocks-clause-ring
-returns-in-Blocks-clause-ring c = search rules
-
-pub returns-in-Blocks-clause-quiet : goal.returns-in-Blocks-clause-quiet
-returns-in-Blocks-clause-quiet c = search rules
-
-pub returns-in-Blocks-clause-within : goal.returns-in-Blocks-clause-within
-returns-in-Blocks-clause-within c = search rules
-
-pub invariant_of-self : goal.invariant_of-self
-invariant_of-self c = search rules
-
-pub find_room-requires-clause-own : goal.find_room-requires-clause-own
-find_room-requires-clause-own c = search rules
+returns-in-Blocks-clause-steps c = producer_steps c.args.ring.now.spec _ _ _ _ _ (returns-in-Blocks-clause-moves c)
 
 pub find_room-requires-clause-at : goal.find_room-requires-clause-at
 find_room-requires-clause-at c = let p = c.args.self.now in (c.requires.running, sym p.counts)
@@ -70,32 +36,5 @@ pub find_room-requires-clause-remembers : goal.find_room-requires-clause-remembe
 find_room-requires-clause-remembers c = let p = c.args.self.now in
     subst (λ (z : RingSpec). Remembers z.size p.published z.readers (producer_in p.seat).gates p.least) c.requires.ring.1 p.remembers
 
-pub find_room-requires-clause-blocks : goal.find_room-requires-clause-blocks
-find_room-requires-clause-blocks c = search rules
-
-pub store_rows-requires-clause-own : goal.store_rows-requires-clause-own
-store_rows-requires-clause-own c = search rules
-
-pub store_rows-requires-clause-at : goal.store_rows-requires-clause-at
-store_rows-requires-clause-at c = search rules
-
-pub store_rows-requires-clause-blocks : goal.store_rows-requires-clause-blocks
-store_rows-requires-clause-blocks c = search rules
-
-pub store_rows-requires-clause-below : goal.store_rows-requires-clause-below
-store_rows-requires-clause-below c = search rules
-
 pub store_rows-requires-clause-goes_on : goal.store_rows-requires-clause-goes_on
 store_rows-requires-clause-goes_on c = inr c.in-Blocks.ensures.passed
-
-pub store_rows-requires-clause-room : goal.store_rows-requires-clause-room
-store_rows-requires-clause-room c = search rules
-
-pub publish_upto-requires-clause-own : goal.publish_upto-requires-clause-own
-publish_upto-requires-clause-own c = search rules
-
-pub publish_upto-requires-clause-at : goal.publish_upto-requires-clause-at
-publish_upto-requires-clause-at c = search rules
-
-pub publish_upto-requires-clause-below : goal.publish_upto-requires-clause-below
-publish_upto-requires-clause-below c = search rules

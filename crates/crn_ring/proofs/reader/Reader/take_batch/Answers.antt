@@ -1,4 +1,4 @@
-use Rattle.std.proofs.Common.{rules, ◌≡◌, ℕ, ◌+◌, ◌-◌, ◌*◌, ◌≤◌, ap, subst, arith}
+use Rattle.std.proofs.Common.{◌≡◌, ℕ, ◌+◌, ◌-◌, ◌*◌, ap, subst, arith}
 use Rattle.crn_cipher.specs.declared.TheConstants.{BLOCK_WORDS}
 use Rattle.crn_proto.specs.Chains.{ReaderReaches}
 use Rattle.crn_ring.proofs.Bounds.{reader_steps}
@@ -20,57 +20,5 @@ pub load_cursor-cursor-requires-clause-goes_on : goal.load_cursor-cursor-require
 load_cursor-cursor-requires-clause-goes_on c = let p = c.args.self.now in
     λ looked. let all = p.looks looked in let saw = p.saw in let counts = p.counts in omega arith
 
-pub returns-then-self-clause-ring : goal.returns-then-self-clause-ring
-returns-then-self-clause-ring c = search rules
-
-pub returns-then-self-clause-moves : goal.returns-then-self-clause-moves
-returns-then-self-clause-moves c = search rules
-
-pub returns-then-self-clause-steps : goal.returns-then-self-clause-steps
-returns-then-self-clause-steps c = search rules
-
-pub returns-then-self-clause-answer : goal.returns-then-self-clause-answer
-returns-then-self-clause-answer c = search rules
-
-pub returns-then-self-clause-within : goal.returns-then-self-clause-within
-returns-then-self-clause-within c = search rules
-
-pub returns-then-published-self-clause-ring : goal.returns-then-published-self-clause-ring
-returns-then-published-self-clause-ring c = search rules
-
-pub returns-then-published-self-clause-moves : goal.returns-then-published-self-clause-moves
-returns-then-published-self-clause-moves c = search rules
-
-pub returns-then-published-self-clause-steps : goal.returns-then-published-self-clause-steps
-returns-then-published-self-clause-steps c = search rules
-
-pub returns-then-published-self-clause-answer : goal.returns-then-published-self-clause-answer
-returns-then-published-self-clause-answer c = search rules
-
-pub returns-then-published-self-clause-within : goal.returns-then-published-self-clause-within
-returns-then-published-self-clause-within c = search rules
-
-pub returns-clause-ring : goal.returns-clause-ring
-returns-clause-ring c = search rules
-
 pub returns-clause-steps : goal.returns-clause-steps
-returns-clause-steps c =
-    let q = reader_in c.args.self.now.seat in
-    let q' = reader_in c.take_seen-count.new.seat in
-    let most : q'.steps ≤ q.steps + (BLOCK_WORDS * (q'.taken - q.taken) + 2) = reader_steps q q' _ (returns-clause-moves c) in
-    omega arith
-
-pub returns-clause-answer : goal.returns-clause-answer
-returns-clause-answer c = search rules
-
-pub returns-clause-within : goal.returns-clause-within
-returns-clause-within c = search rules
-
-pub invariant_of-self : goal.invariant_of-self
-invariant_of-self c = search rules
-
-pub load_cursor-cursor-requires-clause-own : goal.load_cursor-cursor-requires-clause-own
-load_cursor-cursor-requires-clause-own c = search rules
-
-pub load_cursor-cursor-requires-clause-at : goal.load_cursor-cursor-requires-clause-at
-load_cursor-cursor-requires-clause-at c = search rules
+returns-clause-steps c = reader_steps _ _ _ _ (returns-clause-moves c)

@@ -23,13 +23,9 @@ returns-in-Least-clause-passed c = let g = c.in-Least.ensures.view in
     inr (omega arith)
 
 pub returns-in-Full-clause-quiet : goal.returns-in-Full-clause-quiet
-returns-in-Full-clause-quiet c = λ room. let few = c.requires.blocks.1 in let small = c.args.self.now.small in
-    let fits = never_late c.args.self.now.spec (producer_in c.args.seat.now) c.args.n c.args.m c.args.least.now c.requires.at.1 (omega arith) c.requires.remembers room in
-    let late = c.if-n-m.false in
-    absurd (omega arith)
+returns-in-Full-clause-quiet c = λ room. let few = c.requires.blocks.1 in let small = c.args.self.now.small in let late = c.if-n-m.false in
+    absurd (never_late c.args.self.now.spec (producer_in c.args.seat.now) c.args.n c.args.m c.args.least.now c.requires.at.1 (omega arith) (omega arith) c.requires.remembers room)
 
 pub returns-in-Least-clause-quiet : goal.returns-in-Least-clause-quiet
-returns-in-Least-clause-quiet c = λ room. let few = c.requires.blocks.1 in let small = c.args.self.now.small in
-    let fits = never_late c.args.self.now.spec (producer_in c.args.seat.now) c.args.n c.args.m c.args.least.now c.requires.at.1 (omega arith) c.requires.remembers room in
-    let late = c.if-n-m.false in
-    absurd (omega arith)
+returns-in-Least-clause-quiet c = λ room. let few = c.requires.blocks.1 in let small = c.args.self.now.small in let late = c.if-n-m.false in
+    absurd (never_late c.args.self.now.spec (producer_in c.args.seat.now) c.args.n c.args.m c.args.least.now c.requires.at.1 (omega arith) (omega arith) c.requires.remembers room)

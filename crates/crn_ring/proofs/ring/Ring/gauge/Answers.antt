@@ -1,4 +1,4 @@
-use Rattle.std.proofs.Common.{rules, ◌≡◌, ℕ, ◌+◌, ◌∙◌, ap, sym, subst, arith, length}
+use Rattle.std.proofs.Common.{◌≡◌, ℕ, ◌+◌, ◌∙◌, ap, sym, subst, arith, length}
 use Rattle.crn_ring.specs.Gates.{Passes}
 use Rattle.crn_ring.specs.Inner.Gates.{LeastOf}
 use Rattle.crn_ring.specs.Inner.Plays.{Gauged}
@@ -33,33 +33,3 @@ load_gate-count-requires-clause-goes_on c = let g = c.loop-r.invariant.2 in (
 pub returns-then-not-lets_in-clause-moved : goal.returns-then-not-lets_in-clause-moved
 returns-then-not-lets_in-clause-moved c = let spec = c.args.self.now.spec in
     reaches_more (ProducerMay spec) producer_after _ _ (c.loop-r.r + 1) spec.readers (omega arith) (reaches_join (ProducerMay spec) producer_after _ _ _ c.loop-r.r 1 c.loop-r.invariant.3 c.load_gate-count.ensures.moved)
-
-pub returns-clause-own : goal.returns-clause-own
-returns-clause-own c = search rules
-
-pub returns-clause-moved : goal.returns-clause-moved
-returns-clause-moved c = search rules
-
-pub returns-clause-view : goal.returns-clause-view
-returns-clause-view c = search rules
-
-pub returns-then-not-lets_in-clause-own : goal.returns-then-not-lets_in-clause-own
-returns-then-not-lets_in-clause-own c = search rules
-
-pub returns-then-not-lets_in-clause-view : goal.returns-then-not-lets_in-clause-view
-returns-then-not-lets_in-clause-view c = search rules
-
-pub lets_in-requires-clause-known : goal.lets_in-requires-clause-known
-lets_in-requires-clause-known c = search rules
-
-pub lets_in-requires-clause-small : goal.lets_in-requires-clause-small
-lets_in-requires-clause-small c = search rules
-
-pub load_gate-count-requires-clause-own : goal.load_gate-count-requires-clause-own
-load_gate-count-requires-clause-own c = search rules
-
-pub load_gate-count-requires-clause-may : goal.load_gate-count-requires-clause-may
-load_gate-count-requires-clause-may c = search rules
-
-pub loop-r-init : goal.loop-r-init
-loop-r-init c = search rules

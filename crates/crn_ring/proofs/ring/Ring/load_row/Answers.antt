@@ -20,21 +20,6 @@ loop-i-preserved c = let inv = c.loop-i.invariant in (
   reaches_join ReaderMay reader_after _ _ _ c.loop-i.i 1 inv.5 c.load_word.ensures.moved,
 )
 
-pub returns-clause-own : goal.returns-clause-own
-returns-clause-own c = search rules
-
-pub returns-clause-moved : goal.returns-clause-moved
-returns-clause-moved c = search rules
-
-pub load_word-requires-clause-own : goal.load_word-requires-clause-own
-load_word-requires-clause-own c = search rules
-
-pub load_word-requires-clause-base : goal.load_word-requires-clause-base
-load_word-requires-clause-base c = search rules
-
-pub loop-i-init : goal.loop-i-init
-loop-i-init c = search rules
-
 pub returns-clause-view : goal.returns-clause-view
 returns-clause-view c = grind (arith, common_steps)
 

@@ -1,7 +1,7 @@
-use Rattle.std.proofs.Common.{rules, ap, ◌∙◌, subst, ◌<◌, ℕ, arith}
-use Rattle.crn_proto.proofs.Chains.{reaches_one}
-use Rattle.crn_proto.specs.Ring.{ReaderMay, reader_after, LoadWord, place}
+use Rattle.std.proofs.Common.{rules, ◌∙◌, subst, ◌<◌, ℕ, arith}
+use Rattle.crn_proto.specs.Ring.{place}
 use Rattle.crn_ring.proofs.Allowed.{loads_word}
+use Rattle.crn_ring.proofs.Bounds.{reader_goes}
 use Rattle.crn_ring.proofs.Rows.{place_from}
 use Rattle.crn_ring.specs.Seats.{reader_in}
 use Rattle.crn_ring.proofs.ring.Ring.load_word.Goals as goal
@@ -14,5 +14,4 @@ load-requires c = let at = c.requires.at in let spec = c.args.self.now.spec in (
 )
 
 pub returns-clause-moved : goal.returns-clause-moved
-returns-clause-moved c = let at = c.requires.at in let spec = c.args.self.now.spec in
-    reaches_one ReaderMay reader_after LoadWord c.load.result (reader_in c.args.seat.now) _ (at.0, subst (λ (z : ℕ). z < (reader_in c.args.seat.now).seen) at.1 at.3) (ap (λ m. m.0.reader) c.load.ensures.2.0.view)
+returns-clause-moved c = reader_goes _ _ _ _ _ c.load.ensures.2.0

@@ -1,9 +1,9 @@
-use Rattle.std.proofs.Common.{rules, ap, subst, ◌≡◌, ℕ, ◌+◌, ◌*◌, ◌/◌, arith}
-use Rattle.crn_proto.proofs.Chains.{reaches_one}
+use Rattle.std.proofs.Common.{rules, subst, ◌≡◌, ℕ, ◌+◌, ◌*◌, ◌/◌, arith}
 use Rattle.crn_cipher.specs.declared.TheConstants.{BLOCK_WORDS}
-use Rattle.crn_proto.specs.Ring.{ProducerMay, producer_after, Publish}
+use Rattle.crn_proto.specs.Ring.{Publish}
 use Rattle.crn_ring.proofs.Allowed.{publishes}
-use Rattle.crn_ring.specs.Plays.{by_producer, publishing}
+use Rattle.crn_ring.proofs.Bounds.{producer_goes}
+use Rattle.crn_ring.specs.Plays.{by_producer}
 use Rattle.crn_ring.specs.Seats.{producer_in, view_of}
 use Rattle.crn_ring.proofs.ring.Ring.publish_upto.Goals as goal
 
@@ -20,11 +20,7 @@ store-requires c = let at = c.requires.at in let p = producer_in c.args.seat.now
     )
 
 pub returns-clause-moved : goal.returns-clause-moved
-returns-clause-moved c = let at = c.requires.at in let spec = c.args.self.now.spec in let p = producer_in c.args.seat.now in
-    let stored : p.stored ≡ BLOCK_WORDS * c.args.count = at.1 in
-    let some = at.2 in
-    let whole : p.stored ≡ BLOCK_WORDS * (p.stored / BLOCK_WORDS) = omega arith in
-    reaches_one (ProducerMay spec) producer_after (publishing (view_of c.args.seat.now)) 0 p _ (at.0, whole, omega arith) (ap (λ m. m.0.producer) c.store.ensures.2.view)
+returns-clause-moved c = producer_goes _ _ _ _ _ _ c.requires.own.0.1 c.store.ensures.2
 
 pub returns-clause-view : goal.returns-clause-view
 returns-clause-view c = let p = producer_in c.args.seat.now in

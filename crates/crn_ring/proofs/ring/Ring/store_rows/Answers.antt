@@ -17,14 +17,13 @@ store_row-requires-clause-goes_on c = let spec = c.args.self.now.spec in
 
 pub store_row-requires-clause-room : goal.store_row-requires-clause-room
 store_row-requires-clause-room c = λ r h ne.
-    let k : ℕ = c.loop-k.k in
+    let k : ℕ = c.loop-k.k in let few = c.requires.blocks.0 in let inside = c.loop-k-test.true in
     let old : List ℕ = (producer_in c.args.seat.now).gates in
     let gate : slice_index (producer_in c.loop-k.seat).gates r ≡ slice_index old r = ap (λ m. slice_index m.0.producer.gates r) c.loop-k.invariant.2 in
     let at : slice_get c.args.blocks.now k ≡ Some c.index-blocks-k.result =
-    slice_get-get_or c.args.blocks.now k c.index-blocks-k.result (let few = c.requires.blocks.0 in let inside = c.loop-k-test.true in omega arith) ∙ ap Some (sym c.index-blocks-k.is) in
-    let number = (c.requires.blocks.1 k c.index-blocks-k.result (let few = c.requires.blocks.0 in let inside = c.loop-k-test.true in omega arith) at).1 in
+    slice_get-get_or c.args.blocks.now k c.index-blocks-k.result (omega arith) ∙ ap Some (sym c.index-blocks-k.is) in
+    let number = (c.requires.blocks.1 k c.index-blocks-k.result (omega arith) at).1 in
     let low : (producer_in c.args.seat.now).published + c.args.count ≤ slice_index old r + c.args.self.now.spec.size = c.requires.room r h (λ e. ne (gate ∙ e)) in
-    let inside = c.loop-k-test.true in
     omega arith
 
 pub loop-k-preserved : goal.loop-k-preserved

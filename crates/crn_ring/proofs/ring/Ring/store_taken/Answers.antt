@@ -1,9 +1,9 @@
 use Rattle.std.proofs.Common.{rules, ap, sym, subst, ◌≡◌, ℕ, ◌+◌, ◌*◌, ◌/◌, length, arith}
-use Rattle.crn_proto.proofs.Chains.{reaches_one}
 use Rattle.crn_cipher.specs.declared.TheConstants.{BLOCK_WORDS}
-use Rattle.crn_proto.specs.Ring.{ReaderMay, reader_after, Take}
+use Rattle.crn_proto.specs.Ring.{Take}
 use Rattle.crn_ring.proofs.Allowed.{stores_taken}
-use Rattle.crn_ring.specs.Plays.{by_reader, taking}
+use Rattle.crn_ring.proofs.Bounds.{reader_goes}
+use Rattle.crn_ring.specs.Plays.{by_reader}
 use Rattle.crn_ring.specs.Seats.{reader_in, view_of}
 use Rattle.crn_ring.proofs.ring.Ring.store_taken.Goals as goal
 
@@ -20,11 +20,7 @@ store-requires c = let at = c.requires.at in let q = reader_in c.args.seat.now i
     )
 
 pub returns-clause-moved : goal.returns-clause-moved
-returns-clause-moved c = let at = c.requires.at in let q = reader_in c.args.seat.now in
-    let read : length q.read ≡ BLOCK_WORDS * c.args.count = c.requires.whole.0 in
-    let some = c.requires.whole.1 in
-    let whole : length q.read ≡ BLOCK_WORDS * (length q.read / BLOCK_WORDS) = omega arith in
-    reaches_one ReaderMay reader_after (taking (view_of c.args.seat.now)) 0 q _ (at.0, whole, omega arith) (ap (λ m. m.0.reader) c.store.ensures.2.view)
+returns-clause-moved c = reader_goes _ _ _ _ _ c.store.ensures.2
 
 pub returns-clause-view : goal.returns-clause-view
 returns-clause-view c = let q = reader_in c.args.seat.now in

@@ -1,8 +1,8 @@
-use Rattle.std.proofs.Common.{rules, ap, ◌∙◌, subst, ◌<◌, ℕ, arith}
-use Rattle.crn_proto.proofs.Chains.{reaches_one}
+use Rattle.std.proofs.Common.{rules, ◌∙◌, subst, ◌<◌, ℕ, arith}
 use Rattle.crn_cipher.specs.Blocks.{block_word}
-use Rattle.crn_proto.specs.Ring.{ProducerMay, producer_after, StoreWord, PassesGates, place}
+use Rattle.crn_proto.specs.Ring.{PassesGates, place}
 use Rattle.crn_ring.proofs.Allowed.{stores_word}
+use Rattle.crn_ring.proofs.Bounds.{producer_goes}
 use Rattle.crn_ring.proofs.Rows.{place_from}
 use Rattle.crn_ring.specs.Seats.{producer_in}
 use Rattle.crn_ring.proofs.ring.Ring.store_word.Goals as goal
@@ -16,5 +16,4 @@ store-requires c = let at = c.requires.at in let spec = c.args.self.now.spec in 
 )
 
 pub returns-clause-moved : goal.returns-clause-moved
-returns-clause-moved c = let at = c.requires.at in let spec = c.args.self.now.spec in
-    reaches_one (ProducerMay spec) producer_after StoreWord 0 (producer_in c.args.seat.now) _ (at.0, subst (λ (z : ℕ). z < spec.id.total) at.1 c.requires.below, subst (PassesGates spec (producer_in c.args.seat.now)) at.1 c.requires.room) (ap (λ m. m.0.producer) c.store.ensures.2.view)
+returns-clause-moved c = producer_goes _ _ _ _ _ _ c.requires.own.0.1 c.store.ensures.2
