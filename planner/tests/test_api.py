@@ -21,7 +21,8 @@ from matplotlib.figure import Figure
 
 import crnplan as crn
 from crnplan import catalogues
-from crnplan.commands import COMMANDS, as_option, group
+from crnplan.api import PlanWords, TodayWords
+from crnplan.commands import COMMANDS, Spelling, group
 from crnplan.table import Result
 from planner.tests.conftest import Command
 
@@ -86,6 +87,8 @@ def public() -> Iterator[tuple[str, object]]:
             function = next((getattr(its, it) for it in ("fget", "func", "__func__") if hasattr(its, it)), its)
             if not part.startswith("_") and inspect.isfunction(function):
                 yield f"{name}.{part}", function
+    for words in (PlanWords, TodayWords):
+        yield words.__name__, words
 
 
 def has_any(hint: object) -> bool:
@@ -106,7 +109,25 @@ def test_completion(crnplan: Command, monkeypatch: pytest.MonkeyPatch) -> None:
     for name, value in (("_CRNPLAN_COMPLETE", "bash_complete"), ("COMP_WORDS", "crnplan wh"), ("COMP_CWORD", "1")):
         monkeypatch.setenv(name, value)
     assert crnplan() == (0, "plain,why\nplain,where\n", "")
-    assert group.get_command(click.Context(group), "report") and as_option("end", "") == "--to"
+    assert Spelling("report")("end", "") == "--to"
+
+
+@pytest.mark.parametrize("command, name, spelt", [
+    ("history", "faults", "--rejects x"), ("today", "supplier_min", "--supplier-min x"), ("why", "columns", "--column x"),
+    ("", "date_formats", "--date-format x"), ("item", "end", "[history] to = x"), ("item", "out", "--out x"),
+    ("item", "order_min", "[bounds] order_min = x"), ("run", "nothing_known", "--nothing-known x")])
+def test_spelling(command: str, name: str, spelt: str) -> None:
+    """An argument is spelt as the option of the command, else as that of catalogue, and for an item as its setting."""
+    assert Spelling(command)(name, "x") == spelt
+
+
+def test_words_of_a_call(few: list[pd.DataFrame]) -> None:
+    """Words of reading and planning are shown with their defaults, and one that is misspelt is refused by its name."""
+    words = inspect.signature(crn.plan).parameters
+    assert (words["level"].default, words["every"].default, words["sales"].default) == (0.95, "week", inspect._empty)
+    assert words.keys() - inspect.signature(crn.read_catalogue).parameters.keys() >= {"level", "seed"}
+    with pytest.raises(TypeError, match=r"^plan\(\) got an unexpected keyword argument 'levle'"):
+        crn.plan(*few, levle=0.9)  # type: ignore[call-arg]
 
 
 def test_from_a_history_to_a_decision(tmp_path: Path, program: Path) -> None:

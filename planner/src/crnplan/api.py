@@ -7,16 +7,17 @@ from collections.abc import Iterable, Mapping, Sequence
 from dataclasses import dataclass, field, replace
 from functools import cached_property
 from pathlib import Path
-from typing import TYPE_CHECKING
+from typing import TYPE_CHECKING, Unpack
 
-from .catalogues import Catalogue, Lost, plan_catalogue, write_found
+from .catalogues import Catalogue, FileWords, Lost, ReadingWords, plan_catalogue, write_found
 from .crnsim.program import find_program
 from .decide.sensitivity import Moves
 from .errors import Refused, argument
 from .files import Folder, Room, own_folder
 from .items import plan_item as plan_one_item
 from .jobs import Scheduler
-from .money import Amount, Number
+from .money import Amount
+from .options import with_words
 from .pages.catalogue_page import CATALOGUE_FILES, report
 from .pages.catalogue_tables import catalogue_summary, decisions_of, rejects_of
 from .pages.change_tables import change_lines, changes_of
@@ -29,13 +30,10 @@ from .plan.item import Depth
 from .plan.question import Settings
 from .plan.survey import Survey
 from .records.catalogue_reading import CATALOGUE, READ, read_into
-from .records.choosing import Where
-from .records.defaults import LEAVE_OUT
+from .records.defaults import Defaults
 from .records.items import Words
-from .records.leads import RECEIPTS
 from .records.opening import Table
 from .records.overriding import set_overrides
-from .records.status import BY_TEST
 from .records.told import made_from, words_of
 from .remarks import Remark
 from .table import DataTable, Result, TextResult
@@ -105,16 +103,23 @@ class PlannedItem(Result):
     def plot(self) -> Figure:
         """Returns a picture of stock, position and orders of today's and the chosen policy in one run."""
         from .pages.pictures import trajectories_picture
-        found = self.words.depth.trajectory
-        policies = [it for it in self.words.depth.policies if it.name in found]
-        start = next(iter(found.values()))[0]
+        drawn = self.words.depth.trajectory
+        policies = [policy for policy in self.words.depth.policies if policy.name in drawn]
+        runs = [drawn[policy.name] for policy in policies]
+        start = next(iter(drawn.values()))[0]
         initial = start.position + start.net_demand - start.ordered
-        return trajectories_picture(policies, [found[it.name] for it in policies], initial)
+        return trajectories_picture(policies, runs, initial)
 
     @property
     def page(self) -> str:
         """Returns the page of the item as HTML, which asks for no other file."""
         return item_page(self.words)
+
+
+class TodayWords(FileWords, total=False):
+    """How today's tables are read, and the least value of an order by supplier."""
+
+    supplier_min: Mapping[str, Amount] | None
 
 
 @dataclass(frozen=True)
@@ -194,12 +199,9 @@ class Plan(TextResult):
         return exchange_curve(self.path, stock_value=stock_value, fill=fill, orders=orders, jobs=jobs, cluster=cluster,
                               program=self.program, confirm=confirm)
 
+    @with_words(TodayWords, Words, Defaults)
     def orders_today(self, stock: Table | None = None, on_order: Table | None = None,
-                     date: datetime.date | str | None = None, *, columns: Roles | None = None,
-                     units: Roles | None = None, where: Where | None = None,
-                     supplier_min: Mapping[str, Amount] | None = None, delimiter: str | None = None,
-                     encoding: str | None = None, decimal: str | None = None,
-                     date_formats: Sequence[str] = ()) -> OrdersToday:
+                     date: datetime.date | str | None = None, **words: Unpack[TodayWords]) -> OrdersToday:
         """Returns what to order on a date, by default today, what lies too long, and what is owed. Nothing is planned
         again.
 
@@ -209,7 +211,7 @@ class Plan(TextResult):
         read as those of the plan were, unless a word says otherwise. Raises Refused for what can't be read or meant, and if the plan is not as the rows that were
         read last.
         """
-        return orders_today(self.path, {"stock": stock, "on_order": on_order}, words_of(locals()), date)
+        return orders_today(self.path, {"stock": stock, "on_order": on_order}, words_of(words), date)
 
     def to_excel(self, path: str | Path, orders: OrdersToday | None = None) -> None:
         """Writes the plan as a workbook: its summary, decisions, the `orders` that `orders_today` gave, what is left
@@ -241,27 +243,30 @@ def take_tables(folder: Folder, sales: Table | Catalogue, masters: Table | None,
         folder.take(part, READ)
 
 
+class PlanWords(ReadingWords, total=False):
+    """How the tables of a catalogue are read, and how its items are planned: see `plan`."""
+
+    least_gain: float | None
+    fit: str
+    borrow: str | None
+    confidence: float | None
+    correct: bool
+    order_min: int | None
+    max_coverage: int | None
+    s_min: int | None
+    window: int | None
+    level: float
+    seed: str | int
+    periods: int
+    replications: int
+
+
+@with_words(PlanWords, Words, Defaults, Settings)
 def plan(sales: str | Path | pd.DataFrame | Catalogue, masters: str | Path | pd.DataFrame | None = None,
-         orders: str | Path | pd.DataFrame | None = None, *, out: str | Path | None = None, every: str = "week",
-         columns: Roles | None = None, units: Roles | None = None, where: Where | None = None,
-         start: datetime.date | str | None = None, end: datetime.date | str | None = None,
-         today: datetime.date | None = None, net: bool = False,
-         negate: bool = False, twice: str | None = None, far: str = LEAVE_OUT, least: int = 13,
-         lead_from: str = RECEIPTS, factors: Mapping[str, int] | None = None,
-         statuses: Mapping[str, str] | None = None, stopped: str = BY_TEST,
-         delimiter: str | None = None, encoding: str | None = None,
-         decimal: str | None = None, date_formats: Sequence[str] = (),
-         overrides: Table | None = None, after: str | Path | None = None,
-         least_gain: float | None = None,
-         setup: Amount | None = None, holding_rate: Amount | None = None, fill: Amount | None = None,
-         lead: str | None = None,
-         service: Mapping[str, Amount] | None = None, currency: str | None = None,
-         abc: str | Sequence[Number] | None = None, fit: str = "auto", borrow: str | None = None,
-         confidence: float | None = None, correct: bool = False, order_min: int | None = None,
-         max_coverage: int | None = None, s_min: int | None = None, window: int | None = None, level: float = 0.95,
-         seed: str | int = "crnplan", periods: int = 1024, replications: int = 24, jobs: int | None = None,
+         orders: str | Path | pd.DataFrame | None = None, *, out: str | Path | None = None,
+         overrides: Table | None = None, after: str | Path | None = None, jobs: int | None = None,
          cluster: Scheduler | None = None, program: str | Path | None = None, learn_again: bool = False,
-         progress: bool = False) -> Plan:
+         progress: bool = False, **words: Unpack[PlanWords]) -> Plan:
     """Plans all items of a catalogue, and returns the plan. Nothing is written unless `out` names a folder.
 
         plan = crn.plan(sales, masters)
@@ -311,15 +316,17 @@ def plan(sales: str | Path | pd.DataFrame | Catalogue, masters: str | Path | pd.
 
     Raises Refused (a ValueError) for what can't be read or meant, ProgramError, and Lost if counts do not add up.
     """
-    words, settings = words_of(locals()), made_from(Settings, {**locals(), "seed": str(seed), "every": None})
+    reading = words_of(words)
+    seed = str(words.get("seed", Settings.seed))
+    settings = made_from(Settings, {**words, "seed": seed, "every": None})
     earlier = None if after is None else Path(after)
     check_masters(sales, masters)
     check_earlier(earlier, None if out is None else Path(out), settings)
     room = Room() if out is None else None
     path = room.path if room else Path(out or "")
     with own_folder(path, CATALOGUE, CATALOGUE_FILES) as folder:
-        take_tables(folder, sales, masters, orders, words, jobs)
-        set_overrides(folder, overrides, words, earlier)
+        take_tables(folder, sales, masters, orders, reading, jobs)
+        set_overrides(folder, overrides, reading, earlier)
         write_found(folder, Catalogue(folder.path / READ), settings)
         done = plan_catalogue(folder, settings, after=earlier, jobs=jobs, address=cluster, program=program,
                               again=learn_again, shown=progress)

@@ -5,12 +5,13 @@ import contextlib
 from collections.abc import Mapping, Sequence
 from dataclasses import dataclass, field
 from pathlib import Path
-from typing import TYPE_CHECKING, Any, cast
+from typing import TYPE_CHECKING, Any, TypedDict, Unpack, cast
 
 from .errors import Failed, argument, worded
 from .files import Folder, Room
 from .jobs import Scheduler
 from .money import Amount, Number
+from .options import with_words
 from .pages.catalogue_page import FOUND, write_catalogue, write_tables
 from .pages.catalogue_tables import REJECTS, rejects_of
 from .pages.control_tables import controls_of
@@ -20,13 +21,11 @@ from .plan.question import Settings
 from .plan.totals import Totals
 from .records.catalogue_reading import Catalogued, defaulted, missing_of, read_alone
 from .records.choosing import Where
-from .records.defaults import LEAVE_OUT
-from .records.items import Counts
+from .records.defaults import Defaults
+from .records.items import Counts, Words
 from .records.lateness import receipt_remarks
-from .records.leads import RECEIPTS
 from .records.observed import Day
 from .records.opening import Table
-from .records.status import BY_TEST
 from .records.told import merged, told_of, words_of
 from .remarks import Remark
 from .table import Json
@@ -101,28 +100,54 @@ def stated_of(catalogue: Catalogue, more: Mapping[str, Any]) -> str:
     with catalogue.opened() as read:
         facts, told = read.fact("found"), read.fact("told") | more
     named = {table["kind"] for table in facts["tables"]}
-    words = {name: value for name, value in told.items() if name not in ("every", *named)}
-    return rendered("found.toml", {
-        **facts, "formats": worded(argument("date_formats")),
-        "words": {name: value for name, value in words.items() if not isinstance(value, dict)},
-        "groups": {name: value for name, value in merged(words, facts["stated"]).items() if isinstance(value, dict)}})
+    told = {name: value for name, value in told.items() if name not in ("every", *named)}
+    words = {name: value for name, value in told.items() if not isinstance(value, dict)}
+    groups = {name: value for name, value in merged(told, facts["stated"]).items() if isinstance(value, dict)}
+    formats = worded(argument("date_formats"))
+    return rendered("found.toml", {**facts, "formats": formats, "words": words, "groups": groups})
 
 
-def read_catalogue(demand: Table, items: Table, orders: Table | None = None, *,
-                   every: str = "week", columns: Mapping[str, Mapping[str, str]] | None = None,
-                   units: Mapping[str, Mapping[str, str]] | None = None,
-                   names: Mapping[str, Mapping[str, Sequence[str]]] | None = None,
-                   start: Day | str | None = None, end: Day | str | None = None, net: bool = False,
-                   negate: bool = False, twice: str | None = None, far: str = LEAVE_OUT, least: int = 13,
-                   lead_from: str = RECEIPTS, factors: Mapping[str, int] | None = None,
-                   statuses: Mapping[str, str] | None = None, stopped: str = BY_TEST,
-                   setup: Amount | None = None, holding_rate: Amount | None = None, fill: Amount | None = None,
-                   lead: str | None = None,
-                   service: Mapping[str, Amount] | None = None, currency: str | None = None,
-                   abc: str | Sequence[Number] | None = None, today: Day | None = None,
-                   where: Where | None = None,
-                   delimiter: str | None = None, encoding: str | None = None, decimal: str | None = None,
-                   date_formats: Sequence[str] = (), jobs: int | None = None) -> Catalogue:
+class FileWords(TypedDict, total=False):
+    """How tables are read: see `read_catalogue`."""
+
+    columns: Mapping[str, Mapping[str, str]] | None
+    units: Mapping[str, Mapping[str, str]] | None
+    where: Where | None
+    delimiter: str | None
+    encoding: str | None
+    decimal: str | None
+    date_formats: Sequence[str]
+
+
+class ReadingWords(FileWords, total=False):
+    """How the tables of a catalogue are read, and what masters need not say: see `read_catalogue`."""
+
+    every: str
+    names: Mapping[str, Mapping[str, Sequence[str]]] | None
+    start: Day | str | None
+    end: Day | str | None
+    today: Day | None
+    net: bool
+    negate: bool
+    twice: str | None
+    far: str
+    least: int
+    lead_from: str
+    factors: Mapping[str, int] | None
+    statuses: Mapping[str, str] | None
+    stopped: str
+    setup: Amount | None
+    holding_rate: Amount | None
+    fill: Amount | None
+    lead: str | None
+    service: Mapping[str, Amount] | None
+    currency: str | None
+    abc: str | Sequence[Number] | None
+
+
+@with_words(ReadingWords, Words, Defaults)
+def read_catalogue(demand: Table, items: Table, orders: Table | None = None, *, jobs: int | None = None,
+                   **words: Unpack[ReadingWords]) -> Catalogue:
     """Reads a catalogue from CSV files of any size, also gzipped, sheets of workbooks (FILE.xlsx!SHEET) or DataFrames. Of
     demand and orders there may be several files with one heading, as "demand-2026-*.csv".
 
@@ -149,8 +174,8 @@ def read_catalogue(demand: Table, items: Table, orders: Table | None = None, *,
 
     Raises Refused and RefusedFaults for files that can't be read. Rows and items with faults are in `rejects`.
     """
-    words, room = words_of(locals()), Room()
-    path = read_alone(room.path, {"demand": demand, "items": items, "orders": orders}, words, jobs)
+    reading, room = words_of(words), Room()
+    path = read_alone(room.path, {"demand": demand, "items": items, "orders": orders}, reading, jobs)
     return Catalogue(path, room)
 
 

@@ -15,6 +15,7 @@ import tomllib
 import traceback
 from collections.abc import Callable
 from contextlib import redirect_stderr, redirect_stdout
+from dataclasses import dataclass
 from pathlib import Path
 from typing import Any, TextIO
 
@@ -24,6 +25,7 @@ from .. import __version__
 from ..errors import CrnplanError, Failed, Refused, escaped, spelt, worded
 from ..files import faults_of
 from ..interrupts import heed_interrupt, heeding_interrupts
+from ..options import DECLARED, Option, option
 
 # The threads of linear algebra gain nothing here. Beside other work they wait for one another, busily.
 for _threads in ("OMP_NUM_THREADS", "OPENBLAS_NUM_THREADS"):
@@ -31,9 +33,40 @@ for _threads in ("OMP_NUM_THREADS", "OPENBLAS_NUM_THREADS"):
 
 INTERRUPTED = 130
 STREAMS = "stdin", "stdout", "stderr"  # in the order of their numbers
-# The subcommands: the module of each, and its help.
-COMMANDS: dict[str, dict[str, str]] = tomllib.loads(Path(__file__).with_name("help.toml").read_text("utf-8"))
-asked: list[str] = []  # the subcommand that was asked for last
+# The subcommands: the module of each, its help, and its options in order.
+COMMANDS: dict[str, dict[str, Any]] = tomllib.loads(Path(__file__).with_name("help.toml").read_text("utf-8"))
+
+
+def options_of(command: str) -> list[Option]:
+    """Returns the options of a command. A name without its table is that of an own option, or else of a common one."""
+    options = []
+    for name in COMMANDS[command]["options"]:
+        place = name
+        if "." not in name:
+            table = command if name in DECLARED.get(command, ()) else "common"
+            place = f"{table}.{name}"
+        options.append(option(place))
+    return options
+
+
+@dataclass
+class Spelling:
+    """Spells arguments of the library as the options that have their names: of the subcommand that runs, else of
+    `crnplan catalogue`, since pages and tables tell what that has read. The words of `crnplan item` are settings."""
+
+    command: str = ""
+
+    def __call__(self, name: str, value: str) -> str:
+        """Returns an argument as an option, perhaps with a value."""
+        if self.command == "item" and name not in ("out", "program"):
+            from ..plan.settings import as_setting
+            return as_setting(name, value)
+        flag = f"--{name.replace('_', '-')}"
+        for command in filter(None, ("catalogue", self.command)):
+            for option in options_of(command):
+                if option.name == name and not option.positional:
+                    flag = option.flag
+        return f"{flag} {shlex.quote(value)}" if value else flag
 
 
 class Group(click.Group):
@@ -43,18 +76,22 @@ class Group(click.Group):
         return list(COMMANDS)
 
     def get_command(self, ctx: click.Context, cmd_name: str) -> click.Command | None:
-        if cmd_name in COMMANDS:
-            asked[:] = [cmd_name]
-            return _command(cmd_name)
-        return None
+        if cmd_name not in COMMANDS:
+            return None
+        module = importlib.import_module(f"{__name__}.{COMMANDS[cmd_name]['module']}")
+        command: click.Command = getattr(module, cmd_name)
+        return command
 
     def resolve_command(
             self, ctx: click.Context, args: list[str]) -> tuple[str | None, click.Command | None, list[str]]:
         """Finds the subcommand, or suggests those that are spelt like it."""
-        if args and args[0] not in COMMANDS and not args[0].startswith("-"):
-            close = difflib.get_close_matches(args[0], COMMANDS, 2)
+        name = args[0]
+        if name in COMMANDS and isinstance(ctx.obj, Spelling):
+            ctx.obj.command = name
+        elif name not in COMMANDS and not name.startswith("-"):
+            close = difflib.get_close_matches(name, COMMANDS, 2)
             advice = f"; did you mean {' or '.join(close)}?" if close else f"; they are {', '.join(COMMANDS)}"
-            raise click.UsageError(f"there is no command '{args[0]}'{advice}", ctx)
+            raise click.UsageError(f"there is no command '{name}'{advice}", ctx)
         return super().resolve_command(ctx, args)
 
     def format_commands(self, ctx: click.Context, formatter: click.HelpFormatter) -> None:
@@ -73,23 +110,6 @@ def group() -> None:
     """
 
 
-def _command(name: str) -> click.Command:
-    command: click.Command = getattr(importlib.import_module(f"{__name__}.{COMMANDS[name]['module']}"), name)
-    return command
-
-
-def as_option(name: str, value: str) -> str:
-    """Returns an argument of the library as the option that has its name: of the subcommand that was asked for, else of
-    `crnplan catalogue`, since pages and tables tell what that has read. The words of `crnplan item` are settings."""
-    if asked == ["item"] and name not in ("out", "program"):
-        from ..plan.settings import as_setting
-        return as_setting(name, value)
-    options = (option for command in (*asked, "catalogue") for option in _command(command).params
-               if isinstance(option, click.Option))
-    spelling = next((option.opts[0] for option in options if option.name == name), f"--{name.replace('_', '-')}")
-    return spelling + f" {shlex.quote(value)}" * bool(value)
-
-
 def note(message: str) -> None:
     """Prints the lines of a message on standard error, with the options of the command for the arguments of the
     library, or whatever stands for them in the block `errors.spelt`."""
@@ -100,13 +120,13 @@ def note(message: str) -> None:
 def main() -> None:
     """Runs the command. Ends with status 0; 1 if the answer is no; 2 if an input or a word is refused; 3 if no input is
     to blame; 130 if interrupted."""
-    status = Failed.status
+    status, spelling = Failed.status, Spelling()
     open_streams()
     output, errors = _shown(sys.stdout, BrokenPipeError), _shown(sys.stderr, OSError)
-    with redirect_stdout(output), redirect_stderr(errors), spelt(as_option), heeding_interrupts():
+    with redirect_stdout(output), redirect_stderr(errors), spelt(spelling), heeding_interrupts():
         try:
             with faults_of(Path("crnplan")):
-                result: Any = group.main(prog_name="crnplan", standalone_mode=False)
+                result: Any = group.main(prog_name="crnplan", standalone_mode=False, obj=spelling)
                 print(end="", flush=True)
             status = result if isinstance(result, int) else 0
         except click.ClickException as refusal:

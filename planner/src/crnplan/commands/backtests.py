@@ -14,26 +14,10 @@ from ..plan.catalogue import planned_folder
 from ..plan.settings import read_config
 from ..records.catalogue_reading import CATALOGUE, read_into
 from .catalogues import words_of
-from .words import command, csv_style_option, share_of, worker_options
+from .words import command
 
 
 @command()
-@click.argument("tables", metavar="FOLDER | DEMAND.csv ITEMS.csv", nargs=-1, required=True,
-                type=click.Path(path_type=Path))
-@click.option("--orders", metavar="ORDERS.csv", help="Dates of orders and of their receipts, for lead times.")
-@click.option("--out", metavar="FOLDER", type=click.Path(path_type=Path), help="Keep every file here.")
-@click.option("--record", type=click.IntRange(1), default=52, show_default=True, metavar="N",
-              help="The periods from which each item is planned first.")
-@click.option("--every", type=click.IntRange(1), default=13, show_default=True, metavar="N",
-              help="Refit after so many periods.")
-@click.option("--window", type=click.IntRange(1), metavar="N",
-              help="Refit on the last so many periods; by default as the plan does, else on 52.")
-@click.option("--least-gain", metavar="SHARE", callback=share_of,
-              help="Refit with levels that stay too, if others gain less than this share of their cost, as 2%; by "
-              "default as the plan does.")
-@click.option("--config", metavar="FILE.toml", help="Settings; by default crnplan.toml, if it is here.")
-@csv_style_option
-@worker_options
 def backtest(tables: Sequence[Path], orders: str | None, out: Path | None, record: int, every: int, window: int | None,
              least_gain: float | None, config: str | None, jobs: int | None, cluster: str | None) -> None:
     words = None
@@ -49,6 +33,7 @@ def backtest(tables: Sequence[Path], orders: str | None, out: Path | None, recor
     walk = Walk(record, every, window or settings.window or Walk.window, least_gain or settings.least_gain)
     with own_folder(out or tables[0], CATALOGUE) as folder:
         if words is not None:
-            read_into(folder, {"demand": tables[0], "items": tables[1], "orders": orders}, words, jobs)
+            files = {"demand": tables[0], "items": tables[1], "orders": orders}
+            read_into(folder, files, words, jobs)
         tests = write_backtest(folder, settings, walk, jobs=jobs, address=cluster, shown=True)
     click.echo(tests.text, nl=False)

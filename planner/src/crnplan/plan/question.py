@@ -13,13 +13,12 @@ from ..demand.fitted import Borrowed, FittedLaw
 from ..demand.fitting import fit_demand, fit_lead
 from ..demand.borrowing import law_of
 from ..demand.learning import Prior
-from ..demand import LEAD_METHODS
-from ..demand.families import METHODS
 from ..digests import number_of, sha256
 from ..errors import CrnplanError, Refused, argument
-from ..formats import MOST_DEMAND, MOST_ITEMS, MOST_LEAD, MOST_PERIODS, MOST_REPLICATIONS, MOST_WEIGHT, limits
+from ..formats import MOST_DEMAND, MOST_ITEMS, MOST_LEAD, MOST_PERIODS, limits
 from ..law import Law
 from ..money import rounded_costs
+from ..options import check_words, option
 from ..records.bounds import Bounds
 from ..records.item import BORROW, NEW, Item
 from ..remarks import Remark
@@ -85,26 +84,11 @@ class Settings:
     aims: Aims | None = field(default=None, repr=False)
 
     def __post_init__(self) -> None:
-        for name, word, words in (("fit", self.fit, METHODS), ("lead_fit", self.lead_fit, LEAD_METHODS),
-                                  ("borrow", self.borrow or NONE, BORROW)):
-            if word not in words:
-                raise Refused(f"{argument(name, str(word))} is not one of {', '.join(words)}")
+        check_words(self)
+        option("settings.lead.fit").check(self.lead_fit)
         if self.fit != "auto" and self.borrow not in (None, NONE):
             raise Refused(f"{argument('fit', self.fit)} fits each item alone, and "
                           f"{argument('borrow', str(self.borrow))} learns from others", "leave one out")
-        for name, share, example in (("level", self.level, "0.95 for 95 of 100 samples"),
-                                     ("confidence", self.confidence, "0.8 for 80% of the laws that a history allows"),
-                                     ("least_gain", self.least_gain, "0.02 for 2% of the cost")):
-            if share is not None and not 0 < share < 1:
-                raise Refused(f"{argument(name, f'{share:g}')} is not between 0 and 1", f"write {example}")
-        for name, number, least, most in (("periods", self.periods, 1, MOST_PERIODS),
-                                          ("replications", self.replications, 2, MOST_REPLICATIONS),
-                                          ("window", self.window, 1, MOST_WEIGHT),
-                                          ("order_min", self.order_min, 1, MOST_ITEMS),
-                                          ("max_coverage", self.max_coverage, 1, MOST_WEIGHT),
-                                          ("s_min", self.s_min, 0, MOST_ITEMS)):
-            if number is not None and not least <= number <= most:
-                raise Refused(f"{argument(name, str(number))} is not from {least} to {most:,}")
 
     def common(self, program: str, prior: Prior) -> str:
         """Returns what all answers depend on, with the digest of the program and what was learned, as a text. The least

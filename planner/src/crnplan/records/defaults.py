@@ -8,16 +8,18 @@ from fractions import Fraction
 from typing import Any, TypeVar
 
 from ..errors import Refused, argument
-from ..money import Amount, Number
+from ..money import Number
+from ..options import PLAN, option
 from ..table import names_of
 from ..words import message
-from .amounts import SIGNS, amount_of, share_of
+from .amounts import SIGNS
 from .cells import HEADINGS, Cell, Unreadable
 from .times import TimeReader
 
 Value = TypeVar("Value")
 ABC = (80, 95)
-KEEP, LEAVE_OUT = "keep", "leave-out"  # what is done with rows that stand twice, and with items with far amounts
+# What is done with rows that stand twice, and with items with far amounts.
+TAKEN = KEEP, LEAVE_OUT = "keep", "leave-out"
 MOST_CLASSES = 10  # that are named
 SOURCES = MASTERS, CLASS, ORDERS, DEFAULT = "masters", "class", "orders", "default"  # where a value is from
 # The currencies that an ambiguous sign may stand for.
@@ -43,57 +45,61 @@ class Defaults:
     supplier_min: Mapping[str, Fraction] = field(default_factory=dict)
 
     @classmethod
-    def of(cls, *, setup: Amount | None = None, holding_rate: Amount | None = None, fill: Amount | None = None,
-           service: Mapping[str, Amount] | None = None, lead: str | None = None, currency: str | None = None,
-           abc: str | Sequence[Number] | None = None,
-           supplier_min: Mapping[str, Amount] | None = None) -> Defaults:
-        """Reads what is stated. Shares are numbers below 1 or texts such as 20%. Raises Refused."""
-        return cls(read_argument("setup", setup, amount_of), read_argument("holding_rate", holding_rate, share_of),
-                   read_argument("fill", fill, share_of), read_arguments("service", service, share_of),
-                   read_argument("lead", lead, lead_of) or "", read_argument("currency", currency, currency_of) or "",
-                   read_argument("abc", abc, cuts_of) or ABC,
-                   read_arguments("supplier_min", supplier_min, amount_of))
+    def of(cls, **stated: Any) -> Defaults:
+        """Reads what is stated by the name of a field. Shares are numbers below 1 or texts such as 20%. Raises
+        Refused."""
+        values: dict[str, Any] = {}
+        for name, value in stated.items():
+            word = option(f"{PLAN}.{name}")
+            if word.kind == "pairs":
+                values[name] = {key: read_argument(name, part, word.read) for key, part in value.items()
+                                if part is not None}
+            else:
+                values[name] = read_argument(name, value, word.read)
+        return cls(**values)
 
     @property
     def roles(self) -> set[str]:
         """Returns the roles of masters that each item needs and for which there is a default."""
-        stated = {"setup": self.setup, "holding": self.holding_rate}
-        return {role for role, value in stated.items() if value is not None}
+        roles = set()
+        if self.setup is not None:
+            roles.add("setup")
+        if self.holding_rate is not None:
+            roles.add("holding")
+        return roles
 
     def leads(self, every: str) -> tuple[int, ...]:
         """Returns the lead times in whole periods of an item for which nothing else says one; none without a default.
         Raises Refused."""
+        if not self.lead:
+            return ()
         try:
-            return tuple(TimeReader().leads(self.lead, "", every)) if self.lead else ()
+            return tuple(TimeReader().leads(self.lead, "", every))
         except Unreadable as why:
             raise Refused(f"{argument('lead', self.lead)}: {message(why.remark)}") from why
 
     def fill_of(self, group: str, own: Fraction | None) -> tuple[Fraction | None, str]:
         """Returns the wanted fill of an item of a class, and where it is from; None and no source if there is none."""
-        sources = {MASTERS: own, CLASS: self.service.get(group), DEFAULT: self.fill}
-        return next(((fill, source) for source, fill in sources.items() if fill is not None), (None, ""))
+        for source, fill in ((MASTERS, own), (CLASS, self.service.get(group)), (DEFAULT, self.fill)):
+            if fill is not None:
+                return fill, source
+        return None, ""
 
     def check_classes(self, groups: Collection[str]) -> None:
         """Raises Refused if a fill is wanted for a class that no item has."""
-        unknown = next((name for name in self.service if name not in groups), None)
-        if unknown is not None:
-            stated = argument("service", f"{unknown}={float(self.service[unknown]):g}")
-            raise Refused(f"{stated}: no item has the class {unknown!r}",
-                          f"the classes are {names_of(sorted(filter(None, groups)), MOST_CLASSES)}")
+        for name, fill in self.service.items():
+            if name not in groups:
+                stated = argument("service", f"{name}={float(fill):g}")
+                known = names_of(sorted(filter(None, groups)), MOST_CLASSES)
+                raise Refused(f"{stated}: no item has the class {name!r}", f"the classes are {known}")
 
 
-def read_argument(name: str, value: Any, read: Callable[[Any], Value]) -> Value | None:
-    """Returns an argument as it is read; None if it is not given. Raises Refused with its name."""
+def read_argument(name: str, value: Any, read: Callable[[Any], Value]) -> Value:
+    """Returns an argument as it is read. Raises Refused with its name."""
     try:
-        return None if value is None else read(value)
+        return read(value)
     except Refused as why:
         raise Refused(f"{argument(name)}: {why.what}", why.advice) from why
-
-
-def read_arguments(name: str, values: Mapping[str, Any] | None, read: Callable[[Any], Value]) -> dict[str, Value]:
-    """Returns the values of an argument by name, as they are read. Raises Refused with its name."""
-    found = {key: read_argument(name, value, read) for key, value in (values or {}).items()}
-    return {key: value for key, value in found.items() if value is not None}
 
 
 def lead_of(value: Any) -> str:
@@ -109,20 +115,28 @@ def lead_of(value: Any) -> str:
 
 def cuts_of(value: str | Sequence[Number]) -> tuple[int, int]:
     """Returns two rising shares in percent, such as "80,95" or (80, 95). Raises Refused."""
-    parts = value.split(",") if isinstance(value, str) else [*map(str, value)]
-    numbers = [int(part) for part in parts if part.strip().isdecimal()]
-    if len(numbers) != len(parts) or len(numbers) != 2 or not 0 < numbers[0] < numbers[1] < 100:
-        raise Refused(f"{value!r} are no two rising whole numbers of percent", "write 80,95")
-    return numbers[0], numbers[1]
+    parts: list[str] = []
+    if isinstance(value, str):
+        parts = value.split(",")
+    elif isinstance(value, Sequence):
+        parts = [*map(str, value)]
+    if len(parts) == 2 and all(part.strip().isdecimal() for part in parts):
+        first, second = map(int, parts)
+        if 0 < first < second < 100:
+            return first, second
+    raise Refused(f"{value!r} are no two rising whole numbers of percent", "write 80,95")
 
 
 def currency_of(cell: Cell) -> str:
     """Returns the code of a currency, or its sign. Raises Refused for anything else."""
     text = str(cell).strip()
-    code = SIGNS.get(text, text)
-    if code not in MAY_BE and not CODE.fullmatch(code.upper()):
+    sign = SIGNS.get(text, text)
+    if sign in MAY_BE:
+        return sign
+    code = sign.upper()
+    if not CODE.fullmatch(code):
         raise Refused(f"{text!r} is no code of a currency", "write three letters, as EUR")
-    return code if code in MAY_BE else code.upper()
+    return code
 
 
 def currency_in(cell: Cell) -> str:

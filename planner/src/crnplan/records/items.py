@@ -8,21 +8,18 @@ from fractions import Fraction
 from typing import Any, TypedDict
 
 from ..errors import Refused, argument
+from ..options import check_words
 from ..remarks import Remark, joined
 from .cells import CellFault, on_one_line, text_of
 from .choosing import Condition
 from .columns import COLUMNS, ROLES, unit_fault
-from .dates import EVERY
-from .defaults import KEEP, LEAVE_OUT, Defaults
-from .leads import LEAD_FROM, RECEIPTS
+from .defaults import LEAVE_OUT, Defaults
+from .leads import RECEIPTS
 from .observed import Day
 from .sources import Rules, Sheet
-from .status import AS_STATED, BY_TEST, check_meanings
+from .status import BY_TEST, check_meanings
 
 OUTSIDE = ("before start", "far before", "after end", "late date")  # what is wrong with a date outside the record
-# The words that are one of some.
-KNOWN = {"every": EVERY, "twice": (KEEP, LEAVE_OUT), "far": (KEEP, LEAVE_OUT), "lead_from": LEAD_FROM,
-         "stopped": (BY_TEST, AS_STATED)}
 
 
 @dataclass(frozen=True)
@@ -92,10 +89,7 @@ class Words(Rules):
         for text in self.where:
             Condition.of(text)
         check_meanings(self.statuses)
-        for name, known in KNOWN.items():
-            value = getattr(self, name)
-            if value not in known and (value or name != "twice"):
-                raise Refused(f"{argument(name, value)} is not one of {', '.join(known)}")
+        check_words(self)
         for name in ("columns", "units", "names"):
             self._check_places(name)
         self.defaults.leads(self.every)

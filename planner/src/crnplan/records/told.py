@@ -1,15 +1,16 @@
 """Writes how a catalogue is read and planned as the table [catalogue] of crnplan.toml, and reads that again.
 
-Each word is a field of a class, and stands in the file under its name. What is as by default is not stated.
+Each word is a field of a class, and stands in the file under its key. What is as by default is not stated.
 """
 from __future__ import annotations
 
 import datetime
-from collections.abc import Iterator, Mapping
+from collections.abc import Mapping
 from dataclasses import MISSING, Field, fields, is_dataclass
 from fractions import Fraction
 from typing import Any, TypeVar
 
+from ..options import key_of
 from .choosing import conditions_of
 from .columns import ROLES
 from .defaults import Defaults
@@ -17,8 +18,6 @@ from .items import Words
 
 Tree = dict[str, Any]
 Made = TypeVar("Made")
-# The keys of fields that have another name in the file.
-KEYS = {"start": "from", "end": "to"}
 # Fields that the file does not state: the day of reading, and what is no word of a catalogue.
 UNSTATED = {"today", "item", "leave_out", "decimals", "day_first", "is_where_needed", "lead_fit", "season", "aims"}
 # Fields with values by file and role, whose keys are FILE.ROLE.
@@ -36,13 +35,15 @@ def default_of(field: Field[Any]) -> Any:
 def plain(value: Any) -> Any:
     """Returns a value as TOML and JSON have it. A number that is exact is a text."""
     if isinstance(value, Mapping):
-        return {name: plain(one) for name, one in value.items()}
+        return {name: plain(part) for name, part in value.items()}
     if isinstance(value, (list, tuple)):
         return [*map(plain, value)]
     if isinstance(value, Fraction):
         decimal = f"{float(value):.15g}"
         return decimal if Fraction(decimal) == value else str(value)
-    return str(value) if isinstance(value, datetime.date) else value
+    if isinstance(value, datetime.date):
+        return str(value)
+    return value
 
 
 def placed(table: Mapping[str, Mapping[str, Any]]) -> Tree:
@@ -73,18 +74,18 @@ def told_of(words: Any) -> Tree:
         elif field.name in BY_PLACE:
             tree[field.name] = plain(placed(value))
         else:
-            tree[KEYS.get(field.name, field.name)] = plain(value)
+            tree[key_of(field.name)] = plain(value)
     return tree
 
 
 def merged(first: Mapping[str, Any], *others: Mapping[str, Any]) -> Tree:
     """Returns what several tables state, of which later ones count first. What is said of all files replaces what an
     earlier table says of one."""
-    tree: Tree = dict(first)
+    tree = dict(first)
     for other in others:
-        for word in OF_ALL_FILES.keys() & other.keys():
-            replaced = OF_ALL_FILES[word]
-            tree[WRITTEN] = {kind: {name: value for name, value in own.items() if name != replaced}
+        replaced = {OF_ALL_FILES[word] for word in OF_ALL_FILES.keys() & other.keys()}
+        if replaced:
+            tree[WRITTEN] = {kind: {name: value for name, value in own.items() if name not in replaced}
                              for kind, own in tree.get(WRITTEN, {}).items()}
         tree = _joined(tree, other)
     return tree
@@ -99,18 +100,24 @@ def _joined(first: Mapping[str, Any], second: Mapping[str, Any]) -> Tree:
     return tree
 
 
-def _given(kind: type, tree: Mapping[str, Any]) -> Iterator[tuple[str, Any]]:
-    """Yields the fields of a class that a table states."""
+def _given(kind: type, tree: Mapping[str, Any]) -> Tree:
+    """Returns the fields of a class that a table states."""
+    given = {}
     for field in fields(kind):
-        value = tree.get(KEYS.get(field.name, field.name))
-        if value is not None and field.name not in UNSTATED:
-            listed = tuple(value) if isinstance(value, list) else value
-            yield field.name, by_kind(value) if field.name in BY_PLACE else listed
+        value = tree.get(key_of(field.name))
+        if value is None or field.name in UNSTATED:
+            continue
+        if field.name in BY_PLACE:
+            value = by_kind(value)
+        elif isinstance(value, list):
+            value = tuple(value)
+        given[field.name] = value
+    return given
 
 
 def made_from(kind: type[Made], tree: Mapping[str, Any]) -> Made:
     """Returns a value of a class with the words of a table that it has. Raises Refused for what can't be meant."""
-    return kind(**dict(_given(kind, tree)))
+    return kind(**_given(kind, tree))
 
 
 def words_of(arguments: Mapping[str, Any]) -> Words:
@@ -120,10 +127,10 @@ def words_of(arguments: Mapping[str, Any]) -> Words:
     own = {field.name: stated[field.name] for field in fields(Words) if field.name in stated}
     own["date_formats"] = tuple(stated.get("date_formats", ()))
     own["where"] = conditions_of(stated.get("where"))
-    return Words(**own, defaults=Defaults.of(**dict(_given(Defaults, stated))))
+    return Words(**own, defaults=Defaults.of(**_given(Defaults, stated)))
 
 
 def words_from(tree: Mapping[str, Any]) -> Words:
     """Returns how a catalogue is read by the words of a table. Raises Refused for what can't be meant."""
     columns = {kind: tree[kind] for kind in ROLES if kind in tree}
-    return made_from(Words, {**tree, "columns": columns, "defaults": Defaults.of(**dict(_given(Defaults, tree)))})
+    return made_from(Words, {**tree, "columns": columns, "defaults": Defaults.of(**_given(Defaults, tree))})

@@ -1,0 +1,154 @@
+"""Declares each word that a user says once: options of commands, keys of files and arguments of calls, as options.toml has
+them."""
+from __future__ import annotations
+
+import functools
+import inspect
+import pkgutil
+import re
+import tomllib
+from collections.abc import Callable, Iterable, Sequence
+from dataclasses import dataclass
+from pathlib import Path
+from typing import Any, TypeVar, cast
+
+from .errors import Refused, argument
+
+Call = TypeVar("Call", bound=Callable[..., Any])
+# The name of a constant or a function of the package.
+REFERENCE = re.compile(r"\{([\w.]+)\}")
+PLAN = "plan"  # the table of words of reading and planning
+DECLARED: dict[str, Any] = tomllib.loads(Path(__file__).with_name("options.toml").read_text("utf-8"))
+
+
+@dataclass(frozen=True)
+class Option:
+    """A word: `name` as an argument of a call, `flag` as an option of a command, and `key` in a file, empty if no file has
+    it.
+
+    `kind` says what stands there:
+
+    - text; column (of a table); date; sign (between cells); texts (several); flag
+    - choice: one of `choices`
+    - whole: a whole number in the `range`, whose second end may be missing; numbers: several; horizon: of periods
+    - number; part (above 0, to 1); share (between 0 and 1; its `example` says what to write); percent: a share, as 2% too
+    - pairs: texts by name, of a `form`, as the `example`
+    - stated: what the function `read` takes; price and cost: money
+    - path, folder, file, picture, file and column; form and style (of what is printed)
+
+    A key may be `needed` in its file, an option `required`. A `default` may be `shown`.
+    """
+
+    name: str
+    flag: str
+    key: str
+    kind: str = "text"
+    help: str = ""
+    metavar: str | None = None
+    example: str = ""
+    form: str = ""
+    read: Any = None
+    choices: Sequence[str] = ()
+    range: Sequence[int] = ()
+    default: Any = None
+    shown: bool = False
+    needed: bool = False
+    required: bool = False
+    positional: bool = False
+    nargs: int = 1
+
+    def check(self, value: Any) -> None:
+        """Raises Refused for a value that is none of the choices, no share, or out of the range."""
+        if self.kind == "choice" and value not in self.choices:
+            raise Refused(f"{argument(self.name, str(value))} is not one of {', '.join(self.choices)}")
+        if self.kind in ("share", "percent") and not 0 < value < 1:
+            raise Refused(f"{argument(self.name, f'{value:g}')} is not between 0 and 1", f"write {self.example}")
+        if self.kind == "whole":
+            least, most = self.range
+            if not least <= value <= most:
+                raise Refused(f"{argument(self.name, str(value))} is not from {least} to {most:,}")
+
+
+def named(reference: str) -> Any:
+    """Returns the constant or the function of the package with a name, as `formats.MOST_ITEMS`."""
+    return pkgutil.resolve_name(f"{__package__}.{reference}")
+
+
+def resolved(value: Any) -> Any:
+    """Returns what a reference stands for. In a longer text it is replaced by its value, or by its values with commas."""
+    if isinstance(value, list):
+        return [resolved(part) for part in value]
+    if not isinstance(value, str):
+        return value
+    reference = REFERENCE.fullmatch(value)
+    if reference:
+        return named(reference[1])
+    return REFERENCE.sub(lambda reference: joined(named(reference[1])), value)
+
+
+def joined(value: int | Iterable[str]) -> str:
+    """Returns a number, or several texts, as one text."""
+    return str(value) if isinstance(value, int) else ", ".join(value)
+
+
+@functools.cache
+def option(place: str) -> Option:
+    """Returns the word at a place of options.toml, as `plan.window`. What it refers to is imported now. Raises KeyError if
+    there is none."""
+    table, _, name = place.rpartition(".")
+    stated = {fact: resolved(value) for fact, value in table_of(table)[name].items()}
+    stated.setdefault("name", name)
+    stated.setdefault("flag", "--" + name.replace("_", "-"))
+    stated.setdefault("key", name if table.startswith((PLAN, "settings.")) else "")
+    return Option(**stated)
+
+
+def table_of(place: str) -> dict[str, dict[str, Any]]:
+    """Returns the words of a table of options.toml, as they are declared."""
+    table = DECLARED
+    for part in place.split("."):
+        table = table[part]
+    return table
+
+
+def within(table: str) -> list[Option]:
+    """Returns all words of a table."""
+    return [option(f"{table}.{name}") for name in table_of(table)]
+
+
+def key_of(name: str) -> str:
+    """Returns the key of a word of reading or planning in crnplan.toml; another name as it is."""
+    key: str = DECLARED[PLAN].get(name, {}).get("key", name)
+    return key
+
+
+def with_words(words: type, *homes: type) -> Callable[[Call], Call]:
+    """Returns a decorator that shows the words of a TypedDict as arguments of a function, each with its default in one of
+    some classes, for help and completion. A word that is none of them raises TypeError."""
+    def made(function: Call) -> Call:
+        signature = inspect.signature(function)
+        parameters = [part for part in signature.parameters.values() if part.kind is not part.VAR_KEYWORD]
+        for name, hint in words.__annotations__.items():
+            default = next((getattr(home, name) for home in homes if hasattr(home, name)), None)
+            parameters.append(inspect.Parameter(name, inspect.Parameter.KEYWORD_ONLY, default=default,
+                                                annotation=hint.__forward_arg__))
+        signature = signature.replace(parameters=parameters)
+
+        @functools.wraps(function)
+        def called(*values: Any, **named: Any) -> Any:
+            try:
+                signature.bind(*values, **named)
+            except TypeError as why:
+                raise TypeError(f"{function.__name__}() {why}") from None
+            return function(*values, **named)
+        setattr(called, "__signature__", signature)
+        return cast(Call, called)
+    return made
+
+
+def check_words(words: object) -> None:
+    """Raises Refused for a field of words of reading or of planning whose value can't be meant."""
+    for name in DECLARED[PLAN]:
+        value = getattr(words, name, None)
+        if value is not None:
+            option(f"{PLAN}.{name}").check(value)
