@@ -7,8 +7,8 @@ from pathlib import Path
 from crnplan.crnsim import long_run as exact_long_run, report, trajectory
 from crnplan.curve import exchange_curve
 from crnplan.decide import doubt, sensitivity, verdicts
-from crnplan.pages import (backtest_tables, catalogue_tables, change_tables, control_tables, item_page, lateness,
-                           today_tables)
+from crnplan.pages import backtest_tables, catalogue_tables, change_tables, control_tables, item_page, lateness
+from crnplan.pages.today_tables import TABLES as ON_A_DAY
 from crnplan.table import Column
 from crnplan.theory import suggestions
 
@@ -25,7 +25,7 @@ AS_ORDERS = "Other columns are as in `today_orders.csv`."
 
 def more(columns: Sequence[Column]) -> list[Column]:
     """Returns the columns that no table of orders has."""
-    return [column for column in columns if column not in today_tables.ORDER_COLUMNS]
+    return [column for column in columns if column not in ON_A_DAY["orders"]]
 
 
 TABLES: Mapping[str, tuple[str, Sequence[Column]]] = {
@@ -44,18 +44,18 @@ TABLES: Mapping[str, tuple[str, Sequence[Column]]] = {
     "curve_policies.csv": ("The policies of one point of the curve.", exchange_curve.POLICY_COLUMNS),
     "curve_left_out.csv": ("Items that are not on the curve.", exchange_curve.LEFT_OUT_COLUMNS),
     "today_orders.csv": ("What to order on a day, the most urgent first; then items of which nothing is known.",
-                         today_tables.ORDER_COLUMNS),
-    "today_above.csv": (f"Items above S. {AS_ORDERS}", more(today_tables.ABOVE_COLUMNS)),
-    "today_dead.csv": (f"Stock that nobody has asked for. {AS_ORDERS}", more(today_tables.DEAD_COLUMNS)),
-    "today_owed.csv": (f"Items that are owed. {AS_ORDERS}", more(today_tables.OWED_COLUMNS)),
+                         ON_A_DAY["orders"]),
+    "today_above.csv": (f"Items above S. {AS_ORDERS}", more(ON_A_DAY["above"])),
+    "today_dead.csv": (f"Stock that nobody has asked for. {AS_ORDERS}", more(ON_A_DAY["dead"])),
+    "today_owed.csv": (f"Items that are owed. {AS_ORDERS}", more(ON_A_DAY["owed"])),
     "today_classes.csv, today_suppliers.csv": ("What these come to by class, and by supplier.",
-                                               today_tables.SUPPLIER_COLUMNS),
-    "today_added.csv": (f"What fills up orders of suppliers. {AS_ORDERS}", more(today_tables.ADDED_COLUMNS)),
+                                               ON_A_DAY["suppliers"]),
+    "today_added.csv": (f"What fills up orders of suppliers. {AS_ORDERS}", more(ON_A_DAY["added"])),
     "today_lines.csv, today_supplier_001.csv": (
         "The orders of all suppliers line by line, and of each supplier alone; `today_suppliers.csv` says whose file is "
-        "which.", today_tables.LINE_COLUMNS),
+        "which.", ON_A_DAY["lines"]),
     "today_at_risk.csv": (f"Items with overdue orders, or with less stock than mean demand up to the next receipt. "
-                          f"{AS_ORDERS}", more(today_tables.RISK_COLUMNS)),
+                          f"{AS_ORDERS}", more(ON_A_DAY["at_risk"])),
     "policies.csv": ("The policies of an item that is planned alone, the cheapest first.", item_page.POLICY_COLUMNS),
     "coming.csv": ("The same over the coming periods, with `[run] horizon`.", item_page.COMING_COLUMNS),
     "doubt.csv, crnplan doubt": ("Policies under the laws that a history allows. A column stands if there is a figure.",

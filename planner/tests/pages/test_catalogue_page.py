@@ -22,9 +22,10 @@ from hypothesis import HealthCheck, given, settings, strategies as st
 import crnplan as crn
 from crnplan.files import own_folder
 from crnplan.pages import catalogue_page
-from crnplan.pages.catalogue_page import COLUMNS, MEANING, OPTIONAL, clipped, file_of
+from crnplan.pages.catalogue_page import ITEM_COLUMNS, clipped, file_of
 from crnplan.pages.catalogue_tables import reasons_of
 from crnplan.pages.page import LARGE
+from crnplan.pages.verdicts import VERDICTS
 from crnplan.plan.answer import BOUNDED, CHEAPER, DEARER, RUN, SAME, SERVICE, UNCOMPARED, UNDECIDED, Answer
 from crnplan.plan.catalogue import ANSWERS, planned_folder
 from crnplan.plan.totals import Totals
@@ -76,7 +77,7 @@ def test_cells_are_those_of_the_table(name: str, request: pytest.FixtureRequest)
     """The page has each item once, each cell as decisions.csv spells it, by falling saving."""
     folder = request.getfixturevalue(name)
     page, rows = Page(folder / "report.html"), rows_of(folder / "decisions.csv")
-    assert page.columns == [name for name in COLUMNS if name not in OPTIONAL]
+    assert page.columns == [column.name for column in ITEM_COLUMNS if not column.is_optional]
     assert page.items == {row["item"]: {it: row[it] for it in page.columns} for row in rows}
     savings = [Decimal(row["saving"]) for row in page.items.values()]
     assert savings == sorted(savings, reverse=True)
@@ -246,7 +247,7 @@ def test_reasons_verdicts_and_service() -> None:
         ("theory counts in steps of \u2026 items", "day", 2, 2, {"A"}),
         ("theory counts in steps of \u2026 items", "amount", 1, 3, {"B"}),
         ("each item has the law of its own history", "day", 1, 4, {"B"})]
-    assert set(MEANING) == {CHEAPER, DEARER, SERVICE, SAME, UNDECIDED, UNCOMPARED, BOUNDED, NEW, NO_DEMAND,
+    assert set(VERDICTS) == {CHEAPER, DEARER, SERVICE, SAME, UNDECIDED, UNCOMPARED, BOUNDED, NEW, NO_DEMAND,
                             STOPPED, PHASE_OUT, DO_NOT_ORDER}
     totals = Totals()
     for price, demand, fill in ((30, 3, 1.0), (2, 5, 0.5)):

@@ -22,8 +22,9 @@ from matplotlib.ticker import MaxNLocator
 from crnplan.crnsim.trajectory import Period
 from crnplan.curve.parts import Point
 from crnplan.demand.fitting import fit_demand
+from crnplan.pages.curves import curve_ends
 from crnplan.pages.item_page import history_plot
-from crnplan.pages.page import (UNITS, Money, Scale, curve_ends, number, percent, rendered, round_numbers, source,
+from crnplan.pages.page import (UNITS, Money, Scale, number, percent, rendered, round_numbers, source,
                                 templates, tick)
 from crnplan.scenario import Policy
 from planner.tests.conftest import Command

@@ -1,20 +1,22 @@
 """Draws the test of a catalogue on its past as one HTML page: what was promised and what came, by item and in time."""
 from __future__ import annotations
 
-from collections.abc import Iterable, Sequence
+from collections.abc import Sequence
 from typing import NamedTuple
 
 from ..plan.backtest.catalogue import Tested
 from ..plan.backtest.one import Backtest
-from ..plan.backtest.sums import BLOCK, KEPT, Group, Sums, summed
+from ..plan.backtest.sums import BLOCK, KEPT, Group, summed
 from ..records.item import Item
-from .backtest_tables import SINGLE, VERDICTS, backtest_summary, fills_of, first_line
+from .backtest_tables import VERDICTS, first_line
 from .page import OF_CHOSEN, OF_TODAY, UNITS, Line, Plot, Scale, marks_of, percent, rendered, tick
 
 MOST_DOTS, MOST_WORST = 3_000, 12
 DOTS, PROMISED = "dots", "of-promised"
-SUM_HEADINGS = "class", "verdict", "items", "missed by over a point", "promised"
 LINES = {KEPT: OF_CHOSEN, "refitted": "of-better", "smoothed": OF_TODAY}
+LEAST_END = 99.0  # percent, up to which an axis of service begins
+BAR = 0.8  # of the width of a period
+Tests = Sequence[tuple[Item, Backtest]]
 
 
 class Worst(NamedTuple):
@@ -27,77 +29,102 @@ class Worst(NamedTuple):
     later: str
     unmet: str
 
+    @classmethod
+    def of(cls, item: Item, test: Backtest) -> Worst:
+        counts, record = item.counts, test.record
+        most = max(1, *counts)
+
+        def drawn(heights: Sequence[float], first: int) -> str:
+            return bars(heights, first, len(counts), most)
+        return cls(item, test, drawn(counts[:record], 0), drawn(test.demands, record), drawn(test.kept.unmet, record))
+
 
 def promise_plot(tests: Sequence[Backtest]) -> Plot:
     """Returns the share of demand that each item met at once, against what was promised, as dots."""
-    pairs = [(100 * test.kept.promised_fill, 100 * test.kept.fill) for test in tests[:MOST_DOTS]
-             if test.kept.promised_fill is not None and test.kept.fill is not None]
-    across = Scale.between(min([99.0, *(promised for promised, _ in pairs)]), 100.0)
-    up = Scale.between(min([99.0, *(came for _, came in pairs)]), 100.0)
-    dots = "".join(f"M{across.at(promised):g} {UNITS - up.at(came):g}h0" for promised, came in pairs)
+    pairs = []
+    for test in tests[:MOST_DOTS]:
+        promised, came = test.kept.promised_fill, test.kept.fill
+        if promised is not None and came is not None:
+            pairs.append((100 * promised, 100 * came))
+    across = Scale.between(min([LEAST_END, *(promised for promised, _ in pairs)]), 100.0)
+    up = Scale.between(min([LEAST_END, *(came for _, came in pairs)]), 100.0)
+    dots = "".join(f"M{across.at(promised):g} {up.down(came):g}h0" for promised, came in pairs)
     low = max(across.low, up.low)
-    equal = f"M{across.at(low):g} {UNITS - up.at(low):g}L{UNITS} 0"
+    equal = f"M{across.at(low):g} {up.down(low):g}L{UNITS} 0"
     met = sum(came >= promised for promised, came in pairs)
-    return Plot("Demand met at once, by item: what came against what was promised",
-                f"{len(pairs):,} items, of which {met:,} met at least what was promised.", up,
-                [(across.at(value), tick(value), "") for value in across.ticks], "promised, %",
-                [Line("as promised", PROMISED, equal), Line("an item", f"{DOTS} {OF_CHOSEN}", dots)])
+    return Plot(
+        title="Demand met at once, by item: what came against what was promised",
+        description=f"{len(pairs):,} items, of which {met:,} met at least what was promised.",
+        scale=up,
+        marks=[(across.at(value), tick(value), "") for value in across.ticks],
+        across="promised, %",
+        lines=[Line("as promised", PROMISED, equal), Line("an item", f"{DOTS} {OF_CHOSEN}", dots)])
 
 
 def time_plot(tests: Sequence[Backtest], promised: float, every: str) -> Plot:
     """Returns the share of demand that was met at once in time, by blocks of periods, with what was promised."""
     group = Group(tests)
-    shares = {policy: (100 - 100 * group.unmet(policy).by_block).tolist() for policy in LINES}
-    scale = Scale.between(min(100 * promised - 1, *(min(own) for own in shares.values())), 100.0)
-    lines = [Line(f"promised: {percent(promised)}", PROMISED, f"M0 {UNITS - scale.at(100 * promised):g}H{UNITS}")]
+    shares: dict[str, list[float]] = {}
+    for policy in LINES:
+        shares[policy] = (100 - 100 * group.unmet(policy).by_block).tolist()
+    least = min(min(own) for own in shares.values())
+    scale = Scale.between(min(100 * promised - 1, least), 100.0)
+    lines = [Line(f"promised: {percent(promised)}", PROMISED, f"M0 {scale.down(100 * promised):g}H{UNITS}")]
+    said = []
     for policy, own in shares.items():
-        places = (UNITS * place / max(1, len(own) - 1) for place in range(len(own)))
-        path = "L".join(f"{place:g} {UNITS - scale.at(share):g}" for place, share in zip(places, own))
-        lines.append(Line(policy, LINES[policy], f"M{path}"))
-    said = "; ".join(f"{policy}: from {min(own):.1f}% to {max(own):.1f}%" for policy, own in shares.items())
+        lines.append(Line(policy, LINES[policy], joined(scale, own)))
+        said.append(f"{policy}: from {min(own):.1f}% to {max(own):.1f}%")
     count = len(shares[KEPT])
-    return Plot("Demand met at once, in time", f"{count} blocks of {BLOCK} {every}s; {said}.", scale,
-                marks_of([str(BLOCK * (place + 1)) for place in range(count)]), f"{every}s after the record", lines)
+    return Plot(
+        title="Demand met at once, in time",
+        description=f"{count} blocks of {BLOCK} {every}s; {'; '.join(said)}.",
+        scale=scale,
+        marks=marks_of([str(BLOCK * place) for place in range(1, count + 1)]),
+        across=f"{every}s after the record",
+        lines=lines)
+
+
+def joined(scale: Scale, values: Sequence[float]) -> str:
+    """Returns a line through values that stand at the same distance from one another."""
+    last = max(1, len(values) - 1)
+    return "M" + "L".join(f"{UNITS * place / last:g} {scale.down(value):g}" for place, value in enumerate(values))
 
 
 def bars(heights: Sequence[float], first: int, count: int, most: float) -> str:
-    """Returns bars as a path: of the periods from one on, of so many."""
+    """Returns bars as a path: of the periods from one on, of so many; the highest can be `most`."""
     width = UNITS / count
-    tops = ((first + place, UNITS - UNITS * height / most) for place, height in enumerate(heights) if height)
-    return "".join(f"M{place * width:.1f} {UNITS}V{top:.1f}h{0.8 * width:.1f}V{UNITS}z" for place, top in tops)
+    path = ""
+    for place, height in enumerate(heights, first):
+        if height:
+            top = UNITS - UNITS * height / most
+            path += f"M{place * width:.1f} {UNITS}V{top:.1f}h{BAR * width:.1f}V{UNITS}z"
+    return path
 
 
-def worst_of(tested: Sequence[tuple[Item, Backtest]]) -> list[Worst]:
+def missed(pair: tuple[Item, Backtest]) -> float:
+    """Returns by how much of a period's mean demand an item missed its promise."""
+    _, test = pair
+    promised = test.kept.promised_fill or 0
+    return (sum(test.kept.unmet) - (1 - promised) * sum(test.demands)) / (test.mean or 1)
+
+
+def worst_of(tested: Tests) -> list[Worst]:
     """Returns the items that missed most of their promised fill, in shares of their mean demand."""
-    def missed(pair: tuple[Item, Backtest]) -> float:
-        """Returns by how much of a period's mean demand an item missed its promise."""
-        _, test = pair
-        return (sum(test.kept.unmet) - (1 - (test.kept.promised_fill or 0)) * sum(test.demands)) / (test.mean or 1)
-    rows = []
-    for item, test in sorted(tested, key=missed, reverse=True)[:MOST_WORST]:
-        counts, record = item.counts, test.record
-        most = max(1, *counts)
-        rows.append(Worst(item, test, bars(counts[:record], 0, len(counts), most),
-                          bars(test.demands, record, len(counts), most),
-                          bars(test.kept.unmet, record, len(counts), most)))
-    return rows
-
-
-def sum_cells(sums: Sums, policies: Iterable[str]) -> list[str]:
-    """Returns the cells of all items, or of a class, below `SUM_HEADINGS` and policies."""
-    fills = fills_of(sums)
-    return [sums.group or "all", VERDICTS[sums.verdict], f"{sums.items:,}", f"{sums.broken:,}", percent(sums.promised),
-            *(fills.get(policy, "-") for policy in policies)]
+    most = sorted(tested, key=missed, reverse=True)[:MOST_WORST]
+    return [Worst.of(item, test) for item, test in most]
 
 
 def backtest_page(tested: Tested) -> str:
     """Returns the page of a catalogue's test on its past."""
-    found = [(item, test) for item, test in tested.items if isinstance(test, Backtest) and summed(test)]
-    tests, sums = [test for _, test in found], tested.whole
-    policies = [*(sums.unmet if sums else ())]
+    pairs = [(item, test) for item, test in tested.items if isinstance(test, Backtest) and summed(test)]
+    tests = [test for _, test in pairs]
+    sums = tested.whole
     return rendered("backtest.html", {
-        "headline": first_line(sums), "sums": sums, "verdict": VERDICTS[sums.verdict] if sums else "",
-        "every": tested.every, "decimals": tested.decimals, "lines": backtest_summary(tested).splitlines(),
-        "promises": promise_plot(tests) if tests else None, "single": SINGLE,
-        "times": time_plot(tests, sums.promised, tested.every) if sums else None, "worst": worst_of(found),
-        "heading": [*SUM_HEADINGS, *policies], "rows": [sum_cells(it, policies) for it in tested.sums]})
+        "headline": first_line(sums),
+        "tested": tested,
+        "sums": sums,
+        "verdicts": VERDICTS,
+        "every": tested.every,
+        "promises": promise_plot(tests) if tests else None,
+        "times": time_plot(tests, sums.promised, tested.every) if sums else None,
+        "worst": worst_of(pairs)})

@@ -16,8 +16,7 @@ from ..curve.exchange_curve import SAID, kept_curve
 from ..digests import sha256
 from ..files import Folder, own_folder
 from ..jobs import Scheduler, batched
-from ..plan.answer import (BOUNDED, CHEAPER, CHOSEN, DEARER, SAME, SERVICE, TODAY, UNCOMPARED, UNDECIDED,
-                           Answer)
+from ..plan.answer import CHOSEN, TODAY, Answer
 from ..plan.backtest.catalogue import past_of
 from ..plan.catalogue import PlannedFolder, planned_folder
 from ..plan.item import Depth
@@ -25,8 +24,7 @@ from ..plan.survey import Decided, Survey, saving_of
 from ..plan.swings import keep_swings
 from ..plan.totals import Totals
 from ..records.catalogue_reading import CATALOGUE, missing_of
-from ..records.item import NEW, NO_DEMAND, PHASE_OUT, STOPPED, Item
-from ..records.overrides import DO_NOT_ORDER
+from ..records.item import Item
 from ..remarks import Remark
 from ..table import DataTable
 from .backtest_tables import past_line
@@ -34,62 +32,27 @@ from .board import board_of
 from .catalogue_tables import (DECISION_COLUMNS, DECISIONS, EXACT, REJECTS, Decision, aims_of, catalogue_summary,
                                decisions_of, exact_of, reasons_of, rejects_of)
 from .change_tables import CHANGES, change_lines, changes_of, moved_rows
+from .columns import declared
 from .control_tables import controls_of
+from .curves import MARKERS, CurvePicture
 from .item_page import ItemWords, item_page
 from .lateness import LATENESS, lateness_of
+from .page import OF_CHOSEN, Line, Money, Plot, Scale, percent, rendered
 from .today_tables import OrdersToday, orders_by_masters
-from .page import OF_CHOSEN, UNITS, Line, Money, Plot, Scale, curve_ends, percent, rendered
+from .verdicts import VERDICTS
 
 SUMMARY, PAGE, FOUND = "summary.txt", "report.html", "found.toml"
 CATALOGUE_FILES = (DECISIONS, EXACT, REJECTS, SUMMARY, PAGE, FOUND)
+ITEMS = "items"  # the folder of their pages
 MOST_ROWS = 5_000  # items in the table
 ROWS_AT_ONCE = 100  # of the tables that are written side by side
 ROWS_A_GROUP = 45  # which are laid out together; the first group is printed
 MOST_SAVINGS = 15
 MOST_REASONS = 12  # of each kind
-# Forms that differ without colour, in pixels around their point, for the named points in their order.
-FORMS = ("M-6 0a6 6 0 1 0 12 0a6 6 0 1 0-12 0z", "M0-8 8 0 0 8-8 0z", "M0-8 7.5 6-7.5 6z", "M-6-6H6V6H-6z",
-         "M0-9 2.5-3 9-3 4 1.5 6 8 0 4-6 8-4 1.5-9-3-2.5-3z")
-
-ITEMS = "items"
 # A name whose file would have more letters is cut, and its digest stands behind it. File systems allow 255 bytes.
 MOST_LETTERS, KEPT_LETTERS, DIGITS = 120, 80, 32
-
-
-# The columns of the table of items, which are some of decisions.csv, and their headings.
-COLUMNS = {
-    **{name: name.replace("_", " ") for name in (
-        "item", "description", "class", "verdict", "s_today", "S_today", "s_chosen", "S_chosen", "s_override", "S_override",
-        "s_alone", "S_alone", "cost_today", "cost_chosen", "saving", "cost_override", "by")},
-    "run_saving": "saving by crnsim", "run_low": "crnsim from", "run_high": "crnsim to",
-    "fill_today": "met at once today", "fill_chosen": "met at once chosen", "value_today": "stock value today",
-    "value_chosen": "stock value chosen", "warnings": "warnings"}
-# Those that are printed.
-PRINTED = ("item", "description", "class", "verdict", "s_today", "S_today", "s_chosen", "S_chosen", "cost_today",
-           "cost_chosen", "saving", "fill_today", "fill_chosen", "value_today", "value_chosen")
-OPTIONAL = ("s_alone", "S_alone", "s_override", "S_override", "cost_override")  # They are left out if no item has a figure in them.
-# The most characters of a line: of texts by their columns, and of numbers.
-TEXTS, MOST_DIGITS = {"item": 22, "description": 26, "class": 12, "verdict": 14, "by": 8, "warnings": 60}, 16
-# The padding of a cell, and the width of a letter, in digits.
-PADDING, LETTER = 2, 1.25
-VERDICT_STYLES = {CHEAPER: "better", DEARER: "worse"}
-# What each verdict means, for a reader.
-MEANING = {
-    CHEAPER: "The chosen policy costs less than today's.",
-    SERVICE: "Today's policy misses the wanted share of demand met at once. The chosen one keeps it and may cost more.",
-    UNDECIDED: "Theory is rounded here, and the runs cannot tell which policy costs less.",
-    SAME: "Today's policy is the best one already.",
-    DEARER: "The chosen policy costs more, though it is the best by theory. Look at these items.",
-    BOUNDED: "No policy within the bounds that are stated for the item meets the wanted share of demand at once. The "
-             "chosen one meets most.",
-    UNCOMPARED: "The masters have no s and S, so nothing is compared. The sums of today and of savings do not have these "
-                "items.",
-    NEW: "Its past is too short for a law of its own, so it has that of its class or of all items. It is in the sums if it "
-         "has s and S today, as any other item.",
-    NO_DEMAND: "Nobody has asked for it in the record: order nothing, and see whether its stock is still of use.",
-    STOPPED: "It is asked for no longer, by its record or its status: order nothing. No sum has it.",
-    PHASE_OUT: "Its status says that its stock is used up: order what is owed at most. No sum has it.",
-    DO_NOT_ORDER: "Its planner has set that nothing is ordered. No sum has it."}
+MOST_DIGITS = 16  # of a number in the table of items
+PADDING, LETTER = 2, 1.25  # of a cell, and the width of a letter, in digits
 
 
 class Shown(NamedTuple):
@@ -101,47 +64,135 @@ class Shown(NamedTuple):
 
     @property
     def remarks(self) -> tuple[Remark, ...]:
-        own = self.answer.remarks if isinstance(self.answer, Answer) else (self.answer,)
-        return *self.item.remarks, *own
+        return Decision.of(self.item, self.answer).remarks
+
+
+class ItemColumn(NamedTuple):
+    """A column of the table of items. Of a text a line has at most so many `letters`. An optional one is left out if no
+    item has a figure in it."""
+
+    name: str
+    heading: str = ""
+    letters: int = 0
+    is_printed: bool = False
+    is_optional: bool = False
+    width: int = 0
+
+    def is_filled(self, rows: Sequence[Shown]) -> bool:
+        return any(row.cells[self.name] for row in rows)
+
+    def among(self, rows: Sequence[Shown]) -> ItemColumn:
+        """Returns the column with its width in digits, with its padding: it has room for its texts up to a limit, and for
+        each word of its heading with the sign of its order."""
+        heading = self.heading or self.name.replace("_", " ")
+        longest = max((len(row.cells[self.name]) for row in rows), default=0)
+        widths = [min(longest, MOST_DIGITS)]
+        if self.letters:
+            widths = [math.ceil(min(longest, self.letters) * LETTER)]
+        widths += (len(word) + 2 for word in heading.split())
+        return self._replace(heading=heading, width=PADDING + max(widths))
+
+
+ITEM_COLUMNS = [ItemColumn(name, **traits) for name, traits in declared("words")["items"].items()]
+
+
+class Bar(NamedTuple):
+    """What an item saves, with the interval of its run."""
+
+    shown: Shown
+    saving: float
+    low: float
+    high: float
+
+
+class NamedPoint(NamedTuple):
+    """A named point of the exchange curve: its style and form, and where it stands, in percent of the picture."""
+
+    name: str
+    figures: Point
+    css: str
+    form: str
+    x: float
+    y: float
 
 
 def catalogue_page(folder: PlannedFolder, survey: Survey, orders: OrdersToday | None = None) -> str:
     """Returns the page of a planned catalogue, with a link to the page of each item that has one, and perhaps with the
     orders of a day."""
-    totals, settings, currency, curve = survey.totals, folder.settings, folder.currency, kept_curve(folder.store)
+    totals, currency, curve = survey.totals, folder.currency, kept_curve(folder.store)
+    money = Money(currency.code, currency.decimals)
     rows = shown_items(survey.greatest, currency.digits)
-    there = {path.name for path in (folder.path / ITEMS).glob("*.html")}
-    files = {row.item.name: file_name(row.item.name) for row in rows} if there else {}
-    columns = [name for name in COLUMNS if name not in OPTIONAL or any(row.cells[name] for row in rows)]
-
-    reasons, money = reasons_of(folder.read.rejects(survey.faults)), Money(currency.code, currency.decimals)
+    reasons = reasons_of(folder.read.rejects(survey.faults))
     shown_curve = curve or known_points(totals)
     plot, points = exchange_plot(shown_curve, money) if shown_curve else (None, [])
     codes = Counter(code for row in rows for code in {remark.code for remark in row.remarks})
+    bars = bars_of(rows)
     return rendered("catalogue.html", {
-        "every": folder.every, "money": money.exact, "currency": currency, "settings": settings,
-        "totals": totals, "sources": folder.counts["files"],
+        "folder": folder,
+        "totals": totals,
+        "money": money.exact,
+        "orders": orders,
+        "board": board_of(folder, survey, reasons, money),
         "controls": controls_of(folder.read.controls(), folder.decimals, currency.code),
-        "remarks": folder.read.remarks(), "named": folder.counts["items"]["named"],
-        "ends": totals.run_ends(settings.level), "aims": aims_of(folder, totals),
-        "pages": {name: quote(f"{ITEMS}/{file}") for name, file in files.items() if file in there},
-        "rows": rows, "lost": missing_of(folder.counts, totals.answered), "meanings": MEANING,
-        "orders": orders, "plot": plot, "points": points, "has_curve": bool(curve), "is_old": curve is not None,
-        "headings": COLUMNS,
-        "savings": savings(rows), "styles": VERDICT_STYLES, "most_reasons": MOST_REASONS,
-        "reasons": reasons, "board": board_of(folder, survey, reasons, money), "columns": columns,
-        "printed": PRINTED, "rows_a_group": ROWS_A_GROUP, "texts": TEXTS,
-        "parts": [width(name, rows) for name in columns], "codes": sorted(codes.items()),
-        "choices": sorted(Counter(row.cells["verdict"] for row in rows).items()), "changes": change_lines(folder),
-        "moved": moved_rows(folder), "past": past_line(past_of(folder)),
+        "remarks": folder.read.remarks(),
+        "ends": totals.run_ends(folder.settings.level),
+        "aims": aims_of(folder, totals),
+        "lost": missing_of(folder.counts, totals.answered),
+        "past": past_line(past_of(folder)),
+        "changes": change_lines(folder),
+        "moved": moved_rows(folder),
+        "reasons": reasons,
+        "most_reasons": MOST_REASONS,
+        "plot": plot,
+        "points": points,
+        "has_curve": bool(curve),
+        "is_old": curve is not None,
+        "bars": bars,
+        "bar_scale": Scale.of([0.0, *(end for bar in bars for end in bar[1:])]),
+        "together": math.fsum(bar.saving for bar in bars),
+        "verdicts": VERDICTS,
+        "rows": rows,
+        "rows_a_group": ROWS_A_GROUP,
+        "columns": [column.among(rows) for column in ITEM_COLUMNS if not column.is_optional or column.is_filled(rows)],
+        "pages": pages_of(folder.path, rows),
+        "codes": sorted(codes.items()),
+        "choices": sorted(Counter(row.cells["verdict"] for row in rows).items()),
         "warned": sum(row.cells["warnings"] != "" for row in rows)})
+
+
+def rank_of(decided: Decided) -> tuple[bool, float, str]:
+    """Returns what sorts items by falling saving; those without one come last."""
+    item, answer = decided
+    saving = saving_of(answer)
+    return saving is None, -(saving or 0.0), item.name
 
 
 def shown_items(decided: Iterable[Decided], digits: int) -> list[Shown]:
     """Returns the items of the table by falling saving; those without one come last. Money has so many digits."""
-    kept = sorted(decided, key=lambda it: (saving_of(it[1]) is None, -(saving_of(it[1]) or 0.0), it[0].name))
-    table = DataTable.of(DECISION_COLUMNS, [Decision.of(*pair) for pair in kept], digits, "")
-    return [Shown(*pair, cells) for pair, cells in zip(kept, table.cells(is_shown=True))]
+    kept = sorted(decided, key=rank_of)
+    decisions = [Decision.of(item, answer) for item, answer in kept]
+    cells = DataTable.of(DECISION_COLUMNS, decisions, digits, "").cells(is_shown=True)
+    return [Shown(item, answer, own) for (item, answer), own in zip(kept, cells)]
+
+
+def pages_of(folder: Path, rows: Iterable[Shown]) -> dict[str, str]:
+    """Returns the addresses of the pages of items that are there."""
+    there = {path.name for path in (folder / ITEMS).glob("*.html")}
+    if not there:
+        return {}
+    files = {row.item.name: file_name(row.item.name) for row in rows}
+    return {name: quote(f"{ITEMS}/{file}") for name, file in files.items() if file in there}
+
+
+def bars_of(rows: Iterable[Shown]) -> list[Bar]:
+    """Returns the items with the greatest savings, each with the interval of its run, by falling saving."""
+    bars = []
+    for row in rows:
+        saving = saving_of(row.answer)
+        if isinstance(row.answer, Answer) and saving and saving > 0:
+            low, high = row.answer.run.low, row.answer.run.high
+            bars.append(Bar(row, saving, saving if low is None else low, saving if high is None else high))
+    return bars[:MOST_SAVINGS]
 
 
 def clipped(points: Sequence[tuple[float, float]], right: float, bottom: float) -> list[tuple[float, float]]:
@@ -155,47 +206,39 @@ def clipped(points: Sequence[tuple[float, float]], right: float, bottom: float) 
 
 def known_points(totals: Totals) -> list[tuple[str, Point]]:
     """Returns the points of the exchange curve that are known before it is drawn, without their orders and costs."""
-    names = (TODAY, CHOSEN) if totals.compared else (CHOSEN,)
-    found = {name: totals.stock_and_service(name) for name in names}
-    return [(SAID[name], Point(*figures, math.nan, math.nan)) for name, figures in found.items() if figures]
+    points = []
+    for name in (TODAY, CHOSEN) if totals.compared else (CHOSEN,):
+        figures = totals.stock_and_service(name)
+        if figures:
+            points.append((SAID[name], Point(*figures, math.nan, math.nan)))
+    return points
 
 
-def exchange_plot(curve: Sequence[tuple[str, Point]], money: Money) -> tuple[Plot, list[dict[str, object]]]:
+def exchange_plot(curve: Sequence[tuple[str, Point]], money: Money) -> tuple[Plot, list[NamedPoint]]:
     """Returns the exchange curve as a line, if it has one, and its named points."""
     named = {name: point for name, point in curve if name}
-    most, bottom = curve_ends(named.values())
-    unit = money.unit([most])
-    across, up = Scale.of([most / unit.size or 1.0]), Scale.between(bottom, 100.0)
-    line = [(point.value / unit.size, 100 * point.fill) for name, point in curve if not name]
-    ends = clipped(line, across.high, bottom) if line else []
-    path = "L".join(f"{across.at(x):g} {UNITS - up.at(y):g}" for x, y in ends)
-    points: list[dict[str, object]] = [
-        {"name": name, "css": f"point-{place}", "form": FORMS[place], "figures": point,
-         "x": round(across.at(point.value / unit.size) / 10, 2), "y": round(100 - up.at(100 * point.fill) / 10, 2)}
-        for place, (name, point) in enumerate(named.items())]
-    said = "; ".join(f"{name}: {percent(point.fill, 2)} met at once with a stock of {money.exact(point.value)}"
-                     for name, point in named.items())
-    title = "demand met at once against the value of the stock"
-    return Plot(f"Exchange curve: {title}" if path else title.capitalize(), f"{said}.", up, across.marks,
-                money.heading("value of the mean stock", unit), [Line("", OF_CHOSEN, f"M{path}")] * bool(path)), points
-
-
-def savings(rows: Sequence[Shown]) -> dict[str, object]:
-    """Returns the items with the greatest savings, each with the interval of its run, and the scale of their bars."""
-    bars, known = [], [(row, row.answer.run, saving) for row in rows if isinstance(row.answer, Answer)
-                       for saving in [saving_of(row.answer) or 0.0]]
-    for row, run, saving in [one for one in known if one[-1] > 0][:MOST_SAVINGS]:
-        bars.append((row, saving, saving if run.low is None else run.low, saving if run.high is None else run.high))
-    ends = [end for _, *ends in bars for end in ends]
-    return {"bars": bars, "scale": Scale.of([0.0, *ends]), "together": math.fsum(saving for _, saving, *_ in bars)}
-
-
-def width(name: str, rows: Sequence[Shown]) -> int:
-    """Returns how many digits wide a column of the table is, with its padding: it has room for its texts up to a limit,
-    and for each word of its heading with the sign of its order."""
-    longest = min(TEXTS.get(name, MOST_DIGITS), max((len(row.cells[name]) for row in rows), default=0))
-    words = (len(word) + 2 for word in COLUMNS[name].split())
-    return PADDING + max(math.ceil(longest * (LETTER if name in TEXTS else 1)), *words)
+    shown = CurvePicture(named, money)
+    across, up = Scale.of([shown.right or 1.0]), Scale.between(shown.bottom, 100.0)
+    points, said = [], []
+    for place, (name, point) in enumerate(named.items()):
+        value, share = shown.place(point)
+        points.append(NamedPoint(name, point, f"point-{place}", MARKERS[place].path, round(across.at(value) / 10, 2),
+                                 round(100 - up.at(share) / 10, 2)))
+        said.append(f"{name}: {percent(point.fill, 2)} met at once with a stock of {money.exact(point.value)}")
+    title, lines = "demand met at once against the value of the stock", []
+    line = [shown.place(point) for name, point in curve if not name]
+    if line:
+        ends = clipped(line, across.high, shown.bottom)
+        path = "L".join(f"{across.at(value):g} {up.down(share):g}" for value, share in ends)
+        lines = [Line("", OF_CHOSEN, f"M{path}")]
+        title = f"Exchange curve: {title}"
+    return Plot(
+        title=title[:1].upper() + title[1:],
+        description=f"{'; '.join(said)}.",
+        scale=up,
+        marks=across.marks,
+        across=shown.across,
+        lines=lines), points
 
 
 def file_name(name: str) -> str:
@@ -211,7 +254,7 @@ def file_name(name: str) -> str:
     if len(plain) > MOST_LETTERS:
         return f"{plain[:KEPT_LETTERS]}~~{sha256(name)[:DIGITS]}.html"
     small = sum(1 << place for place, letter in enumerate(plain) if letter.islower())
-    return plain + f"~{small:x}" * (small > 0) + ".html"
+    return f"{plain}~{small:x}.html" if small else f"{plain}.html"
 
 
 def file_of(folder: Path, name: str) -> Path:
@@ -221,10 +264,13 @@ def file_of(folder: Path, name: str) -> Path:
 
 def tabled(folder: Folder, planned: PlannedFolder, answers: Iterable[Decided]) -> Iterator[Decided]:
     """Yields items with their answers, and writes them into the tables of decisions and of exact figures."""
+    nothing: list[Decided] = []
     with folder.writing(DECISIONS) as decisions, folder.writing(EXACT) as exact:
-        for place, pairs in enumerate(itertools.chain([list[Decided]()], batched(answers, ROWS_AT_ONCE))):
-            for file, table in ((decisions, decisions_of(planned, pairs)), (exact, exact_of(pairs))):
-                file.writelines(itertools.islice(table.lines, int(place > 0), None))  # The heading comes once.
+        decisions.writelines(decisions_of(planned, nothing).lines)
+        exact.writelines(exact_of(nothing).lines)
+        for pairs in batched(answers, ROWS_AT_ONCE):
+            decisions.writelines(itertools.islice(decisions_of(planned, pairs).lines, 1, None))
+            exact.writelines(itertools.islice(exact_of(pairs).lines, 1, None))
             yield from pairs
 
 
@@ -249,6 +295,15 @@ def write_catalogue(folder: Folder, planned: PlannedFolder, survey: Survey, lear
     return summary
 
 
+def write_item(own: Folder, planned: PlannedFolder, name: str, program: str | Path | None) -> None:
+    """Writes the page of an item of a planned folder."""
+    item, answer = planned.item(name)
+    own.claim(f"{ITEMS}/", in_place=True)
+    (own.path / ITEMS).mkdir(exist_ok=True)
+    depth = Depth(planned.question(item), answer, str(find_program(program)))
+    own.write(f"{ITEMS}/{file_name(name)}", item_page(ItemWords(depth, planned.every, planned.currency)))
+
+
 def report(folder: str | Path, items: Iterable[str] = (), *, orders: OrdersToday | None = None,
            jobs: int | None = None, cluster: Scheduler | None = None, program: str | Path | None = None,
            progress: bool = False) -> Path:
@@ -268,19 +323,15 @@ def report(folder: str | Path, items: Iterable[str] = (), *, orders: OrdersToday
     crnsim, found as `program` says. Raises Refused for a folder without a finished plan of the rows that were read
     last, for an item that is not planned, and for a folder that cannot be written; and ProgramError.
     """
-    orders = orders or orders_by_masters(Path(folder))
-    with planned_folder(Path(folder)) as planned, own_folder(Path(folder), CATALOGUE) as own:
+    path = Path(folder)
+    orders = orders or orders_by_masters(path)
+    with planned_folder(path) as planned, own_folder(path, CATALOGUE) as own:
         planned.check()
         if orders:
             orders.check(planned)
         for name in items:
-            item, answer = planned.item(name)
-            own.claim(f"{ITEMS}/", in_place=True)
-            (own.path / ITEMS).mkdir(exist_ok=True)
-            depth = Depth(planned.question(item), answer, str(find_program(program)))
-            words = ItemWords(depth, planned.every, planned.currency)
-            own.write(f"{ITEMS}/{file_name(name)}", item_page(words))
+            write_item(own, planned, name, program)
         survey = Survey.of(planned, MOST_ROWS)
         keep_swings(own, planned, survey, jobs=jobs, address=cluster, shown=progress)
         own.write(PAGE, catalogue_page(planned, survey, orders))
-    return Path(folder) / PAGE
+    return path / PAGE

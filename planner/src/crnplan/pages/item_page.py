@@ -8,7 +8,6 @@ from collections import Counter
 from collections.abc import Iterable, Sequence
 from dataclasses import replace
 from functools import cached_property
-from operator import methodcaller
 from pathlib import Path
 from typing import Any, NamedTuple
 
@@ -19,27 +18,52 @@ from ..demand import EMPIRICAL
 from ..demand.checks import largest_periods
 from ..demand.fitted import QUANTILES, Figures as LawFigures, FittedLaw, fit_words
 from ..errors import Fault, spelt, worded
+from ..law import Law
 from ..money import Currency
-from ..plan.answer import BOUNDED, CHEAPER, CHOSEN, DEARER, SAME, SERVICE, THEORY, UNCOMPARED, UNDECIDED, Figures
-from ..plan.item import Coming, Depth
+from ..plan.answer import THEORY, Figures
+from ..plan.item import Coming, Compared, Depth
 from ..plan.question import Question
 from ..plan.settings import as_setting
 from ..records.dates import EVERY, period_name
-from ..records.item import NEW
 from ..remarks import Remark
-from ..table import MONEY, Cell, Column, DataTable, number as numbers, text, whole
-from ..words import PREMISE, advised, exactness, sentence
+from ..table import MONEY, Cell, Column, DataTable
+from ..words import advised, exactness, sentence
 from .catalogue_tables import DECISION_COLUMNS, Decision, exact_of
+from .columns import columns_of
 from .law_words import law_said, law_words
-from .page import (OF_CHOSEN, OF_TODAY, UNITS, Line, Plot, Scale, capital, marks_of, number, percent, rendered,
+from .page import (OF_CHOSEN, OF_TODAY, UNITS, Line, Plot, Scale, capital, marks_of, number, rendered, templates,
                    tick)
+from .verdicts import VERDICTS
 
-VERDICTS = {CHEAPER: "cheaper than today's policy ({})", DEARER: "dearer than today's policy ({})",
-            UNDECIDED: "not told apart from today's policy ({})", SAME: "keep today's policy",
-            SERVICE: "for the fill rate that today's policy ({}) misses", UNCOMPARED: UNCOMPARED,
-            BOUNDED: "as near to the wanted fill rate as its bounds allow", NEW: "a new item"}
 ALONE = "the law of this item alone"
-VERDICT = text("verdict", "beside today's policy, or else the chosen one: base, better, worse or undecided").by("verdict")
+# The summary has so many lines of so many characters. Its table needs four: the heading, two policies, and a blank one.
+LINES, WIDTH, LEAST_TABLE = 24, 80, 4
+# The page has all warnings; in the summary each is cut to one or two lines.
+MOST_WARNED, TWO_LINES = 4, 150
+LARGE = 100_000  # From here on amounts of money in the summary have no decimals.
+# The columns of the summary's table, with their headings and how they are spelt; and those that are left out if a line
+# is too long, in this order.
+SCREEN = {"policy": ("policy", ""), "s": ("s", ""), "S": ("S", ""), "theory_cost": ("theory", MONEY),
+          "fill": ("fill", ".1%"), "short": ("short", ".1%"), "stock": ("stock", ",.1f"), "orders": ("orders", ".3f"),
+          "run_cost": ("crnsim", MONEY), "verdict": ("verdict", "")}
+OPTIONAL = ("orders", "stock", "short", "run_cost", "fill")
+MOST_DOUBTED = 10  # policies of which the page shows the doubt
+MOST_BARS = 520
+BAR = 0.85  # of the width of a period
+# The classes of lines of the law of a period's demand (its mean, and what 99 of 100 periods do not exceed), and of the
+# law of the item alone.
+MEAN, HIGH, OF_ALONE = "of-mean", "of-high", "of-alone"
+Counts = Sequence[tuple[int, int]]  # values with their weights
+
+
+class Range(NamedTuple):
+    """A policy with a mean, both ends of its interval and a verdict."""
+
+    name: str
+    mean: float
+    low: float | None
+    high: float | None
+    verdict: str = ""
 
 
 class ComingRow(NamedTuple):
@@ -56,65 +80,42 @@ class LawRow(NamedTuple):
     law: str
     figures: LawFigures
 
-    def quantile(self, share: float) -> int:
-        return self.figures.quantiles[share]
+    @property
+    def quantiles(self) -> dict[str, int]:
+        """Returns what shares of periods do not exceed, by these in thousandths."""
+        return {f"{1000 * share:.0f}": value for share, value in self.figures.quantiles.items()}
 
 
-def policy_by(name: str) -> tuple[Column, ...]:
-    """Returns the columns of a policy with figures, whose name is at a path."""
-    return tuple(column.by(path) for column, path in zip(POLICY, (name, "figures.point", "figures.level"), strict=True))
+class PolicyRow(NamedTuple):
+    """A policy beside the base in the long run."""
+
+    policy: Compared
+
+    @property
+    def own(self) -> dict[str, float | None]:
+        """Returns the ends of the interval of its cost."""
+        return dict(zip(("low", "high"), self.policy.own_ends))
+
+    @property
+    def ends(self) -> dict[str, float | None]:
+        """Returns the ends of the interval of its difference."""
+        return dict(zip(("low", "high"), self.policy.ends))
+
+    @property
+    def reasons(self) -> str:
+        return "; ".join(self.policy.reasons)
 
 
-POLICY_COLUMNS = (
-    *policy_by("name"),
-    numbers("cost", "money a period", "cost in the long run: by theory if exact, else by crnsim", MONEY).by("cost"),
-    numbers("difference", "money a period", "that cost less today's", MONEY).by("difference"), VERDICT,
-    numbers("theory_cost", "money a period", "cost by theory", MONEY).by("figures.cost"),
-    numbers("fill", "share", "demand met at once, by theory", ".10g").by("figures.fill"),
-    numbers("short", "share", "periods that end with items owed, by theory", ".10g").by("figures.short"),
-    numbers("stock", "items", "mean stock, by theory", ".10g").by("figures.stock"),
-    numbers("orders", "orders a period", "by theory", ".10g").by("figures.orders"),
-    numbers("run_cost", "money a period", "cost by crnsim's run, less the bias of the start", MONEY).by("run.cost"),
-    numbers("run_cost_low", "money a period", "low end of the interval of that cost, by itself", MONEY).by(
-        lambda policy: policy.own_ends[0]),
-    numbers("run_cost_high", "money a period", "high end of that interval", MONEY).by(lambda policy: policy.own_ends[1]),
-    numbers("run_difference", "money a period", "cost by the run less today's", MONEY).by("run.difference"),
-    numbers("run_low", "money a period", "low end of the interval of that difference, by itself", MONEY).by(
-        lambda policy: policy.ends[0]),
-    numbers("run_high", "money a period", "high end of that interval", MONEY).by(lambda policy: policy.ends[1]),
-    text("reasons", "why it is looked at").by(lambda policy: "; ".join(policy.reasons)))
-COMING_COLUMNS = (
-    *policy_by("row.policy"),
-    numbers("cost", "money a period", "mean cost over the coming periods, by crnsim", MONEY).by("row.cost"),
-    numbers("difference", "money a period", "that cost less today's", MONEY).by("row.diff"),
-    numbers("low", "money a period", "low end of the interval of that difference; all hold together", MONEY).by("row.low"),
-    numbers("high", "money a period", "high end of that interval", MONEY).by("row.high"), VERDICT.by("row.verdict"))
-LAW_COLUMNS = (
-    text("table", "demand, returns or lead").by("table"),
-    text("law", "what was seen, or the law that was fitted to it").by("law"),
-    numbers("mean", "boxes or periods", "its mean", ".4f").by("figures.mean"),
-    numbers("variance", "squared", "its variance", ".4f").by("figures.variance"),
-    *(whole(f"{share:.1%}", "boxes or periods", "what this share of periods does not exceed").by(
-        methodcaller("quantile", share)) for share in QUANTILES),
-    whole("largest", "boxes or periods", "its largest value").by("figures.most"))
-# The summary has so many lines of so many characters. Its table needs four: the heading, two policies, and a blank one.
-LINES, WIDTH, LEAST_TABLE = 24, 80, 4
-# The page has all warnings; in the summary each is cut to one or two lines.
-MOST_WARNED, TWO_LINES = 4, 150
-# From here on amounts of money in the summary have no decimals.
-LARGE = 100_000
-# The columns of the summary's table, with their headings and how they are spelt; and those that are left out if a line
-# is too long, in this order.
-SCREEN = {"policy": ("policy", ""), "s": ("s", ""), "S": ("S", ""), "theory_cost": ("theory", MONEY),
-          "fill": ("fill", ".1%"), "short": ("short", ".1%"), "stock": ("stock", ",.1f"), "orders": ("orders", ".3f"),
-          "run_cost": ("crnsim", MONEY), "verdict": ("verdict", "")}
-OPTIONAL = ("orders", "stock", "short", "run_cost", "fill")
-Range = tuple[str, float, float | None, float | None, str]  # a policy, a mean with both ends, and a verdict
-MOST_DOUBTED = 10  # policies of which the page shows the doubt
-MOST_BARS = 520
-# The classes of lines of the law of a period's demand (its mean, and what 99 of 100 periods do not exceed), and of the
-# law of the item alone.
-MEAN, HIGH, OF_ALONE = "of-mean", "of-high", "of-alone"
+def policy_by(name: str, figures: str) -> tuple[Column, ...]:
+    """Returns the columns of a policy, whose name and figures are at these paths."""
+    policy, point, level = POLICY
+    return policy.by(name), point.by(f"{figures}.point"), level.by(f"{figures}.level")
+
+
+POLICY_COLUMNS = (*policy_by("policy.name", "policy.figures"), *columns_of("policies"))
+COMING_COLUMNS = (*policy_by("row.policy", "figures"), *columns_of("coming"))
+LAW_COLUMNS = columns_of("laws")
+DEMAND_COLUMNS = columns_of("demand")
 
 
 class ItemWords:
@@ -124,12 +125,15 @@ class ItemWords:
     def __init__(self, depth: Depth, every: str, currency: Currency, coming: Coming | None = None,
                  heard: Sequence[Fault | Remark] = ()) -> None:
         self.depth, self.every, self.currency, self.coming, self.heard = depth, every, currency, coming, heard
-        self.decimals = currency.decimals
         self.question, self.answer = depth.question, depth.answer
-        self.item, self.settings = depth.question.item, depth.question.settings
-        self.level, self.near = f"{100 * self.settings.level:g}%", f"within {100 * WITHIN:g}%"
-        self.law, step = law_words(self.question.demand), self.answer.step * self.item.box
-        self.exactness = exactness(None if self.answer.source == THEORY else step)
+        self.item, self.settings = self.question.item, self.question.settings
+        self.decimals = currency.decimals
+        self.level = f"{100 * self.settings.level:g}%"
+        self.near = f"within {100 * WITHIN:g}%"
+        self.law = law_words(self.question.demand)
+        is_exact = self.answer.source == THEORY
+        self.by = "theory" if is_exact else "crnsim"
+        self.exactness = exactness(None if is_exact else self.answer.step * self.item.box)
 
     @cached_property
     def figures(self) -> dict[str, Figures]:
@@ -142,13 +146,15 @@ class ItemWords:
         doubt, rows = self.depth.doubt, list[list[Cell]]()
         if doubt is None:
             return DataTable(POLICY, rows, self.decimals, index="policy")
-        columns = doubt.table.columns
+        columns = [*doubt.table.columns]
+        cost = columns[len(POLICY)]
+        shares = columns[len(POLICY) + 1:]
         for place in doubt.order:
             name = doubt.policies[place].name
-            cost, *shares = (float(doubt.columns[column.name][place]) for column in columns[len(POLICY):])
-            rows.append([name, *self.figures[name].levels, self.question.money(cost), *shares])
-        columns = [replace(column, written=MONEY, shown="") if column.name == "cost" else column for column in columns]
-        return DataTable(columns, rows, self.decimals, index="policy")
+            amount = self.question.money(float(doubt.columns[cost.name][place]))
+            rows.append([name, *self.figures[name].levels, amount,
+                         *(float(doubt.columns[column.name][place]) for column in shares)])
+        return DataTable([*POLICY, replace(cost, written=MONEY, shown=""), *shares], rows, self.decimals, index="policy")
 
     @cached_property
     def doubted(self) -> dict[str, dict[str, Any]]:
@@ -166,6 +172,11 @@ class ItemWords:
     def spoken(self, saving: float) -> str:
         return f"{self.money(abs(saving))} {'more' if saving < 0 else 'less'}"
 
+    def _sentences(self, name: str, *facts: object) -> str:
+        """Returns the sentences of a macro of item_words.txt."""
+        macros = templates(False).get_template("item_words.txt").module
+        return " ".join(getattr(macros, name)(self, *facts).split())
+
     @property
     def title(self) -> str:
         group = f"class {self.item.category}" if self.item.category else ""
@@ -174,66 +185,26 @@ class ItemWords:
     @property
     def headline(self) -> str:
         today, chosen = self.answer.today, self.answer.chosen
-        verdict = VERDICTS[self.answer.verdict].format(f"{today.point:,}, {today.level:,}" if today else "")
+        levels = f"{today.point:,}, {today.level:,}" if today else ""
+        verdict = VERDICTS[self.answer.verdict].said.format(levels)
         return f"Below {chosen.point:,}, order up to {chosen.level:,}: {verdict}"
-
-    @property
-    def saving(self) -> str:
-        """Returns what the chosen policy saves, and what the run beside says."""
-        answer, run = self.answer, self.answer.run
-        if answer.verdict == SAME:
-            return (f"The policy costs {self.money(answer.cost_chosen)} a {self.every} in the long run, by theory, "
-                    f"{self.exactness}. Theory finds no better one.")
-        if answer.saving is None or run.saving is None:
-            by = "theory" if answer.source == THEORY else "crnsim"
-            return (f"The policy costs {self.money(answer.cost_chosen)} a {self.every} in the long run, by {by}. Theory "
-                    f"is {self.exactness}. No policy of today is known, so no saving is.")
-        sample = f"{self.settings.replications:,} replications of {self.settings.periods:,} {self.every}s"
-        ends = "without an interval" if run.low is None or run.high is None else (
-            f"from {self.spoken(run.low)} to {self.spoken(run.high)} at {self.level}")
-        if answer.source == THEORY:
-            return (f"In the long run the chosen policy costs {self.spoken(answer.saving)} a {self.every} than "
-                    f"today's, by theory, {self.exactness}. By crnsim's run beside it ({sample}) it is "
-                    f"{self.spoken(run.saving)}, {ends}.")
-        return (f"In the long run, by crnsim ({sample}), the chosen policy costs {self.spoken(answer.saving)} a "
-                f"{self.every} than today's, {ends}. Theory is {self.exactness}.")
 
     @property
     def promise(self) -> str:
         """Returns how sure the choice is under the laws that the history allows, and which cost to promise."""
-        row = self.doubted.get(self.depth.chosen)
-        if row is None or not self.question.has_backlog:
-            return ""
-        name = "The chosen policy" if self.depth.chosen == CHOSEN else "Today's policy"
-        return (f"{name} is {self.near} of the best of these {len(self.doubted)} policies under {row['within']:.0%} of "
-                f"the laws that this history allows. The cost to promise is {self.money(row['cost'])} a {self.every} "
-                f"in the long run, the mean over these laws, {PREMISE}.")
+        is_known = self.depth.chosen in self.doubted and self.question.has_backlog
+        return self._sentences("promise") if is_known else ""
 
     @property
     def largest(self) -> str:
         """Returns which demands are the largest, and what the decision would be without them; nothing if few periods
         have demand."""
-        named, without = largest_periods(self.item.counts, self.settings.every, self.item.first), self.depth.without
-        said, chosen = "".join(capital(sentence(remark)) for remark in named), self.answer.chosen
-        if not without:
-            return said
-        rare, again, every = without.rare, without.again, self.every
-        if rare.levels == chosen.levels:
-            return (f"{said} Without these {every}s the decision would be the same, at {self.money(rare.cost)} a "
-                    f"{every}.")
-        met = f" and meets {percent(again.fill)} of demand at once" * (self.item.fill is not None)
-        return (f"{said} Without these {every}s the decision would be: below {rare.point:,}, order up to "
-                f"{rare.level:,}, at {self.money(rare.cost)} a {every}. If such {every}s come again, that costs "
-                f"{self.money(again.cost)}{met}; the chosen policy costs {self.money(chosen.cost)}.")
+        return self._sentences("largest", largest_periods(self.item.counts, self.settings.every, self.item.first))
 
     @property
     def said(self) -> list[str]:
         """Returns what was decided in sentences: what it saves, what it meets at once, and how sure that is."""
-        service = "" if self.item.fill is None else (
-            f"A fill rate of {100 * float(self.item.fill):g}% is wanted. By theory the chosen policy meets "
-            f"{percent(self.answer.chosen.fill)} of demand at once, "
-            + (f"and today's {percent(self.answer.today.fill)}, " if self.answer.today else "") + f"{PREMISE}.")
-        return [*filter(None, (self.saving, service, self.promise))]
+        return [*filter(None, (self._sentences("saving"), self._sentences("service"), self.promise))]
 
     @property
     def facts(self) -> str:
@@ -259,10 +230,15 @@ class ItemWords:
     def plain_notes(self) -> list[str]:
         """Returns what is to be said of the files, by their names without folders and with the keys of the settings for
         arguments, and of the history."""
+        notes = []
         with spelt(as_setting):
-            heard = [advised(note) if isinstance(note, Remark) else worded(
-                replace(note, file=Path(note.file).name).message) for note in self.heard]
-        return [*map(capital, (*heard, *map(sentence, self.item.remarks)))]
+            for note in self.heard:
+                if isinstance(note, Remark):
+                    notes.append(advised(note))
+                else:
+                    notes.append(worded(replace(note, file=Path(note.file).name).message))
+        notes += map(sentence, self.item.remarks)
+        return [*map(capital, notes)]
 
     @property
     def statistics(self) -> list[str]:
@@ -277,25 +253,23 @@ class ItemWords:
     @property
     def over_coming_periods(self) -> str:
         """Returns what the coming periods say of the policies; nothing if they were not asked for."""
-        if self.coming is None:
-            return ""
-        scenario, chosen, base = self.coming.scenario, self.depth.chosen, self.depth.base
-        verdict = next(row.verdict for row in self.coming.rows if row.policy == chosen)
-        better = [row.policy for row in self.coming.rows if row.verdict == "better"]
-        said = f"{chosen} is {verdict} than {base}" if verdict in ("better", "worse") else (
-            f"{chosen} can't be told apart from {base}" if chosen != base else
-            f"{', '.join(better)} better than {base}" if better else f"no policy is better than {base}")
-        return (f"Over the coming {scenario.periods:,} {self.every}s ({scenario.replications:,} replications, "
-                f"summary.html): {said}.")
+        return self._sentences("over_coming_periods") if self.coming else ""
+
+    @property
+    def below(self) -> str:
+        """Returns by what the figures of the summary are."""
+        return self._sentences("below")
 
 
 def policies_of(words: ItemWords) -> DataTable:
-    return DataTable.of(POLICY_COLUMNS, words.depth.compared, words.decimals, index="policy")
+    rows = [PolicyRow(policy) for policy in words.depth.compared]
+    return DataTable.of(POLICY_COLUMNS, rows, words.decimals, index="policy")
 
 
 def periods_of(words: ItemWords) -> DataTable:
     box, found = words.item.box, words.depth.trajectory
-    return table_of(found, [[Period(*(box * count for count in period)) for period in its] for its in found.values()])
+    in_items = [[Period(*(box * count for count in period)) for period in periods] for periods in found.values()]
+    return table_of(found, in_items)
 
 
 def coming_of(words: ItemWords) -> DataTable | None:
@@ -307,41 +281,47 @@ def coming_of(words: ItemWords) -> DataTable | None:
 
 
 def demand_of(words: ItemWords) -> DataTable:
-    returns = [whole("returns", "items", "what came back")] * bool(words.item.returns)
-    counts = zip(words.period_names, words.item.counts, *([words.item.returns] if returns else []))
-    return DataTable([text("period", "its name"), whole("demand", "items", "what was asked for"), *returns], [*counts])
+    item = words.item
+    if item.returns:
+        return DataTable(DEMAND_COLUMNS, [*zip(words.period_names, item.counts, item.returns)])
+    return DataTable(DEMAND_COLUMNS[:2], [*zip(words.period_names, item.counts)])
 
 
 def laws_of(question: Question, single: FittedLaw | None) -> DataTable:
     """Returns the figures of the laws: of what was seen, and its own if a law was fitted. Below a law that is learned
     from others stands that of the item alone, `single`, if there is one."""
     rows = list[LawRow]()
-    for name, law in {"demand": question.demand, "returns": question.returns, "lead": question.lead}.items():
+    for table, law in {"demand": question.demand, "returns": question.returns, "lead": question.lead}.items():
         if law is None:
             continue
-        named, is_seen = law_words(law), law.family == EMPIRICAL
-        titles = {} if is_seen else {named: law.figures}
+        name, is_seen = law_words(law), law.family == EMPIRICAL
         if law.diagnostics.seen.values:  # A new item may have no periods yet.
-            titles = {named if is_seen else "what was seen": law.diagnostics.history} | titles
-        if name == "demand" and single is not None:
-            titles[ALONE] = single.figures
-        rows += [LawRow(name, title, figures) for title, figures in titles.items()]
+            rows.append(LawRow(table, name if is_seen else "what was seen", law.diagnostics.history))
+        if not is_seen:
+            rows.append(LawRow(table, name, law.figures))
+        if table == "demand" and single is not None:
+            rows.append(LawRow(table, ALONE, single.figures))
     return DataTable.of(LAW_COLUMNS, rows)
 
 
 def screen_table(words: ItemWords, most: int) -> str:
     """Returns the cheapest policies, so many with the base and the chosen one, with as many columns as fit the screen.
     """
-    must, costs = {words.depth.base, words.depth.chosen}, {policy.name: policy.cost for policy in words.depth.compared}
-    kept = must.union([name for name in costs if name not in must][:max(most - len(must), 0)])
-    money = f",.{0 if any(abs(costs[name]) >= LARGE for name in kept) else min(words.decimals, 2)}f"
+    kept = {words.depth.base, words.depth.chosen}
+    for policy in words.depth.compared:
+        if len(kept) < most:
+            kept.add(policy.name)
+    costs = [policy.cost for policy in words.depth.compared if policy.name in kept]
+    digits = 0 if max(map(abs, costs)) >= LARGE else min(words.decimals, 2)
     table = policies_of(words)
     table = replace(table, rows=[row for row in table.rows if row[0] in kept])
     for left_out in range(len(OPTIONAL) + 1):
-        shown = table.with_columns([name for name in SCREEN if name not in OPTIONAL[:left_out]])
-        screen = ((column, *SCREEN[column.name]) for column in shown.columns)
-        lines = replace(shown, columns=[replace(column, name=heading, shown=money if style == MONEY else style)
-                                        for column, heading, style in screen]).text
+        shown = table.with_columns(name for name in SCREEN if name not in OPTIONAL[:left_out])
+        columns = []
+        for column in shown.columns:
+            heading, style = SCREEN[column.name]
+            columns.append(replace(column, name=heading, shown=f",.{digits}f" if style == MONEY else style))
+        lines = replace(shown, columns=columns).text
         if max(map(len, lines.splitlines())) <= WIDTH:
             break
     return lines
@@ -353,42 +333,60 @@ def wrapped(*texts: str) -> list[str]:
 
 def item_summary(words: ItemWords) -> str:
     """Returns what comes of an item's plan on one screen: at most 24 lines of 80 characters."""
-    above = [*wrapped(words.headline), "", *wrapped(words.facts), ""]
     warned = [f"WARNING: {warning}" for warning in words.warnings]
     count = f" ({len(warned)} warning{'s' * (len(warned) > 1)})" if warned else ""
-    below = wrapped(f"All by {words.law}. Theory is of the long run, {words.exactness}, unproved; crnsim is a run, "
-                    "proved for its stream. Verdicts are by "
-                    f"{'theory' if words.answer.source == THEORY else 'crnsim'}.",
-                    f"See summary.html and notes.txt{count}.")
-    said = wrapped(*filter(None, (*words.said, words.over_coming_periods)))
-    room = min(LINES - LEAST_TABLE - len([*above, *said, *below]), MOST_WARNED)
-    width = TWO_LINES if 2 * len(warned) <= room else WIDTH
-    said += wrapped(*(textwrap.shorten(line, width, placeholder=" ..") for line in warned))[:max(room, 0)]
-    largest, room = wrapped(words.largest), LINES - LEAST_TABLE - len([*above, *said, *below])
-    said += largest if len(largest) <= room else []
-    rows = screen_table(words, LINES - len([*above, *said, *below]) - 2).splitlines()
+    above = [*wrapped(words.headline), "", *wrapped(words.facts), ""]
+    below = wrapped(words.below, f"See summary.html and notes.txt{count}.")
+    said = wrapped(*words.said, words.over_coming_periods)
+    room = LINES - len(above) - len(below)  # for what is said and the table
+
+    left = max(0, min(room - LEAST_TABLE - len(said), MOST_WARNED))
+    width = TWO_LINES if 2 * len(warned) <= left else WIDTH
+    said += wrapped(*(textwrap.shorten(line, width, placeholder=" ..") for line in warned))[:left]
+    largest = wrapped(words.largest)
+    if len(largest) <= room - LEAST_TABLE - len(said):
+        said += largest
+    rows = screen_table(words, room - len(said) - 2).splitlines()
     return "".join(f"{line}\n" for line in [*above, *rows, "", *said, *below])
 
 
 def item_page(words: ItemWords) -> str:
     """Returns the page of an item as HTML."""
-    depth, pair = words.depth, (words.item, words.answer)
-    decision, = DataTable.of(DECISION_COLUMNS, [Decision.of(*pair)], words.decimals).cells()
-    exact, = exact_of([pair]).cells()
-    doubted = dict([*words.doubted.items()][:MOST_DOUBTED])
-    regrets: list[Range] = [(name, 100 * row["regret"], 0.0, 100 * row["regret_90"], "")
-                            for name, row in doubted.items()]
+    depth, item, answer = words.depth, words.item, words.answer
+    decision, = DataTable.of(DECISION_COLUMNS, [Decision.of(item, answer)], words.decimals).cells()
+    exact, = exact_of([(item, answer)]).cells()
+    doubted = dict(itertools.islice(words.doubted.items(), MOST_DOUBTED))
+    regrets = [Range(name, 100 * row["regret"], 0.0, 100 * row["regret_90"]) for name, row in doubted.items()]
+    decided = [Range(row.name, row.difference, *row.ends, row.verdict) for row in depth.compared]
+    coming = words.coming.rows if words.coming else []
     return rendered("item.html", {
-        "words": words, "scale_of": scale_of, "decision": decision, "exact": exact, "doubted": doubted,
-        "regrets": regrets, "laws": [*laws_of(words.question, depth.single).spelt(is_shown=True)],
-        "law_plot": law_plot(words), "history_plot": history_plot(words), "stock_plot": stock_plot(words),
-        "decided": [(row.name, row.difference, *row.ends, row.verdict) for row in depth.compared],
-        "coming": words.coming and [(row.policy, row.diff, row.low, row.high, row.verdict)
-                                    for row in words.coming.rows]})
+        "words": words,
+        "scale_of": scale_of,
+        "decision": decision,
+        "exact": exact,
+        "doubted": doubted,
+        "regrets": regrets,
+        "decided": decided,
+        "coming": [Range(row.policy, row.diff, row.low, row.high, row.verdict) for row in coming],
+        "laws": [*laws_of(words.question, depth.single).spelt(is_shown=True)],
+        "history_plot": history_plot(words),
+        "law_plot": law_plot(words),
+        "stock_plot": stock_plot(words)})
 
 
 def scale_of(rows: Iterable[Range]) -> Scale:
-    return Scale.of([end for _, *ends, _ in rows for end in ends if end is not None])
+    """Returns the scale of the intervals of policies."""
+    return Scale.of([end for row in rows for end in (row.mean, row.low, row.high) if end is not None])
+
+
+def history_said(counts: Sequence[int], names: Sequence[str], every: str) -> str:
+    """Returns what a picture of a history shows, in figures."""
+    if not counts:
+        return f"no {every} of the record"
+    most = max(counts)
+    return (f"{len(counts):,} {every}s from {names[0]} to {names[-1]}, {sum(counts):,} items; "
+            f"{counts.count(0):,} {every}s without demand; the greatest demand is {most:,}, in "
+            f"{names[counts.index(most)]}")
 
 
 def history_plot(words: ItemWords) -> Plot:
@@ -397,64 +395,87 @@ def history_plot(words: ItemWords) -> Plot:
     counts, names, every = words.item.counts, words.period_names, words.every
     figures, box = words.question.demand.figures, words.item.box
     mean, high = box * figures.mean, box * figures.quantiles[QUANTILES[1]]
-    levels = {f"mean of the law: {number(mean, 2)} a {every}": (MEAN, mean),
-              f"99 of 100 {every}s by the law: at most {number(high)}": (HIGH, high)}
-    shown, left_out = counts[-MOST_BARS:], max(len(counts) - MOST_BARS, 0)
+    mean_name = f"mean of the law: {number(mean, 2)} a {every}"
+    high_name = f"99 of 100 {every}s by the law: at most {number(high)}"
+    shown = counts[-MOST_BARS:]
+    left_out = len(counts) - len(shown)
     scale, width = Scale.of([*shown, mean, high], is_whole=True), UNITS / max(len(shown), 1)
-    bars = [(round(place * width, 3), scale.at(count)) for place, count in enumerate(shown) if count]
-    lines = [Line(name, css, f"M0 {UNITS - scale.at(level):g}H{UNITS}") for name, (css, level) in levels.items()]
-    said = f"no {every} of the record; "
-    if counts:
-        most = max(range(len(counts)), key=counts.__getitem__)
-        said = (f"{len(counts):,} {every}s from {names[0]} to {names[-1]}, {sum(counts):,} items; "
-                f"{counts.count(0):,} {every}s without demand; the greatest demand is {counts[most]:,}, in "
-                f"{names[most]}; ")
-    return Plot(f"Demand by {every}, and the law that it is planned by", f"{said}{'; '.join(levels)}.", scale,
-                marks_of(names[-MOST_BARS:]) if names else [],
-                every + f"; the {left_out:,} before are not drawn" * (left_out > 0), lines, bars,
-                round(0.85 * width, 3))
+    return Plot(
+        title=f"Demand by {every}, and the law that it is planned by",
+        description=f"{history_said(counts, names, every)}; {mean_name}; {high_name}.",
+        scale=scale,
+        marks=marks_of(names[-MOST_BARS:]) if names else [],
+        across=f"{every}; the {left_out:,} before are not drawn" if left_out else every,
+        lines=[Line(mean_name, MEAN, f"M0 {scale.down(mean):g}H{UNITS}"),
+               Line(high_name, HIGH, f"M0 {scale.down(high):g}H{UNITS}")],
+        bars=[(round(place * width, 3), scale.at(count)) for place, count in enumerate(shown) if count],
+        width=round(BAR * width, 3))
+
+
+def counts_of(law: Law | FittedLaw | None) -> Counts:
+    return [*zip(law.values, law.weights)] if law else []
+
+
+def laws_drawn(words: ItemWords) -> dict[str, tuple[str, Counts]]:
+    """Returns the classes and the counts of what was seen, of the law, and of that of the item alone, but for those that
+    are as what was seen."""
+    boxes = Counter(-(-count // words.item.box) for count in words.item.counts)
+    seen = sorted(boxes.items())
+    laws = {"the law": (OF_CHOSEN, counts_of(words.question.demand)), ALONE: (OF_ALONE, counts_of(words.depth.single))}
+    drawn = {name: (css, counts) for name, (css, counts) in laws.items() if counts and counts != seen}
+    return {"what was seen": (OF_TODAY, seen), **drawn} if seen else drawn
 
 
 def law_plot(words: ItemWords) -> Plot:
     """Returns in how many periods demand is at least so large, as it was seen, by the law, and by that of the item
     alone, as lines with a step behind each value. Its words say it at the marks of the axis."""
-    law, single, box, every = words.question.demand, words.depth.single, words.item.box, words.every
-    seen = sorted(Counter(-(-count // box) for count in words.item.counts).items())
-    laws = {"what was seen": (OF_TODAY, seen)} if seen else {}
-    for name, css, own in (("the law", OF_CHOSEN, law), (ALONE, OF_ALONE, single)):
-        counts = [*zip(own.values, own.weights)] if own else []
-        if counts and counts != seen:
-            laws[name] = css, counts
-    scale = Scale.of_chances(min(counts[-1][1] / sum(count for _, count in counts) for _, counts in laws.values()))
+    laws, every = laws_drawn(words), words.every
+    totals = {name: sum(count for _, count in counts) for name, (_, counts) in laws.items()}
+    scale = Scale.of_chances(min(counts[-1][1] / totals[name] for name, (_, counts) in laws.items()))
     across = Scale.of([counts[-1][0] for _, counts in laws.values()], is_whole=True)
     lines, said = [], []
     for name, (css, counts) in laws.items():
-        total = sum(count for _, count in counts)
-        tails = [tail / total for tail in itertools.accumulate((-count for _, count in counts), initial=total)]
-        steps = (f"H{across.at(value):g}V{UNITS - scale.at(tail):g}" for (value, _), tail in zip(counts, tails[1:]))
-        lines.append(Line(name, css, f"M0 0{''.join(steps)}"))
-        shares = ((least, sum(count for value, count in counts if value >= least) / total) for least in across.ticks)
-        said.append(f"{name}: " + ", ".join(f"at least {tick(least)} in {share:.2%}" for least, share in shares
-                                            if least))
-    return Plot(f"In how many {every}s demand is so large, as it was seen and by the law", f"{'; '.join(said)}.", scale,
-                across.marks, f"{'boxes' if box > 1 else 'items'} that a {every} asks for, at least", lines)
+        path, left = "M0 0", totals[name]
+        for value, count in counts:
+            left -= count
+            path += f"H{across.at(value):g}V{scale.down(left / totals[name]):g}"
+        lines.append(Line(name, css, path))
+        shares = []
+        for least in filter(None, across.ticks):
+            above = sum(count for value, count in counts if value >= least)
+            shares.append(f"at least {tick(least)} in {above / totals[name]:.2%}")
+        said.append(f"{name}: {', '.join(shares)}")
+    return Plot(
+        title=f"In how many {every}s demand is so large, as it was seen and by the law",
+        description=f"{'; '.join(said)}.",
+        scale=scale,
+        marks=across.marks,
+        across=f"{'boxes' if words.item.box > 1 else 'items'} that a {every} asks for, at least",
+        lines=lines)
 
 
 def stock_plot(words: ItemWords) -> Plot:
     """Returns the stock of policies at the end of each period as lines with a step for each period."""
-    every, stocks = words.every, {name: [words.item.box * period.stock for period in periods]
-                                  for name, periods in words.depth.trajectory.items()}
-    scale = Scale.of([stock for own in stocks.values() for stock in own], is_whole=True)
+    every, box = words.every, words.item.box
+    stocks = {}
+    for name, periods in words.depth.trajectory.items():
+        stocks[name] = [box * period.stock for period in periods]
+    scale = Scale.of([*itertools.chain(*stocks.values())], is_whole=True)
     lines, said = [], []
     for name, own in stocks.items():
-        heights = [f"{UNITS - scale.at(stock):g}" for stock in own]
-        ends = (f"{UNITS * (place + 1) / len(own):g}" for place in range(len(own)))
-        path = f"M0 {heights[0]}" + "".join(f"V{height}H{end}" for height, end in zip(heights, ends))
+        path = f"M0 {scale.down(own[0]):g}"
+        for place, stock in enumerate(own, 1):
+            path += f"V{scale.down(stock):g}H{UNITS * place / len(own):g}"
         lines.append(Line(name, OF_CHOSEN if name == words.depth.chosen else OF_TODAY, path))
         said.append(f"{name}: from {number(min(own))} to {number(max(own))}, {number(sum(own) / len(own), 1)} in the "
                     f"mean, items owed at the end of {sum(stock < 0 for stock in own)} {every}s")
-    return Plot(f"Stock at the end of each {every} of one run", f"{len(own):,} {every}s; {'; '.join(said)}.", scale,
-                marks_of([*map(str, range(len(own)))]), f"{every} of the run, numbered from 0", lines)
+    return Plot(
+        title=f"Stock at the end of each {every} of one run",
+        description=f"{len(own):,} {every}s; {'; '.join(said)}.",
+        scale=scale,
+        marks=marks_of([*map(str, range(len(own)))]),
+        across=f"{every} of the run, numbered from 0",
+        lines=lines)
 
 
 def scenario_text(words: ItemWords) -> str:

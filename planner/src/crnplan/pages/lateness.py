@@ -2,27 +2,18 @@
 from __future__ import annotations
 
 from ..records.catalogue_reading import Catalogued
-from ..records.lateness import suppliers_of
-from ..table import Column, DataTable, number, text, whole
+from ..records.lateness import Lateness, suppliers_of
+from ..table import DataTable
+from .columns import columns_of
 
 LATENESS = "lateness.csv"
-DAYS, SHOWN = ".10g", ".1f"  # how days are written, and shown
 
 
-def days(name: str, meaning: str) -> Column:
-    return number(name, "days", meaning, DAYS, SHOWN)
+def receipts_of(lateness: Lateness) -> int:
+    return lateness.days.total()
 
 
-COLUMNS = (
-    text("supplier", "of the masters; empty for items without one").by("supplier"),
-    whole("items", "items", "that are planned, and have a receipt").by("items"),
-    whole("receipts", "receipts", "of their orders").by(lambda lateness: lateness.days.total()),
-    days("stated", "the lead time that masters state for the items of these receipts, in the mean; empty if none does").by(
-        "mean_stated"),
-    days("seen", "from order to receipt, in the mean").by("seen"),
-    days("seen_90", "of at least 90% of the receipts no longer").by("quantile"),
-    number("late", "share", "of the receipts that took longer than stated, in whole days rounded up; of items with a stated "
-           "lead time", ".5g", ".1%").by("share"))
+COLUMNS = columns_of("lateness", {"receipts": receipts_of})
 
 
 def lateness_of(read: Catalogued) -> DataTable:

@@ -11,27 +11,25 @@ import functools
 import json
 import math
 from collections.abc import Iterable, Mapping, Sequence
-from functools import partial
 from typing import TYPE_CHECKING, Any, NamedTuple
 
 from .. import __version__
 from ..caches import cache_folder
 from ..digests import sha256
 from ..money import Currency
-from ..words import PREMISE, advised, sentence
+from ..words import PREMISE, advised, counted, sentence
 
 if TYPE_CHECKING:
     import jinja2
     from markupsafe import Markup
 
-    from ..curve.parts import Point
+    from ..plan.backtest.sums import Estimate
 
 UNITS = 1000
 MOST_TICKS, STEPS = 5, (1.0, 2.0, 2.5, 5.0)  # at an axis, and their distances but for powers of ten
 SLACK = 1e-10  # of a number of steps, which is rounded
 MOST_SIGNS = 12  # of texts at an axis that have room on a narrow page
 MARKS = 4
-ROOM, BELOW = 1.35, 4.0  # times the greatest stock of a named point, and percent below the least service of one
 # From which amount on, how much of it is one, and its word: of amounts of money.
 WORDS = ((1e12, 1e12, "trillion"), (1e9, 1e9, "billion"), (1e6, 1e6, "million"), (1e5, 1e3, "thousand"))
 MINUS = "\u2212"
@@ -44,12 +42,28 @@ Mark = tuple[float, str, str]  # its place, its text and its class
 
 def number(value: float, digits: int = 0) -> str:
     """Returns a number with separators of thousands and a minus sign; - if there is none."""
-    return "-" if value != value else f"{round(value, digits) + 0.0:,.{digits}f}".replace("-", MINUS)
+    if math.isnan(value):
+        return "-"
+    known = round(value, digits) + 0.0
+    return f"{known:,.{digits}f}".replace("-", MINUS)
 
 
 def percent(share: str | float | None, digits: int = 1) -> str:
     """Returns a share in percent: not -0.0%, if rounding has made it less than none; - if there is no share."""
-    return "-" if share is None else f"{max(float(share), 0.0):.{digits}%}"
+    if share is None:
+        return "-"
+    known = max(float(share), 0.0)
+    return f"{known:.{digits}%}"
+
+
+def points(share: Estimate, sign: str = "") -> str:
+    """Returns a share with its standard error, both in hundredths; with a sign "+" also if it is above 0."""
+    return f"{100 * share.value:{sign}z.1f} ± {100 * share.error:.1f}"
+
+
+def met(unmet: Estimate) -> str:
+    """Returns the share of demand that is met at once, by what is not met, with its standard error."""
+    return f"{100 - 100 * unmet.value:.1f} ± {100 * unmet.error:.1f}%"
 
 
 class Unit(NamedTuple):
@@ -62,10 +76,10 @@ class Unit(NamedTuple):
     @classmethod
     def of(cls, most: float, decimals: int) -> Unit:
         """Returns the unit of amounts of which `most` is the largest. Below 100 of money it has its decimals."""
-        size, word = next(((size, word) for least, size, word in WORDS if most >= least), (1.0, ""))
-        if size == 1:
-            return cls(size, word, 0 if most >= 10**(FIGURES - 1) else decimals)
-        return cls(size, word, max(0, FIGURES - len(str(int(most / size)))))
+        for least, size, word in WORDS:
+            if most >= least:
+                return cls(size, word, max(0, FIGURES - len(str(int(most / size)))))
+        return cls(1.0, "", 0 if most >= 10**(FIGURES - 1) else decimals)
 
     def cell(self, amount: float) -> str:
         """Returns an amount in a column of this unit."""
@@ -81,9 +95,10 @@ class Money(Currency):
 
     def rounded(self, amount: float) -> str:
         """Returns an amount as people say it: by three figures, and large ones in thousands, millions or billions."""
-        known = float(f"{amount:.{FIGURES}g}") if abs(amount) >= 10**(FIGURES - 1) else amount
-        unit = Unit.of(abs(known), self.places)
-        return self.named(f"{unit.cell(known)} {unit.word}".strip())
+        if abs(amount) >= 10**(FIGURES - 1):
+            amount = float(f"{amount:.{FIGURES}g}")
+        unit = Unit.of(abs(amount), self.places)
+        return self.named(f"{unit.cell(amount)} {unit.word}".strip())
 
     def unit(self, amounts: Iterable[float]) -> Unit:
         """Returns the unit of a column, or of an axis, of these amounts."""
@@ -91,7 +106,9 @@ class Money(Currency):
 
     def unit_name(self, unit: Unit) -> str:
         """Returns the name of a unit, as EUR million, or millions; nothing if there is nothing to say."""
-        return self.named(unit.word).strip() if self.code else f"{unit.word}s" * bool(unit.word)
+        if self.code:
+            return self.named(unit.word).strip()
+        return f"{unit.word}s" if unit.word else ""
 
     def heading(self, words: str, unit: Unit) -> str:
         """Returns the name of an axis, or the heading of a column, of this unit."""
@@ -107,13 +124,24 @@ def tick(value: float) -> str:
     return f"{value:,.10g}".replace("-", MINUS)
 
 
+def quoted(value: object) -> str:
+    """Returns a value as JSON and TOML have it."""
+    return json.dumps(value, ensure_ascii=False)
+
+
 def source(text: str) -> Markup:
     """Returns the source by which a content security policy allows this style or script: its SHA-256.
 
     Source: W3C, Content Security Policy Level 3, section 2.3.1. 'none' allows nothing, and stands for no text.
     """
     from markupsafe import Markup
-    return Markup(f"'sha256-{base64.b64encode(bytes.fromhex(sha256(text))).decode()}'" if text else "'none'")
+    if not text:
+        return Markup("'none'")
+    digest = base64.b64encode(bytes.fromhex(sha256(text)))
+    return Markup(f"'sha256-{digest.decode()}'")
+
+
+FILTERS = (number, percent, points, met, capital, sentence, advised, source, quoted)
 
 
 @functools.cache
@@ -121,7 +149,6 @@ def templates(is_html: bool) -> jinja2.Environment:
     """Returns the templates of the package. As numba does with loops, jinja2 keeps what it compiles in the user's folder
     for caches, if it can."""
     import jinja2
-    own = cache_folder()
 
     class Kept(jinja2.FileSystemBytecodeCache):
         def load_bytecode(self, bucket: jinja2.bccache.Bucket) -> None:
@@ -131,12 +158,17 @@ def templates(is_html: bool) -> jinja2.Environment:
         def dump_bytecode(self, bucket: jinja2.bccache.Bucket) -> None:
             with contextlib.suppress(OSError):
                 super().dump_bytecode(bucket)
-    pages = jinja2.Environment(loader=jinja2.PackageLoader("crnplan.pages"), autoescape=is_html, trim_blocks=True,
-                               lstrip_blocks=True, keep_trailing_newline=True, undefined=jinja2.StrictUndefined,
-                               bytecode_cache=Kept(str(own)) if own else None)
-    pages.filters |= {"number": number, "percent": percent, "capital": capital, "sentence": sentence, "advised": advised,
-                      "source": source, "quoted": partial(json.dumps, ensure_ascii=False)}
-    pages.globals |= {"version": __version__, "premise": PREMISE}
+    own = cache_folder()
+    pages = jinja2.Environment(
+        loader=jinja2.PackageLoader("crnplan.pages"),
+        autoescape=is_html,
+        trim_blocks=True,
+        lstrip_blocks=True,
+        keep_trailing_newline=True,
+        undefined=jinja2.StrictUndefined,
+        bytecode_cache=Kept(str(own)) if own else None)
+    pages.filters |= {function.__name__: function for function in FILTERS}
+    pages.globals |= {"version": __version__, "premise": PREMISE, "counted": counted}
     return pages
 
 
@@ -145,16 +177,26 @@ def rendered(template: str, context: Mapping[str, Any]) -> str:
     return templates(template.endswith(".html")).get_template(template).render(context)
 
 
+def round_steps(least: float, is_whole: bool) -> list[float]:
+    """Returns round distances up to the first one that is at least so large, the largest first."""
+    power = math.log10(least) // 1
+    steps = [digit * 10.0**(power + more) for more in (-1, 0, 1) for digit in STEPS]
+    if is_whole:
+        steps = [1.0, *(step for step in steps if step > 1 and step == round(step))]
+    while len(steps) > 1 and steps[-2] >= least:
+        steps.pop()
+    return steps[::-1]
+
+
 def round_numbers(low: float, high: float, is_whole: bool) -> tuple[float, ...]:
     """Returns the multiples of a round step in a range: some five, or two at least, and whole ones if there are two. So
     does `MaxNLocator` of matplotlib, which takes long to import."""
-    least, ticks = (high - low) / MOST_TICKS, tuple[float, ...]()
-    steps = [digit * 10.0**(math.log10(least) // 1 + power) for power in (-1, 0, 1) for digit in STEPS]
-    if is_whole and math.floor(high) > math.ceil(low):
-        steps = [1.0, *(step for step in steps if step > 1 and step == round(step))]
-    for step in reversed(steps[:1 + next(place for place, step in enumerate(steps) if step >= least)]):
+    has_whole = is_whole and math.floor(high) > math.ceil(low)
+    ticks: tuple[float, ...] = ()
+    for step in round_steps((high - low) / MOST_TICKS, has_whole):
         first, last = math.ceil(low / step - SLACK), math.floor(high / step + SLACK)
-        ticks = tuple(place * step for place in range(first, last + 1) if low <= place * step <= high)
+        multiples = [place * step for place in range(first, last + 1)]
+        ticks = tuple(value for value in multiples if low <= value <= high)
         if len(ticks) > 1:
             break
     return ticks
@@ -182,7 +224,8 @@ class Scale(NamedTuple):
     def of_chances(cls, least: float) -> Scale:
         """Returns the scale of chances from the least one, which is above 0, to 1 at the top."""
         exponent = min(math.floor(math.log10(least)), -1)
-        return cls(exponent, 0, tuple(10.0**power for power in range(exponent, 1)), True)
+        powers = tuple(10.0**power for power in range(exponent, 1))
+        return cls(exponent, 0, powers, True)
 
     def at(self, value: float) -> float:
         """Returns the place of a value, from 0 to 1,000; 0 for no chance."""
@@ -190,20 +233,31 @@ class Scale(NamedTuple):
             value = math.log10(value) if value > 0 else self.low
         return round(UNITS * (value - self.low) / (self.high - self.low), 1)
 
+    def down(self, value: float) -> float:
+        """Returns how far a value stands below the upper edge of a picture, as SVG counts."""
+        return UNITS - self.at(value)
+
+    def word(self, value: float) -> str:
+        """Returns the text of a round number."""
+        return f"1 in {1 / value:,.0f}" if self.is_of_chances else tick(value)
+
     @property
     def heights(self) -> list[Mark]:
         """Returns the places at an axis, their texts and the class of their lines."""
-        return [(self.at(value), f"1 in {1 / value:,.0f}" if self.is_of_chances else tick(value),
-                 "gridline" if value else "zero") for value in self.ticks]
+        return [(self.at(value), self.word(value), "gridline" if value else "zero") for value in self.ticks]
 
     @property
     def marks(self) -> list[Mark]:
         """Returns the places at an axis below a narrow picture, their texts and their class: that of inner ones, which
         a narrow page leaves out, if there is no room for all."""
+        words = [tick(value) for value in self.ticks]
+        is_long = len("".join(words)) > MOST_SIGNS
         outer = {0.0, self.ticks[0], self.ticks[-1]}
-        is_long = sum(len(tick(value)) for value in self.ticks) > MOST_SIGNS
-        return [(self.at(value), tick(value), "inner" if is_long and value not in outer else "")
-                for value in self.ticks]
+        marks = []
+        for value, word in zip(self.ticks, words):
+            css = "inner" if is_long and value not in outer else ""
+            marks.append((self.at(value), word, css))
+        return marks
 
 
 class Line(NamedTuple):
@@ -226,16 +280,15 @@ class Plot(NamedTuple):
     width: float = 0.0
 
 
-def curve_ends(named: Iterable[Point]) -> tuple[float, float]:
-    """Returns where the axis of stock ends, and that of service begins, in percent, by the named points of an exchange
-    curve: the end of the curve is far away."""
-    values, fills = zip(*((point.value, 100 * point.fill) for point in named))
-    return ROOM * max(values), max(0.0, min(fills) - BELOW)
-
-
 def marks_of(names: Sequence[str]) -> list[Mark]:
     """Returns some names at an axis: their places, and their class. A narrow page has no room for the inner ones."""
     last = len(names) - 1
-    places = dict.fromkeys(round(last * part / MARKS) for part in range(MARKS + 1))
-    css = {**{place: "inner" for place in list(places)[1::2]}, 0: "first", last: "last"}
-    return [(UNITS * place / max(last, 1), names[place], css.get(place, "")) for place in places]
+    marks = []
+    for part, place in enumerate(dict.fromkeys(round(last * part / MARKS) for part in range(MARKS + 1))):
+        css = "inner" if part % 2 else ""
+        if place == 0:
+            css = "first"
+        if place == last:
+            css = "last"
+        marks.append((UNITS * place / max(last, 1), names[place], css))
+    return marks

@@ -9,8 +9,7 @@ import datetime
 import io
 import math
 import re
-from collections.abc import Iterator, Sequence
-from operator import methodcaller
+from collections.abc import Iterator, Mapping, Sequence
 from pathlib import Path
 from typing import TYPE_CHECKING, NamedTuple
 
@@ -23,12 +22,13 @@ from ..plan.answer import CHOSEN, TODAY
 from ..plan.catalogue import PlannedFolder, planned_folder
 from ..plan.survey import Survey
 from ..plan.totals import Totals
-from ..table import MONEY, Cell, Column, DataTable, is_missing, number, text, whole
+from ..table import MONEY, Cell, Column, DataTable, is_missing
 from .board import ALL_PARTS, NO_CLASS, PARTS
-from .catalogue_tables import DECISIONS, catalogue_summary, decisions_of, money, rejects_of
+from .catalogue_tables import DECISIONS, catalogue_summary, decisions_of, rejects_of
 from .change_tables import change_lines
+from .columns import columns_of
+from .curves import AXIS, LINE, MARKERS, SERVICE, TITLE, curve_ends
 from .lateness import lateness_of
-from .page import curve_ends
 from .today_tables import WITHOUT, OrdersToday, orders_by_masters
 
 if TYPE_CHECKING:
@@ -40,12 +40,13 @@ CREATED = datetime.datetime(2000, 1, 1)
 LEAST_WIDTH, MOST_WIDTH, MEANING_WIDTH, ROOM = 9, 50, 150, 4  # of columns, in letters, and of a currency
 MOST_ON_PAGE = 12  # columns of a sheet that is as wide as a printed page
 A4 = 9
-# Forms that differ without colour, and their colours.
-MARKERS = (("circle", "#000000"), ("diamond", "#d55e00"), ("triangle", "#009e73"), ("square", "#0072b2"),
-           ("star", "#cc79a7"))
 SUMMARY, CURVE = "Summary", "Curve"
 SHEETS = {"Today": "orders", "At risk": "at_risk", "Orders by supplier": "lines"}  # of orders, with their tables
 POLICIES = TODAY, CHOSEN
+SUM_COLUMNS, CLASS_COLUMNS, READ_ME_COLUMNS = columns_of("sums"), columns_of("classes"), columns_of("read_me")
+CURVE_COLUMNS = (*columns_of("curve_point"), *figures_by("point."))
+TEXT = "@"  # the format of texts
+SPELT = re.compile(r"[+]?(?P<group>,?)\.(?P<digits>[0-9])(?P<kind>[f%])")
 
 
 class Sum(NamedTuple):
@@ -65,34 +66,16 @@ class Meaning(NamedTuple):
     meaning: str
 
 
-class ClassTotals(NamedTuple):
-    """What the items of a class come to."""
-
-    name: str
-    totals: Totals
-
-    def fill(self, policy: str) -> float | None:
-        return self.totals.fill(policy)
-
-    def figure(self, name: str) -> float | None:
-        return self.totals[name]
+def with_places(whole_part: str, digits: int) -> str:
+    return f"{whole_part}.{'0' * digits}" if digits else whole_part
 
 
-SUM_COLUMNS = (
-    text("figure", "what all items come to").by("figure"),
-    *(number(it, "", f"with {words} policies").by(it) for it, words in ((TODAY, "today's"), (CHOSEN, "the chosen"))))
-CURVE_COLUMNS = (text("point", "what it is; empty on the line of the curve").by("name"), *figures_by("point."))
-CLASS_COLUMNS = (
-    text("class", "of decisions").by("name"),
-    whole("items", "items", "that are planned, and have a policy today").by("totals.planned"),
-    money("saving", "what the chosen policies cost less than today's").by(methodcaller("figure", "saving")),
-    *(number(f"fill_{it}", "share", "of demand met at once, by value; empty without prices", ".4f").by(
-        methodcaller("fill", it)) for it in POLICIES),
-    *(number(f"value_{it}", "money", "of the mean stock", MONEY).by(methodcaller("figure", f"value_{it}")) for it in POLICIES))
-READ_ME_COLUMNS = (text("sheet", "of this workbook").by("sheet"), text("column", "its name").by("column"),
-                   text("unit", "of its numbers").by("unit"), text("meaning", "what it has").by("meaning"))
-TEXT = "@"  # the format of texts
-SPELT = re.compile(r"[+]?(?P<group>,?)\.(?P<digits>[0-9])(?P<kind>[f%])")
+def money_format(table: DataTable) -> str:
+    """Returns the format of money in the currency of a table."""
+    amount = with_places("#,##0", Currency(table.currency, table.decimals).digits)
+    if not table.currency:
+        return amount
+    return f'"{table.currency}" {amount};"{table.currency}" -{amount}'
 
 
 def number_format(column: Column, table: DataTable) -> str:
@@ -102,35 +85,38 @@ def number_format(column: Column, table: DataTable) -> str:
     if column.is_text:
         return TEXT
     if style == MONEY:
-        amount = with_places("#,##0", Currency(table.currency, table.decimals).digits)
-        return ";".join(f'"{table.currency}" {sign}{amount}' for sign in ("", "-")) if table.currency else amount
+        return money_format(table)
     parts = SPELT.fullmatch(style)
     if parts is None:
         return "#,##0" if column.kind == "whole" else "#,##0.0###"
-    digits, is_percent = int(parts["digits"]), parts["kind"] == "%"
-    if column.unit == "share" and not is_percent:
-        digits, is_percent = max(0, digits - 2), True
-    return with_places("#,##0" if parts["group"] else "0", digits) + "%" * is_percent
-
-
-def with_places(whole_part: str, digits: int) -> str:
-    return f"{whole_part}.{'0' * digits}" if digits else whole_part
+    digits = int(parts["digits"])
+    whole_part = "#,##0" if parts["group"] else "0"
+    if parts["kind"] == "%":
+        return with_places(whole_part, digits) + "%"
+    if column.unit == "share":
+        return with_places(whole_part, max(0, digits - 2)) + "%"
+    return with_places(whole_part, digits)
 
 
 def write_cell(sheet: Worksheet, row: int, place: int, cell: Cell, style: Format) -> int:
     """Writes a cell, empty for no figure, and returns how many letters it needs."""
-    if not isinstance(cell, str) and cell is not None and math.isfinite(cell):
-        sheet.write_number(row, place, figure := float(cell), style)
-        return len(f"{figure:,.2f}") + ROOM
-    shown = "" if is_missing(cell) else str(cell)
-    if shown:
-        sheet.write_string(row, place, shown, style)
-    return len(shown)
+    if is_missing(cell):
+        return 0
+    if isinstance(cell, str):
+        if cell:
+            sheet.write_string(row, place, cell, style)
+        return len(cell)
+    figure = float(cell or 0)
+    if not math.isfinite(figure):
+        sheet.write_string(row, place, str(cell), style)
+        return len(str(cell))
+    sheet.write_number(row, place, figure, style)
+    return len(f"{figure:,.2f}") + ROOM
 
 
 def series_of(first: int, last: int, **style: object) -> dict[str, object]:
     """Returns a series of the curve in a style: columns 1 and 2 of these rows are its values across and upwards."""
-    return style | {name: [CURVE, first, place, last, place] for name, place in (("categories", 1), ("values", 2))}
+    return {**style, "categories": [CURVE, first, 1, last, 1], "values": [CURVE, first, 2, last, 2]}
 
 
 class Book:
@@ -141,59 +127,68 @@ class Book:
         self.book = xlsxwriter.Workbook(file, {"constant_memory": True, "strings_to_formulas": False,
                                                "strings_to_urls": False})
         self.book.set_properties({"title": "Plan", "author": "crnplan", "created": CREATED})
-        self.headings = {is_text: self.book.add_format({"bold": True, "bottom": 1, "align": side, "indent": int(is_text)})
-                         for is_text, side in ((True, "left"), (False, "right"))}
+        heading = {"bold": True, "bottom": 1}
+        self.left = self.book.add_format({**heading, "align": "left", "indent": 1})
+        self.right = self.book.add_format({**heading, "align": "right", "indent": 0})
         self.meanings = list[Meaning]()
+
+    def format(self, style: str) -> Format:
+        return self.book.add_format({"num_format": style, "indent": int(style == TEXT)})
 
     def add(self, name: str, table: DataTable, styles: Sequence[Sequence[str]] = (),
             widest: int = MOST_WIDTH) -> tuple[Worksheet, int]:
         """Adds a sheet with a table, whose rows have perhaps formats of their own, and returns it with how many rows it
         has. Raises Refused if they are too many."""
-        sheet, count = self.book.add_worksheet(name), 0
-        columns = [self.format(number_format(column, table)) for column in table.columns]
-        own = [[self.format(style) for style in row] for row in styles]
-        widths = [max(LEAST_WIDTH, len(column.name) + 4) for column in table.columns]
+        sheet = self.book.add_worksheet(name)
         for place, column in enumerate(table.columns):
-            sheet.write_string(0, place, column.name, self.headings[column.is_text])
-        for count, row in enumerate(table.rows, 1):
-            if count >= MOST_ROWS:
-                raise Refused(f"the sheet {name!r} would have more than {MOST_ROWS:,} rows, which no spreadsheet opens",
-                              f"take the tables of the folder, as {DECISIONS}")
-            lengths = [write_cell(sheet, count, place, cell, style) for place, (cell, style) in enumerate(
-                zip(row, own[count - 1] if own else columns, strict=True))]
-            widths = [max(width, min(length + 2, widest)) for width, length in zip(widths, lengths)]
-        for place, width in enumerate(widths):
-            sheet.set_column(place, place, width)
+            sheet.write_string(0, place, column.name, self.left if column.is_text else self.right)
+        count = self._write_rows(sheet, table, styles, widest)
+        last = len(table.columns) - 1
         sheet.freeze_panes(1, 1)
-        sheet.autofilter(0, 0, count, len(columns) - 1)
+        sheet.autofilter(0, 0, count, last)
         sheet.set_landscape()
         sheet.set_paper(A4)
         sheet.repeat_rows(0)
-        if len(columns) <= MOST_ON_PAGE:
+        if last < MOST_ON_PAGE:
             sheet.fit_to_pages(1, 0)
-        self.meanings += (Meaning(name, column.name, column.unit_in(table.currency, table.every), column.meaning)
-                          for column in table.columns)
+        for column in table.columns:
+            unit = column.unit_in(table.currency, table.every)
+            self.meanings.append(Meaning(name, column.name, unit, column.meaning))
         return sheet, count
 
-    def format(self, style: str) -> Format:
-        return self.book.add_format({"num_format": style, "indent": int(style == TEXT)})
+    def _write_rows(self, sheet: Worksheet, table: DataTable, styles: Sequence[Sequence[str]], widest: int) -> int:
+        """Writes the rows of a table, sets the widths of its columns, and returns how many rows there are."""
+        usual = [self.format(number_format(column, table)) for column in table.columns]
+        own = [[self.format(style) for style in row] for row in styles]
+        widths = [max(LEAST_WIDTH, len(column.name) + 4) for column in table.columns]
+        count = 0
+        for count, row in enumerate(table.rows, 1):
+            if count >= MOST_ROWS:
+                raise Refused(f"the sheet {sheet.name!r} would have more than {MOST_ROWS:,} rows, which no spreadsheet "
+                              "opens", f"take the tables of the folder, as {DECISIONS}")
+            formats = own[count - 1] if own else usual
+            for place, (cell, style) in enumerate(zip(row, formats, strict=True)):
+                length = write_cell(sheet, count, place, cell, style)
+                widths[place] = max(widths[place], min(length + 2, widest))
+        for place, width in enumerate(widths):
+            sheet.set_column(place, place, width)
+        return count
 
     def add_curve(self, curve: Sequence[tuple[str, Point]], table: DataTable, currency: str) -> None:
         """Adds the exchange curve: its named points first, and a chart beside them."""
         sheet, count = self.add(CURVE, table)
         named = [point for name, point in curve if name]
         chart = self.book.add_chart({"type": "scatter", "subtype": "straight"})
-        chart.add_series(series_of(len(named) + 1, count, name="one price for all items", marker={"type": "none"},
-                                   line={"color": "#1f77b4", "width": 2}))
+        chart.add_series(series_of(len(named) + 1, count, name=LINE, marker={"type": "none"},
+                                   line={"color": MARKERS[0].colour, "width": 2}))
         for row in range(1, len(named) + 1):
-            form, color = MARKERS[(row - 1) % len(MARKERS)]
-            chart.add_series(series_of(row, row, name=[CURVE, row, 0], line={"none": True}, marker={
-                "type": form, "size": 10, "fill": {"color": color}, "border": {"color": color}}))
+            marker = MARKERS[(row - 1) % len(MARKERS)]
+            chart.add_series(series_of(row, row, name=[CURVE, row, 0], line={"none": True}, marker=marker.of_sheet))
         right, bottom = curve_ends(named)
-        chart.set_title({"name": "How much service the stock can give for its value"})
-        chart.set_x_axis({"name": ", ".join(filter(None, ("value of the mean stock", currency))), "num_format": "#,##0",
-                          "min": 0, "max": right})
-        chart.set_y_axis({"name": "demand met at once, by value", "num_format": "0%", "min": bottom / 100, "max": 1,
+        chart.set_title({"name": TITLE})
+        chart.set_x_axis({"name": ", ".join(filter(None, (AXIS, currency))), "num_format": "#,##0", "min": 0,
+                          "max": right})
+        chart.set_y_axis({"name": SERVICE, "num_format": "0%", "min": bottom / 100, "max": 1,
                           "major_gridlines": {"visible": True, "line": {"color": "#d9d9d9"}}})
         chart.set_legend({"position": "bottom"})
         chart.set_size({"width": 860, "height": 520})
@@ -202,19 +197,36 @@ class Book:
 
 def sums_of(folder: PlannedFolder, totals: Totals) -> Iterator[tuple[Sum, Column]]:
     """Yields what all items come to, today and chosen, and a column of such figures."""
-    amount, every = money("", ""), folder.every
+    every = folder.every
+    money, share, orders, items = columns_of("sum_forms")
     parts = {f"of it {words}": name for words, name in PARTS.items() if name != ALL_PARTS}
     for words, name in {f"cost a {every}": ALL_PARTS, **parts, "value of the mean stock": "value"}.items():
-        yield Sum(words, *(totals[f"{name}_{policy}"] for policy in POLICIES)), amount
-    yield Sum(f"saved a {every}", None, totals["saving"]), amount
-    yield Sum("demand met at once, by value", *map(totals.fill, POLICIES)), number("", "share", "", ".4f")
-    yield Sum(f"orders a {every}", *(totals[f"orders_{it}"] for it in POLICIES)), number("", "orders", "", ".1f")
-    yield Sum("items planned", None, totals.planned), whole("", "items", "")
+        yield Sum(words, totals[f"{name}_{TODAY}"], totals[f"{name}_{CHOSEN}"]), money
+    yield Sum(f"saved a {every}", None, totals["saving"]), money
+    yield Sum("demand met at once, by value", totals.fill(TODAY), totals.fill(CHOSEN)), share
+    yield Sum(f"orders a {every}", totals[f"orders_{TODAY}"], totals[f"orders_{CHOSEN}"]), orders
+    yield Sum("items planned", None, totals.planned), items
 
 
-def classes_of(survey: Survey) -> list[ClassTotals]:
-    """Returns what each class comes to."""
-    return sorted(ClassTotals(name or NO_CLASS, totals) for name, totals in survey.classes.items())
+def class_row(name: str, totals: Totals) -> Mapping[str, Cell]:
+    """Returns what the items of a class come to."""
+    row: dict[str, Cell] = {"name": name, "items": totals.planned, "saving": totals["saving"]}
+    for policy in POLICIES:
+        row[f"fill_{policy}"] = totals.fill(policy)
+        row[f"value_{policy}"] = totals[f"value_{policy}"]
+    return row
+
+
+def add_summary(book: Book, folder: PlannedFolder, totals: Totals, orders: OrdersToday | None) -> None:
+    """Writes what all items come to, and the summary of the plan."""
+    sums = [*sums_of(folder, totals)]
+    lines = catalogue_summary(folder, totals, (), change_lines(folder)).splitlines()
+    if orders:
+        lines = [orders.headline, "", *lines]
+    texts = [Sum(line) for line in ["", *lines]]
+    table = folder.table(SUM_COLUMNS, [row for row, _ in sums] + texts)
+    styles = [[TEXT, number_format(column, table), number_format(column, table)] for _, column in sums]
+    book.add(SUMMARY, table, styles + [[TEXT] * 3] * len(texts))
 
 
 def add_orders(book: Book, orders: OrdersToday) -> None:
@@ -229,20 +241,16 @@ def add_orders(book: Book, orders: OrdersToday) -> None:
 def fill_book(book: Book, folder: PlannedFolder, orders: OrdersToday | None) -> None:
     """Writes all sheets of a planned folder. Raises Refused if one has too many rows."""
     survey, curve = Survey(folder), kept_curve(folder.store)
-    sums = [*sums_of(folder, survey.totals)]
-    lines = catalogue_summary(folder, survey.totals, (), change_lines(folder)).splitlines()
-    lines = [*([orders.headline, ""] if orders else []), *lines]
-    summary = folder.table(SUM_COLUMNS, [row for row, _ in sums] + [Sum(line) for line in ["", *lines]])
-    styles = [[TEXT, *[number_format(column, summary)] * 2] for _, column in sums] + [[TEXT] * 3] * (len(lines) + 1)
-    book.add(SUMMARY, summary, styles)
+    add_summary(book, folder, survey.totals, orders)
     book.add("Decisions", decisions_of(folder, survey.seen(folder.answers())))
     if orders:
         add_orders(book, orders)
     book.add("Left out", rejects_of(folder.read.rejects(survey.faults)))
     if curve:
-        book.add_curve(curve, folder.table(CURVE_COLUMNS, [CurvePoint(name, point) for name, point in curve]),
-                       folder.currency.code)
-    book.add("Classes", folder.table(CLASS_COLUMNS, classes_of(survey)))
+        points = [CurvePoint(name, point) for name, point in curve]
+        book.add_curve(curve, folder.table(CURVE_COLUMNS, points), folder.currency.code)
+    classes = {name or NO_CLASS: totals for name, totals in survey.classes.items()}
+    book.add("Classes", folder.table(CLASS_COLUMNS, [class_row(name, totals) for name, totals in sorted(classes.items())]))
     lateness = lateness_of(folder.read)
     if lateness.rows:
         book.add("Suppliers", lateness)
