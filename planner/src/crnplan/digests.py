@@ -8,9 +8,12 @@ from collections.abc import Iterable
 DIGITS = 32
 
 
-def sha256(data: str | bytes) -> str:
-    """Returns the digest of a text in UTF-8, or of bytes, as 64 hexadecimal digits."""
-    return hashlib.sha256(data.encode() if isinstance(data, str) else data).hexdigest()
+def sha256(*parts: str | bytes) -> str:
+    """Returns the digest of texts in UTF-8, or of bytes, one behind the other, as 64 hexadecimal digits."""
+    digest = hashlib.sha256()
+    for part in parts:
+        digest.update(part.encode() if isinstance(part, str) else part)
+    return digest.hexdigest()
 
 
 def digest_of(*parts: object) -> str:

@@ -4,7 +4,6 @@ from __future__ import annotations
 import contextlib
 import dataclasses
 import functools
-import io
 import json
 import sqlite3
 import typing
@@ -24,6 +23,7 @@ Cell = int | float | str | bytes | None
 Row = TypeVar("Row")
 Question = tuple[str, str]  # a name, and the digest of all that its answer depends on
 LARGEST = 2**63  # SQLite's whole numbers are below
+PAGE_BYTES = 16_384  # of a new file: answers have some thousand bytes, and arrays many more
 WAIT_SECONDS = 60.0  # for another process that writes the same file
 
 
@@ -77,14 +77,16 @@ def _remarks_of(text: str) -> tuple[Remark, ...]:
 
 
 def _array_bytes(array: Any) -> bytes:
-    """Returns an array as a file of numpy has it."""
-    file = io.BytesIO()
-    np.save(file, array, allow_pickle=False)
-    return file.getvalue()
+    """Returns an array as a line with its type and its form, and its numbers."""
+    head = json.dumps([array.dtype.str, array.shape]).encode()
+    numbers: bytes = array.tobytes()
+    return head + b"\n" + numbers
 
 
 def _array_of(data: bytes) -> Any:
-    return np.load(io.BytesIO(data), allow_pickle=False)
+    end = data.index(b"\n")
+    kind, form = json.loads(data[:end])
+    return np.frombuffer(data, kind, offset=end + 1).reshape(form)
 
 
 LIST = json.JSONDecoder()
@@ -223,10 +225,10 @@ class Sealed(typing.NamedTuple):
 
 def seal_of(name: str, digest: str, cells: Iterable[Cell]) -> str:
     """Returns a digest of an answer as it is kept."""
-    parts = [repr((name, digest)).encode()]
-    for cell in cells:
-        parts.append(cell if isinstance(cell, bytes) else repr(cell).encode())
-    return sha256(b"\n".join(parts))[:DIGITS]
+    parts = list[str | bytes]()
+    for cell in (name, digest, *cells):
+        parts += (cell if isinstance(cell, bytes) else repr(cell), "\n")
+    return sha256(*parts)[:DIGITS]
 
 
 def sealed(kind: type[Row], name: str, digest: str, answer: Row | Remark) -> Sealed:
@@ -257,10 +259,10 @@ class Store(Generic[Row]):
             self.base = sqlite3.connect(path, timeout=WAIT_SECONDS)
         if not is_known:
             check_whole(self.base, self.named)
-        if not is_read and not is_known:
-            self.base.executescript("PRAGMA journal_mode = WAL;" + self._tables())
-        self.base.execute("PRAGMA synchronous = NORMAL")
         with reading(self.named):
+            if not is_read and not is_known:
+                self.base.executescript(f"PRAGMA page_size = {PAGE_BYTES}; PRAGMA journal_mode = WAL;" + self._tables())
+            self.base.execute("PRAGMA synchronous = NORMAL")
             names = [column[1] for column in self.base.execute("PRAGMA table_info(answers)")]
         self.is_ours = names == self._names()
 

@@ -111,20 +111,19 @@ class Work(Generic[Row]):
             yield questions, [self.store.kind, self.function, questions, asked, *words]
 
     def _left(self, turns: _Turns, done: Progress) -> Iterator[tuple[Question, Any]]:
-        """Yields the questions that workers have to answer, each with what is asked."""
+        """Yields the questions that workers have to answer, each with what is asked. What is known is kept."""
         for block in batched(self.questions(), LOOKED_AT):
             left = {*self.store.lacking(block)}
             for question in block:
-                name, digest = question
-                asked = self.ask(name) if question in left else None
-                if isinstance(asked, Known):
-                    self.store.keep([sealed(self.store.kind, name, digest, asked.answer)])
-                    self.kept += 1
-                    done.add(1, 1)
-                elif question in left:
+                asked = self.ask(question[0]) if question in left else None
+                if question in left and not isinstance(asked, Known):
                     turns.begin(question, asked)
                     yield question, asked
                     continue
+                if isinstance(asked, Known):
+                    self.store.keep([sealed(self.store.kind, *question, asked.answer)])
+                    self.kept += 1
+                    done.add(1, 1)
                 turns.add(question)
 
 

@@ -6,8 +6,9 @@ import signal
 import subprocess
 import sys
 from collections.abc import Iterator, Sequence
-from concurrent.futures import Future
+from concurrent.futures import Future, ThreadPoolExecutor
 from pathlib import Path
+from threading import Event
 from typing import Any
 from unittest.mock import Mock
 
@@ -130,7 +131,8 @@ def test_a_batch_that_hangs(cluster: Cluster, room: Path, program: Path, monkeyp
         return crn.sweep(scenario, range(50, 62), range(70, 80), program=path, **more).text
     hanging = script(room / "hanging", HANGING.format(room=room, program=program, hangs=hangs))
     others = {"cluster": cluster.address, "out": room / "kept"}
-    monkeypatch.setattr(jobs, "LIMIT_SECONDS", 1.0)
+    # Other batches take no such time, whatever else the machine does.
+    monkeypatch.setattr(jobs, "LIMIT_SECONDS", 1.0 if hangs == "both" else 15.0)
     if hangs == "both":
         with pytest.raises(crn.Failed, match="has taken longer than 1 seconds on each of 3 workers"):
             swept(hanging, **others)
@@ -145,7 +147,7 @@ def test_no_worker_is_left(cluster: Cluster, room: Path, monkeypatch: pytest.Mon
     wait = f"until [ -e {room}/go_on ]; do sleep 0.1; done"
     with pytest.raises(crn.Failed, match="no worker has been heard of for 3 seconds; what was done before is kept"):
         with jobs.cluster(cluster.address) as workers:
-            answers = workers.answers(subprocess.getoutput, ((place, [wait]) for place in range(3)), None)
+            answers = workers.answers(subprocess.getoutput, ((place, [wait]) for place in range(3)), 2)
             for name in WORKERS:
                 os.killpg(cluster.processes[name].pid, how)
             next(answers)
@@ -153,53 +155,53 @@ def test_no_worker_is_left(cluster: Cluster, room: Path, monkeypatch: pytest.Mon
         cluster.end(name)
 
 
-def test_silent_workers(monkeypatch: pytest.MonkeyPatch) -> None:
-    """What a silent worker has is given to another one. If none is heard of for too long, the work ends."""
-    clock, seen = [0.0], {"a": 1.0, "b": 1.0}
-    client = Mock(scheduler_info=lambda: {"workers": {name: {"last_seen": time} for name, time in seen.items()}},
-                  processing=lambda: {"a": ["one"], "b": ["two"]}, ncores=lambda: {"a": 1}, run=lambda *_, **__: {})
-    monkeypatch.setattr(jobs.time, "monotonic", lambda: clock[0])
-    workers, futures = jobs.Cluster(client, ""), [Mock(key="one"), Mock(key="two")]
-    assert workers.silent(futures) == []
-    for clock[0], seen["a"], gone in ((40.0, 2.0, []), (70.0, 3.0, ["two"]), (100.0, 3.0, ["two"])):
-        assert [future.key for future in workers.silent(futures)] == gone
-    clock[0] = 131.0
-    with pytest.raises(crn.Failed, match="no worker has been heard of for 60 seconds"):
-        workers.silent(futures)
+def test_a_worker_that_stops(cluster: Cluster, room: Path, monkeypatch: pytest.MonkeyPatch) -> None:
+    """What a worker has that is not heard of any more is given to another one."""
+    monkeypatch.setattr(jobs, "LOST_SECONDS", 10.0)
+    wait = f'echo "$CRNSIM_WORKER begins" >> {room}/taken; until [ -e {room}/go_on ]; do sleep 0.1; done; ' \
+        'echo "$CRNSIM_WORKER"'
+    with jobs.cluster(cluster.address) as workers:
+        answers = workers.answers(subprocess.getoutput, ((place, [wait]) for place in range(2)))
+
+        def stop() -> None:
+            cluster.wait_until("a batch of each", lambda: all(taken(room, name)[0] for name in WORKERS))
+            os.killpg(cluster.processes["leaves"].pid, signal.SIGSTOP)
+            (room / "go_on").touch()
+        with ThreadPoolExecutor(1) as thread:
+            stopped = thread.submit(stop)
+            assert {*answers} == {(0, "stays"), (1, "stays")}
+            stopped.result()
+    cluster.end("leaves")
 
 
-@pytest.mark.parametrize("late, wanted", [([], None), (["one"], ["b", "c"]), (["one", "two", "three"], None)])
-def test_a_late_batch_goes_to_another_worker(late: Sequence[str], wanted: Sequence[str] | None) -> None:
-    """Gives a batch to none of the workers that are late with it, if there are others."""
-    running = {"a": ["one"], "b": ["two"], "c": ["three"]}
-    client = Mock(processing=lambda: running, scheduler_info=lambda: {"workers": running}, ncores=lambda: {"a": 3},
-                  run=lambda *_, **__: {})
-    workers = jobs.Cluster(client, "")
-    workers.submit(len, [[]], [Mock(key=key) for key in late])
-    assert client.submit.call_args.kwargs["workers"] == wanted and workers.most == 3
+class Slow(jobs.Workers):
+    """One thread as three workers, which begin once they have so many batches."""
+
+    are_others, most = True, 3
+
+    def __init__(self, enough: int) -> None:
+        self.enough, self.is_enough = enough, Event()
+        self.given, self.counts = list[Future[Any]](), list[int]()
+        self.thread = ThreadPoolExecutor(1)
+
+    def submit(self, function: Any, words: Sequence[Any], late: Sequence[Any] = ()) -> Future[Any]:
+        self.given.append(self.thread.submit(lambda: self.is_enough.wait(SECONDS) and function(*words)))
+        self.counts.append(sum(not future.done() for future in self.given))
+        if len(self.given) == self.enough:
+            self.is_enough.set()
+        return self.given[-1]
 
 
-def test_so_many_batches_are_under_way(monkeypatch: pytest.MonkeyPatch) -> None:
-    """Gives at most so many batches at a time, by default as many as there are processors, and each answer once."""
-    under_way, waiting = list[int](), list[Future[int]]()
+@pytest.mark.parametrize("ahead", [1, 2])
+def test_so_many_batches_are_under_way(ahead: int) -> None:
+    """Gives so many batches at a time, by default as many as there are processors, and each answer once."""
+    workers = Slow(3 * ahead)
+    answers = workers.answers(str.upper, ((place, [name]) for place, name in enumerate("abcdefghij")), ahead)
+    assert sorted(answers) == [*enumerate("ABCDEFGHIJ")] and max(workers.counts) == 3 * ahead
+    workers.thread.shutdown()
 
-    class Slow(jobs.Workers):
-        """Workers that are done with the last of their batches, whenever they are given some, or none."""
 
-        are_others = True
-
-        def submit_all(self, function: Any, many: Sequence[Sequence[Any]]) -> list[Future[int]]:
-            waiting.extend(new := [Future[int]() for _ in many])
-            under_way.append(len(waiting))
-            if waiting:
-                waiting.pop().set_result(len(under_way))
-            return new
-    workers = Slow()
-    workers.most = 3
-    assert [*workers.answers(len, ((name, ()) for name in "abcde"))] == [*zip("cdeba", range(1, 6))]
-    assert under_way == [3, 3, 3, 2, 1, 0]
-    assert [name for name, _ in workers.answers(len, ((name, ()) for name in "abcde"), None)] == [*"edcba"]
-    assert under_way[6:] == [5, 4, 3, 2, 1, 0]
+def test_workers_that_are_asked_for(monkeypatch: pytest.MonkeyPatch) -> None:
     monkeypatch.setattr(jobs, "processes", lambda count: count)
     monkeypatch.setattr(jobs, "cluster", lambda *words: words)
     found = jobs.workers_of(3, None), jobs.workers_of(None, None), jobs.workers_of(3, "here", "program")
@@ -247,10 +249,10 @@ def test_a_stranger_that_comes_later(cluster: Cluster, room: Path) -> None:
 
 
 def test_a_worker_that_joins_late(cluster: Cluster, room: Path) -> None:
-    """Gets the batches at once that wait for others, if all are given at once."""
+    """Gets the batches that are left, while others wait."""
     wait = f'[ "$CRNSIM_WORKER" = late ] || until [ -e {room}/go_on ]; do sleep 0.1; done; echo "$CRNSIM_WORKER"'
     with jobs.cluster(cluster.address) as workers:
-        answers = workers.answers(subprocess.getoutput, ((place, [wait]) for place in range(9)), None)
+        answers = workers.answers(subprocess.getoutput, ((place, [wait]) for place in range(9)), 2)
         cluster.join("late")
         first = next(answers)
         (room / "go_on").touch()

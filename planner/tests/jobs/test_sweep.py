@@ -17,7 +17,7 @@ import numpy as np
 import pytest
 
 import crnplan as crn
-from crnplan.jobs import progress
+from crnplan.work import progress
 from planner.tests.conftest import Command, script
 from planner.tests.decide.answers import changed, priced
 

@@ -31,15 +31,15 @@ AT_ONCE = 1_000  # answers that are kept together
 
 def check_records(earlier: PlannedFolder, read: Catalogued) -> None:
     """Raises Refused if a catalogue that was read is not a later state of an earlier one."""
-    every, (_, stop) = read.fact("every"), read.fact("periods")
+    every = read.fact("every")
     if earlier.every != every:
         raise Refused(f"{earlier.path}: its periods are {earlier.every}s, and these are {every}s",
                       "read the files by the same periods")
     names = heapq.merge(earlier.read.names(), read.names())
-    if all(name != following for name, following in itertools.pairwise(names)):
+    if not any(name == following for name, following in itertools.pairwise(names)):
         raise Refused(f"{earlier.path}: none of its items is in these tables",
                       "name the folder of an earlier plan of this catalogue")
-    missing = earlier.read.fact("periods")[1] - stop
+    missing = earlier.read.fact("periods")[1] - read.fact("periods")[1]
     if missing > 0:
         raise Refused(f"{earlier.path}: its record ends {missing:,} {every}s after this one",
                       "name the later files as DEMAND.csv, and the folder of the earlier plan behind --after")
@@ -65,14 +65,14 @@ def asked_after(read: Catalogued, planned: Planned, earlier: PlannedFolder | Non
 
 def common_changes(earlier: Planned, planned: Planned) -> Iterator[Remark]:
     """Yields what has changed for all items: settings, what was learned, and what computes."""
-    before, after = (dataclasses.asdict(plan.settings) for plan in (earlier, planned))
-    moved = [name for name in before if before[name] != after[name] and name not in ("least_gain", "aims")]
-    facts: dict[str, Value] = {f"{name} {when}": values[name] for name in moved
-                               for when, values in (("before", before), ("after", after))}
+    before, after = dataclasses.asdict(earlier.settings), dataclasses.asdict(planned.settings)
+    facts = dict[str, Value]()
+    for name in before:
+        if name not in ("least_gain", "aims") and before[name] != after[name]:
+            facts |= {f"{name} before": before[name], f"{name} after": after[name]}
     if facts:
         yield Remark("other settings", facts)
-    learned = [(plan.prior.text, plan.settings.aims) for plan in (earlier, planned)]
-    if learned[0] != learned[1]:
+    if (earlier.prior.text, earlier.settings.aims) != (planned.prior.text, planned.settings.aims):
         yield Remark("other learning")
     if json.loads(earlier.base)[:3] != json.loads(planned.base)[:3]:
         yield Remark("other program")
@@ -81,13 +81,16 @@ def common_changes(earlier: Planned, planned: Planned) -> Iterator[Remark]:
 def pairs_of(earlier: PlannedFolder, now: PlannedFolder) -> Iterator[Pair]:
     """Yields the items of both plans in order of their names, with all their periods."""
     left = {reject.item: reject.remark for reject in now.read.rejects() if reject.kind == "item"}
-    with contextlib.closing(Catalogued(now.read.path)) as new, contextlib.closing(Catalogued(earlier.read.path)) as old:
-        for name, _ in itertools.groupby(heapq.merge(old.names(), new.names())):
-            before, after = earlier.store.answer(name), now.store.answer(name)
-            items = old.item(name), new.item(name)
-            fault = after if isinstance(after, Remark) else left.get(name)
-            yield Pair((items[0], before) if items[0] and isinstance(before, Answer) else None,
-                       (items[1], after) if items[1] and isinstance(after, Answer) else None, fault)
+    for name, _ in itertools.groupby(heapq.merge(earlier.read.names(), now.read.names())):
+        answer = now.store.answer(name)
+        fault = answer if isinstance(answer, Remark) else left.get(name)
+        yield Pair(decided(earlier, name), decided(now, name), fault)
+
+
+def decided(plan: PlannedFolder, name: str) -> tuple[Item, Answer] | None:
+    """Returns an item of a plan with its answer; None without a policy."""
+    item, answer = plan.read.whole_item(name), plan.store.answer(name)
+    return (item, answer) if item and isinstance(answer, Answer) else None
 
 
 def changes_since(earlier: PlannedFolder, now: PlannedFolder) -> Iterator[Change]:

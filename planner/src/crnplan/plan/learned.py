@@ -56,18 +56,23 @@ def drawn_of_groups(pairs: Iterable[tuple[str, str]], most: int) -> list[str]:
     return sorted(name for entries in drawn.values() for _, name in entries)
 
 
+def teaching(read: Catalogued, by_class: bool) -> Iterator[tuple[str, str]]:
+    """Yields the name and the class of each item with a past from which others learn; no class unless it counts."""
+    for name, past, group in read.cells("name", "past", "group"):
+        if past in TEACHING:
+            yield name, group if by_class else ""
+
+
 def learners(read: Catalogued, by_class: bool) -> Iterator[Item]:
     """Yields in order of their names the items with a past from which others learn, but for those counted in boxes: of
     many so many are drawn, or as many of each class."""
+    most = MOST_READ
     if by_class:
-        groups = Counter(group for past, group in read.cells("past", "group") if past in TEACHING)
-        most = max(MOST_PULLED + 1, MOST_OF_CLASSES // max(1, len(groups)))
-        most = MOST_OF_CLASSES if groups.total() <= MOST_OF_CLASSES else most
-    else:
-        most = MOST_READ
-    drawn = drawn_of_groups(((name, group if by_class else "") for name, past, group in
-                             read.cells("name", "past", "group") if past in TEACHING), most)
-    for item in map(read.item, drawn):
+        groups = Counter(group for _, group in teaching(read, by_class))
+        most = MOST_OF_CLASSES
+        if groups.total() > MOST_OF_CLASSES:
+            most = max(MOST_PULLED + 1, MOST_OF_CLASSES // len(groups))
+    for item in map(read.item, drawn_of_groups(teaching(read, by_class), most)):
         if item and item.box == 1:
             yield item
 
@@ -81,11 +86,15 @@ def learned_of(answers: Store[Any], read: Catalogued, settings: Settings, again:
     """
     if settings.fit != "auto":
         return own_laws(f"fit = {settings.fit}")
-    said = Counter(borrow for borrow, past in read.cells("borrow", "past") if past != NO_DEMAND)
+    said = Counter[str]()
+    for borrow, past in read.cells("borrow", "past"):
+        if past != NO_DEMAND:
+            said[borrow] += 1
     asked = {settings.borrow, *said} & {ALL, CLASS}
     if settings.borrow == NONE and not asked:
         return own_laws(f"borrow = {NONE}")
-    way, least = CLASS if CLASS in asked else ALL, LEAST_ON_REQUEST if asked else LEAST_ITEMS
+    way = CLASS if CLASS in asked else ALL
+    least = LEAST_ON_REQUEST if asked else LEAST_ITEMS
     try:
         earlier = None if again else kept_prior(answers, read.window, way, least)
         prior = earlier or learned_now(answers, read, way, least)
@@ -93,21 +102,33 @@ def learned_of(answers: Store[Any], read: Catalogued, settings: Settings, again:
         if asked:
             raise
         return own_laws(few.what)
-    items = prior.items - prior.outside
-    usual = settings.borrow or (ALL if items >= LEAST_ITEMS else NONE)
-    others = sum(count for word, count in said.items() if word not in ("", usual))
-    own = [Remark("own laws", {"reason": ""})] if usual == NONE else []
-    otherwise = [Remark("masters say otherwise", {"items": others})] if others else []
-    remark = Remark("learned", {"items": items, "classes": len(prior.classes)})
-    return Learned(prior, usual, (*own, remark, *otherwise), prior is earlier)
+    usual = settings.borrow or (ALL if learners_of(prior) >= LEAST_ITEMS else NONE)
+    return Learned(prior, usual, tuple(remarks_of(prior, usual, said)), prior is earlier)
+
+
+def learners_of(prior: Prior) -> int:
+    """Returns from how many items was learned."""
+    return prior.items - prior.outside
+
+
+def remarks_of(prior: Prior, usual: str, said: Counter[str]) -> Iterator[Remark]:
+    """Yields remarks on what was learned, if an item usually learns in a way, and so many masters say another one."""
+    if usual == NONE:
+        yield Remark("own laws", {"reason": ""})
+    yield Remark("learned", {"items": learners_of(prior), "classes": len(prior.classes)})
+    others = said.total() - said[""] - said[usual]
+    if others:
+        yield Remark("masters say otherwise", {"items": others})
 
 
 def kept_prior(answers: Store[Any], window: int | None, way: str, least: int) -> Prior | None:
     """Returns what at least so many items have learned in this way and by this window in an earlier run; None if that
     is not kept."""
     text = answers.fact(PRIOR)
-    prior = None if text is None or answers.fact(PRIOR_WINDOW) != str(window) else Prior.parse(text, str(answers.path))
-    return prior if prior and prior.borrow == way and prior.items - prior.outside >= least else None
+    if text is None or answers.fact(PRIOR_WINDOW) != str(window):
+        return None
+    prior = Prior.parse(text, str(answers.named))
+    return prior if prior.borrow == way and learners_of(prior) >= least else None
 
 
 def learned_now(answers: Store[Any], read: Catalogued, way: str, least: int) -> Prior:

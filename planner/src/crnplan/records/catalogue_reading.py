@@ -140,8 +140,10 @@ class Catalogued:
 
     def overridden(self) -> Iterator[Item]:
         """Yields the items with an override; none of a file of a version that had none."""
-        if OVERRIDE_KIND in {column[1] for column in self.base.execute("PRAGMA table_info(items)")}:
-            yield from map(ITEM.value, self.base.execute(f"SELECT * FROM items WHERE {OVERRIDE_KIND} IS NOT NULL"))
+        with reading(self.path):
+            names = {column[1] for column in self.base.execute("PRAGMA table_info(items)")}
+            if OVERRIDE_KIND in names:
+                yield from map(ITEM.value, self.base.execute(f"SELECT * FROM items WHERE {OVERRIDE_KIND} IS NOT NULL"))
 
     def close(self) -> None:
         self.base.close()

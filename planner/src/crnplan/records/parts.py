@@ -53,7 +53,10 @@ def items_of_part(part: Part, words: Words, whole: Whole, letters: Sequence[str]
     """Writes the items of a part, with their classes in order of names, into a new file."""
     with contextlib.closing(sqlite3.connect(path)) as base:
         base.executescript(TABLES)
-        reader = Reader(part.rows(), words, whole, lambda reject: base.execute(ADD_REJECT, REJECT.cells(reject)))
+
+        def add(reject: Reject) -> None:
+            base.execute(ADD_REJECT, REJECT.cells(reject))
+        reader = Reader(part.rows(), words, whole, add)
         base.executemany(ADD_ITEM, map(ITEM.cells, reader.read(letters)))
         base.commit()
     return PartRead(path, reader.counts, reader.sources, reader.split, reader.controls(), shared_in(reader.rows),
