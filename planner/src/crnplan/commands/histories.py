@@ -11,7 +11,8 @@ from click.core import ParameterSource
 
 import crnplan as crn
 from ..errors import RefusedFaults
-from ..records.histories import RefusedFiles, column_names, printed, write_rejects
+from ..records.faults import RefusedFiles, printed, write_rejects
+from ..records.histories import column_names
 from ..records.observed import LeadTimes, Observed
 from ..records.sources import Rules
 from ..toml.documents import places_of

@@ -12,7 +12,7 @@ from ..errors import Fault, Refused
 from ..formats import MOST_WEIGHT
 from ..law import Law
 from ..money import whole
-from ..records.histories import RefusedFiles
+from ..records.faults import RefusedFiles
 from ..records.observed import Observed
 from ..remarks import Remark
 from ..words import advised, counted, sentence

@@ -98,12 +98,15 @@ def amounts_of(text: str) -> Mapping[str, Amount]:
     signs = [*filter(None, (shell["first"], shell["second"], shell["last"])), *["-"] * is_wrapped]
     if len(signs) > 1:
         return {}
-    currency, word = shell["before"] or shell["behind"] or "", shell["unit"] or ""
-    factor, found = -1 if signs and signs[0] in MINUS else 1, dict[str, Amount]()
+    currency = shell["before"] or shell["behind"] or ""
+    word = shell["unit"] or ""
+    factor = -1 if signs and signs[0] in MINUS else 1
+    found = dict[str, Amount]()
     for sign, form in FORMS.items():
         digits = form.fullmatch(shell["digits"])
         if digits:
-            whole, part = re.sub("[^0-9]", "", digits["whole"]), digits["part"] or ""
+            whole = re.sub("[^0-9]", "", digits["whole"])
+            part = digits["part"] or ""
             found[sign] = Amount(factor * Fraction(int(whole + part), 10**len(part)), digits["group"] or "",
                                  sign if part else "", SIGNS.get(currency, currency), UNITS.get(plain_name(word), word) if word else "")
     return found
@@ -134,7 +137,8 @@ class ColumnReader(ABC, Generic[Reading]):
     none = "no number"  # the code of a text without a reading
 
     def __init__(self, stated: str | None = None) -> None:
-        self.stated, self.sides = stated, dict[str, str]()
+        self.stated = stated
+        self.sides = dict[str, str]()
         self.is_doubtful = False  # whether a text may be two numbers
 
     @abstractmethod
@@ -207,7 +211,8 @@ class AmountReader(ColumnReader[Amount]):
     def __init__(self, stated: str | None = None, currencies: dict[str, str] | None = None,
                  counts_items: bool = False) -> None:
         super().__init__(stated)
-        self.currencies, self.counts_items = currencies, counts_items
+        self.currencies = currencies
+        self.counts_items = counts_items
 
     def readings(self, text: str) -> Mapping[str, Collection[Amount]]:
         found = amounts_of(text)

@@ -18,7 +18,7 @@ import zlib
 from collections.abc import Callable, Iterable, Iterator, Sequence
 from dataclasses import dataclass, field
 from pathlib import Path
-from typing import IO, NamedTuple
+from typing import IO, Any, NamedTuple
 
 import numpy as np
 import numpy.typing as npt
@@ -38,24 +38,43 @@ CUT = re.compile("utf-8(-sig)?|ascii|iso8859-[0-9]+|cp12[0-9]+|gb18030|gbk|gb231
 MIX = np.uint64(0x9E3779B97F4A7C15)  # odd, so that no two hashes are mixed to the same
 
 
+class Codes:
+    """The codes of the distinct values of a column."""
+
+    def __init__(self) -> None:
+        self.distinct: list[Cell] = []
+        self.places: dict[Cell, int] = {}
+
+    def of(self, values: Iterable[Cell]) -> npt.NDArray[np.int32]:
+        """Returns the codes of values; those that are not known get the next ones."""
+        codes = [self.places.setdefault(value, len(self.places)) for value in values]
+        self.distinct += itertools.islice(self.places, len(self.distinct), None)
+        return np.array(codes, np.int32)
+
+
 class Column(NamedTuple):
     """The cells of a column: a code for each row, and the cell of each code. Two codes may have the same cell."""
 
-    codes: Numbers
+    codes: npt.NDArray[np.signedinteger[Any]]
     distinct: list[Cell]
 
     @classmethod
     def of(cls, cells: Sequence[Cell]) -> Column:
-        places: dict[Cell, int] = {}
-        codes = [places.setdefault(cell, len(places)) for cell in cells]
-        return cls(np.array(codes, np.int64), [*places])
+        codes = Codes()
+        return cls(codes.of(cells), codes.distinct)
+
+    def read(self, read: Callable[[Cell], Cell], kept: Flags) -> Column:
+        """Returns the kept rows with what a function reads in their cells: two codes have two values."""
+        codes = Codes()
+        return Column(codes.of(map(read, self.distinct))[self.codes[kept]], codes.distinct)
 
     def hashes(self) -> npt.NDArray[np.uint64]:
         """Returns a hash of 64 bits of each row's cell, the same in all processes."""
         texts = (cell.encode("utf-8", "surrogatepass") if isinstance(cell, str) else f"\0{cell!r}".encode()
                  for cell in self.distinct)
         data = b"".join(hashlib.blake2b(text, digest_size=8).digest() for text in texts)
-        return np.frombuffer(data, np.uint64)[self.codes]
+        hashes: npt.NDArray[np.uint64] = np.frombuffer(data, np.uint64)[self.codes]
+        return hashes
 
 
 class Cells(NamedTuple):
@@ -69,13 +88,11 @@ class Cells(NamedTuple):
 
 @dataclass
 class Block:
-    """Rows of a table, but for blank ones, whose lines are in `blank`. By role it has a code for each row, and the value
-    of each code. `good` says which rows are of use, `other` which are not wanted, and rows with equal `hashes` are the
-    same."""
+    """Rows of a table, but for blank ones, whose lines are in `blank`. By role it has the values of a column. `good` says
+    which rows are of use, `other` which are not wanted, and rows with equal `hashes` are the same."""
 
     lines: Numbers
-    codes: dict[str, npt.NDArray[np.int32]]
-    distinct: dict[str, list[Cell]]
+    columns: dict[str, Column]
     hashes: npt.NDArray[np.uint64]
     wide: dict[int, tuple[int, str]]
     good: Flags
@@ -89,47 +106,51 @@ class Block:
     def of(cls, sheet: Sheet, cells: Cells) -> Block:
         """Returns the block of rows of a table whose columns are known. With patterns of dates, times of day are
         kept."""
-        dated = bare_cell if sheet.rules.date_formats else dated_cell
         kept = ~blank_rows(cells, next(iter(sheet.columns.values())).place)
-        places = np.cumsum(kept) - 1
-        codes, distinct = {}, {}
+        dated = bare_cell if sheet.rules.date_formats else dated_cell
+        columns = dict[str, Column]()
         for role, column in sheet.columns.items():
             read = text_of if role == "item" else dated if role in DATES else bare_cell
-            codes[role], distinct[role] = read_values(cells.columns[column.place], read, kept)
+            columns[role] = cells.columns[column.place].read(read, kept)
+        good: Flags = np.ones(np.count_nonzero(kept), bool)
+        other = ~good
         for name, mark in sheet.marks.items():
-            codes[name], distinct[name] = read_values(cells.columns[mark.column.place], text_of, kept)
-        hashes = np.zeros(len(kept), np.uint64)
-        for its in cells.columns:
-            hashes = (hashes ^ its.hashes()) * MIX
-        wide = {int(places[row]): its for row, its in cells.wide.items()}
-        good: Flags = np.ones(int(kept.sum()), bool)
-        if "item" in codes:
-            named = [name != "" and not UNPRINTABLE.search(str(name)) for name in distinct["item"]]
-            good = np.array(named, bool)[codes["item"]]
+            columns[name] = cells.columns[mark.column.place].read(text_of, kept)
+            other |= is_other(mark, columns[name].distinct)[columns[name].codes]
+        if "item" in columns:
+            codes, names = columns["item"]
+            good = np.array([name != "" and not UNPRINTABLE.search(str(name)) for name in names], bool)[codes]
+        places = np.cumsum(kept) - 1
+        wide = {int(places[row]): texts for row, texts in cells.wide.items()}
         good[[*wide]] = False
-        other: Flags = np.zeros(len(good), bool)
-        for name, mark in sheet.marks.items():
-            other |= is_other(mark, distinct[name])[codes[name]]
-        return cls(cells.lines[kept], codes, distinct, hashes[kept], wide, good & ~other, other,
-                   cells.lines[~kept].tolist())
+        hashes = np.zeros(len(kept), np.uint64)
+        for read_column in cells.columns:
+            hashes = (hashes ^ read_column.hashes()) * MIX
+        return cls(cells.lines[kept], columns, hashes[kept], wide, good & ~other, other, cells.lines[~kept].tolist())
 
     def seen(self) -> Seen:
         """Returns how many good rows have each value, in order of the first row that has it."""
-        return {role: dict(zip(values, np.bincount(self.codes[role][self.good], minlength=len(values)).tolist()))
-                for role, values in self.distinct.items() if role not in ("item", "description")}
+        seen: Seen = {}
+        for role, (codes, values) in self.columns.items():
+            if role not in ("item", "description"):
+                counts = np.bincount(codes[self.good], minlength=len(values))
+                seen[role] = dict(zip(values, counts.tolist()))
+        return seen
 
     def part(self, rows: Numbers) -> Block:
         """Returns some of the rows with their values alone."""
-        codes, distinct = {}, {}
-        for role, its in self.codes.items():
-            table = np.zeros(len(self.distinct[role]), np.int32)
-            table[its[rows]] = 1
+        columns = dict[str, Column]()
+        for role, (codes, values) in self.columns.items():
+            table = np.zeros(len(values), np.int32)
+            table[codes[rows]] = 1
             used = np.flatnonzero(table)
             table[used] = np.arange(len(used))
-            codes[role], distinct[role] = table[its[rows]], [self.distinct[role][code] for code in used.tolist()]
-        wide = {place: self.wide[row] for place, row in enumerate(rows.tolist()) if row in self.wide} if (
-            self.wide) else {}
-        return Block(self.lines[rows], codes, distinct, self.hashes[rows], wide, self.good[rows], self.other[rows])
+            columns[role] = Column(table[codes[rows]], [values[code] for code in used.tolist()])
+        wide = dict[int, tuple[int, str]]()
+        for place, row in enumerate(rows.tolist()) if self.wide else ():
+            if row in self.wide:
+                wide[place] = self.wide[row]
+        return Block(self.lines[rows], columns, self.hashes[rows], wide, self.good[rows], self.other[rows])
 
 
 def blank_rows(cells: Cells, place: int) -> Flags:
@@ -138,31 +159,24 @@ def blank_rows(cells: Cells, place: int) -> Flags:
     blank: Flags = np.array([not text_of(cell) for cell in distinct], bool)[codes]
     blank[[*cells.wide]] = False
     rows = np.flatnonzero(blank)
-    for column in cells.columns if len(rows) else ():
-        blank[rows] &= [not text_of(column.distinct[code]) for code in column.codes[rows].tolist()]
+    for codes, distinct in cells.columns if len(rows) else ():
+        blank[rows] &= [not text_of(distinct[code]) for code in codes[rows].tolist()]
     return blank
-
-
-def read_values(column: Column, read: Callable[[Cell], Cell],
-                kept: Flags) -> tuple[npt.NDArray[np.int32], list[Cell]]:
-    """Returns a code for each kept row of a column, and the value of each code as a function reads it from a cell."""
-    places: dict[Cell, int] = {}
-    table = [places.setdefault(read(cell), len(places)) for cell in column.distinct]
-    return np.array(table, np.int32)[column.codes[kept]], [*places]
 
 
 def careful_cells(sheet: Sheet, rows: Iterator[Row]) -> Iterator[Cells]:
     """Yields rows that are read one by one, so many at a time."""
     width = len(sheet.heading)
     while some := [*itertools.islice(rows, ROWS_AT_ONCE)]:
-        wide, texts = dict[int, tuple[int, str]](), list[Sequence[Cell]]()
-        for place, (_, cells) in enumerate(some):
-            if len(cells) != width:
-                if any(map(text_of, cells[width:])):
-                    wide[place] = len(cells), ",".join(map(text_of, cells))
-                cells = [*cells[:width], *[""] * (width - len(cells))]
-            texts.append(cells)
-        yield Cells(np.array([line for line, _ in some], np.int64), [*map(Column.of, zip(*texts))], wide)
+        wide = dict[int, tuple[int, str]]()
+        lines = list[int]()
+        texts = list[Sequence[Cell]]()
+        for line, cells in some:
+            if any(map(text_of, cells[width:])):
+                wide[len(lines)] = len(cells), ",".join(map(text_of, cells))
+            lines.append(line)
+            texts.append(cells if len(cells) == width else [*cells[:width], *[""] * (width - len(cells))])
+        yield Cells(np.array(lines), [Column.of(column) for column in zip(*texts)], wide)
 
 
 def plain_cells(sheet: TextSheet, data: bytes, skip: int) -> Cells | None:
@@ -175,10 +189,13 @@ def plain_cells(sheet: TextSheet, data: bytes, skip: int) -> Cells | None:
         data = data if data.isascii() else data.decode(sheet.encoding).encode()
     except UnicodeError:
         return None
-    signs, width = np.frombuffer(data, np.uint8), len(sheet.heading) - 1
+    signs = np.frombuffer(data, np.uint8)
+    width = len(sheet.heading) - 1
     ends = np.flatnonzero(signs == ord("\n"))
-    ends = ends if data.endswith(b"\n") else np.append(ends, len(data))
-    starts, ends = np.append(0, ends[:-1] + 1)[skip:], ends[skip:]
+    if not data.endswith(b"\n"):
+        ends = np.append(ends, len(data))
+    starts = np.append(0, ends[:-1] + 1)[skip:]
+    ends = ends[skip:]
     if not len(ends) or data.startswith(codecs.BOM_UTF8, starts[0]) or (ends - starts).max() > csv.field_size_limit():
         return None
     cuts = np.flatnonzero(signs[starts[0]:] == ord(sheet.delimiter)) + starts[0]
@@ -231,9 +248,11 @@ class Filed:
 
 def write_block(block: Block, path: Path, parts: int) -> Filed:
     """Writes a block to a new file, by part of the items."""
-    hashes = [zlib.crc32(str(name).encode("utf-8", "surrogatepass")) % parts for name in block.distinct["item"]]
-    part_of = np.array(hashes, np.uint8)[block.codes["item"]]
-    order, ends = np.argsort(part_of, kind="stable"), np.cumsum(np.bincount(part_of, minlength=parts)).tolist()
+    codes, names = block.columns["item"]
+    hashes = [zlib.crc32(str(name).encode("utf-8", "surrogatepass")) % parts for name in names]
+    part_of = np.array(hashes, np.uint8)[codes]
+    order = np.argsort(part_of, kind="stable")
+    ends = np.cumsum(np.bincount(part_of, minlength=parts)).tolist()
     places = dict[int, int]()
     with path.open("xb") as file:
         for part, (start, stop) in enumerate(zip([0, *ends], ends)):
@@ -282,13 +301,15 @@ class RangeRead:
 def read_blocks(sheet: Sheet, rows: Iterator[Row]) -> Iterator[Block]:
     """Yields the blocks of rows below the heading, which are read one by one."""
     below = itertools.dropwhile(lambda row: row[0] <= sheet.line, rows)
-    yield from (Block.of(sheet, cells) for cells in careful_cells(sheet, below))
+    for cells in careful_cells(sheet, below):
+        yield Block.of(sheet, cells)
 
 
 def ranges_of(sheet: TextSheet, size: int) -> Iterator[Range]:
     """Yields the ranges of a file, of some so many bytes, each behind the end of a line; all in one if the encoding has
     letters with the byte of such an end."""
-    start, whole = 0, sheet.state[0]
+    start = 0
+    whole = sheet.state[0]
     with readable(sheet.name), sheet.file.open("rb") as file:
         while start < whole:
             stop = whole
@@ -308,31 +329,35 @@ def behind_line(file: IO[bytes], place: int) -> int:
     return place
 
 
-def range_blocks(sheet: TextSheet, its: Range, sizes: Sizes) -> Iterator[Block]:
+def range_blocks(sheet: TextSheet, part: Range, sizes: Sizes) -> Iterator[Block]:
     """Yields the blocks of a range. One that is much longer than others is never whole in memory. Raises
     RefusedFaults."""
-    if not sizes.plain and its.stop - its.start <= 2 * sizes.range:
+    start, stop = part
+    if not sizes.plain and stop - start <= 2 * sizes.range:
         with readable(sheet.name), sheet.file.open("rb") as file:
-            file.seek(its.start)
-            data = file.read(its.stop - its.start)
+            file.seek(start)
+            data = file.read(stop - start)
         cells = plain_cells(sheet, data, sheet.line)
         if cells:
             sheet.count = int(cells.lines[-1])
             yield Block.of(sheet, cells)
             return
-    yield from read_blocks(sheet, sheet.rows(*its))
+    yield from read_blocks(sheet, sheet.rows(start, stop))
 
 
-def read_range(sheet: TextSheet, its: Range, sizes: Sizes, stem: Path, parts: int) -> RangeRead:
+def read_range(sheet: TextSheet, part: Range, sizes: Sizes, stem: Path, parts: int) -> RangeRead:
     """Reads a range, and writes its blocks into files whose names begin so, by part of the items."""
-    sheet, blocks = copy.copy(sheet), list[Filed]()
-    if its.start:
-        sheet.line, sheet.encoding = 0, sheet.encoding.removesuffix("-sig")
+    sheet = copy.copy(sheet)
+    blocks = list[Filed]()
+    if part.start:
+        sheet.line = 0
+        sheet.encoding = sheet.encoding.removesuffix("-sig")
     try:
-        for number, block in enumerate(range_blocks(sheet, its, sizes)):
-            blocks.append(write_block(block, stem.with_name(f"{stem.name}-{its.start}-{its.stop}-{number}"), parts))
+        for number, block in enumerate(range_blocks(sheet, part, sizes)):
+            path = stem.with_name(f"{stem.name}-{part.start}-{part.stop}-{number}")
+            blocks.append(write_block(block, path, parts))
     except RefusedFaults as refused:
-        return RangeRead(sheet.count, [], refused.faults, sheet.is_read and its.stop < sheet.state[0])
+        return RangeRead(sheet.count, [], refused.faults, sheet.is_read and part.stop < sheet.state[0])
     return RangeRead(sheet.count, blocks)
 
 
@@ -342,9 +367,10 @@ def closed_ranges(ranges: Sequence[Range], found: Sequence[RangeRead],
     read again with what follows."""
     place = 0
     while place < len(ranges):
-        count, its = 1, found[place]
-        while its.is_open:
+        count = 1
+        read = found[place]
+        while read.is_open:
             count = min(2 * count, len(ranges) - place)
-            its = again(Range(ranges[place].start, ranges[place + count - 1].stop))
-        yield its
+            read = again(Range(ranges[place].start, ranges[place + count - 1].stop))
+        yield read
         place += count

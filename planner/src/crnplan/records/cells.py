@@ -66,7 +66,8 @@ class CellReader:
     def __init__(self, readers: Mapping[str, Callable[[Cell], Any]], needed: Collection[str]) -> None:
         """Takes by role what returns the value of a cell, or raises Unreadable. An empty cell of a role that is not needed
         has none."""
-        self.readers, self.needed = readers, needed
+        self.readers = readers
+        self.needed = needed
         self.known: dict[tuple[str, Cell], Any] = {}  # by role and cell, its value, or what is wrong with it
 
     def value(self, role: str, cell: Cell, faults: list[CellFault]) -> Any:

@@ -51,16 +51,20 @@ class Condition(NamedTuple):
 def conditions_of(where: Where | None) -> tuple[str, ...]:
     """Returns conditions as texts: of a text, several, or a table as {"Location": "Main"}, whose values may be lists, and
     which may be by file, as {"demand": {"Location": "Main"}}."""
-    if where is None or isinstance(where, str):
-        return () if where is None else (where,)
+    if where is None:
+        return ()
+    if isinstance(where, str):
+        return (where,)
     if not isinstance(where, Mapping):
         return tuple(where)
     texts = list[str]()
     for name, value in where.items():
         if isinstance(value, Mapping):
-            texts += (f"{name}.{text}" for text in conditions_of(value))
+            texts += [f"{name}.{text}" for text in conditions_of(value)]
+        elif isinstance(value, (list, tuple)):
+            texts += [f"{name}={one}" for one in value]
         else:
-            texts += (f"{name}={one}" for one in (value if isinstance(value, (list, tuple)) else [value]))
+            texts.append(f"{name}={value}")
     return tuple(texts)
 
 
@@ -84,29 +88,30 @@ def use_of(name: str) -> str:
 def marks_of(kind: str, sheet: Sheet, where: Iterable[str]) -> dict[str, Mark]:
     """Returns the columns of a table that choose its rows or are watched, by what `Rows` calls them. One with a role is
     not watched."""
-    wanted, used = wanted_of(kind, where), {column.place for column in sheet.columns.values()}
+    wanted = wanted_of(kind, where)
+    used = {column.place for column in sheet.columns.values()}
+    uses = {PLACE, STATE} if kind in STATE_KINDS else {PLACE}
     marks: dict[str, Mark] = {}
     for place, name in enumerate(sheet.heading):
-        values = wanted.get(name)
-        use = "" if values or place in used else use_of(name)
-        if values or use == PLACE or use == STATE and kind in STATE_KINDS:
-            marks[f"={name}"] = Mark(Column(name, place), use, frozenset(values or ()))
+        use = use_of(name)
+        if name in wanted:
+            marks[f"={name}"] = Mark(Column(name, place), "", frozenset(wanted[name]))
+        elif use in uses and place not in used:
+            marks[f"={name}"] = Mark(Column(name, place), use)
     return marks
 
 
 def faults_of_where(sheets: Mapping[str, Sheet], words: Words) -> Iterator[Fault]:
     """Yields a fault for each column of `where` that no table has, or not the one that is named."""
     needed = words.where if words.is_where_needed and sheets else ()
-    for condition in dict.fromkeys(map(Condition.of, needed)):
-        kinds = [condition.kind] if condition.kind else [*sheets]
-        tables = [sheets[kind] for kind in kinds if kind in sheets]
-        counts = [sheet.heading.count(condition.column) for sheet in tables]
-        for sheet, count in zip(tables, counts):
-            if count > 1:
-                yield Fault(message(Remark("same column of where", {"name": condition.column})), sheet.name, sheet.line)
-        if not any(counts):
-            first = tables[0] if tables else next(iter(sheets.values()))
-            facts = {"name": condition.column, "columns": listed(first.heading)}
+    for kind, name, _ in dict.fromkeys(map(Condition.of, needed)):
+        tables = [sheet for own, sheet in sheets.items() if kind in ("", own)]
+        for sheet in tables:
+            if sheet.heading.count(name) > 1:
+                yield Fault(message(Remark("same column of where", {"name": name})), sheet.name, sheet.line)
+        if not any(name in sheet.heading for sheet in tables):
+            first = next(iter(tables or sheets.values()))
+            facts = {"name": name, "columns": listed(first.heading)}
             yield Fault(message(Remark("no column of where", facts)), first.name, first.line)
 
 
@@ -141,9 +146,12 @@ def places_of(rows: Rows, some: Numbers) -> tuple[str, dict[Cell, int]]:
 
 def named_values(counts: Mapping[Cell, int]) -> str:
     """Returns values with how many rows have each, the most frequent first."""
-    ranked = sorted(counts.items(), key=lambda pair: (-pair[1], str(pair[0])))
-    texts = [f"{on_one_line(str(value)) or 'nothing'}: {count:,}" for value, count in ranked[:MOST_VALUES]]
-    return ", ".join([*texts, *[".."] * (len(ranked) > MOST_VALUES)])
+    texts = list[str]()
+    for value in sorted(counts, key=lambda value: (-counts[value], str(value))):
+        texts.append(f"{on_one_line(str(value)) or 'nothing'}: {counts[value]:,}")
+    if len(texts) > MOST_VALUES:
+        texts[MOST_VALUES:] = [".."]
+    return ", ".join(texts)
 
 
 def said_of_marks(kind: str, sheet: Sheet, counts: Mapping[str, Mapping[Cell, int]],
@@ -152,9 +160,10 @@ def said_of_marks(kind: str, sheet: Sheet, counts: Mapping[str, Mapping[Cell, in
     by column how many rows have each value."""
     for name, mark in sheet.marks.items():
         values = {value: count for value, count in counts.get(name, {}).items() if count}
-        facts = {"file": sheet.file_name, "column": mark.column.name, "kind": kind, "values": named_values(values)}
-        first = max(values, key=lambda value: values[value], default="")
+        first = max(values, key=values.__getitem__, default="")
+        facts = {"file": sheet.file_name, "column": mark.column.name, "kind": kind, "values": named_values(values),
+                 "first": str(first)}
         if mark.use == PLACE and split.get(name):
-            yield Remark("summed places", {**facts, "items": split[name], "first": str(first)})
+            yield Remark("summed places", {**facts, "items": split[name]})
         if mark.use == STATE and len(values) > 1:
-            yield Remark("several states", {**facts, "count": len(values), "first": str(first)})
+            yield Remark("several states", {**facts, "count": len(values)})

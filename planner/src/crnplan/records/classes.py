@@ -20,7 +20,9 @@ MOST_VARIED = (0.5, 1.0)
 def abc_of(values: Mapping[Name, Fraction], cuts: Sequence[int]) -> dict[Name, str]:
     """Returns the class of each item by the value of its demand: A if the items of higher value have less than the
     first share of all value, in percent, B if they have less than the second, else C. Equal values have one class."""
-    classes, above, by_value = dict[Name, str](), 0, dict[int, list[Name]]()
+    classes = dict[Name, str]()
+    above = 0
+    by_value = dict[int, list[Name]]()
     unit = math.lcm(*{value.denominator for value in values.values()})  # Whole numbers are counted fast.
     for name, money in values.items():
         by_value.setdefault(money.numerator * (unit // money.denominator), []).append(name)
@@ -37,6 +39,7 @@ def xyz_of(counts: Sequence[int]) -> str:
     the periods over their mean: X up to 0.5, Y up to 1, else Z. It is empty without demand."""
     if not any(counts):
         return ""
-    total, squares = sum(counts), sum(map(operator.mul, counts, counts))
+    total = sum(counts)
+    squares = sum(map(operator.mul, counts, counts))
     variance = len(counts) * squares - total**2
     return VARIED[sum(variance > (most * total)**2 for most in MOST_VARIED)]

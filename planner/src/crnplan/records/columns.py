@@ -128,7 +128,8 @@ def is_number(words: Sequence[str], place: int) -> bool:
 def bare_name(name: str) -> tuple[str, str]:
     """Returns a plain name without the words of its unit, and the unit: one of headings.toml, a number of items, or the
     empty text."""
-    words, bare = name.split(), list[str]()
+    words = name.split()
+    bare = list[str]()
     units = dict[int, str]()
     for place, word in enumerate(words):
         unit = word if is_number(words, place) else UNITS.get(word)
@@ -155,9 +156,12 @@ class Finder:
     """Finds the columns of a table in its heading, by the words of a planner and by usual names."""
 
     def __init__(self, kind: str, words: Words, is_wide: bool = False) -> None:
-        self.kind, self.every, self.is_wide = kind, words.every, is_wide
+        self.kind = kind
+        self.every = words.every
+        self.is_wide = is_wide
         self.needed = NEEDED[kind] - words.defaults.roles
-        self.stated, self.units = words.columns.get(kind, {}), words.units.get(kind, {})
+        self.stated = words.columns.get(kind, {})
+        self.units = words.units.get(kind, {})
         if is_wide:
             self.stated = {NO_WIDE_ROLE: "", **self.stated, **WIDE_ROLES}
         more = words.names.get(kind, {})
@@ -228,9 +232,12 @@ class Finder:
         """Returns the places of the columns that have a role, and those that may have it, each with what is not known
         behind its name. A column has one by its very name; if none has, by its name with a unit, or with words behind it
         that are known. No other role has it, nor its very name."""
-        taken, mine = {column.place for column in self.columns.values()}, self.names[role]
+        taken = {column.place for column in self.columns.values()}
+        mine = self.names[role]
         others = self.role_of.keys() - mine
-        exact, near, unclear = list[int](), list[int](), dict[int, list[str]]()
+        exact = list[int]()
+        near = list[int]()
+        unclear = dict[int, list[str]]()
         for place, plain in enumerate(self.plain):
             bare, _ = self.bare[place]
             if place in taken or plain in others:
@@ -256,7 +263,8 @@ class Finder:
         known = {*BESIDE, *HEADINGS["behind"].get(role, ())}
         if has_unit:
             known |= UNITS.keys() | CURRENCIES.keys()
-        words, first = plain.split(), 0
+        words = plain.split()
+        first = 0
         for name in self.names[role]:
             if f"{plain} ".startswith(f"{name} "):
                 first = max(first, len(name.split()))
@@ -276,7 +284,9 @@ class Finder:
     def _add(self, role: str, column: Column) -> None:
         """Adds the column of a role with its unit: the stated one, else that of its heading; and with the currency that
         this says."""
-        plain, stated, kind = self.plain[column.place], self.units.get(role), ROLE_UNITS.get(role)
+        plain = self.plain[column.place]
+        stated = self.units.get(role)
+        kind = ROLE_UNITS.get(role)
         is_money = role in MONEY
         is_plain = kind is None or plain in self.names[role] and plain not in IMPLIED
         currency = currency_in_name(column.name) if kind or is_money else ""
@@ -302,7 +312,8 @@ def listed(heading: Sequence[str]) -> str:
 def stated_columns(heading: Sequence[str], names: Mapping[str, str]) -> tuple[dict[str, Column], list[str]]:
     """Returns the columns that are stated for roles, and what is wrong with those that a heading doesn't have once. A
     heading may name packs of so many items, and a time of lead times. Other units are the item's own, as kilograms."""
-    columns, wrong = dict[str, Column](), list[str]()
+    columns = dict[str, Column]()
+    wrong = list[str]()
     for role, name in names.items():
         count = heading.count(name)
         if name and count != 1:
@@ -326,7 +337,8 @@ def find_columns(kind: str, sheet: Sheet, words: Words) -> Sheet:
     sheet.columns, wrong = finder.find(sheet.heading) if sheet.heading else ({}, [NO_ROW])
     wide = wide_sheet(sheet) if finder.may_be_wide else None
     if wide:
-        sheet, finder = wide, Finder(kind, words, is_wide=True)
+        sheet = wide
+        finder = Finder(kind, words, is_wide=True)
         sheet.columns, wrong = finder.find(sheet.heading)
         wide.mark_used()
     if wrong:

@@ -132,7 +132,8 @@ class _Groups:
     """The rows of a table by group: their file, and what became of them."""
 
     def __init__(self, table: TableReader) -> None:
-        self.table, self.rows = table, table.rows
+        self.table = table
+        self.rows = table.rows
         self.codes: Numbers = (self.rows.lines >> FILE_BITS) * len(STATES) + table.states
         self.count = int(self.codes.max(initial=-1)) + 1
 
@@ -191,7 +192,8 @@ class _Groups:
         known = counted(keys, self.count * size)[0].tolist()
         prices = {item: price_of(item) for item in {key % size for key in known}}
         numbers, part = whole_numbers(prices.values())
-        whole_prices, worths = dict(zip(prices, numbers)), dict[int, int]()
+        whole_prices = dict(zip(prices, numbers))
+        worths = dict[int, int]()
         for key in known:
             group, item = divmod(key, size)
             if prices[item] is not None:
@@ -203,7 +205,8 @@ class _Groups:
 def controls_of(table: TableReader, price_of: PriceOf, factors: Mapping[str, int]) -> Controls:
     """Returns the controls of the rows of a table, by the price of each item. A unit of measure counts so many items as
     `factors` says."""
-    groups, columns = _Groups(table), table.rows.columns
+    groups = _Groups(table)
+    columns = table.rows.columns
     facts: dict[int, dict[str, Any]] = {}
     for group, size in enumerate(np.bincount(groups.codes).tolist()):
         if size:

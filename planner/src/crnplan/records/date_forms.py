@@ -88,7 +88,8 @@ class Written(NamedTuple):
     def is_day_first(self) -> bool | None:
         """Returns whether the day stands before the month, of a date that begins with one of them and has signs between
         them; None if both may be a month, or none."""
-        first, second = int(self.day or 0) > 12, int(self.month or 0) > 12
+        first = int(self.day or 0) > 12
+        second = int(self.month or 0) > 12
         is_dotted = self.form == DATE_FORMS[DOTTED]
         return None if first == second or is_dotted and second else first
 

@@ -96,7 +96,9 @@ class DateReader:
                  day_first: Mapping[str, bool] = MappingProxyType({})) -> None:
         """Takes patterns of strptime, which stand in place of the usual forms, the period of the record if it is known,
         and by sign whether the day comes first, if that is stated."""
-        self.patterns, self.every, self.notes = patterns, every, dict[str, Remark]()
+        self.patterns = patterns
+        self.every = every
+        self.notes = dict[str, Remark]()
         self.sides: dict[str, dict[bool, str]] = {
             sign: {first: STATED[first].replace("/", sign)} for sign, first in day_first.items()}
         self.names: dict[str, str] = {}
@@ -144,7 +146,8 @@ class DateReader:
         for cell, is_turned in found.by_cell.items():
             if self.turned.setdefault(cell, is_turned) is not is_turned:
                 self.turned[cell] = None
-        self.first_text, self.first_pattern = self.first_text or found.text, self.first_pattern or found.pattern
+        self.first_text = self.first_text or found.text
+        self.first_pattern = self.first_pattern or found.pattern
         decided = [cell for cell, is_turned in found.by_cell.items() if found.text and is_turned is not None]
         if decided:
             facts: dict[str, Value] = {"count": len(decided), "text": str(decided[0]), "other": found.text}
@@ -254,7 +257,9 @@ class DateReader:
 
     def _split(self, text: str, parts: Written, form: str) -> tuple[Day, str]:
         """Returns a date with slashes or dashes, which may have the day or the month first, and its form."""
-        first, second, year = int(parts.day or 0), int(parts.month or 0), parts.whole_year
+        first = int(parts.day or 0)
+        second = int(parts.month or 0)
+        year = parts.whole_year
         if parts.sign == "-" and len(parts.year) == 2:
             days = days_among((year, second, first), (year, first, second),
                               (parts._replace(year=f"{first:02}").whole_year, second, int(parts.year)))

@@ -22,15 +22,18 @@ def likely_encodings(data: bytes) -> dict[str, str]:
     """Returns the likely encodings of bytes that are not UTF-8, the likeliest first, each with what the first cell would be
     that differs among them; none if there is no likely one."""
     from charset_normalizer import from_bytes
-    lines = [line for line in data.splitlines(keepends=True) if not line.isascii()]
-    some = data if len(data) <= SMALL else b"".join(lines)[:MOST_BYTES]
+    if len(data) > SMALL:
+        data = b"".join(line for line in data.splitlines(keepends=True) if not line.isascii())[:MOST_BYTES]
     # How much a text is like its language, less the share of its odd letters. Texts too short for both are alike.
     scores: dict[str, float] = {}
-    for match in from_bytes(some, cp_isolation=[*USUAL], threshold=ODD):
-        name = min(filter(USUAL.__contains__, match.could_be_from_charset), key=USUAL.index)
+    for match in from_bytes(data, cp_isolation=[*USUAL], threshold=ODD):
+        name = next(name for name in USUAL if name in match.could_be_from_charset)
         scores[name] = match.coherence - match.chaos
     ranked = sorted(scores, key=scores.__getitem__, reverse=True)[:MOST_NAMED]
     names = [name for name in ranked if scores[name] >= scores[ranked[0]] - FAR]
-    cells = [[cell.decode(name, "replace").strip() for name in names] for cell in CELL.findall(some)]
-    shown: list[str] = max(cells, key=lambda texts: len({*texts}), default=[])
-    return dict(zip(names, shown))
+    differing = list[str]()
+    for cell in CELL.findall(data):
+        texts = [cell.decode(name, "replace").strip() for name in names]
+        if len({*texts}) > len({*differing}):
+            differing = texts
+    return dict(zip(names, differing))

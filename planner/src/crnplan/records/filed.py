@@ -23,7 +23,8 @@ from .columns import MONEY, counts_items
 from .defaults import currency_in
 from .observed import Day, Record, ends_of, record_of
 from .repeated import sums_of_columns
-from .rows import Codes, Rows
+from .blocks import Codes
+from .rows import Rows
 from .sources import FILE_BITS, Sheet, TextSheet
 from .times import TimeReader
 

@@ -129,7 +129,9 @@ class Counts(TypedDict):
 def reject_of(what: str, sheet: Sheet, line: int, name: str, faults: Sequence[CellFault], rows: int = 0,
               value: Fraction | None = None) -> Reject:
     """Returns what is left out or suspicious, with columns (by their roles if the table has none) and texts."""
-    columns, texts, remarks = list[str](), list[str](), list[Remark]()
+    columns = list[str]()
+    texts = list[str]()
+    remarks = list[Remark]()
     for role, cell, remark in faults:
         columns.append(sheet.column_of(role, line))
         texts.append(on_one_line(text_of(cell)))

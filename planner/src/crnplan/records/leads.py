@@ -51,7 +51,8 @@ def is_late(days: int, stated: Fraction) -> bool:
 def remark_on(item: Item, source: str) -> Remark | None:
     """Returns what is to be said of an item whose receipts are unlike its stated lead time; None if they are not, or
     too few."""
-    receipts, stated = item.receipts, item.stated
+    receipts = item.receipts
+    stated = item.stated
     if stated is None or len(receipts) < LEAST_RECEIPTS:
         return None
     late = Fraction(sum(is_late(days, stated) for days in receipts), len(receipts))

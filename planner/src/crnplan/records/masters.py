@@ -60,20 +60,25 @@ class Masters:
     """Reads the rows of masters, with the unit of each column, and what holds if they say nothing."""
 
     def __init__(self, whole: Whole, words: Words, columns: Mapping[str, Column]) -> None:
-        self.whole, self.words, self.defaults = whole, words, words.defaults
+        self.whole = whole
+        self.words = words
+        self.defaults = words.defaults
         self.units = {role: column.unit for role, column in columns.items() if column.unit}
         self.factors = {role: conversion(role, unit, words.every)[0] for role, unit in self.units.items()
                         if role not in CONVERTED}
         self.price_factor = self.factors.pop("price", Fraction(1))
         self.is_money = self.units.get("order_min") == "money"
         self.share = self.units["holding"] if self.units.get("holding") in SHARES else ""
-        self.currencies, self.usual_leads = distinct(whole.currencies), self.defaults.leads(words.every)
+        self.currencies = distinct(whole.currencies)
+        self.usual_leads = self.defaults.leads(words.every)
         self.blank = dict.fromkeys(ROLES["items"][1:])
         self.cells = CellReader(self._readers(), NEEDED["items"] - self.defaults.roles)
 
     def _readers(self) -> dict[str, Callable[[Cell], Any]]:
         """Returns what reads the cells of each role."""
-        amounts, times, every = self.whole.amounts, self.whole.times, self.words.every
+        amounts = self.whole.amounts
+        times = self.whole.times
+        every = self.words.every
         readers: dict[str, Callable[[Cell], Any]] = {
             "holding": self._holding, "borrow": borrowed_from, "currency": currency_in, "override": word_of,
             "status": partial(status_of, stated=self.words.statuses),
@@ -114,7 +119,8 @@ class Masters:
              group: str) -> tuple[dict[str, Any], list[CellFault]]:
         """Returns the values of a row by role, None of an empty cell, and all that is wrong with the row. `observed`
         are lead times of orders, for a row that says none, and `group` is the class of the item."""
-        read, faults = dict[str, Any](self.blank), list[CellFault]()
+        read = dict[str, Any](self.blank)
+        faults = list[CellFault]()
         for role in read:
             if role in cells:
                 read[role] = self.cells.value(role, cells[role], faults)
@@ -140,13 +146,16 @@ class Masters:
 
     def item(self, name: str, line: int, read: dict[str, Any], observed: Sequence[int], group: str) -> Master:
         """Returns the master of an item, of a class, by the values of its row without units."""
-        defaults, price, stated = self.defaults, self._price(read), read["lead"] or ()
+        defaults = self.defaults
+        price = self._price(read)
+        stated = read["lead"] or ()
         sources = {role: DEFAULT if read[role] is None else MASTERS for role in ("setup", "holding")}
         fill, sources["fill"] = defaults.fill_of(group, read["fill"])
         is_seen = counts_receipts(bool(stated), len(observed), self.words.lead_from)
         sources["lead"] = ORDERS if is_seen else MASTERS if stated else DEFAULT
         read["setup"] = defaults.setup if read["setup"] is None else read["setup"]
-        setup, decimals = read["setup"] or Fraction(0), decimals_of(read[role] for role in MONEY)
+        setup = read["setup"] or Fraction(0)
+        decimals = decimals_of(read[role] for role in MONEY)
         for role, factor in self.factors.items():
             if read[role] is not None:
                 read[role] *= factor

@@ -62,8 +62,11 @@ class _Reading:
     """Reads the parts of a section in turn."""
 
     def __init__(self) -> None:
-        self.before, self.between, self.behind = "", "", ""
-        self.places, self.dates = "", ""
+        self.before = ""
+        self.between = ""
+        self.behind = ""
+        self.places = ""
+        self.dates = ""
         self.percents = self.commas = 0
         self.has_digits = self.is_plain = self.has_point = False
         self.condition: tuple[str, Decimal] | None = None
@@ -83,7 +86,8 @@ class _Reading:
             self._read_letter(part["letter"])
 
     def _read_bracket(self, text: str) -> None:
-        currency, condition = CURRENCY.fullmatch(text), CONDITION.fullmatch(text)
+        currency = CURRENCY.fullmatch(text)
+        condition = CONDITION.fullmatch(text)
         if currency:
             self._show(currency[1])
         elif condition:
@@ -113,7 +117,9 @@ class _Reading:
         self.is_plain |= self.commas > 0 or self.has_point
         self.places += self.behind + letter
         self.between += self.behind.strip()
-        self.behind, self.commas, self.has_digits = "", 0, True
+        self.behind = ""
+        self.commas = 0
+        self.has_digits = True
 
     def _show(self, text: str) -> None:
         """Takes a text that the reader sees."""
@@ -124,9 +130,11 @@ class _Reading:
 
     def section(self, is_first: bool) -> Section:
         """Returns the section, which is for all amounts, or for those below 0 or for 0."""
-        before, behind = self.before, self.behind
+        before = self.before
+        behind = self.behind
         if not is_first:
-            before, behind = before.translate(SIGNS), behind.translate(SIGNS)
+            before = before.translate(SIGNS)
+            behind = behind.translate(SIGNS)
         is_whole = not self.is_plain
         # Who sees 12 for 12,000 may take it for either.
         behind = behind or " thousand" * self.commas
@@ -171,7 +179,8 @@ class Format:
 
     def __init__(self, code: str, epoch: datetime.datetime) -> None:
         """Takes its code, and the day from which the workbook counts days."""
-        self.sections, self.epoch = sections_of(code), epoch
+        self.sections = sections_of(code)
+        self.epoch = epoch
 
     def cell(self, number: Number) -> Cell:
         """Returns what a reader sees of a number: a date, the number, the number with what is shown beside it, or a text
@@ -229,7 +238,8 @@ def padded(number: Number, section: Section) -> str:
 def filled(places: str, digits: str) -> str:
     """Returns digits in their places, from the last one on, with the letters between. The first place has all digits
     that are left."""
-    letters, rest = list[str](), [*digits]
+    letters = list[str]()
+    rest = [*digits]
     first = min(place for place, letter in enumerate(places) if letter in "0#?")
     for place in range(len(places) - 1, -1, -1):
         if places[place] not in "0#?":

@@ -106,7 +106,8 @@ def stated_day(name: str, day: Day | str | None) -> Day | None:
 
 def ends_of(start: Day | str | None, end: Day | str | None) -> tuple[Day | None, Day | None]:
     """Returns the stated ends of a record. Raises Refused."""
-    first, last = stated_day("start", start), stated_day("end", end)
+    first = stated_day("start", start)
+    last = stated_day("end", end)
     if first and last and first > last:
         raise Refused(f"{argument('start', str(first))} is after {argument('end', str(last))}; change one of them")
     return first, last
@@ -115,7 +116,8 @@ def ends_of(start: Day | str | None, end: Day | str | None) -> tuple[Day | None,
 def _near(days: Sequence[Day], counts: Mapping[Day, int]) -> Day:
     """Returns the first of these days, in order of their distance, that is not far before the rest."""
     most = max(1, sum(counts[it] for it in days) // RARE)
-    passed, nearest = 0, days[0]
+    passed = 0
+    nearest = days[0]
     for day, later in zip(days, days[1:]):
         passed += counts[day]
         if passed > most:
@@ -134,10 +136,12 @@ def record_of(counts: Mapping[Day, int], every: str, start: Day | None, end: Day
     if not days:
         ends = {"start": str(start or "the beginning"), "end": str(latest)}
         raise Refused(message(Remark("no demand in the record", ends)))
-    first, last = start or _near(days, counts), end or _near(days[::-1], counts)
+    first = start or _near(days, counts)
+    last = end or _near(days[::-1], counts)
     near = sum(counts[day] for day in days if first <= day <= last)
     if 2 * near <= sum(counts[day] for day in days):
-        first, last = start or days[0], end or days[-1]
+        first = start or days[0]
+        last = end or days[-1]
     record = Record(every, first, last, "before start" if start else "far before", "after end" if end else "late date")
     if len(record.periods) > MOST_WEIGHT:
         facts: dict[str, Value] = {"count": len(record.periods), "every": every, "most": MOST_WEIGHT}
@@ -175,9 +179,11 @@ def summed(periods: Numbers, amounts: Numbers, count: int) -> tuple[list[int], i
         return sums.tolist(), 0, None
     undone = np.flatnonzero(amounts < 0)
     np.subtract.at(sums, periods[undone], amounts[undone])
-    counts, moved = sums.tolist(), 0
+    counts = sums.tolist()
+    moved = 0
     for place in undone[np.argsort(periods[undone], kind="stable")].tolist():
-        period, amount = int(periods[place]), -int(amounts[place])
+        period = int(periods[place])
+        amount = -int(amounts[place])
         moved += counts[period] < amount
         if not _met(counts, period, amount):
             return counts, moved, place

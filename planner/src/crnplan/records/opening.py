@@ -59,7 +59,8 @@ def opened(table: Table, kind: str, rules: Rules, folder: Path | None = None) ->
     if not isinstance(table, (str, Path)):
         yield FrameSheet(kind, table, rules)
         return
-    name, path = "standard input" if str(table) == "-" else str(table), Path(table)
+    name = "standard input" if str(table) == "-" else str(table)
+    path = Path(table)
     if path.name.startswith(LOCK):
         raise refused("lock file", name, book=path.name.removeprefix(LOCK))
     book, sign, sheet = name.rpartition("!")

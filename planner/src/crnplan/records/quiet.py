@@ -25,7 +25,12 @@ MONTH = {"day": 28, "week": 4, "month": 1}  # in periods
 
 def quiet_periods(counts: Sequence[int]) -> int:
     """Returns for how many of its last periods nobody has asked for an item."""
-    return next((place for place, count in enumerate(reversed(counts)) if count), len(counts))
+    quiet = 0
+    for count in reversed(counts):
+        if count:
+            break
+        quiet += 1
+    return quiet
 
 
 def chance_of_quiet(counts: Sequence[int]) -> float:
@@ -38,7 +43,10 @@ def chance_of_quiet(counts: Sequence[int]) -> float:
 def longest_before(counts: Sequence[int]) -> int:
     """Returns the most periods without demand in a row between two demands."""
     asked = [place for place, count in enumerate(counts) if count]
-    return max((later - earlier - 1 for earlier, later in itertools.pairwise(asked)), default=0)
+    longest = 0
+    for earlier, later in itertools.pairwise(asked):
+        longest = max(longest, later - earlier - 1)
+    return longest
 
 
 def is_dead(counts: Sequence[int], every: str) -> bool:

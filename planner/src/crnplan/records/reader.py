@@ -45,7 +45,8 @@ class Moves(NamedTuple):
 
 def quiet_remark(item: Item, every: str) -> Remark:
     """Returns for how long nobody has asked for an item, and how likely that is of an active one."""
-    quiet, months = quiet_periods(item.counts), months_of(item.counts[1:], every)
+    quiet = quiet_periods(item.counts)
+    months = months_of(item.counts[1:], every)
     last = period_name(item.first + len(item.counts) - 1 - quiet, every)
     return Remark("asked for no longer", {"periods": quiet, "every": every, "last": last,
                                           "chance": chance_of_quiet(months)})
@@ -58,18 +59,26 @@ class Reader:
                  add: Callable[[Reject], None] | None = None) -> None:
         """Finds the movements of items in the rows, which may be those of a part of the items. What is left out or
         suspicious is handed on to `add`, if it is given."""
-        self.rows, self.words, self.whole, self.record, self.decimals = rows, words, whole, whole.record, 0
+        self.rows = rows
+        self.words = words
+        self.whole = whole
+        self.record = whole.record
+        self.decimals = 0
         self.names = [str(name) for name in rows["items"].columns["item"].distinct]
         self.tables = {kind: TableReader(kind, its, whole.dates[kind], whole.amounts, add)
                        for kind, its in rows.items()}
-        self.demand, self.is_named = self.tables["demand"], add is not None
+        self.demand = self.tables["demand"]
+        self.is_named = add is not None
         masters = rows["items"]
         for row in np.flatnonzero(total_rows(rows, whole.sums, whole.amounts)).tolist():
             self.tables["items"].reject(row, [fault("item", masters.cell("item", row), "total")])
             masters.good[row] = False
         self.masters = Masters(whole, words, masters.sheet.columns)
-        self.masters_of, self.first_masters = masters.by_item(masters.good), masters.firsts(masters.good)
-        self.sources, self.letters, self.twice = Counter[tuple[str, str]](), dict[int, str](), Counter[int]()
+        self.masters_of = masters.by_item(masters.good)
+        self.first_masters = masters.firsts(masters.good)
+        self.sources = Counter[tuple[str, str]]()
+        self.letters = dict[int, str]()
+        self.twice = Counter[int]()
         self.numbers = dict.fromkeys(("open_orders", "twice", "named", "ready", "left_out", "late"), 0)
         self.moves_of, totals = self._moves()
         known = set[int]()
@@ -126,7 +135,8 @@ class Reader:
         receipts_of = self._receipts()
         became = np.full(len(self.names), PLACES[OPEN], np.int8)
         for item in self.items:
-            moves, masters = self.moves_of(item), self.masters_of(item)
+            moves = self.moves_of(item)
+            masters = self.masters_of(item)
             self.numbers["named"] += 1
             try:
                 yield self._item(item, moves, masters, receipts_of(item))
@@ -155,7 +165,9 @@ class Reader:
     def _moves(self) -> tuple[Callable[[int], Moves], set[int]]:
         """Returns the function that gives the movements of an item, and the items of totals alone. Rows with faults,
         and twins if they are to be left out, are rejected."""
-        demand, rows, words = self.demand, self.demand.rows, self.words
+        demand = self.demand
+        rows = self.demand.rows
+        words = self.words
         periods = periods_of_days(demand.read_days("date", self.record.check), words.every)
         asked = demand.read_amounts("quantity", "whole" if words.net or words.negate else "sales")
         back = demand.read_amounts("returned", "returns") if "returned" in rows.columns else np.zeros_like(asked)
@@ -165,7 +177,8 @@ class Reader:
             units = rows.columns["measure"].distinct
             factors = np.array([words.factors.get(text_of(unit), 1) for unit in units], np.int64)
             sizes = factors[rows.codes["measure"]]
-            asked, back = asked * sizes, back * sizes
+            asked = asked * sizes
+            back = back * sizes
         bad = demand.bad
         totals = self._reject_moves(np.flatnonzero(rows.good & bad))
         good = self._without_twins(rows.good & ~bad)
@@ -175,7 +188,8 @@ class Reader:
     def _reject_moves(self, bad: Numbers) -> set[int]:
         """Rejects rows of demand with what is wrong with their cells, and returns the items that are no items: those of
         totals alone. A row is one if it looks so, and has no date."""
-        rows, totals = self.demand.rows, Counter[int]()
+        rows = self.demand.rows
+        totals = Counter[int]()
         for row, item in zip(bad.tolist(), rows.codes["item"][bad].tolist()):
             if rows.cell("date", row) == "" and is_called_total(self.names[item]):
                 self.demand.reject(row, [fault("item", self.names[item], "total")])
@@ -190,37 +204,44 @@ class Reader:
 
     def _without_twins(self, good: Flags) -> Flags:
         """Names the rows that are the same as others, once for each item, and takes them out if that is wanted."""
-        demand, leaves = self.demand, self.words.twice == LEAVE_OUT
+        demand = self.demand
+        leaves = self.words.twice == LEAVE_OUT
         if not (self.is_named or leaves):
             return good
-        lines, called = demand.rows.lines.tolist(), demand.rows.sheet.called
-        firsts, twins_of = demand.rows.twins(good), dict[int, list[int]]()
+        lines = demand.rows.lines.tolist()
+        called = demand.rows.sheet.called
+        firsts = demand.rows.twins(good)
+        twins_of = dict[int, list[int]]()
         for row in firsts:
             twins_of.setdefault(int(demand.rows.codes["item"][row]), []).append(row)
         for item, twins in sorted(twins_of.items()):
             self.twice[item] = count = len(twins)
-            again, name = [lines[row] for row in twins], self.names[item]
+            again = [lines[row] for row in twins]
+            name = self.names[item]
             twin = fault("item", name, "twins" if count > 1 else "twin", count=count,
                          lines=named_lines([*map(called, again)]), first=called(lines[firsts[twins[0]]]))
             demand.name("row" if leaves else "suspicious", again[0], name, [twin], count * leaves)
         self.numbers["twice"] += len(firsts)
         if leaves:
             good = good.copy()
-            good[[*firsts]], demand.states[[*firsts]] = False, PLACES[REJECTED]
+            good[[*firsts]] = False
+            demand.states[[*firsts]] = PLACES[REJECTED]
         return good
 
     def _receipts(self) -> Callable[[int], Receipts]:
         """Returns the function that gives what the orders of an item took. Orders with faults are rejected."""
         if "orders" not in self.tables:
             return lambda item: Receipts((), (), 0)
-        table, rows = self.tables["orders"], self.rows["orders"]
+        table = self.tables["orders"]
+        rows = self.rows["orders"]
         orders = table.read_orders(self.words.every)
         bad = rows.good & ~orders.is_open & (table.bad | (orders.days < 0) | (orders.leads > MOST_LEAD))
         for row in np.flatnonzero(bad).tolist():
             table.reject(row, table.faults(row) or [self._wrong_order(row, int(orders.leads[row]), orders.days[row] < 0)])
         self.numbers["open_orders"] += int((rows.good & orders.is_open).sum())
         good = rows.good & ~bad
-        orders_of, received_of = rows.by_item(good), rows.by_item(good & ~orders.is_open)
+        orders_of = rows.by_item(good)
+        received_of = rows.by_item(good & ~orders.is_open)
 
         def receipts_of(item: int) -> Receipts:
             received = received_of(item)
@@ -237,11 +258,13 @@ class Reader:
 
     def _item(self, code: int, moves: Moves, masters: Numbers, receipts: Receipts) -> Item:
         """Returns an item by its code. Raises Left."""
-        every, words = self.words.every, self.words
+        every = self.words.every
+        words = self.words
         self._check_measures(code)
         master = self._master(code, masters, receipts.leads, moves)
         self._check_far(moves)
-        start, first = self.record.periods[0], self._first(master.since, moves)
+        start = self.record.periods[0]
+        first = self._first(master.since, moves)
         asked, back, netted = self._counts(moves, first)
         past = past_of(master.item.status, asked, words.least, every, words.stopped == BY_TEST)
         item = replace(master.item, counts=tuple(asked), returns=tuple(back) if any(back) else (), past=past, first=first,
@@ -276,7 +299,8 @@ class Reader:
     def _first(self, since: int | None, moves: Moves) -> int:
         """Returns where the history of an item begins: in the period since when its master has it, which may be behind the
         record, or earlier if it was seen then. Without that as it is seen first, and with the record if it never is."""
-        periods, seen = self.record.periods, int(moves.periods.min()) if len(moves.lines) else None
+        periods = self.record.periods
+        seen = int(moves.periods.min()) if len(moves.lines) else None
         if since is None:
             return periods[0] if seen is None else self.record.first_of(seen)
         return min(max(since if seen is None else min(seen, since), periods.start), periods.stop)
@@ -289,11 +313,13 @@ class Reader:
             return [0] * periods, [], 0
         asked, netted, unmet = summed(moves.periods - first, moves.asked, periods)
         if unmet is not None:
-            amount, period = -int(moves.asked[unmet]), period_name(int(moves.periods[unmet]), self.words.every)
+            amount = -int(moves.asked[unmet])
+            period = period_name(int(moves.periods[unmet]), self.words.every)
             raise Left("demand", int(moves.lines[unmet]), fault("quantity", -amount, "unmet return", amount=amount,
                                                                 period=period))
         back = sums_of(moves.periods - first, moves.back, periods).tolist() if moves.back.any() else []
-        total, returned = sum(asked), sum(back)
+        total = sum(asked)
+        returned = sum(back)
         if returned >= total and returned:
             raise Left("demand", 0, fault("quantity", returned, "all comes back", back=returned, asked=total))
         return asked, back, netted
@@ -341,7 +367,8 @@ class Reader:
             far = far_above(amounts) if self.words.far == LEAVE_OUT and role in self.demand.rows.columns else 0
             if far:
                 ranked = np.argsort(-amounts, kind="stable")
-                lines, (least, below) = moves.lines[ranked[:far]].tolist(), amounts[ranked[far - 1:far + 1]].tolist()
+                lines = moves.lines[ranked[:far]].tolist()
+                (least, below) = amounts[ranked[far - 1:far + 1]].tolist()
                 called = named_lines([*map(self.demand.rows.sheet.called, lines)])
                 raise Left("demand", lines[0], fault(role, int(amounts[ranked[0]]), "far", lines=called,
                                                      times=least // below, next=below))

@@ -48,7 +48,8 @@ def files_within(sheets: Mapping[str, Sheet], parts: Iterable[Mapping[str, Share
         for kind, shared in part.items():
             sums[kind] = sums.get(kind, np.zeros_like(shared)) + shared
     for kind, shared in sums.items():
-        files, sizes = sheets[kind].files, np.diagonal(shared)
+        files = sheets[kind].files
+        sizes = np.diagonal(shared)
         is_within = (shared == sizes[:, None]) & (sizes[:, None] > 0) & ~np.eye(len(files), dtype=bool)
         found = set[int]()
         for file, other in np.argwhere(is_within).tolist():

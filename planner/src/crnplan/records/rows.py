@@ -6,7 +6,6 @@ blank ones.
 from __future__ import annotations
 
 import datetime
-import itertools
 from collections.abc import Callable, Collection, Iterable, Iterator, Mapping
 from typing import TypeVar
 
@@ -15,7 +14,7 @@ import numpy.typing as npt
 
 from ..remarks import Remark
 from .amounts import AmountReader
-from .blocks import DATES, Block, read_blocks
+from .blocks import DATES, Block, Codes, Column, read_blocks
 from .cells import Cell, CellFault, Flags, Numbers, Unreadable, fault
 from .columns import counts_items
 from .dates import DateReader
@@ -27,20 +26,6 @@ Value = TypeVar("Value")
 TIMES_NEXT, TIMES_OF_FEW, LEAST_OTHERS, MOST_FAR = 30, 300, 4, 3
 # The columns of blocks that are put together.
 JOINED = {"lines": np.int64, "good": np.bool_, "other": np.bool_, "hashes": np.uint64}
-
-
-class Codes:
-    """The codes of the distinct values of a column."""
-
-    def __init__(self) -> None:
-        self.distinct: list[Cell] = []
-        self.places: dict[Cell, int] = {}
-
-    def of(self, values: Iterable[Cell]) -> npt.NDArray[np.int32]:
-        """Returns the codes of values; those that are not known get the next ones."""
-        codes = [self.places.setdefault(value, len(self.places)) for value in values]
-        self.distinct += itertools.islice(self.places, len(self.distinct), None)
-        return np.array(codes, np.int32)
 
 
 class Rows:
@@ -60,11 +45,14 @@ class Rows:
         self.columns = {role: Codes() for role in (*sheet.columns, *sheet.marks)}
         if names is not None:
             self.columns["item"] = names
-        self.blank, self.wide = list[int](), dict[int, tuple[int, str]]()
-        count, parts = 0, list[Block]()
+        self.blank = list[int]()
+        self.wide = dict[int, tuple[int, str]]()
+        count = 0
+        parts = list[Block]()
         for before, block in blocks:
             for role, column in self.columns.items():
-                block.codes[role] = column.of(block.distinct[role])[block.codes[role]]
+                codes, values = block.columns[role]
+                block.columns[role] = Column(column.of(values)[codes], values)
             block.lines = block.lines + before
             self.blank += [before + line for line in block.blank]
             self.wide |= {count + row: cells for row, cells in block.wide.items()}
@@ -72,7 +60,7 @@ class Rows:
             count += len(block)
         for name, kind in JOINED.items():
             setattr(self, name, np.concatenate([np.zeros(0, kind), *(getattr(part, name) for part in parts)]))
-        self.codes = {role: np.concatenate([np.zeros(0, np.int32), *(part.codes[role] for part in parts)])
+        self.codes = {role: np.concatenate([np.zeros(0, np.int32), *(part.columns[role].codes for part in parts)])
                       for role in self.columns}
 
     def __len__(self) -> int:
@@ -81,7 +69,8 @@ class Rows:
     def firsts(self, good: Flags) -> Numbers:
         """Returns for each good row the first good one with the same cells, and for others themselves. They are compared by
         hashes of 64 bits: in a million rows, two different ones collide once in 37 million files."""
-        firsts, rows = np.arange(len(self)), np.flatnonzero(good)
+        firsts = np.arange(len(self))
+        rows = np.flatnonzero(good)
         _, places, which = np.unique(self.hashes[rows], return_index=True, return_inverse=True)
         firsts[rows] = rows[places[which]]
         return firsts
@@ -130,7 +119,8 @@ class Rows:
         """Returns the function that gives the good rows of an item, in their order, by its code; or their columns in a
         table of values."""
         rows = np.flatnonzero(good)
-        codes, count = self.codes["item"][rows], len(self.columns["item"].distinct)
+        codes = self.codes["item"][rows]
+        count = len(self.columns["item"].distinct)
         # numpy sorts whole numbers of 16 bits by their digits.
         order = rows[np.argsort(codes.astype(np.uint16) if count <= 1 << 16 else codes, kind="stable")]
         ends = [0, *np.cumsum(np.bincount(codes, minlength=count)).tolist()]
@@ -164,7 +154,8 @@ class Rows:
     def values(self, role: str, read: Callable[[Cell], Value], default: Value) -> tuple[list[Value], dict[int, Remark]]:
         """Returns what a function reads in each distinct value of a column, the default in one that can't be read, and
         what is wrong with those, by code."""
-        values, faults = [], dict[int, Remark]()
+        values = []
+        faults = dict[int, Remark]()
         for code, cell in enumerate(self.columns[role].distinct):
             try:
                 values.append(read(cell))

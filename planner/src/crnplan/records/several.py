@@ -7,13 +7,11 @@ from collections.abc import Iterator, Mapping, Sequence
 from pathlib import Path
 
 from ..errors import Fault, RefusedFaults
-from ..remarks import Remark
-from ..words import message
 from .choosing import faults_of_where, marks_of
 from .columns import find_columns
 from .items import Words
 from .opening import LOCK, Table, opened
-from .sources import FILE_BITS, Sheet, TextSheet
+from .sources import FILE_BITS, Sheet, TextSheet, refused
 
 
 class Files(Sheet):
@@ -24,10 +22,9 @@ class Files(Sheet):
         """Takes files with the same heading, by the first of which messages show how the table is written."""
         first = sheets[0]
         super().__init__(name, first.written, first.rules)
-        self._files, self.size = sheets, sum(sheet.size for sheet in sheets)
-        self.delimiter, self.sign, self.line, self.heading = first.delimiter, first.sign, first.line, first.heading
-        self.titles, self.first_rows, self.columns = first.titles, first.first_rows, first.columns
-        self.marks = first.marks
+        self.take_head(first)
+        self._files = sheets
+        self.size = sum(sheet.size for sheet in sheets)
         for sheet in sheets:
             if isinstance(sheet, TextSheet):
                 sheet.text = ""  # of many files, it would be much
@@ -63,29 +60,34 @@ def files_of(table: Table, kind: str) -> tuple[Sequence[Table], Sequence[str]]:
         return [table], []
     names = sorted(glob.glob(str(table)))
     locks = [Path(name).name for name in names if Path(name).name.startswith(LOCK)]
-    found: list[Table] = [name for name in names if Path(name).name not in locks]
-    if kind == "items" and len(found) > 1:
-        raise RefusedFaults([Fault(message(Remark("several files", {"count": len(found)})), str(table))])
-    return found or [table], locks
+    tables: list[Table] = [name for name in names if Path(name).name not in locks]
+    if kind == "items" and len(tables) > 1:
+        raise refused("several files", str(table), count=len(tables))
+    return tables or [table], locks
 
 
 def open_table(kind: str, table: Table, words: Words, room: Path | None, stack: contextlib.ExitStack) -> Sheet:
     """Returns a table after a look at the heads of its files, which are there as long as the stack. Raises RefusedFaults
     with all that is wrong with these, as headings that differ."""
-    sheets, faults = list[Sheet](), list[Fault]()
+    sheets = list[Sheet]()
+    faults = list[Fault]()
     files, locks = files_of(table, kind)
     for file in files:
         try:
             sheet = find_columns(kind, stack.enter_context(opened(file, kind, words.rules_of(kind), room)), words)
             sheet.marks = marks_of(kind, sheet, words.where)
             sheets.append(sheet)
-        except RefusedFaults as refused:
-            faults += refused.faults
-    for its in sheets[1:]:
-        for code, is_other in (("other heading", its.heading != sheets[0].heading),
-                               ("other delimiter", its.delimiter != sheets[0].delimiter)):
-            if is_other:
-                faults.append(Fault(message(Remark(code, {"first": sheets[0].file_name})), its.name, its.line))
+        except RefusedFaults as why:
+            faults += why.faults
+    for sheet in sheets[1:]:
+        first = sheets[0]
+        codes = list[str]()
+        if sheet.heading != first.heading:
+            codes.append("other heading")
+        if sheet.delimiter != first.delimiter:
+            codes.append("other delimiter")
+        for code in codes:
+            faults += refused(code, sheet.name, sheet.line, first=first.file_name).faults
     if faults:
         raise RefusedFaults(faults)
     sheet = sheets[0] if len(sheets) == 1 else Files(str(table), sheets)
@@ -103,8 +105,8 @@ def open_tables(tables: Mapping[str, Table | None], words: Words, room: Path | N
             try:
                 if table is not None:
                     sheets[kind] = open_table(kind, table, words, room, stack)
-            except RefusedFaults as refused:
-                faults += refused.faults
+            except RefusedFaults as why:
+                faults += why.faults
         faults = faults or [*faults_of_where(sheets, words)]
         if faults:
             raise RefusedFaults(faults)

@@ -127,7 +127,7 @@ def byte_fault(name: str, text: str, encoding: str, line: int = 1) -> Fault | No
     return Fault(what, name, *place_behind(text[:bad.start()], line))
 
 
-def refused(code: str, name: str, *place: int, **facts: Value) -> RefusedFaults:
+def refused(code: str, name: str, /, *place: int, **facts: Value) -> RefusedFaults:
     """Returns the error of a file with one fault, perhaps in a line and a column."""
     return RefusedFaults([Fault(message(Remark(code, facts)), name, *place)])
 
@@ -214,10 +214,20 @@ class Sheet:
 
     def __init__(self, name: str, written: str, rules: Rules, path: Path | None = None) -> None:
         """Takes the file, which nobody may change while it is read."""
-        self.name, self.written, self.rules, self.path = name, written, rules, path
-        self.file_name, self.state, self.columns = Path(name).name, state_of(path), dict[str, Column]()
+        self.name = name
+        self.written = written
+        self.rules = rules
+        self.path = path
+        self.file_name = Path(name).name
+        self.state = state_of(path)
+        self.columns = dict[str, Column]()
         self.marks = dict[str, Mark]()
         self.size = self.state[0]  # about, in bytes
+
+    def take_head(self, first: Sheet) -> None:
+        """Takes the heading of another table, how it is written, and what stands beside its heading."""
+        for name in ("delimiter", "sign", "line", "heading", "titles", "first_rows", "columns", "marks"):
+            setattr(self, name, getattr(first, name))
 
     def __getstate__(self) -> dict[str, Any]:
         """Returns what another process needs, which reads no rows: all but what is in `unsent`, as rows in memory."""
@@ -260,7 +270,8 @@ class Sheet:
         rows = self.head({*wanted}, role_of)
         place, _ = heading_of(rows, {*wanted}, role_of)
         self.line, self.heading = rows[place] if rows else (1, [])
-        self.titles, self.first_rows = rows[:place], rows[place + 1:place + 1 + SHOWN_ROWS]
+        self.titles = rows[:place]
+        self.first_rows = rows[place + 1:place + 1 + SHOWN_ROWS]
 
     def head(self, wanted: Set[str], role_of: RoleOf) -> list[TextRow]:
         """Returns the first rows as texts, with the lines in which they begin."""
@@ -268,7 +279,8 @@ class Sheet:
 
     def texts(self, lines: Iterable[int]) -> dict[int, str]:
         """Returns the text of each of the rows that begin in these lines."""
-        wanted, texts = {*lines}, dict[int, str]()
+        wanted = {*lines}
+        texts = dict[int, str]()
         with self.unchanged():  # Rows that are left early don't look.
             for line, cells in self.rows() if wanted else ():
                 if line in wanted:
@@ -290,7 +302,8 @@ class _Bytes(io.RawIOBase):
     """The next so many bytes of a file."""
 
     def __init__(self, file: io.FileIO, count: int) -> None:
-        self.file, self.rest = file, count
+        self.file = file
+        self.rest = count
 
     def readable(self) -> bool:
         return True
@@ -312,7 +325,8 @@ class TextSheet(Sheet):
         """Reads the first lines. Raises Refused, and RefusedFaults for other bytes that can't be decoded, and for NUL
         characters, as UTF-16 without a byte order mark has."""
         super().__init__(name, "", rules, path)
-        self.file, self.delimiter = path, DELIMITERS[rules.delimiter or ","]
+        self.file = path
+        self.delimiter = DELIMITERS[rules.delimiter or ","]
         with readable(name), path.open("rb") as file:
             data = file.read(HEAD_BYTES)
         self.encoding = next((its for mark, its in MARKS if data.startswith(mark)), rules.encoding or "utf-8")
@@ -348,7 +362,8 @@ class TextSheet(Sheet):
         """Yields the rows with their lines, while `kept` has their text: those of the file, or of its bytes from one on
         and before another. Raises RefusedFaults for bytes or quotes that can't be read; `is_read` says whether there
         were lines behind, of which there are `count` so far."""
-        self.kept, errors = list[str](), "replace" if self.fault else ESCAPES
+        self.kept = list[str]()
+        errors = "replace" if self.fault else ESCAPES
         with readable(self.name), self.unchanged(), self.file.open("rb", buffering=0) as file:
             file.seek(start)
             data = io.BufferedReader(_Bytes(file, (self.state[0] if stop is None else stop) - start))
@@ -360,7 +375,8 @@ class TextSheet(Sheet):
     def _good_lines(self, file: io.TextIOBase) -> Iterator[str]:
         """Yields the lines of a file with their ends. Raises RefusedFaults for one that is too long, or has a byte that
         is not of the encoding."""
-        self.count, self.is_read = 0, False
+        self.count = 0
+        self.is_read = False
         for self.count, line in enumerate(iter(partial(file.readline, MOST_LETTERS), ""), 1):
             if len(line) == MOST_LETTERS:
                 raise refused("long line", self.name, self.count, most=MOST_LETTERS - 1)

@@ -70,7 +70,9 @@ class _Reader:
     """Reads the rows of a table for the items of a plan, whose prices are known, and names those that it leaves out."""
 
     def __init__(self, kind: str, sheet: Sheet, prices: Mapping[str, Fraction | None], every: str) -> None:
-        self.prices, self.unread, self.rejects = prices, set[str](), list[Reject]()
+        self.prices = prices
+        self.unread = set[str]()
+        self.rejects = list[Reject]()
         self.table = TableReader.of(kind, sheet, AMOUNTS[kind], self.rejects.append)
         self.rows = self.table.rows
         self.names = [str(name) for name in self.rows.columns["item"].distinct]
@@ -87,11 +89,13 @@ class _Reader:
 
     def _read(self, row: int) -> tuple[dict[str, Any], list[CellFault]]:
         """Returns the values of a row by role, and what is wrong with its cells."""
-        values, faults = dict[str, Any](), list[CellFault]()
+        values = dict[str, Any]()
+        faults = list[CellFault]()
         for role in self.cells.readers:
             value = self.cells.value(role, self.rows.cell(role, row), faults)
             values[role] = value * self.factors[role] if value is not None and role in self.factors else value
-        stock, owed = values.get("stock") or NONE, values.get("owed") or NONE
+        stock = values.get("stock") or NONE
+        owed = values.get("owed") or NONE
         if stock < 0 < owed:
             faults.append(fault("owed", self.rows.cell("owed", row), "owed twice", stock=f"{float(stock):g}",
                                 least=f"{float(max(-stock, owed)):g}", most=f"{float(owed - stock):g}"))
@@ -110,11 +114,15 @@ class _Reader:
 
     def items(self) -> Iterator[tuple[str, list[dict[str, Any]]]]:
         """Yields the items of the plan with the values of their rows, but for those with a row that can't be read."""
-        good, lines = self.rows.good, self.rows.lines.tolist()
-        twins, rows_of = self.rows.twins(good), self.rows.by_item(good)
+        good = self.rows.good
+        lines = self.rows.lines.tolist()
+        twins = self.rows.twins(good)
+        rows_of = self.rows.by_item(good)
         became = np.full(len(self.names), PLACES[OPEN], np.int8)
         for item in np.unique(self.rows.codes["item"][good]).tolist():
-            rows, name, is_read = rows_of(item).tolist(), self.names[item], True
+            rows = rows_of(item).tolist()
+            name = self.names[item]
+            is_read = True
             values = list[dict[str, Any]]()
             for row in rows:
                 value, faults = self._read(row)
@@ -142,8 +150,11 @@ def read_holdings(tables: Mapping[str, Table | None], words: Words, prices: Mapp
     """
     with open_tables(tables, words) as sheets:
         readers = {kind: _Reader(kind, sheet, prices, words.every) for kind, sheet in sheets.items()}
-    on_hand, arrivals = dict[str, OnHand](), dict[str, Sequence[Arrival]]()
-    rejects, remarks, unread = list[Reject](), list[Remark](), set[str]()
+    on_hand = dict[str, OnHand]()
+    arrivals = dict[str, Sequence[Arrival]]()
+    rejects = list[Reject]()
+    remarks = list[Remark]()
+    unread = set[str]()
     for kind, reader in readers.items():
         for name, rows in reader.items():
             if kind == STOCK:

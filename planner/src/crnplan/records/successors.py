@@ -26,7 +26,10 @@ def summed(item: Item, old: Item) -> Item:
     first = min(item.first, old.first)
 
     def together(name: str) -> tuple[int, ...]:
-        rows = [(0,) * (its.first - first) + (getattr(its, name) or (0,) * len(its.counts)) for its in (item, old)]
+        rows = list[tuple[int, ...]]()
+        for part in (item, old):
+            amounts = getattr(part, name) or (0,) * len(part.counts)
+            rows.append((0,) * (part.first - first) + amounts)
         return tuple(map(sum, zip(*rows, strict=True)))
     returns = together("returns")
     return replace(item, first=first, counts=together("counts"), returns=returns if any(returns) else ())
@@ -42,7 +45,7 @@ def check_chains(predecessors: Mapping[str, str]) -> None:
             chain.append(old)
     for old, count in Counter(predecessors.values()).items():
         if count > 1:
-            several = sorted(name for name, its in predecessors.items() if its == old)
+            several = sorted(name for name, predecessor in predecessors.items() if predecessor == old)
             raise Refused(message(Remark("two successors", {"item": old, "items": " and ".join(several)})))
 
 
@@ -53,7 +56,7 @@ def oldest_first(predecessors: Mapping[str, str]) -> Iterator[str]:
         chain = [name]
         while chain[-1] in predecessors and predecessors[chain[-1]] not in done:
             chain.append(predecessors[chain[-1]])
-        yield from (its for its in reversed(chain) if its in predecessors and its not in done)
+        yield from (link for link in reversed(chain) if link in predecessors and link not in done)
         done.update(chain)
 
 

@@ -35,8 +35,13 @@ class TableReader:
     def __init__(self, kind: str, rows: Rows, dates: DateReader, amounts: Mapping[str, AmountReader],
                  add: Callable[[Reject], None] | None = None) -> None:
         """Rejects the rows that name no item, and those with too many cells."""
-        self.kind, self.rows, self.dates, self.amounts, self.add = kind, rows, dates, amounts, add
-        self.states, self.wrong = states_of(rows), dict[str, Mapping[int, Remark]]()
+        self.kind = kind
+        self.rows = rows
+        self.dates = dates
+        self.amounts = amounts
+        self.add = add
+        self.states = states_of(rows)
+        self.wrong = dict[str, Mapping[int, Remark]]()
         for row, wrong in rows.nameless():
             self.reject(row, [wrong], "")
 
@@ -65,7 +70,8 @@ class TableReader:
     def read_orders(self, every: str) -> Orders:
         """Returns what each order took. One that was placed on any day of period t and received on any day of period
         t + L took L periods, and 1 if both fell in one period."""
-        placed, received = self.read_days("ordered"), self.read_days("received")
+        placed = self.read_days("ordered")
+        received = self.read_days("received")
         leads = periods_of_days(received, every) - periods_of_days(placed, every)
         return Orders(received - placed, np.maximum(1, leads), self.rows.empty("received"))
 

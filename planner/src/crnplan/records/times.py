@@ -82,7 +82,8 @@ class TimeReader(ColumnReader[Times]):
         """Returns the readings of a text by each decimal sign. With the point, a comma stands between lead times."""
         found: dict[str, Collection[Times]] = {}
         for decimal in DECIMALS:
-            texts, parts = SEPARATOR.split(text), list[Collection[Times]]()
+            texts = SEPARATOR.split(text)
+            parts = list[Collection[Times]]()
             for part in texts:
                 times = times_within(part, decimal, len(texts) > 1)
                 for pieces in (comma.split(part) for comma in COMMAS[decimal] if comma.search(part)):

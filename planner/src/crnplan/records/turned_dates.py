@@ -61,7 +61,8 @@ def day_of_text(parts: Written | None) -> Day | None:
     """Returns the day of a text of which one of day and month is above 12; None for another one."""
     if parts is None or parts.is_day_first is None:
         return None
-    day, month = int(parts.day or 0), int(parts.month or 0)
+    day = int(parts.day or 0)
+    month = int(parts.month or 0)
     if not parts.is_day_first:
         day, month = month, day
     try:
@@ -72,18 +73,31 @@ def day_of_text(parts: Written | None) -> Day | None:
 
 def turned(column: Sequence[Cell]) -> Turned:
     """Returns which dates of a column, whose cells are in the order of their rows, have day and month interchanged."""
-    parts: dict[Cell, Written | None] = {cell: written(cell) for cell in column if isinstance(cell, str)}
-    read = {cell: day for cell in column if (day := day_of_sheet(cell, parts.get(cell)))}
-    texts = {str(cell): its for cell, its in parts.items() if its and its.form in SIGNED}
-    days: dict[Cell, Day | None] = {cell: day_of_text(its) for cell, its in texts.items()}
-    sides = {its.is_day_first for its in texts.values()}
+    read = dict[Cell, Day]()
+    days = dict[Cell, Day | None]()
+    texts = dict[str, Written]()
+    for cell in column:
+        parts = written(cell) if isinstance(cell, str) else None
+        day = day_of_sheet(cell, parts)
+        if day:
+            read[cell] = day
+        elif parts and parts.form in SIGNED:
+            days[cell] = day_of_text(parts)
+            texts[str(cell)] = parts
+    sides = {parts.is_day_first for parts in texts.values()}
     is_like_it = len(sides) == 1 and None not in days.values() and bool(read)
     if not is_like_it or max(day.day for day in read.values()) > 12:
         return Turned(dict.fromkeys(read, False))
-    as_it_is = {**days, **read}
-    otherwise = {**as_it_is, **{cell: interchanged(day) for cell, day in read.items()}}
-    order = [cell for cell in column if cell in as_it_is]
-    is_sound, is_turned = is_ordered([as_it_is[cell] for cell in order]), is_ordered([otherwise[cell] for cell in order])
-    decides = is_sound != is_turned and len(order) >= LEAST_ORDERED
-    text, its = next(iter(texts.items()))
-    return Turned(dict.fromkeys(read, is_turned if decides else None), text, pattern_of(its))
+    sound = list[Day | None]()
+    other = list[Day | None]()
+    for cell in column:
+        if cell in read:
+            sound.append(read[cell])
+            other.append(interchanged(read[cell]))
+        elif cell in days:
+            sound.append(days[cell])
+            other.append(days[cell])
+    is_turned = is_ordered(other)
+    decides = is_ordered(sound) != is_turned and len(sound) >= LEAST_ORDERED
+    text, parts = next(iter(texts.items()))
+    return Turned(dict.fromkeys(read, is_turned if decides else None), text, pattern_of(parts))

@@ -6,12 +6,13 @@ columns for other periods than those of the record. Columns and rows of totals a
 """
 from __future__ import annotations
 
+import itertools
 import re
 from collections.abc import Iterator, Mapping, Sequence
 
-from ..errors import Fault, RefusedFaults
+from ..errors import RefusedFaults
 from ..remarks import Remark, Value
-from ..words import message
+from . import sources
 from .cells import TOTAL, Cell, Unreadable, text_of
 from .date_forms import written
 from .dates import Day, DateReader, period_name, period_of
@@ -31,14 +32,15 @@ WHOLE_TOTAL = re.compile(rf"(?:{TOTAL.pattern})\W*", re.IGNORECASE)
 MOST_CLOSED = 6
 
 
-def refused(sheet: Sheet, code: str, **facts: Value) -> RefusedFaults:
+def refused(sheet: Sheet, code: str, /, **facts: Value) -> RefusedFaults:
     """Returns the error of the heading of a table."""
-    return RefusedFaults([Fault(message(Remark(code, facts)), sheet.name, sheet.line)])
+    return sources.refused(code, sheet.name, sheet.line, **facts)
 
 
 def reader_of(sheet: Sheet) -> DateReader:
     """Returns what reads the headings of a table as dates. Patterns of dates may be those of other tables."""
-    rules, heading = sheet.rules, sheet.heading
+    rules = sheet.rules
+    heading = sheet.heading
     reader = DateReader(rules.date_formats, rules.every, rules.day_first).look(heading)
     if sum(map(reader.is_date, heading)) >= LEAST_PERIODS:
         return reader
@@ -47,7 +49,7 @@ def reader_of(sheet: Sheet) -> DateReader:
 
 def period_of_days(days: Sequence[Day]) -> str:
     """Returns for which periods days in order stand, by the least distance between two of them."""
-    least = min((later - day).days for day, later in zip(days, days[1:]))
+    least = min((later - day).days for day, later in itertools.pairwise(days))
     if least < 7:
         return "day"
     return "week" if least < 28 else "month"
@@ -60,13 +62,16 @@ class WideSheet(Sheet):
     def __init__(self, sheet: Sheet, days: Mapping[int, Day], totals: Sequence[int]) -> None:
         """Takes the table, the first day of the period of each column by its place, and the places of totals."""
         super().__init__(sheet.name, f"{sheet.written}, with a column for each period", sheet.rules, sheet.path)
-        self.sheet, self.days = sheet, days
+        self.take_head(sheet)
+        self.sheet = sheet
+        self.days = days
+        self.size = sheet.size
         self.fixed = [place for place in range(len(sheet.heading)) if place not in days and place not in totals]
-        self.size, self.sign, self.delimiter, self.line = sheet.size, sheet.sign, sheet.delimiter, sheet.line
         self.heading = [*(sheet.heading[place] for place in self.fixed), HEADINGS_NAME, CELLS_NAME, ""]
-        self.titles, self.first_rows = sheet.titles, sheet.first_rows
-        names = [sheet.heading[place] for place in sorted(days, key=days.__getitem__)]
-        self.notes: list[Remark] = [Remark("wide", {"count": len(names), "first": names[0], "last": names[-1]})]
+        # The places of the columns for periods, in order of these.
+        self.order = sorted(days, key=days.__getitem__)
+        first, last = (sheet.heading[self.order[end]] for end in (0, -1))
+        self.notes: list[Remark] = [Remark("wide", {"count": len(days), "first": first, "last": last})]
         if totals:
             left_out = ", ".join(repr(sheet.heading[place]) for place in totals)
             self.notes.append(Remark("wide totals", {"count": len(totals), "names": left_out}))
@@ -98,9 +103,11 @@ class WideSheet(Sheet):
         if any(map(text_of, cells[self.width:])):
             yield line, [*cells, *[""] * (len(self.heading) + 1 - len(cells))]
             return
-        fixed = [cells[place] if place < len(cells) else "" for place in self.fixed]
-        text, item = self.text_of(cells), text_of(fixed[self.columns["item"].place])
-        filled = [place for place in self.days if place < len(cells) and text_of(cells[place])]
+        text = self.text_of(cells)
+        cells = [*cells, *[""] * (self.width - len(cells))]
+        fixed = [cells[place] for place in self.fixed]
+        item = text_of(fixed[self.columns["item"].place])
+        filled = [place for place in self.days if text_of(cells[place])]
         if WHOLE_TOTAL.fullmatch(item) or not (filled or item):
             yield line, [*fixed, "", "", text if item else ""]
         elif not filled:
@@ -118,15 +125,17 @@ class WideSheet(Sheet):
     def check(self) -> None:
         """Raises RefusedFaults if the columns are not for the periods of the record, if two are for the same one, or if one
         lacks between them."""
-        every, order = str(self.rules.every), sorted(self.days, key=self.days.__getitem__)
-        names, days = [self.sheet.heading[place] for place in order], [self.days[place] for place in order]
+        every = str(self.rules.every)
+        names = [self.sheet.heading[place] for place in self.order]
+        days = [self.days[place] for place in self.order]
         form = written(names[0])
+        closed = 0
         unit = every if form and form.period == every else period_of_days(days)
         if unit not in ("day", every):
             raise refused(self.sheet, "other columns", first=names[0], last=names[-1], period=unit, every=every)
-        closed = 0
-        for place, (day, later) in enumerate(zip(days, days[1:])):
-            number, gap = period_of(day, unit), period_of(later, unit) - period_of(day, unit) - 1
+        numbers = [period_of(day, unit) for day in days]
+        for place, (number, later) in enumerate(itertools.pairwise(numbers)):
+            gap = later - number - 1
             facts: dict[str, Value] = {"first": names[place], "second": names[place + 1], "every": unit}
             if gap < 0:
                 raise refused(self.sheet, "same column", **facts)
@@ -140,16 +149,19 @@ class WideSheet(Sheet):
 def wide_sheet(sheet: Sheet) -> WideSheet | None:
     """Returns a table of demand as rows if it is a wide one: if several of its headings are dates or whole periods; else
     None. Raises RefusedFaults if these can't be read, or are not for the periods of the record."""
-    reader, days = reader_of(sheet), dict[int, Day]()
-    places = [place for place, name in enumerate(sheet.heading) if reader.is_date(name)]
-    if len(places) < LEAST_PERIODS:
+    reader = reader_of(sheet)
+    days = dict[int, Day]()
+    totals = list[int]()
+    if sum(map(reader.is_date, sheet.heading)) < LEAST_PERIODS:
         return None
-    for place in places:
-        try:
-            days[place] = reader.read(sheet.heading[place])[0]
-        except Unreadable as why:
-            raise RefusedFaults([Fault(message(why.remark), sheet.name, sheet.line)]) from why
-    totals = [place for place, name in enumerate(sheet.heading) if place not in days and TOTAL.match(name)]
+    for place, name in enumerate(sheet.heading):
+        if reader.is_date(name):
+            try:
+                days[place], _ = reader.read(name)
+            except Unreadable as why:
+                raise refused(sheet, why.remark.code, **why.remark.facts) from why
+        elif TOTAL.match(name):
+            totals.append(place)
     wide = WideSheet(sheet, days, totals)
     wide.check()
     return wide

@@ -76,14 +76,17 @@ class BookSheet(Sheet):
     def __init__(self, path: Path, sheet: str | None, rules: Rules, title: str, book: Book) -> None:
         """Takes the name of the sheet as it is stated, and as it is, and the workbook."""
         super().__init__(f"{path}!{sheet}" if sheet else str(path), f"sheet {title}", rules, path)
-        self.book_path, self.part, self.book = path, book.parts[title], book
+        self.book_path = path
+        self.part = book.parts[title]
+        self.book = book
         self.known: dict[tuple[str, str, str], Cell] = {}
         self.places: dict[str, int] = {}
 
     def rows(self) -> Iterator[Row]:
         """Yields the numbers of rows, with their cells. Raises RefusedFaults if the sheet is damaged, and for formulas
         of used columns that were never computed."""
-        self.hidden, self.uncomputed = 0, list[tuple[int, int, str]]()
+        self.hidden = 0
+        self.uncomputed = list[tuple[int, int, str]]()
         with readable(self.name), self.unchanged(), parsing(self.name):
             line = 0
             for number, cells in self._stored_rows():
@@ -97,14 +100,17 @@ class BookSheet(Sheet):
     def _stored_rows(self) -> Iterator[Row]:
         """Yields the rows that the file has, with their cells."""
         with zipfile.ZipFile(self.book_path) as archive, archive.open(self.part) as file:
-            number, count, is_sheet = 0, 0, False
+            number = 0
+            count = 0
+            is_sheet = False
             for _, element in iterparse(file):
                 if element.tag == CELL:
                     count += 1
                     if count > MOST_COLUMNS:
                         raise refused("cells of a row", self.name, number + 1, most=MOST_COLUMNS)
                 elif element.tag == ROW:
-                    before, number = number, int(element.get("r", number + 1))
+                    before = number
+                    number = int(element.get("r", number + 1))
                     if not before < number <= MOST_ROWS:
                         raise refused("number of a row", self.name, number, before=before, most=MOST_ROWS)
                     self.hidden += element.get("hidden") in ("1", "true")
@@ -139,7 +145,8 @@ class BookSheet(Sheet):
 
     def _cell(self, line: int, place: int, element: Element) -> Cell:
         """Returns what the reader of a cell sees."""
-        kind, text = element.get("t", "n"), element.findtext(VALUE) or ""
+        kind = element.get("t", "n")
+        text = element.findtext(VALUE) or ""
         if len(element) > 1 or not text:
             self._note_formula(line, place, element, kind, text)
         if kind == "s" and text:
@@ -220,7 +227,8 @@ def read_book(path: Path) -> Book:
     with contextlib.closing(reader.archive):
         reader.read()
         is_uncomputed = ON_LOAD.search(reader.archive.read(reader.parser.workbook_part_name)) is not None
-    book, tables = reader.wb, reader.wb.worksheets
+    book = reader.wb
+    tables = reader.wb.worksheets
     codes = [ReadOnlyCell(table, 1, 1, None, style_id=style).number_format for table in tables[:1]
              for style in range(len(book._cell_styles))]
     return Book(reader.shared_strings, formats_of(codes, book.epoch), is_uncomputed,
@@ -230,7 +238,8 @@ def read_book(path: Path) -> Book:
 def sheet_of_book(path: Path, sheet: str | None, rules: Rules) -> Sheet:
     """Returns a sheet of a workbook, whose lines are the numbers of rows. Raises Refused for a workbook that can't be
     read, or if it isn't clear which sheet is meant."""
-    name, book = str(path), book_of(path)
+    name = str(path)
+    book = book_of(path)
     if sheet is None and len(book.parts) != 1:
         raise refused("no clear sheet", name, path=name, sheets=listed(book.parts))
     if sheet is not None and sheet not in book.parts:
