@@ -1,6 +1,7 @@
 """Tests the public interface: its names, imports and types, and plans as a notebook makes them, without a file."""
 from __future__ import annotations
 
+import ast
 import importlib
 import inspect
 import subprocess
@@ -38,6 +39,15 @@ def test_public_name(name: str) -> None:
     assert importlib.import_module("crnplan.formats") is crn.formats
     with pytest.raises(AttributeError, match=f"module 'crnplan' has no attribute '{name}s'"):
         getattr(crn, f"{name}s")
+
+
+def test_names_for_checkers_of_types() -> None:
+    """The imports that checkers of types read are those that are made when a name is used."""
+    tree = ast.parse(Path(crn.__file__).read_text("utf-8"))
+    imports = {name.asname: node.module for node in ast.walk(tree) if isinstance(node, ast.ImportFrom)
+               for name in node.names if name.asname}
+    assert imports == {name: module for module, names in crn._NAMES.items() for name in names}
+    assert [*crn.__all__] == ["__version__", *imports]
 
 
 def test_imports_no_heavy_library() -> None:

@@ -1,14 +1,11 @@
 """Leads a planner from a history of demand to stock decisions, with the proved simulator crnsim.
 
-The names that are imported below are the public interface. Each is imported when it is first used, so that a command
-starts fast.
+Each public name is imported from its module when it is first used, so that a command starts fast.
 """
 from __future__ import annotations
 
-import ast
 import importlib
 import sys
-from pathlib import Path
 from types import ModuleType
 from typing import TYPE_CHECKING, Any
 
@@ -40,9 +37,31 @@ if TYPE_CHECKING:
     from .pages.catalogue_page import report as report
     from .pages.today_tables import OrdersToday as OrdersToday
 
-# The module of each public name: those above that are imported as themselves, which is how checkers of types know them.
-_HOMES = {name.asname: node.module for node in ast.walk(ast.parse(Path(__file__).read_text("utf-8")))
-          if isinstance(node, ast.ImportFrom) for name in node.names if name.asname}
+# The public names by their modules. Checkers of types know them by the same imports above.
+_NAMES = {
+    "errors": ("CrnplanError", "Failed", "Fault", "ProgramError", "Refused", "ScenarioError"),
+    "scenario": ("Costs", "Policy", "Scenario"),
+    "law": ("Law",),
+    "crnsim.long_run": ("LongRunReport",),
+    "crnsim.report": ("Report",),
+    "crnsim.program": ("find_program",),
+    "records": ("History", "read_history", "read_lead_times"),
+    "demand.checks": ("Checks", "check_history"),
+    "demand.fitted": ("FittedLaw",),
+    "demand.fitting": ("fit_demand", "fit_lead"),
+    "demand.learning": ("Prior", "learn"),
+    "decide.keys": ("check_keys",),
+    "decide.doubt": ("doubt",),
+    "decide.sensitivity": ("sensitivity",),
+    "crnsim.sweep": ("sweep",),
+    "crnsim.trajectory": ("trajectories",),
+    "api": ("Plan", "PlannedItem", "open_plan", "plan", "plan_item"),
+    "backtesting": ("Backtests", "backtest"),
+    "catalogues": ("Catalogue", "read_catalogue"),
+    "curve.exchange_curve": ("exchange_curve",),
+    "pages.catalogue_page": ("report",),
+    "pages.today_tables": ("OrdersToday",)}
+_HOMES = {name: module for module, names in _NAMES.items() for name in names}
 __all__ = ["__version__", *_HOMES]
 
 

@@ -12,6 +12,8 @@ from contextvars import ContextVar
 from dataclasses import dataclass
 from typing import Any, ClassVar
 
+from .remarks import Remark
+
 # The signs around the name of an argument, and before its value. Texts of users, which are escaped, have none.
 MARK, VALUE = "\x1f", "\x1e"
 # What a terminal would obey, or TOML forbids: control characters but for ends of lines and tabs, parts of characters,
@@ -31,12 +33,16 @@ def argument(name: str, value: str = "") -> str:
 
 def as_python(name: str, value: str) -> str:
     """Returns an argument as a call of Python has it. KEY=TEXT and FILE.ROLE=TEXT are entries of its table."""
+    if not value:
+        return name
     place, sign, text = value.partition("=")
-    kind, _, role = place.partition(".")
+    if not sign:
+        return f"{name}={value}"
     entry = text if text.isdecimal() else f'"{text}"'
-    if sign:
-        value = f'{{"{kind}": {{"{role}": {entry}}}}}' if role else f'{{"{place}": {entry}}}'
-    return f"{name}={value}" if value else name
+    kind, _, role = place.partition(".")
+    if role:
+        return f'{name}={{"{kind}": {{"{role}": {entry}}}}}'
+    return f'{name}={{"{place}": {entry}}}'
 
 
 Spell = Callable[[str, str], str]
@@ -55,8 +61,11 @@ def spelt(spell: Spell) -> Iterator[None]:
 
 def worded(message: str) -> str:
     """Returns a message with its arguments spelt."""
-    parts, spell = message.split(MARK), _spelling.get()
-    parts[1::2] = [spell(name, value) for name, _, value in (part.partition(VALUE) for part in parts[1::2])]
+    spell = _spelling.get()
+    parts = message.split(MARK)
+    for place in range(1, len(parts), 2):
+        name, _, value = parts[place].partition(VALUE)
+        parts[place] = spell(name, value)
     return "".join(parts)
 
 
@@ -104,18 +113,27 @@ class ProgramFailed(ProgramError, Failed):
 
 @dataclass(frozen=True)
 class Fault:
-    """One thing that is wrong with an input. `line` and `column` count from 1, and are 0 if there is no such place."""
+    """One thing that is wrong with an input: a remark, or what another reader says of it, and its place. `line` and
+    `column` count from 1, and are 0 if there is no such place."""
 
-    what: str
+    said: str | Remark
     file: str = ""
     line: int = 0
     column: int = 0
 
     @property
+    def what(self) -> str:
+        """Returns what is wrong and what to do, before arguments are spelt."""
+        if isinstance(self.said, str):
+            return self.said
+        from .words import message
+        return message(self.said)
+
+    @property
     def message(self) -> str:
         """Returns `FILE:LINE:COLUMN: WHAT`, without the parts that are not known, before arguments are spelt."""
-        place = ":".join(str(it) for it in (self.file, self.line, self.column) if it)
-        return f"{place}: {self.what}" if place else self.what
+        known = [str(part) for part in (self.file, self.line, self.column) if part]
+        return ": ".join(filter(None, [":".join(known), self.what]))
 
     def __str__(self) -> str:
         return worded(self.message)
@@ -127,7 +145,7 @@ class RefusedFaults(Refused):
     def __init__(self, faults: Sequence[Fault], text: str = "") -> None:
         """Keeps the faults. The text is that of the faults, one a line, if none is given."""
         self.faults = tuple(faults)
-        super().__init__(text or "\n".join(it.message for it in self.faults))
+        super().__init__(text or "\n".join(fault.message for fault in self.faults))
 
 
 class ScenarioError(RefusedFaults):

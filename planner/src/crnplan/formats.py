@@ -9,6 +9,8 @@ import tomllib
 from collections.abc import Iterable
 from dataclasses import dataclass
 from pathlib import Path
+from typing import Any
+
 
 @dataclass(frozen=True)
 class Key:
@@ -27,7 +29,9 @@ def limits(table: str, name: str) -> tuple[int, int]:
     """Returns the least and the greatest of a key. If the least is another key's value, it is that key's least. Raises
     KeyError if there is no such key."""
     low, high = _RANGES[table, name][0]
-    return (limits(table, low)[0] if isinstance(low, str) else low), high
+    if isinstance(low, str):
+        low, _ = limits(table, low)
+    return low, high
 
 
 def version_with(names: Iterable[str]) -> int:
@@ -40,14 +44,29 @@ def status_of(fault: str) -> int:
     return STATUSES[re.sub(" [0-9]+$", "", fault)] if fault else 0
 
 
+def _key(stated: dict[str, Any]) -> Key:
+    """Returns a key of a scenario, as the table of keys states it."""
+    ranges = tuple((low, high) for low, high in stated.get("ranges", ()))
+    return Key(stated.get("table", ""), stated["name"], ranges, stated.get("since", 1))
+
+
+def _pattern(characters: list[str], least: int, most: int) -> re.Pattern[str]:
+    """Returns what a name matches: so many of some characters and of their ranges, as A-Z."""
+    signs = [re.escape(sign) if len(sign) == 1 else sign for sign in characters]
+    return re.compile(f"[{''.join(signs)}]{{{least},{most}}}")
+
+
+def _named(kind: str) -> tuple[str, ...]:
+    """Returns the columns of a report that are of a kind."""
+    return tuple(name for name, of_kind in COLUMNS.items() if of_kind == kind)
+
+
 _FORMATS = tomllib.loads(Path(__file__).with_name("formats.toml").read_text("utf-8"))
 _SCENARIO, _CHECKPOINT = _FORMATS["scenario"], _FORMATS["checkpoint"]
 
 # Scenarios. DRAWS are the tables of values and weights, each of which has a stream of random words.
 VERSIONS: tuple[int, ...] = tuple(_SCENARIO["versions"])
-KEYS: tuple[Key, ...] = tuple(
-    Key(key.get("table", ""), key["name"], tuple((low, high) for low, high in key.get("ranges", [])),
-        key.get("since", 1)) for key in _SCENARIO["keys"])
+KEYS: tuple[Key, ...] = tuple(map(_key, _SCENARIO["keys"]))
 _RANGES = {(key.table, key.name): key.ranges for key in KEYS}
 DRAWS: tuple[str, ...] = tuple(key.table for key in KEYS if key.name == "values")
 COSTS: tuple[str, ...] = tuple(key.name for key in KEYS if key.table == "costs")
@@ -58,9 +77,7 @@ WEIGHT_SUMS: tuple[int, int] = (int(_RANGES["demand", "weights"][1][0]), _RANGES
 WORDS_OF_KEY: int = _SCENARIO["words_of_key"]
 DIGITS_OF_WORD: int = _SCENARIO["digits_of_word"]
 WORD = re.compile(f"[0-9a-f]{{{DIGITS_OF_WORD}}}")
-NAME = re.compile("[{}]{{{},{}}}".format(
-    "".join(re.escape(sign) if len(sign) == 1 else sign for sign in _SCENARIO["name_characters"]),
-    *limits("policy", "name")))
+NAME = _pattern(_SCENARIO["name_characters"], *limits("policy", "name"))
 _LEAST_RING, _MOST_RING = limits("", "ring")
 RING_SIZES: tuple[int, ...] = tuple(2**power for power in range(64) if _LEAST_RING <= 2**power <= _MOST_RING)
 MOST_LEVELS: int = _SCENARIO["most_levels"]
@@ -79,8 +96,7 @@ CHECKPOINT_RULES: dict[str, int] = _CHECKPOINT["rules"]
 # Reports: the kind of each column by its name, in order, the heading line, and the columns of each kind.
 COLUMNS: dict[str, str] = _FORMATS["report"]["columns"]
 HEADER = ",".join(COLUMNS)
-WHOLE: tuple[str, ...] = tuple(name for name, kind in COLUMNS.items() if kind == "whole")
-FRACTIONS: tuple[str, ...] = tuple(name for name, kind in COLUMNS.items() if kind == "fraction")
+WHOLE, FRACTIONS = _named("whole"), _named("fraction")
 
 # Checkpoints: the versions, rising; the fields of each row by its kind, and the kinds with a value and its weight, in
 # order.

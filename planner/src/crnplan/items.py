@@ -1,7 +1,8 @@
 """Plans an item from its own files, and writes all of it: the one way of `crnplan item` and of notebooks."""
 from __future__ import annotations
 
-from collections.abc import Callable, Mapping
+from collections.abc import Callable, Iterable, Mapping
+from fractions import Fraction
 from pathlib import Path
 
 from .crnsim.program import find_program
@@ -19,31 +20,86 @@ from .table import DataTable, whole
 COMING = 64  # replications of the coming periods
 MOST_DECIMALS = 6
 LEAD_TIME = whole("lead time", "periods", "a lead time")
-ITEM_FILES: Mapping[str, Callable[[ItemWords], DataTable | str | None]] = {
+Part = DataTable | str | None
+
+
+def leads_of(words: ItemWords) -> DataTable:
+    """Returns the lead times of the item."""
+    return DataTable([LEAD_TIME], [[lead] for lead in words.item.leads])
+
+
+def single_laws_of(words: ItemWords) -> DataTable:
+    """Returns the laws of the item."""
+    return laws_of(words.question, words.depth.single)
+
+
+def exact_answer_of(words: ItemWords) -> DataTable:
+    """Returns the exact figures of the item's run."""
+    return exact_of([(words.item, words.answer)])
+
+
+def doubt_of(words: ItemWords) -> DataTable:
+    """Returns what each policy costs under the laws that the history allows."""
+    return words.doubt
+
+
+def moves_of(words: ItemWords) -> DataTable:
+    """Returns how the best policy moves if a cost, the demand or the lead time differs."""
+    return words.depth.moves.table
+
+
+def notes_of(words: ItemWords) -> str:
+    """Returns what is to be said of the item, a line each."""
+    return "".join(f"{note}\n" for note in words.notes)
+
+
+# What makes each file of the folder of an item.
+ITEM_FILES: Mapping[str, Callable[[ItemWords], Part]] = {
     "demand.csv": demand_of,
-    "lead_times.csv": lambda words: DataTable([LEAD_TIME], [[lead] for lead in words.item.leads]),
-    "laws.csv": lambda words: laws_of(words.question, words.depth.single), "policies.csv": policies_of,
-    EXACT: lambda words: exact_of([(words.item, words.answer)]), "doubt.csv": lambda words: words.doubt,
-    "sensitivity.csv": lambda words: words.depth.moves.table, "trajectory.csv": periods_of, "coming.csv": coming_of,
-    "scenario.toml": scenario_text, "notes.txt": lambda words: "".join(f"{note}\n" for note in words.notes),
-    "summary.txt": item_summary, "summary.html": item_page}
+    "lead_times.csv": leads_of,
+    "laws.csv": single_laws_of,
+    "policies.csv": policies_of,
+    EXACT: exact_answer_of,
+    "doubt.csv": doubt_of,
+    "sensitivity.csv": moves_of,
+    "trajectory.csv": periods_of,
+    "coming.csv": coming_of,
+    "scenario.toml": scenario_text,
+    "notes.txt": notes_of,
+    "summary.txt": item_summary,
+    "summary.html": item_page}
+
+
+def decimals_of(costs: Iterable[Fraction | None]) -> int:
+    """Returns how many decimals costs need, at least 2 and at most 6."""
+    for digits in range(2, MOST_DECIMALS):
+        if all((cost * 10**digits).denominator == 1 for cost in costs if cost is not None):
+            return digits
+    return MOST_DECIMALS
 
 
 def words_of(facts: Facts, program: str | Path | None) -> ItemWords:
     """Plans an item alone, and returns the words on it. Money has as many decimals as its costs need, at least 2. Raises
     Refused, Disagreement and ProgramError."""
-    item, run, depth = facts.item, facts.settings["run"], planned(facts, program)
-    costs = [cost for cost in (item.setup, item.holding, item.backlog, item.unit) if cost is not None]
-    decimals = next((digits for digits in range(2, MOST_DECIMALS)
-                     if all((cost * 10**digits).denominator == 1 for cost in costs)), MOST_DECIMALS)
-    coming = depth.coming(run["horizon"], run["replications"] or COMING) if run["horizon"] else None
-    heard: list[Fault | Remark] = [*facts.history.notes, *(facts.leads.notes if facts.leads else ())]
-    heard += check_history(facts.history, season=facts.settings["history"]["season"]).unknown
-    return ItemWords(depth, facts.settings["history"]["every"] or "period", Currency("", decimals), coming, heard)
+    item, run, record = facts.item, facts.settings["run"], facts.settings["history"]
+    depth = planned(facts, program)
+    decimals = decimals_of((item.setup, item.holding, item.backlog, item.unit))
+    coming = None
+    if run["horizon"]:
+        coming = depth.coming(run["horizon"], run["replications"] or COMING)
+    heard: list[Fault | Remark] = [*facts.history.notes]
+    if facts.leads:
+        heard += facts.leads.notes
+    heard += check_history(facts.history, season=record["season"]).unknown
+    return ItemWords(depth, record["every"] or "period", Currency("", decimals), coming, heard)
+
+
+def unheard(name: str) -> None:
+    """Says nothing of a part."""
 
 
 def plan_item(history: str | Path, settings: str | Path, out: str | Path | None = None, *,
-              program: str | Path | None = None, told: Callable[[str], None] = lambda name: None) -> ItemWords:
+              program: str | Path | None = None, told: Callable[[str], None] = unheard) -> ItemWords:
     """Plans an item, writes all of it into a folder if `out` names one, and returns the words on it.
 
     `history` is a CSV file, `settings` a TOML file. All of it is computed each time; nothing that is in the folder is

@@ -18,7 +18,6 @@ Call = TypeVar("Call", bound=Callable[..., Any])
 # The name of a constant or a function of the package.
 REFERENCE = re.compile(r"\{([\w.]+)\}")
 PLAN = "plan"  # the table of words of reading and planning
-DECLARED: dict[str, Any] = tomllib.loads(Path(__file__).with_name("options.toml").read_text("utf-8"))
 
 
 @dataclass(frozen=True)
@@ -69,6 +68,12 @@ class Option:
                 raise Refused(f"{argument(self.name, str(value))} is not from {least} to {most:,}")
 
 
+@functools.cache
+def declared() -> dict[str, Any]:
+    """Returns the tables of options.toml."""
+    return tomllib.loads(Path(__file__).with_name("options.toml").read_text("utf-8"))
+
+
 def named(reference: str) -> Any:
     """Returns the constant or the function of the package with a name, as `formats.MOST_ITEMS`."""
     return pkgutil.resolve_name(f"{__package__}.{reference}")
@@ -105,7 +110,7 @@ def option(place: str) -> Option:
 
 def table_of(place: str) -> dict[str, dict[str, Any]]:
     """Returns the words of a table of options.toml, as they are declared."""
-    table = DECLARED
+    table = declared()
     for part in place.split("."):
         table = table[part]
     return table
@@ -118,7 +123,7 @@ def within(table: str) -> list[Option]:
 
 def key_of(name: str) -> str:
     """Returns the key of a word of reading or planning in crnplan.toml; another name as it is."""
-    key: str = DECLARED[PLAN].get(name, {}).get("key", name)
+    key: str = declared()[PLAN].get(name, {}).get("key", name)
     return key
 
 
@@ -148,7 +153,7 @@ def with_words(words: type, *homes: type) -> Callable[[Call], Call]:
 
 def check_words(words: object) -> None:
     """Raises Refused for a field of words of reading or of planning whose value can't be meant."""
-    for name in DECLARED[PLAN]:
+    for name in declared()[PLAN]:
         value = getattr(words, name, None)
         if value is not None:
             option(f"{PLAN}.{name}").check(value)

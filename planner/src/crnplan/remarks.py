@@ -22,5 +22,6 @@ def joined(remarks: Sequence[Remark]) -> Remark:
     facts: dict[str, Value] = {}
     for place, remark in enumerate(remarks):
         facts[str(place)] = remark.code
-        facts |= {f"{place} {name}": value for name, value in remark.facts.items()}
+        for name, value in remark.facts.items():
+            facts[f"{place} {name}"] = value
     return Remark("several", facts)

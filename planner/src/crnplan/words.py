@@ -1,7 +1,7 @@
 """The words of everything that is said as a code with facts: one sentence for each code, without a full stop.
 
-words.toml and record_words.toml have them as formats of Python over the facts of a remark. Where words depend on a
-fact, a function makes them here. A pair has what is said of a code, and what to do about it. Nothing reads these words
+words.toml and record_words.toml have them as formats of Python over the facts of a remark, and over what follows from
+these by the functions of DERIVED. A pair has what is said of a code, and what to do about it. Nothing reads these words
 again.
 """
 from __future__ import annotations
@@ -9,8 +9,7 @@ from __future__ import annotations
 import math
 import re
 import tomllib
-from collections import defaultdict
-from collections.abc import Callable, Mapping
+from collections.abc import Callable, Iterable, Mapping
 from functools import partial
 from pathlib import Path
 from typing import Any
@@ -23,10 +22,18 @@ from .remarks import Remark
 PREMISE = "if the coming year is like the last one"
 Facts = Mapping[str, Any]
 Say = str | Callable[[Facts], str]
+Derive = Callable[[Facts], object]
 
 
 def counted(count: int, noun: str) -> str:
-    return f"{count:,} {noun}{'s' * (count != 1)}"
+    """Returns a number of things, as `1,000 items`."""
+    return f"{count:,} {noun}" if count == 1 else f"{count:,} {noun}s"
+
+
+def listed(parts: Iterable[str], last: str) -> str:
+    """Returns parts as one text, with commas, and a word before the last one."""
+    *first, end = parts
+    return f"{', '.join(first)} {last} {end}" if first else end
 
 
 def exactness(step: int | None) -> str:
@@ -42,22 +49,95 @@ def _templates(file: str) -> dict[str, tuple[Say, Say]]:
     def marked(text: str) -> str:
         whole = re.sub("<[+](.*?)>", lambda part: parts[part[1]], text)
         return re.sub("<(.*?)(?:=(.*?))?>", lambda name: argument(name[1], name[2] or ""), whole)
-    pairs = {code: (said, "") if isinstance(said, str) else said for code, said in table.items()}
-    return {code: (marked(what), marked(advice)) for code, (what, advice) in pairs.items()}
+    pairs: dict[str, tuple[Say, Say]] = {}
+    for code, said in table.items():
+        what, advice = (said, "") if isinstance(said, str) else said
+        pairs[code] = marked(what), marked(advice)
+    return pairs
 
 
 def _several(which: int) -> Say:
     """Returns the function that gives what is wrong with several cells of a row, or what to do about them."""
     def said(facts: Facts) -> str:
-        words = []
+        words: dict[str, None] = {}
         for place in filter(str.isdecimal, facts):
             own = {name.removeprefix(f"{place} "): value for name, value in facts.items() if name != place}
-            words.append(_said(WORDS[facts[place]][which], own))
-        return " and ".join(filter(None, dict.fromkeys(words)))
+            words[_said(WORDS[facts[place]][which], own)] = None
+        return " and ".join(filter(None, words))
     return said
 
 
-# The checks of a history (demand/checks.py).
+# What follows from the facts of an answer to an item (plan/one.py).
+def _owner(facts: Facts) -> str:
+    return "all items" if facts["prior"] == "all" else f"class {facts['prior']}"
+
+
+def _allowed_fill(facts: Facts) -> str:
+    if facts["low"] is None:
+        return ""
+    return f"; by 80% of the laws that this allows it meets {facts['low']:.1%} to {facts['high']:.1%} of demand at once"
+
+
+def _how_known(facts: Facts) -> str:
+    return "nearly that of the catalogue" if facts["learned"] else "hardly known"
+
+
+def _no_interval(facts: Facts) -> str:
+    if facts["orders"] >= 2:
+        return "the difference is the same in all replications"
+    return "the rarer policy places fewer than 2 orders in all replications"
+
+
+def _not_reached(facts: Facts) -> str:
+    return "is best" if facts["fill"] is None else f"meets {facts['fill']:g} of demand at once"
+
+
+# What follows from the facts of a catalogue (records/defaults.py, plan/catalogue.py).
+SOURCES = {"masters": "the masters", "class": "the class", "orders": "receipts of orders", "default": "the default"}
+
+
+def _sources(facts: Facts) -> str:
+    parts = [f"{counted(facts[source], 'item')} by {words}" for source, words in SOURCES.items() if facts[source]]
+    return ", ".join(parts)
+
+
+def _reason(facts: Facts) -> str:
+    return f" ({facts['reason']})" if facts["reason"] else ""
+
+
+def _and_classes(facts: Facts) -> str:
+    return f" and {facts['classes']:,} classes" if facts["classes"] else ""
+
+
+# What follows from the facts of what may have moved a policy (plan/changes.py, plan/after.py).
+def _in_rows(facts: Facts) -> str:
+    return "" if facts["rows"] is None else f" in {counted(facts['rows'], 'row')}"
+
+
+def _spelt(value: object) -> str:
+    if isinstance(value, float):
+        return f"{value:g}"
+    return "none" if value in (None, "") else str(value)
+
+
+def _moved(facts: Facts) -> str:
+    """Returns how values have changed whose names stand before `before` and `after`."""
+    moves = []
+    for fact in facts:
+        name = fact.removesuffix(" after")
+        if name != fact:
+            moves.append(f"{name} {_spelt(facts[f'{name} before'])} to {_spelt(facts[fact])}")
+    return ", ".join(moves)
+
+
+def _policy_today(facts: Facts) -> str:
+    if facts["s"] is None:
+        return "no policy is in use today"
+    earlier = ", that of the earlier plan" if facts["earlier"] else ""
+    return f"today's policy is ({facts['s']}, {facts['S']}){earlier}"
+
+
+# What follows from the facts of the checks of a history (demand/checks.py).
 STUDIED = {"steady": "Poisson, mean 10", "erratic": "negative binomial, mean 3, variance 9"}
 WEEKDAYS = ("Monday", "Tuesday", "Wednesday", "Thursday", "Friday", "Saturday", "Sunday")
 QUARTERS = ("January to March", "April to June", "July to September", "October to December")
@@ -67,13 +147,27 @@ def _compared(change: float) -> str:
     return f"{abs(change):.0%} {'above' if change >= 0 else 'below'}"
 
 
+def _trend(facts: Facts) -> str:
+    if facts["change"] is None:
+        return "the first third has no demand"
+    return f"the mean of the last third is {_compared(facts['change'])} that of the first"
+
+
+def _shift(facts: Facts) -> str:
+    if facts["change"] is None:
+        return f"there is no demand before {facts['name']}"
+    return f"from {facts['name']} on the mean is {_compared(facts['change'])} that before"
+
+
 def _part(facts: Facts, name: str) -> str:
     """Returns when a part of a season is."""
     first, last = facts[f"{name}_first"], facts[f"{name}_last"]
-    if facts["unit"] == "place":
-        named = f"period {first}" if first == last else f"periods {first} to {last}"
-        return f"in {named} of {facts['length']}"
-    return f"on {WEEKDAYS[first - 1]}s" if facts["unit"] == "weekday" else f"from {QUARTERS[first - 1]}"
+    if facts["unit"] == "weekday":
+        return f"on {WEEKDAYS[first - 1]}s"
+    if facts["unit"] != "place":
+        return f"from {QUARTERS[first - 1]}"
+    periods = f"period {first}" if first == last else f"periods {first} to {last}"
+    return f"in {periods} of {facts['length']}"
 
 
 def _season(facts: Facts) -> str:
@@ -81,142 +175,126 @@ def _season(facts: Facts) -> str:
     return f"{facts['most']:.2g} times the mean {most}, {facts['least']:.2g} times {least}"
 
 
-FOUND: dict[str, Callable[[Facts], str]] = {
-    "trend": lambda it: "the first third has no demand" if it["change"] is None else
-    f"the mean of the last third is {_compared(it['change'])} that of the first",
-    "shift": lambda it: f"there is no demand before {it['name']}" if it["change"] is None else
-    f"from {it['name']} on the mean is {_compared(it['change'])} that before",
-    "season": _season, "weekday": _season,
-    "autocorrelation": lambda it: f"autocorrelation {it['at_1']:.2f} at lag 1" + (
-        "" if it["lag"] == 1 else f", {it['at_lag']:.2f} at lag {it['lag']}")}
-# What a warning says of each test, before the words for what was found, and what to do.
+def _autocorrelation(facts: Facts) -> str:
+    text = f"autocorrelation {facts['at_1']:.2f} at lag 1"
+    if facts["lag"] != 1:
+        text += f", {facts['at_lag']:.2f} at lag {facts['lag']}"
+    return text
+
+
+def _since(facts: Facts) -> str:
+    """Returns how a plan is made from a shift on: by the argument if the record has dates."""
+    since = facts.get("since")
+    return argument("start", since) if since else f"leave out the rows before {facts.get('name')}"
+
+
+def _unheeded(facts: Facts) -> str:
+    """Returns what was lost in a study by those who did not heed a warning."""
+    effect = f"{facts['effect']} {facts['effect_size']:+}%"
+    if facts["effect"] == "autocorrelation":
+        effect = f"autocorrelation {facts['effect_size'] / 100:g}"
+    elif facts["effect"] == "season":
+        effect = f"season of \u00b1{facts['effect_size']}% in {facts['effect_length']} periods"
+    regret, promise, level = (_percent(facts[name]) for name in ("regret", "promise", "level"))
+    side, error = "higher" if facts["level"] >= 0 else "lower", "low" if facts["promise"] < 0 else "high"
+    return (f". In a study ({STUDIED[facts['study']]}; {effect}) such a plan cost {regret} more than the best policy, "
+            f"whose S was {level} {side}, and promised a cost {promise} too {error}")
+
+
+def _percent(value: float) -> str:
+    """Returns a share in percent, below 10 with a decimal, without its sign."""
+    return f"{abs(value):.1f}%" if abs(value) < 10 else f"{abs(value):.0f}%"
+
+
+# What is found by each test, what follows from that in words, and what to do about it.
 TESTS = {
-    "trend": ("demand has a trend", "Plan from the part of the record that is like what you expect "
+    "trend": ("demand has a trend", _trend, "Plan from the part of the record that is like what you expect "
               f"({argument('start')}, or fewer rows)"),
-    "shift": ("the level of demand has changed", "If that is for good, plan from the record since then ({})"),
-    "season": ("demand has a season", "Plan each part of the season from its own periods, with levels of its own"),
-    "weekday": ("demand follows the weekdays", f"Take weeks ({argument('every', 'week')})"),
-    "autocorrelation": ("periods are not independent", "Ask what comes in runs (projects, campaigns, one customer), "
-                        "and plan that apart")}
-
-
-def _warned(name: str, facts: Facts) -> str:
-    return f"{TESTS[name][0]}: {FOUND[name](facts)} (p {facts['p']:.3f})"
+    "shift": ("the level of demand has changed", _shift,
+              "If that is for good, plan from the record since then ({since})"),
+    "season": ("demand has a season", _season,
+               "Plan each part of the season from its own periods, with levels of its own"),
+    "weekday": ("demand follows the weekdays", _season, f"Take weeks ({argument('every', 'week')})"),
+    "autocorrelation": ("periods are not independent", _autocorrelation,
+                        "Ask what comes in runs (projects, campaigns, one customer), and plan that apart")}
 
 
 def _heeded(name: str, facts: Facts) -> str:
-    """Returns the advice of a warning, with what was lost in a study by those who did not heed one."""
-    if facts["study"] is None:
-        return ("What the other warnings say may be why" if facts["beside"] else "High and low periods take turns, "
-                "so a plan from the table holds too much; ask who orders in turns")
-    since, size = facts.get("since"), facts["effect_size"]
-    advice = TESTS[name][1].format(argument("start", since) if since else
-                                   f"leave out the rows before {facts.get('name')}")
-    effect = {"autocorrelation": f"autocorrelation {size / 100:g}",
-              "season": f"season of ±{size}% in {facts['effect_length']} periods"}.get(
-                  facts["effect"], f"{facts['effect']} {size:+}%")
-    side, error = "higher" if facts["level"] >= 0 else "lower", "low" if facts["promise"] < 0 else "high"
-    regret, promise, level = (f"{abs(facts[name]):.{int(abs(facts[name]) < 10)}f}%"
-                              for name in ("regret", "promise", "level"))
-    return (f"{advice}. In a study ({STUDIED[facts['study']]}; {effect}) such a plan cost {regret} more than the best "
-            f"policy, whose S was {level} {side}, and promised a cost {promise} too {error}")
+    """Returns what to do about a warning, with what was lost in a study by those who did not heed one."""
+    if facts["study"] is not None:
+        return TESTS[name][2].format(since=_since(facts)) + _unheeded(facts)
+    if facts["beside"]:
+        return "What the other warnings say may be why"
+    return "High and low periods take turns, so a plan from the table holds too much; ask who orders in turns"
 
 
 def _largest(facts: Facts) -> str:
-    ranks = (rank for rank in range(1, 4) if f"demand_{rank}" in facts)
+    ranks = [rank for rank in range(1, 4) if f"demand_{rank}" in facts]
     return ", ".join(f"{facts[f'demand_{rank}']} in {facts[f'period_{rank}']}" for rank in ranks)
 
 
 def _effect(name: str, size: float) -> str:
-    return {"autocorrelation": f"an autocorrelation of {size:g}",
-            "trend": f"a trend from {1 - size:.0%} to {1 + size:.0%} of the mean" if size < 1 else
-            "a trend from nothing to twice the mean",
-            "season": f"a season of ±{size:.0%}", "weekday": f"a pattern of weekdays of ±{size:.0%}"}[name]
+    """Returns an effect of a size in words."""
+    match name:
+        case "autocorrelation":
+            return f"an autocorrelation of {size:g}"
+        case "trend" if size < 1:
+            return f"a trend from {1 - size:.0%} to {1 + size:.0%} of the mean"
+        case "trend":
+            return "a trend from nothing to twice the mean"
+        case "season":
+            return f"a season of \u00b1{size:.0%}"
+    return f"a pattern of weekdays of \u00b1{size:.0%}"
 
 
-def _silent(facts: Facts) -> str:
-    """Returns what silent tests would have seen."""
+def _seen_effects(facts: Facts) -> str:
+    """Returns which effects silent tests would have seen, and which they would not."""
     seen = [_effect(name, size) for name, size in facts.items() if size != math.inf]
     unseen = [_effect(name, 1.0) for name, size in facts.items() if size == math.inf]
-    lists = (f"{head} {', '.join(effects[:-1])}{' and ' * (len(effects) > 1)}{effects[-1]}"
-             for head, effects in (("the tests see", seen), ("not even", unseen)) if effects)
-    return f"no warning is no proof: in 8 of 10 such histories {', but '.join(lists)}"
+    parts = []
+    if seen:
+        parts.append(f"the tests see {listed(seen, 'and')}")
+    if unseen:
+        parts.append(f"not even {listed(unseen, 'and')}")
+    return ", but ".join(parts)
 
 
-# Facts that follow from others, by name.
-DERIVED: dict[str, Callable[[Facts], object]] = {
-    "largest": _largest, "exactness": lambda facts: exactness(facts["step"]),
-    "lacking laws": lambda facts: f"; {facts['lacking']} of the laws have no long run, and keep no promise" * bool(
-        facts["lacking"]),
-    "far": lambda facts: abs(facts["today"] - facts["mean"]),
-    "side": lambda facts: "above" if facts["today"] > facts["mean"] else "below"}
+def _untested(facts: Facts) -> str:
+    return "weekdays are" if facts["season"] == "weekday" else "a season is"
+
+
+# What follows from the facts of suggestions (theory/suggestions.py).
+def _lacking_laws(facts: Facts) -> str:
+    lacking = facts["lacking"]
+    return f"; {lacking} of the laws have no long run, and keep no promise" if lacking else ""
+
+
+def _side(facts: Facts) -> str:
+    return "above" if facts["today"] > facts["mean"] else "below"
+
+
+# What follows from facts, by its name in the tables of words.
+DERIVED: dict[str, Derive] = {
+    "owner of the law": _owner, "allowed fill": _allowed_fill, "how it is known": _how_known,
+    "periods with demand": lambda facts: counted(facts["demands"], "period"), "reason of no interval": _no_interval,
+    "what is not reached": _not_reached, "most items": lambda facts: f"{MOST_ITEMS:,}", "sources": _sources,
+    "for a reason": _reason, "and classes": _and_classes, "in rows": _in_rows, "moves": _moved,
+    "policy today": _policy_today, "largest": _largest, "seen effects": _seen_effects, "what is untested": _untested,
+    "exactness": lambda facts: exactness(facts["step"]), "lacking laws": _lacking_laws,
+    "far": lambda facts: abs(facts["today"] - facts["mean"]), "side": _side,
+    **{f"found {name}": found for name, (_, found, advice) in TESTS.items()}}
 
 
 class _Known(dict[str, Any]):
-    """Facts, and those that follow from them."""
+    """Facts, and those that follow from them: also `counted things` of the number `things`."""
 
     def __missing__(self, name: str) -> object:
-        return DERIVED[name](self)
-
-
-def _moved(facts: Facts) -> str:
-    """Returns how values have changed whose names stand before `before` and `after`."""
-    def spelt(value: object) -> str:
-        return f"{value:g}" if isinstance(value, float) else "none" if value in (None, "") else str(value)
-    names = [name.removesuffix(" after") for name in facts if name.endswith(" after")]
-    return ", ".join(f"{name} {spelt(facts[f'{name} before'])} to {spelt(facts[f'{name} after'])}" for name in names)
-
-
-# What is said of a code, and what to do about it.
-WORDS: dict[str, tuple[Say, Say]] = {
-    **_templates("words.toml"), **_templates("record_words.toml"), "several": (_several(0), _several(1)),
-    # Of the answer to an item (plan/one.py).
-    "new": (lambda it: f"new, with {counted(it['periods'], 'period')}: its law is that of "
-            + ("all items" if it["prior"] == "all" else f"class {it['prior']}")
-            + (f"; by 80% of the laws that this allows it meets {it['low']:.1%} to {it['high']:.1%} of demand at once"
-               if it["low"] is not None else ""), ""),
-    "few demands": (lambda it: f"demand in {counted(it['demands'], 'period')} alone, so its law is " + (
-        "nearly that of the catalogue" if it["learned"] else "hardly known"), ""),
-    "no interval": (lambda it: "the run has no interval: " + (
-        "the difference is the same in all replications" if it["orders"] >= 2 else
-        "the rarer policy places fewer than 2 orders in all replications"), ""),
-    "no policy": (lambda it: "no policy " + (
-        "is best" if it["fill"] is None else f"meets {it['fill']:g} of demand at once") + (
-        f" within s and S up to {MOST_ITEMS:,}"), "count in larger units"),
-    # Of what masters need not say (records/defaults.py).
-    "taken from": (lambda it: f"{it['role']}: " + ", ".join(
-        f"{counted(it[source], 'item')} by {words}" for source, words in (
-            ("masters", "the masters"), ("class", "the class"), ("orders", "receipts of orders"),
-            ("default", "the default")) if it[source]), ""),
-    "leads of receipts": (lambda it: "no column is the lead, so lead times are those of receipts of orders: of "
-                          + counted(it["items"], "item"), ""),
-    # Of what a catalogue has learned (plan/catalogue.py).
-    "own laws": (lambda it: "each item has the law of its own history" + f" ({it['reason']})" * bool(it["reason"]), ""),
-    "learned": (lambda it: f"laws of demand were learned from {counted(it['items'], 'item')}"
-                + f" and {it['classes']:,} classes" * bool(it["classes"]), ""),
-    # Of what may have moved the policy of an item since an earlier plan (plan/changes.py, plan/after.py).
-    "new rows": (lambda it: f"{counted(it['periods'], 'new period')} with {counted(it['items'], 'item')}"
-                 + (f" in {counted(it['rows'], 'row')}" if it["rows"] is not None else ""), ""),
-    "other master": (_moved, ""),
-    "other settings": (lambda it: f"settings: {_moved(it)}", ""),
-    "other policy today": (lambda it: "no policy is in use today" if it["s"] is None else
-                           f"today's policy is ({it['s']}, {it['S']})"
-                           + ", that of the earlier plan" * bool(it["earlier"]), ""),
-    # Of a history (demand/checks.py).
-    **{f"found {name}": (found, "") for name, found in FOUND.items()},
-    **{name: (partial(_warned, name), partial(_heeded, name)) for name in TESTS},
-    "silent tests": (_silent, ""),
-    "season untested": (lambda it: f"{'weekdays are' if it['season'] == 'weekday' else 'a season is'} tested from "
-                        f"{it['periods']} {it['unit']}s on", "")}
-
-
-def _said(say: Say, facts: Facts) -> str:
-    return say.format_map(_Known(facts)) if isinstance(say, str) else say(facts)
-
-
-def sentence(remark: Remark) -> str:
-    """Returns what is said of a remark, without a full stop."""
-    return worded(_said(WORDS[remark.code][0], remark.facts))
+        if name in DERIVED:
+            return DERIVED[name](self)
+        things = name.removeprefix("counted ")
+        if things == name:
+            raise KeyError(name)
+        return counted(self[things.rpartition(" ")[2]], things.removesuffix("s"))
 
 
 class _Blank(str):
@@ -229,12 +307,46 @@ class _Blank(str):
         return "\u2026"
 
 
+class _Blanked(dict[str, Any]):
+    """Blanks in place of facts, and what follows from the facts themselves."""
+
+    def __init__(self, facts: Facts) -> None:
+        super().__init__(dict.fromkeys(facts, _Blank()))
+        self.known = _Known(facts)
+
+    def __missing__(self, name: str) -> object:
+        return self.known[name]
+
+
+# What is said of a code, and what to do about it.
+WORDS: dict[str, tuple[Say, Say]] = {
+    **_templates("words.toml"), **_templates("record_words.toml"), "several": (_several(0), _several(1))}
+for _name in TESTS:
+    _title, _found = TESTS[_name][0], f"{{found {_name}}}"
+    WORDS[f"found {_name}"] = _found, ""
+    WORDS[_name] = f"{_title}: {_found} (p {{p:.3f}})", partial(_heeded, _name)
+
+
+def _said(say: Say, facts: Facts) -> str:
+    if isinstance(say, str):
+        return say.format_map(_Known(facts))
+    return say(facts)
+
+
+def sentence(remark: Remark) -> str:
+    """Returns what is said of a remark, without a full stop."""
+    return worded(_said(WORDS[remark.code][0], remark.facts))
+
+
 def pattern(remark: Remark) -> str:
     """Returns what is said of all remarks with this code: facts are left out. Words that a function makes, or that are
     a fact alone, are those of this remark."""
     say = WORDS[remark.code][0]
-    text = worded(say.format_map(defaultdict(_Blank))) if isinstance(say, str) else ""
-    return text if any(map(str.isalpha, text)) else sentence(remark)
+    if isinstance(say, str):
+        text = worded(say.format_map(_Blanked(remark.facts)))
+        if any(map(str.isalpha, text)):
+            return text
+    return sentence(remark)
 
 
 def advice(remark: Remark) -> str:
@@ -244,7 +356,8 @@ def advice(remark: Remark) -> str:
 
 def message(remark: Remark, sign: str = "; ") -> str:
     """Returns what is said of a remark, and what to do about it, before arguments are spelt."""
-    return sign.join(filter(None, (_said(say, remark.facts) for say in WORDS[remark.code])))
+    what, advice = WORDS[remark.code]
+    return sign.join(filter(None, [_said(what, remark.facts), _said(advice, remark.facts)]))
 
 
 def advised(remark: Remark) -> str:

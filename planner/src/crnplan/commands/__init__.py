@@ -25,7 +25,7 @@ from .. import __version__
 from ..errors import CrnplanError, Failed, Refused, escaped, spelt, worded
 from ..files import faults_of
 from ..interrupts import heed_interrupt, heeding_interrupts
-from ..options import DECLARED, Option, option
+from ..options import Option, declared, option
 
 # The threads of linear algebra gain nothing here. Beside other work they wait for one another, busily.
 for _threads in ("OMP_NUM_THREADS", "OPENBLAS_NUM_THREADS"):
@@ -43,7 +43,7 @@ def options_of(command: str) -> list[Option]:
     for name in COMMANDS[command]["options"]:
         place = name
         if "." not in name:
-            table = command if name in DECLARED.get(command, ()) else "common"
+            table = command if name in declared().get(command, ()) else "common"
             place = f"{table}.{name}"
         options.append(option(place))
     return options

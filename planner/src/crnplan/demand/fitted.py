@@ -162,7 +162,7 @@ def numbers_of(observed: Observed | Iterable[Any], what: str,
         reasons = [wrong(number, most) for number in numbers]
         places = observed.places if isinstance(observed, Observed) else (
             Fault(f"column {what!r}: entry {place}, {number},") for place, number in enumerate(numbers, 1))
-        faults = [replace(place, what=f"{place.what} {reason}") for place, reason in zip(places, reasons)
+        faults = [replace(place, said=f"{place.what} {reason}") for place, reason in zip(places, reasons)
                   if place and reason]
         if faults:
             raise RefusedFiles(faults)

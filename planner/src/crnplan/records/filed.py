@@ -13,7 +13,6 @@ from typing import TYPE_CHECKING, NamedTuple
 from ..errors import Fault, RefusedFaults
 from ..jobs import Workers
 from ..remarks import Remark, Value, joined
-from ..words import message
 from .amounts import AmountReader
 from .blocks import (DATES, Filed, Piece, Range, RangeRead, Seen, Sizes, closed_ranges, ranges_of, read_blocks, read_range,
                      write_block)
@@ -63,12 +62,12 @@ class FiledTable:
     def add_ranges(self, ranges: Iterable[RangeRead], before: int) -> None:
         """Adds the ranges of a file of the table. Raises RefusedFaults for the first one that has faults."""
         lines = 0
-        for its in ranges:
-            if its.faults:
-                raise RefusedFaults([replace(fault, line=lines + fault.line) for fault in its.faults])
-            for block in its.blocks:
+        for part in ranges:
+            if part.faults:
+                raise RefusedFaults([replace(fault, line=lines + fault.line) for fault in part.faults])
+            for block in part.blocks:
                 self.add(before + lines, block)
-            lines += its.lines
+            lines += part.lines
 
     def counts(self, role: str) -> Iterator[tuple[Cell, int]]:
         """Yields each value of a column that good rows have, and how many have it; nothing if there is no column."""
@@ -76,7 +75,7 @@ class FiledTable:
 
     def pieces(self, part: int) -> list[Piece]:
         """Returns where the rows of a part are."""
-        return [Piece(before, its.path, its.places[part]) for before, its in self.blocks if part in its.places]
+        return [Piece(before, block.path, block.places[part]) for before, block in self.blocks if part in block.places]
 
 
 class _Ranges(NamedTuple):
@@ -86,8 +85,8 @@ class _Ranges(NamedTuple):
     ranges: list[Range]
     words: tuple[Sizes, Path, int]
 
-    def read(self, its: Range) -> RangeRead:
-        return read_range(self.sheet, its, *self.words)
+    def read(self, part: Range) -> RangeRead:
+        return read_range(self.sheet, part, *self.words)
 
 
 @dataclass(frozen=True)
@@ -107,20 +106,24 @@ def read_tables(sheets: Mapping[str, Sheet], workers: Workers, room: Path, parts
                 sizes: Sizes) -> dict[str, FiledTable]:
     """Reads all tables into files of a folder, by part of the items. Workers read ranges of files. Raises
     RefusedFaults."""
-    ranges = {(kind, place): _Ranges(file, [*ranges_of(file, sizes.range)], (
-        sizes.of(sheet), room / f"{kind}-{place}", parts)) for kind, sheet in sheets.items()
-        for place, file in enumerate(sheet.files) if isinstance(file, TextSheet)}
-    found = dict(workers.answers(read_range, (((*key, its), (of.sheet, its, *of.words))
-                                              for key, of in ranges.items() for its in of.ranges)))
+    files = [(kind, place, file) for kind, sheet in sheets.items() for place, file in enumerate(sheet.files)]
+    ranges: dict[tuple[str, int], _Ranges] = {}
+    for kind, place, file in files:
+        if isinstance(file, TextSheet):
+            words = sizes.of(sheets[kind]), room / f"{kind}-{place}", parts
+            ranges[kind, place] = _Ranges(file, [*ranges_of(file, sizes.range)], words)
+    asked = (((*key, part), (texts.sheet, part, *texts.words)) for key, texts in ranges.items() for part in texts.ranges)
+    read = dict(workers.answers(read_range, asked))
     tables = {kind: FiledTable(sheet) for kind, sheet in sheets.items()}
-    for kind, place, file in ((kind, *its) for kind, sheet in sheets.items() for its in enumerate(sheet.files)):
+    for kind, place, file in files:
+        table, before, texts = tables[kind], place << FILE_BITS, ranges.get((kind, place))
         with file.unchanged():
-            if of := ranges.get((kind, place)):
-                read = [found[kind, place, its] for its in of.ranges]
-                tables[kind].add_ranges(closed_ranges(of.ranges, read, of.read), place << FILE_BITS)
+            if texts:
+                parts_read = [read[kind, place, part] for part in texts.ranges]
+                table.add_ranges(closed_ranges(texts.ranges, parts_read, texts.read), before)
                 continue
             for number, block in enumerate(read_blocks(file, file.rows())):
-                tables[kind].add(place << FILE_BITS, write_block(block, room / f"{kind}-{place}-{number}", parts))
+                table.add(before, write_block(block, room / f"{kind}-{place}-{number}", parts))
     return tables
 
 
@@ -133,7 +136,7 @@ def date_reader(table: FiledTable) -> DateReader:
         reader.look(cell for cell, _ in table.counts(role))
     doubt = reader.doubt()
     if doubt:
-        raise RefusedFaults([Fault(message(doubt), table.sheet.name)])
+        raise RefusedFaults([Fault(doubt, table.sheet.name)])
     return reader
 
 
@@ -148,12 +151,49 @@ def check_readable(table: FiledTable, reader: DateReader) -> None:
         reader.read(dates[0][0])
     except Unreadable as why:
         wrong = joined([Remark("no readable date", facts), why.remark])
-    items = [cells[columns["item"].place] for _, cells in sheet.first_rows if columns["item"].place < len(cells)]
+    column = columns["item"]
+    items = [cells[column.place] for _, cells in sheet.first_rows if column.place < len(cells)]
     of_items = DateReader(reader.patterns, reader.every).look(items)
     if items and all(map(of_items.is_date, items)):
-        wrong = Remark("swapped columns", {**facts, "text": text_of(dates[0][0]), "item": items[0], "kind": "demand",
-                                           "other": columns["item"].name})
-    raise RefusedFaults([Fault(message(wrong), sheet.name)])
+        facts |= {"text": text_of(dates[0][0]), "item": items[0], "kind": "demand", "other": column.name}
+        wrong = Remark("swapped columns", facts)
+    raise RefusedFaults([Fault(wrong, sheet.name)])
+
+
+def currencies_of(table: FiledTable, stated: str) -> dict[str, str]:
+    """Returns the currencies of the masters, each with its text: the stated one, those of cells, and those of columns."""
+    currencies = {stated: stated}
+    for cell, _ in table.counts("currency"):
+        with contextlib.suppress(Unreadable):
+            currencies.setdefault(currency_in(cell), text_of(cell))
+    currencies.pop("", None)
+    for column in table.sheet.columns.values():
+        if column.currency:
+            currencies.setdefault(column.currency, column.name)
+    return currencies
+
+
+def amount_readers(tables: Mapping[str, FiledTable], currencies: dict[str, str]) -> dict[str, AmountReader]:
+    """Returns what reads the amounts of each column, after a look at all of them."""
+    readers = {}
+    for kind, table in tables.items():
+        for role in AMOUNTS[kind]:
+            known = currencies if role in MONEY else None
+            counts = counts_items(role, table.sheet.columns.get(role))
+            reader = AmountReader(table.sheet.rules.decimal_of(role), known, counts)
+            reader.look(cell for cell, _ in table.counts(role))
+            readers[role] = reader
+    return readers
+
+
+def time_readers(table: FiledTable) -> dict[str, TimeReader]:
+    """Returns what reads the times of each column of the masters, after a look at all of them."""
+    readers = {}
+    for role in SPANS:
+        reader = TimeReader(table.sheet.rules.decimal_of(role))
+        reader.look(cell for cell, _ in table.counts(role))
+        readers[role] = reader
+    return readers
 
 
 @dataclass(frozen=True)
@@ -175,24 +215,9 @@ class Whole:
         """Looks at all tables. Raises Refused if the record has no day, or too many, and RefusedFaults if dates can't be
         read."""
         dates = {kind: date_reader(table) for kind, table in tables.items()}
-        currencies = {words.defaults.currency: words.defaults.currency}
-        for cell, _ in tables["items"].counts("currency"):
-            with contextlib.suppress(Unreadable):
-                currencies.setdefault(currency_in(cell), text_of(cell))
-        currencies.pop("", None)
-        for column in tables["items"].sheet.columns.values():
-            if column.currency:
-                currencies.setdefault(column.currency, column.name)
-        amounts, times = dict[str, AmountReader](), {
-            role: TimeReader(tables["items"].sheet.rules.decimal_of(role)) for role in SPANS}
-        for kind, table in tables.items():
-            rules = table.sheet.rules
-            for role in AMOUNTS[kind]:
-                amounts[role] = AmountReader(rules.decimal_of(role), currencies if role in MONEY else None,
-                                             counts_items(role, table.sheet.columns.get(role)))
-                amounts[role].look(cell for cell, _ in table.counts(role))
-        for role, reader in times.items():
-            reader.look(cell for cell, _ in tables["items"].counts(role))
+        currencies = currencies_of(tables["items"], words.defaults.currency)
+        amounts = amount_readers(tables, currencies)
+        times = time_readers(tables["items"])
         days = Counter[Day]()
         for cell, count in tables["demand"].counts("date"):
             with contextlib.suppress(Unreadable):
