@@ -19,7 +19,7 @@ from .times import TimeReader
 Value = TypeVar("Value")
 ABC = (80, 95)
 # What is done with rows that stand twice, and with items with far amounts.
-TAKEN = KEEP, LEAVE_OUT = "keep", "leave-out"
+KEEP, LEAVE_OUT = "keep", "leave-out"
 MOST_CLASSES = 10  # that are named
 SOURCES = MASTERS, CLASS, ORDERS, DEFAULT = "masters", "class", "orders", "default"  # where a value is from
 # The currencies that an ambiguous sign may stand for.
