@@ -56,7 +56,7 @@ class LongRuns:
     """The long-run costs of all policies of a demand law under all settings, per unit of holding cost.
 
     With one lead time L, the stock at the end of a period is the position L periods earlier less the demand of L + 1
-    periods: the formulas of `crnplan.theory.one_lead`, for all settings at once.
+    periods: the formulas of `crnplan.theory.long_run`, for all settings at once.
     """
 
     def __init__(self, chances: Floats, gaps: int, levels: int) -> None:

@@ -15,8 +15,7 @@ from crnplan.curve.every_gap import GAIN, best_policies, searched_policies
 from crnplan.scenario import Costs, Scenario
 from crnplan.theory.feasible import ALL, Feasible
 from crnplan.theory.lattice import shape_of, theory_on
-from crnplan.theory.long_run import STOCK_LEFT, UNMET, LongRun, Means
-from crnplan.theory.one_lead import OneLead
+from crnplan.theory.long_run import STOCK_LEFT, UNMET, LongRun
 from planner.tests.conftest import leave_as_written
 from planner.tests.theory.long_run_costs import fills_of, shortfall_of
 from planner.tests.theory.scenarios import Pair, means_by_level, scenario_of
@@ -29,15 +28,13 @@ LUMPY, SMOOTH = ((0, 1, 7), (5, 4, 1)), ((1, 2, 3, 4), (1, 2, 2, 1))
 BOUNDS = (ALL, Feasible(5, 3, 40), Feasible(0, 0, multiple=4), Feasible(9, 30, 70, 5))
 
 
-def theory_by(demand: tuple[tuple[int, ...], tuple[int, ...]], step: int, feasible: Feasible) -> OneLead:
+def theory_by(demand: tuple[tuple[int, ...], tuple[int, ...]], step: int, feasible: Feasible) -> LongRun:
     """Returns the theory of a scenario on a lattice of some step."""
     scenario = scenario_of(demand, ((2,), (1,)), costs=Costs(30, 0, 1, 9))
-    theory = theory_on(scenario, shape_of(scenario), step, step == 1, feasible)
-    assert isinstance(theory, OneLead)
-    return theory
+    return theory_on(scenario, shape_of(scenario), step, step == 1, feasible)
 
 
-def pairs_of(theory: OneLead) -> Iterator[tuple[int, int]]:
+def pairs_of(theory: LongRun) -> Iterator[tuple[int, int]]:
     """Yields the gaps and levels, in items, of all policies that may be best."""
     for gap in theory.gaps(0, theory.most):
         least = theory.items(gap) + theory.feasible.least
@@ -47,7 +44,7 @@ def pairs_of(theory: OneLead) -> Iterator[tuple[int, int]]:
         yield gap, least
 
 
-def figures_at(theory: OneLead, gap: int, level: int) -> Floats:
+def figures_at(theory: LongRun, gap: int, level: int) -> Floats:
     """Returns stock, unmet demand and orders of a policy: sums over the lows, between two cells a mean."""
     lows, step = theory.lows_of(gap), theory.step
     cell, rest = divmod(level, step)
@@ -182,7 +179,8 @@ def figures_by_level(demand: Pair, back: Pair | None, step: int, gap: int) -> Fl
     if the lattice is exact."""
     theory, scenario = late_theory(demand, back, step)
     if not theory.exact:
-        stock, unmet = means_by_level(Means(theory, np.array([gap])), STOCK_LEFT, UNMET)[:, 0]
+        count = max(int(theory.floor(gap)), gap + theory.beside + theory.after.high) + 2
+        stock, unmet = means_by_level(theory, gap, count)[[STOCK_LEFT, UNMET]]
         return np.array([stock, unmet, np.full(len(stock), 1 / theory.periods(gap))])
     short, levels = shortfall_of(scenario, gap), np.arange(110)
     stock = np.maximum(levels[:, None] - short.least - np.arange(len(short.chances)), 0) @ short.chances

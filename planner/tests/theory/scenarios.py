@@ -10,7 +10,7 @@ from crnplan.chances import Floats
 from crnplan.law import Law
 from crnplan.scenario import Costs, Policy, Scenario
 from crnplan.theory.lattice import theories_of
-from crnplan.theory.long_run import LongRun, Means
+from crnplan.theory.long_run import LongRun
 
 # Values and their weights.
 Pair = tuple[Sequence[int], Sequence[int]]
@@ -50,8 +50,10 @@ def theory_of(scenario: Scenario) -> LongRun:
     return theory
 
 
-def means_by_level(means: Means, *figures: int) -> Floats:
-    """Returns a table of means of some figures: a row for each gap, with each level from 0 on up to the one below the
-    top."""
-    levels = [means.at(np.full(len(means.gaps), level), slice(0, 4))[[*figures]] for level in range(means.top)]
-    return np.moveaxis(levels, 0, 2)
+def means_by_level(theory: LongRun, gap: int, count: int) -> Floats:
+    """Returns the means over the lows of a gap of the rows of `figures_from`, with each level from 0 on, in cells."""
+    lows, = theory.lows_below([gap])
+    below = np.arange(len(lows)) - theory.above
+    levels = theory.step * (np.arange(count)[:, None] - below)
+    figures = theory.figures_from(levels.ravel()).reshape(4, *levels.shape)
+    return np.asarray(figures @ lows)

@@ -1,7 +1,6 @@
 """Tests figures with a Markov chain, published optima and a second theory, lattices, and scenarios without a theory."""
 from __future__ import annotations
 
-import itertools
 import math
 
 import numpy as np
@@ -11,8 +10,7 @@ from hypothesis import given, settings, strategies as st
 from crnplan.scenario import Costs, Scenario
 from crnplan.theory.grid import gap_grid
 from crnplan.theory.lattice import NoTheory, shape_of, theories_of, theory_on
-from crnplan.theory.long_run import FEW, LongRun, Means
-from crnplan.theory.one_lead import OneLead
+from crnplan.theory.long_run import FEW, LongRun
 from planner.tests.theory.chain import by_chain
 from planner.tests.theory.long_run_costs import cost_of, shortfall_of
 from planner.tests.theory.scenarios import PUBLISHED, Pair, laws, scenario_of, table, theory_of
@@ -23,7 +21,6 @@ CHAINS = [(([0, 1, 3], [3, 2, 1]), ([1], [1]), None, (2, 5)), (([0, 2], [1, 1]),
           (([0, 3], [2, 1]), ([1, 2, 4], [1, 1, 1]), None, (2, 5)),
           (([1, 3], [1, 1]), ([1, 2], [1, 1]), ([0, 1], [2, 1]), (3, 5)),
           (([0, 3], [1, 1]), ([2], [1]), ([0, 1, 2], [4, 2, 1]), (3, 5))]
-DEMANDS, GAPS = (range(21), [1 + it % 5 for it in range(21)]), [0, 1, 7, 30]
 # A grid of gaps finds a first policy whose S costs more than that policy does.
 STEEP = [scenario_of(([6, 7], [5, 9]), costs=Costs(500, 0, 3, 10000)),
          scenario_of(([28, 32], [2, 1]), ([2], [1]), costs=Costs(5000, 0, 3, 10000))]
@@ -64,14 +61,14 @@ def test_halves_of_a_mean_position() -> None:
 def test_a_published_optimum(mean: int, point: int, level: int, cost: str) -> None:
     weights = [round(1e15 * math.exp(value * math.log(mean) - mean - math.lgamma(value + 1))) for value in range(100)]
     scenario = scenario_of((range(100), weights), ([0], [1]), costs=Costs(64, 0, 1, 9))
-    best = OneLead(scenario, 1, True, 150).best()
+    best = LongRun(scenario, 1, True, 150).best()
     assert (f"{best.cost:.3f}", best.point - 1, best.level) == (cost, point, level)
 
 
 @pytest.mark.parametrize("scenario", STEEP, ids=["lead time 1", "lead time 2"])
 def test_the_best_if_the_first_found_has_a_high_level(scenario: Scenario) -> None:
     theory = theory_of(scenario)
-    assert isinstance(theory, OneLead)
+    assert theory.has_one_lead
     first, best = theory.cheapest_of_gaps(gap_grid(theory.most)[::FEW], 0.0), theory.best()
     assert theory.figures_from(np.array([first.level]))[0, 0] > first.cost
     gap = best.level - best.point
@@ -80,26 +77,6 @@ def test_the_best_if_the_first_found_has_a_high_level(scenario: Scenario) -> Non
     least = min(cost_of(scenario, it, level) for it in shorts.values() for level in levels)
     assert best.cost == pytest.approx(least, abs=1e-6)
     assert cost_of(scenario, shorts[gap], best.level) == pytest.approx(least, abs=1e-6)
-
-
-@pytest.fixture(ids=str, params=[*itertools.product([1, 3], [None, ([0, 1, 2], [4, 2, 1])],
-                                                    [([2], [1]), ([2, 3, 5], [1, 2, 1])])])
-def theory(request: pytest.FixtureRequest) -> LongRun:
-    """Returns a theory in steps of so many items, with or without returns, with one lead time or several."""
-    step, back, lead = request.param
-    scenario = scenario_of(DEMANDS, lead, back, Costs(90, 0, 1, 9))
-    return theory_on(scenario, shape_of(scenario), step, step == 1)
-
-
-def test_means(theory: LongRun) -> None:
-    """Each mean is that of one gap alone. With the level below the top nothing is ever owed."""
-    means = Means(theory, np.array(GAPS))
-    for levels in ([0, means.top // 2, 3, means.top], [1, means.top, means.top - 1, 0]):
-        for column, gap, level in zip(means.at(np.array(levels), slice(0, 4)).T, GAPS, levels):
-            its = theory.figures_of_gap(gap, theory.step * level)
-            wanted = [its.cost - theory.setup * its.orders, (1 - its.fill) * theory.asked, 1 - its.short, its.stock]
-            assert column == pytest.approx(wanted, abs=1e-9)
-    assert theory.figures_of_gap(GAPS[-1], theory.step * (means.top - 1)).short == pytest.approx(0, abs=1e-12)
 
 
 DEMAND = list(range(61)), [1 + value % 7 for value in range(61)]

@@ -9,7 +9,8 @@ from hypothesis import example, given, settings, strategies as st
 
 from crnplan.decide.sensitivity import Case, move_of
 from crnplan.scenario import Costs, Scenario
-from crnplan.theory import feasible, least, one_lead
+from crnplan.theory import feasible as bounds, levels, long_run
+from crnplan.theory.feasible import ALL, Feasible
 from crnplan.theory.grid import search
 from crnplan.theory.lattice import NoTheory, shape_of, theory_on
 from crnplan.theory.long_run import NO_POLICY, Candidate
@@ -17,7 +18,7 @@ from crnplan.theory.many_laws import Promises
 from crnplan.theory.suggestions import MOST_EXCESS
 from planner.tests.conftest import leave_as_written
 from planner.tests.theory.long_run_costs import costs_of, fills_of, shortfall_of
-from planner.tests.theory.scenarios import Pair, laws, scenario_of, table, theory_of
+from planner.tests.theory.scenarios import Pair, laws, means_by_level, scenario_of, table, theory_of
 
 SHARES = (0.5, 0.9, 0.95, 0.98, 0.995)
 
@@ -137,43 +138,48 @@ def test_the_greatest_level(share: float) -> None:
 
 def test_no_policy_within_the_range(monkeypatch: pytest.MonkeyPatch) -> None:
     """Finds no policy if each period asks for 5 items, orders take 2 periods, and S is at most 14."""
-    monkeypatch.setattr(feasible, "MOST_ITEMS", 14)
+    monkeypatch.setattr(bounds, "MOST_ITEMS", 14)
     scenario = scenario_of(([5], [1]), ([2], [1]))
     theory = theory_of(scenario)
     assert theory.best(0.98) == NO_POLICY
-    assert isinstance(theory, one_lead.OneLead) and theory.best_with_level(14, 0.98) == NO_POLICY
+    assert theory.cheapest_of_gaps([0, 3], 0.98) == NO_POLICY
     assert Promises(scenario, theory, 0, [scenario.demand], [], [0.98]).cheapest(NO_POLICY, 0.98) == NO_POLICY
     with pytest.raises(NoTheory, match="no best policy within the ranges of s and S"):
         move_of(Case("as it is", scenario, None), (0, 5))
 
 
 @pytest.mark.parametrize("is_compiled", [True, False])
+@pytest.mark.parametrize("lead, back", [([5], None), ([1, 4], None), ([1, 2], ([0, 1], [3, 1]))],
+                         ids=["one lead time", "two", "returns"])
+@pytest.mark.parametrize("step, most_walked, feasible", [
+    (1, 1000, ALL), (1, 30, ALL), (3, 1000, ALL), (3, 30, ALL), (1, 1000, Feasible(0, 3, 60, 4)),
+    (3, 1000, Feasible(0, 26, 70, 6))], ids=str)
 @pytest.mark.parametrize("share", [0.0, 0.95])
-@pytest.mark.parametrize("step, even", [(1, 99), (1, 40), (3, 99), (3, 40)])
-def test_each_gap_beside_all_its_levels(step: int, even: int, share: float, is_compiled: bool,
-                                        monkeypatch: pytest.MonkeyPatch) -> None:
-    """Of each gap that is looked at the level is the cheapest one that is enough, and no other gap costs less: also with
-    equal lows from some place on, as the loop is compiled and as it is written."""
-    scenario = scenario_of(((1, 2, 3), (1, 2, 1)), ((5,), (1,)), costs=Costs(900, 0, 1, 9))
-    theory = theory_on(scenario, shape_of(scenario), step, step == 1)
-    lows, gaps, last = theory.lows_of(80), np.arange(8, 81), 120
-    table, leasts = theory.figures_from(step * np.arange(-2, last + 1)), step * gaps + 26 * (gaps >= 35 // step)
-    allowed, cycle, expected = theory.allowed(share) if share else math.inf, theory.setup / theory.span, []
-    for gap, lowest in zip(gaps.tolist(), leasts.tolist()):
-        sums, cells = [table[:2, it - gap + 2:it + 3] @ lows[gap::-1] for it in range(gap, last + 1)], range(gap, last + 1)
-        levels = np.arange(lowest, step * last + 1)
-        costs, unmet = (np.interp(levels, step * np.array(cells), its) / lows[:gap + 1].sum() for its in zip(*sums))
-        costs[unmet > allowed * (1 + 1e-12)] = math.inf
-        place = int(np.argmin(costs))
-        expected.append((levels[place], cycle / lows[:gap + 1].sum() + costs[place]))
-    added = [np.convolve(lows[:even] - lows[-1], row)[:len(row)] for row in table[:3]]
-    words = (gaps, leasts, lows, table, np.concatenate([added, np.cumsum(table[:3], axis=1)]), even, step, step * last,
-             cycle, 0.0, 0.0, allowed, theory.ratio, math.inf)
+def test_each_gap_beside_all_its_levels(
+        step: int, most_walked: int, feasible: Feasible, share: float, lead: list[int], back: Pair | None,
+        is_compiled: bool, monkeypatch: pytest.MonkeyPatch) -> None:
+    """Of each gap that is looked at the level is the cheapest feasible one that is enough, and no other gap costs less:
+    also with equal lows from some place on, as the loop is compiled and as it is written."""
+    scenario = scenario_of(((1, 2, 3), (1, 2, 1)), (lead, [1] * len(lead)), back, Costs(900, 0, 1, 9))
+    theory = theory_on(scenario, shape_of(scenario), step, step == 1, feasible)
+    gaps, cells = theory.every_gap(0, 60), 121
+    expected = []
+    for gap in gaps.tolist():
+        cost, unmet, *_ = means_by_level(theory, gap, cells)
+        items = np.arange(theory.items(gap) + feasible.least, min(step * (cells - 1), feasible.top) + 1)
+        items = items[feasible.up(items) == items]
+        costs, lacking = (np.interp(items, step * np.arange(cells), row) for row in (cost, unmet))
+        costs[lacking > theory.allowed(share) * (1 + 1e-9)] = math.inf
+        expected.append((items[np.argmin(costs)], theory.setup / theory.periods(gap) + costs.min())
+                        if costs.min(initial=math.inf) < math.inf else (-1, math.inf))
     if not is_compiled:
-        leave_as_written(monkeypatch, least)
-    rows = least.gaps_walked(*words)
-    for gap, level, cost in rows.tolist():
-        assert (level, pytest.approx(cost, rel=1e-12)) == expected[int(gap) - 8]
-    best = min(cost for _, cost in expected)
-    assert 20 < len(rows) < len(gaps) and rows[:, 2].min() == pytest.approx(best, rel=1e-12)
-    assert not len(least.gaps_walked(*words[:12], 2.0, math.inf))  # No level has a chance of 2 to owe nothing.
+        leave_as_written(monkeypatch, levels)
+        monkeypatch.setattr(long_run, "walked", levels.walked)
+    monkeypatch.setattr(long_run, "MOST_WALKED", most_walked)
+    found = [theory.levels_of(gaps, share), theory.levels_of(gaps, share, known=min(expected, key=lambda it: it[1])[1])]
+    for looked in found:
+        for pair, wanted in zip(zip(*looked), expected):
+            assert pair[1] == math.inf or pair == (wanted[0], pytest.approx(wanted[1], rel=1e-9))
+        assert looked[1].min() == pytest.approx(min(cost for _, cost in expected), rel=1e-9)
+    if feasible == ALL:
+        assert np.isfinite(found[1][1]).sum() < 0.9 * len(gaps)

@@ -5,9 +5,8 @@ import numpy as np
 import pytest
 
 from crnplan.scenario import Costs
-from crnplan.theory import least, long_run, shortfalls
-from crnplan.theory.least import least_enough, sums_from
-from crnplan.theory.long_run import UNMET, Means
+from crnplan.theory import shortfalls
+from crnplan.theory.lattice import shape_of, theory_on
 from crnplan.theory.shortfalls import FAR
 from planner.tests.conftest import leave_as_written
 from planner.tests.theory.long_run_costs import costs_of, fills_of, shortfall_of
@@ -47,35 +46,26 @@ def test_stocks_are_those_of_a_chain(back: Pair | None, leads: list[int]) -> Non
             assert row.sum() * wanted.orders == pytest.approx(1)
 
 
-@pytest.mark.parametrize("way", ["__call__", "__wrapped__"])
 @pytest.mark.parametrize("leads", [[2], [1, 4]], ids=["one lead time", "two"])
-@pytest.mark.parametrize("share", [0.0, 0.6, 0.99])
-def test_least_levels_that_are_enough(way: str, leads: list[int], share: float) -> None:
-    """They are the first ones in a table of all levels, from the floor on."""
-    theory = theory_of(scenario_of(([0, 1, 3], [3, 2, 1]), (leads, [1] * len(leads))))
-    means, allowed = Means(theory, np.array([0, 1, 2, 9, 25])), theory.allowed(share)
-    tables = means_by_level(means, UNMET, 2)
-    enough = (tables[0] <= allowed + 1e-9) & (tables[1] >= theory.ratio - 1e-9)
-    for floors in ([0, 0, 0, 0, 0], [3, 2, means.top - 3, 9, 0], [means.top] * 5):
-        found = getattr(least_enough, way)(means.turned[1:3], means.chances, np.array(floors), np.full(5, means.top),
-                                           np.full(5, allowed), theory.ratio)
-        wanted = [next((it for it in range(floor, means.top) if row[it]), means.top)
-                  for floor, row in zip(floors, enough)]
-        assert found.tolist() == wanted
-    levels = np.array([0, 3, 1, means.top - 1, 9])
-    unmet, held = getattr(sums_from, way)(means.turned[1:3], means.chances, means.top - levels)
-    assert unmet == pytest.approx(tables[0][range(5), levels]) and held == pytest.approx(tables[1][range(5), levels])
+@pytest.mark.parametrize("step", [1, 3])
+def test_least_levels_with_fills(step: int, leads: list[int]) -> None:
+    """They are the first ones of all that meet shares of demand at once, whatever they cost."""
+    scenario = scenario_of(([0, 1, 3], [3, 2, 1]), (leads, [1] * len(leads)))
+    theory, shares = theory_on(scenario, shape_of(scenario), step, step == 1), [0.0, 0.6, 0.99]
+    for gap, found in theory.levels_with_fill([0, 1, 2, 9, 25], shares):
+        unmet = means_by_level(theory, gap, 60)[1]
+        by_item = np.interp(np.arange(60 * step), step * np.arange(60), unmet)
+        assert found == [int(np.argmax(by_item <= (1 - share) * theory.asked + 1e-9)) for share in shares]
 
 
 @pytest.mark.parametrize("share", [0.0, 0.9])
 @pytest.mark.parametrize("back, leads", [(None, [2]), (None, [1, 2, 4]), (([0, 1], [3, 1]), [1, 3])],
                          ids=["one lead time", "three", "returns"])
-def test_floors_of_costs(back: Pair | None, leads: list[int], share: float, monkeypatch: pytest.MonkeyPatch) -> None:
+def test_floors_of_costs(back: Pair | None, leads: list[int], share: float) -> None:
     """No policy of a gap costs less. With one lead time the best one costs no more."""
-    leave_as_written(monkeypatch, least, long_run)
     scenario = scenario_of(([0, 1, 3], [3, 2, 1]), (leads, [1] * len(leads)), back, Costs(20, 0, 2, 9))
-    gaps, levels = [0, 1, 4, 20], np.arange(50)
-    for gap, floor in zip(gaps, theory_of(scenario).floors(share, gaps)):
+    gaps, levels = np.array([0, 1, 4, 20]), np.arange(50)
+    for gap, floor in zip(gaps.tolist(), theory_of(scenario).floors(share, gaps)):
         short = shortfall_of(scenario, gap)
         lowest = costs_of(scenario, short, levels)[fills_of(scenario, short, levels) >= share - 1e-9].min()
         assert 0.5 * lowest < floor <= lowest + 1e-9

@@ -21,7 +21,6 @@ from ..plan.question import Settings, Terms, terms_of
 from ..records.item import Item
 from ..remarks import Remark
 from ..theory.long_run import LongRun
-from ..theory.one_lead import OneLead
 from .every_gap import best_policies, searched_policies
 
 # Answers of other versions are not used again.
@@ -89,7 +88,7 @@ def best_by_price(theory: LongRun, value: float, costs: Sequence[tuple[float, fl
     feasible policies with one lead time, else those that a search finds. A unit has a `value`."""
     pairs = np.repeat(np.transpose(costs), len(PRICES), axis=1)
     cases = np.array([*pairs, np.tile(value * PRICES, len(costs))])
-    gaps, figures = (best_policies(theory, cases) if isinstance(theory, OneLead) else searched_policies(theory, cases))
+    gaps, figures = (best_policies(theory, cases) if theory.has_one_lead else searched_policies(theory, cases))
     return gaps.reshape(len(costs), -1), np.moveaxis(figures.reshape(4, len(costs), -1), 1, 0)
 
 

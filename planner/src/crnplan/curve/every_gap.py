@@ -1,7 +1,7 @@
 """Finds the best policies of an item for many prices, among all levels: with one lead time of all gaps.
 
 With one lead time, the stock of a policy and the demand that it does not meet at once are means over its lows (see
-`theory/one_lead.py`). Each gap adds its low to the sums of all levels, so each takes one look at the levels. Of these
+`theory/long_run.py`). Each gap adds its low to the sums of all levels, so each takes one look at the levels. Of these
 the lower hull is found, and its vertex for each price is compared with the best of the gaps before.
 
 Let M(g) be the sum of the chances of the lows up to the gap g, C(g) the least cost of g for a price, and F the least
@@ -20,9 +20,8 @@ import numpy as np
 from ..chances import Floats, Whole
 from ..compiled import compiled
 from ..theory.grid import gap_grid
-from ..theory.least import NEAR
+from ..theory.levels import NEAR
 from ..theory.long_run import STOCK_LEFT, UNMET, LongRun
-from ..theory.one_lead import OneLead
 from ..theory.shortfalls import LEAST_CHANCE
 
 # Shares of the best cost: by which gaps may be better that are not looked at, and beyond which costs are far more.
@@ -263,7 +262,7 @@ class Cases:
         return gaps, np.array([np.rint(self.theory.step * self.found[1]), *self.found[2:], self.orders[gaps]])
 
 
-def best_policies(theory: OneLead, costs: Floats) -> tuple[Whole, Floats]:
+def best_policies(theory: LongRun, costs: Floats) -> tuple[Whole, Floats]:
     """Returns the best of all feasible policies with one lead time: see `Cases`."""
     feasible, step = theory.feasible, theory.step
     width = max(theory.after.high, feasible.least // step) + feasible.multiple // step + 3

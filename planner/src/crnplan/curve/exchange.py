@@ -21,7 +21,7 @@ import numpy as np
 
 from ..chances import Floats, Whole
 from ..errors import Refused, argument
-from ..theory.least import NEAR
+from ..theory.levels import NEAR
 from .candidates import PRICES
 from .parts import (AS_IS, COST, FIGURES, UNMET, VALUE, Choice, Dearer, Point, Steps, Chosen, bounds_of,
                     drawn_of, fitting, measured, policies_of, steps_of, stretches_of, summed, units_of)

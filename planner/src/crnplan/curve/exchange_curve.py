@@ -29,7 +29,7 @@ from ..remarks import Remark
 from ..scenario import Policy
 from ..stored import Store
 from ..table import MONEY, Column, DataTable, Result, aligned, number, text, whole
-from ..theory.least import NEAR
+from ..theory.levels import NEAR
 from ..words import PREMISE, advice, sentence
 from .exchange import Budget, Items, OffCurve, chosen_by, gap_of, with_more_orders
 from .gathered import Gathered, gather

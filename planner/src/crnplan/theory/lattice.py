@@ -18,7 +18,6 @@ from ..scenario import Scenario
 from .feasible import ALL, Feasible
 from .grid import gap_grid
 from .long_run import LongRun
-from .one_lead import OneLead
 from .shortfalls import work_of
 from .walk import DIGITS, LatticeLaw, chances_in, decay_of, net_tables, sum_of
 
@@ -167,7 +166,7 @@ def theory_on(scenario: Scenario, shape: Shape, step: int, exact: bool, feasible
     most = -(-shape.gap // step)
     if known and (known.step, known.exact) == (step, exact):
         return known.priced(scenario.costs, most, feasible)
-    return (OneLead if shape.leads == 1 else LongRun)(scenario, step, exact, most, feasible)
+    return LongRun(scenario, step, exact, most, feasible)
 
 
 def theories_of(scenario: Scenario, widest: int | None = None) -> tuple[LongRun, LongRun | None]:

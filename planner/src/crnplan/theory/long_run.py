@@ -2,25 +2,40 @@
 
 Let m be the longest lead time. All orders of the reviews up to period t have arrived in period t + m. So the stock at
 the end of that period follows from the position after the review of period t (`Walk`) and from what happens in the m
-periods after it: see `shortfalls.py`, and for one lead time `one_lead.py`.
+periods after it: see `shortfalls.py`. With one lead time L, it is that position less the net demand of L + 1 periods
+(Zipkin, Foundations of Inventory Management, 2000, chapter 9).
 
-A policy costs more than another one if its gap is wider than `LongRun.widest` says. Let m(j) be the chance that the
-place j cells below S is a low of a cycle, and M(g) their sum up to the gap g.
+A search looks at all gaps S - s that may be best, unless these take too long. Let m(j) be the chance that the place j
+cells below S is a low of a cycle, and M(g) their sum up to the gap g. A policy with the gap g costs a period
+
+    C(g, S) = setup / (span M(g)) + the mean of G(the stock's low)
+
+where G(y) is the mean cost of stock and backlog of a period that starts from a low at y. With one lead time the mean is
+that of G(S - j) over j = 0 .. g by m(j) / M(g). Of each gap the least level is sought that meets the share and is at
+least the newsvendor's (compare Zheng and Federgruen, Finding optimal (s,S) policies is about as simple as evaluating a
+single policy, 1991). Gaps are left out that cost more than another one:
 
 1. The lows are a renewal sequence, so M(k) + M(g - 1 - k) is at least M(g). By summing over k, the lows of a cycle are
    at most g / 2 below S on average.
 2. The mean stock less the mean backlog is the mean position less the mean net demand of a lead time and a period, since
-   that much is under way on average (Little's law). So a policy costs at least `holding` times (s + g / 2 - `offset`).
+   that much is under way on average (Little's law). So a policy costs at least `holding` times (s + g / 2 - `offset`):
+   see `widest`.
 3. By the same law, a policy that had the shortest lead time alone would have as much less of stock less backlog as is
    under way for longer on average. Its backlog would be no more, since its stock is never less. So a policy costs no
-   less than that one, but for holding what is under way for longer (`floors`).
+   less than that one, but for holding what is under way for longer: see `floors`.
+4. With one lead time, let C be the least cost of the gap g, and F that of any low. The lows of a wider gap n cost
+   M(g) C and F for each further one, if not more. So if a policy costs B, none with the gap n is better as long as
+   M(n) - M(g) is less than M(g) (C - B) / (B - F): see `levels.walked`.
+5. With one lead time, if G(s) is above C(g, S), the policy with the gap g - 1 and the same S costs less, and meets more
+   demand at once, since the lowest of all lows meets least. So the best policy has G(s) of at most its cost, unless its
+   gap is the least feasible one: see `lowest_point`.
 """
 from __future__ import annotations
 
 import copy
 import math
 from collections.abc import Callable, Iterable, Iterator, Sequence
-from functools import cached_property, partial
+from functools import cached_property
 from typing import Any, NamedTuple
 
 import numpy as np
@@ -29,13 +44,17 @@ from ..chances import Floats, Whole
 from ..scenario import Costs, Scenario
 from .feasible import ALL, Feasible, Places
 from .grid import CLOSE, gap_grid, search
-from .least import NEAR, least_costs, least_enough, sums_from
+from .levels import NEAR, walked
 from .shortfalls import Shortfalls, lateness, work_of
-from .walk import LatticeLaw, Surplus, Walk, figures_at, power_of, sum_of
+from .walk import LatticeLaw, Surplus, Walk, convolved, figures_at, power_of, sum_of
 
 FEW = 4  # Of the gaps of a grid, one in so many is looked at for a first policy. So many are looked at without floors.
 MOST_CELLS = 50_000  # of tables with a row for each of many gaps
-MOST_WORK = 20_000_000  # for all gaps of a search, by `work_of`
+MOST_WORK = 20_000_000  # for all gaps of a search with several lead times, by `work_of`
+MOST_WALKED = 1_000  # Up to so many lows, sums over them take less time than those of all levels at once.
+EVEN = 1e-10  # Chances that differ by no more than this share are taken as the same by a search, not for figures.
+MOST_LEVEL = 1 << 60
+NONE = np.empty(0, int)
 UNMET, STOCK_LEFT = 1, 3  # rows of `LongRun.figures_from`
 
 
@@ -59,54 +78,23 @@ class Candidate(NamedTuple):
 
 NO_POLICY = Candidate(math.inf, 0, 0)
 
-# For each of some gaps a level in items, and what it costs.
+# For each of some gaps a level in items, or -1, and what it costs, or infinity.
 Levels = tuple[Whole, Floats]
+# Returns the reorder points and levels of some gaps.
+Fixed = Callable[[Whole], tuple[Whole, Whole]]
 
 
-class GapLevels(NamedTuple):
-    """A level for each of some gaps, in cells, with the number of lows and the sums over them, here and a cell below:
-    of stock costs, unmet demand and chances of no backlog, in this order."""
-
-    gaps: Whole
-    levels: Whole
-    totals: Floats
-    here: Floats
-    below: Floats
-
-
-class Means:
-    """Means of the figures of `LongRun.figures_from`, with a level for each of some rising gaps, in cells. Levels are
-    at most `top`: with the one below it, nothing is ever owed."""
-
-    def __init__(self, theory: LongRun, gaps: Whole) -> None:
-        """Computes for each gap the chances of how far a low is below S, and the figures of all levels of lows."""
-        self.gaps = gaps
-        low, self.chances = -theory.above, theory.rows_of(gaps)
-        self.width = self.chances.shape[1]
-        self.top = max(int(theory.floor(gaps[-1])), low + self.width + theory.after.high) + 1
-        self.figures = theory.figures_from(theory.step * np.arange(-self.width - low, self.top - low + 1))
-        self.turned = self.figures[:, ::-1].copy()
-
-    def at(self, levels: Whole, figures: slice) -> Floats:
-        """Returns the means of some figures, a row for each figure, with a level for each gap."""
-        return sums_from(self.turned[figures], self.chances, self.top - levels)
-
-
-LevelsOf = Callable[[Means], Levels]
-
-
-def place_of_least(costs: Floats) -> int:
-    """Returns the place of the least cost, the first one if others are equal but for rounding."""
-    return int((costs <= costs.min() * (1 + NEAR)).argmax())
+def place_of_least(costs: Floats, ratio: float = 1 + NEAR) -> int:
+    """Returns the place of the least cost, the first one if others are equal but for rounding: up to a ratio."""
+    return int((costs <= costs.min() * ratio).argmax())
 
 
 class LongRun(Walk):
     """The figures of a scenario's policies on a lattice, and searches for the cheapest of feasible ones, which look at
-    all gaps that matter, unless these take too long. With one lead time `OneLead` is faster."""
+    all gaps that matter, unless these take too long."""
 
     # Whether a search looked at a grid of gaps alone. Else its policy is the best of all feasible pairs.
     is_searched = False
-    most_work: float = MOST_WORK
 
     def __init__(self, scenario: Scenario, step: int, exact: bool, most: int, feasible: Feasible = ALL) -> None:
         """Makes the laws of a scenario. `most` is the largest gap that a search looks at."""
@@ -153,7 +141,7 @@ class LongRun(Walk):
     def has(self, policy: Candidate) -> bool:
         """Returns whether a policy is feasible, or one with its gap and level."""
         gap = self.gap_of(policy.point, policy.level)
-        return self.fits(gap, policy.level - self.items(gap), policy.level)
+        return bool(self.fits(gap, policy.level - self.items(gap), policy.level))
 
     @property
     def usual_gap(self) -> float:
@@ -172,15 +160,23 @@ class LongRun(Walk):
         return figures_at(levels, self.step, after.law.low, after.below, after.taken, before.law.low, before.below,
                           before.taken, self.holding, self.backlog)
 
-    def lows_below(self, gaps: Sequence[int]) -> Iterable[Floats]:
+    @property
+    def has_one_lead(self) -> bool:
+        """Returns whether all orders take equally long."""
+        return not len(self.late)
+
+    def lows_below(self, gaps: Sequence[int]) -> list[Floats]:
         """Returns for each gap the chances of how far a low of `figures_from` is below S, from the cell -above on."""
+        if self.has_one_lead:
+            lows = self.lows_of(max(gaps))
+            return [lows[:gap + 1] / lows[:gap + 1].sum() for gap in gaps]
         for some in self.parts(sorted({*gaps} - self.shorts.keys())):
             self.keep(some, self.shortfalls.chances(some))
         return [self.shorts[gap] for gap in gaps]
 
     def rows_of(self, gaps: Whole) -> Floats:
         """Returns what `lows_below` does, a row for each gap."""
-        lows = [*self.lows_below(gaps.tolist())]
+        lows = self.lows_below(gaps.tolist())
         chances = np.zeros((len(lows), max(map(len, lows))))
         for row, its in zip(chances, lows):
             row[:len(its)] = its
@@ -268,169 +264,180 @@ class LongRun(Walk):
     def policy(self, gap: int, level: int, point: int | None = None) -> Candidate:
         """Returns the policy of a gap with a level, and perhaps a point; none if it is not feasible."""
         point = level - self.items(gap) if point is None else point
-        fits = self.fits(gap, point, level)
-        return Candidate(self.figures_of_gap(gap, level).cost, point, level) if fits else NO_POLICY
+        if not self.fits(gap, point, level):
+            return NO_POLICY
+        return Candidate(self.figures_of_gap(gap, level).cost, point, level)
 
-    def fits(self, gap: int, point: int, level: int) -> bool:
-        """Returns whether a policy is feasible and has this gap."""
-        widest = min((gap + 1) * self.step - 1, self.feasible.most_gap)
-        return bool(self.items(gap) <= level - point <= widest and self.feasible.has(point, level))
+    def fits(self, gap: Any, point: Any, level: Any) -> Any:
+        """Returns whether policies are feasible and have these gaps."""
+        items, span = self.items(gap), level - point
+        is_of_gap = (items <= span) & (span < (gap + 1) * self.step) & (span <= self.feasible.most_gap)
+        return is_of_gap & self.feasible.has(point, level)
 
     def allowed(self, share: float) -> float:
         """Returns how much demand of a period may not be met at once, in items, if this share is to be met."""
-        return (1 - share) * self.asked * (1 + NEAR)
+        return (1 - share) * self.asked * (1 + NEAR) if share else math.inf
 
-    def levels_with_fill(self, gaps: Sequence[int], shares: Sequence[float]) -> Iterable[tuple[int, list[int]]]:
+    def parts(self, gaps: Sequence[int] | Whole) -> Iterator[Whole]:
+        """Yields rising gaps in parts, whose tables are small. With one lead time all have one table."""
+        left = np.array(gaps, int)
+        while len(left):
+            cells = np.arange(1, len(left) + 1) * (self.beside + left)
+            count = len(left)
+            if not self.has_one_lead:
+                count = max(1, int(np.searchsorted(cells, MOST_CELLS, "right")))
+            yield left[:count]
+            left = left[count:]
+
+    def evened(self, lows: Floats, table: Floats) -> tuple[Floats, int]:
+        """Returns the sums of `walked` from where on lows have the same chance, and that place."""
+        if len(lows) < MOST_WALKED:
+            return table, len(lows)
+        low, rows = lows[-1], table[:3]
+        is_other = abs(lows - low) > EVEN * low
+        even = int(np.flatnonzero(np.append(True, is_other))[-1])
+        added = 0 * rows
+        if even:
+            added = np.array([convolved(lows[:even] - low, row)[:rows.shape[1]] for row in rows])
+        return np.concatenate([added, np.cumsum(rows, axis=1)]), even
+
+    def walk(self, gaps: Whole, leasts: Whole, fixed: Whole = NONE, *, allowed: float = math.inf, ratio: float = 0.0,
+             is_nested: bool = True, feasible: Feasible | None = None, cut: int = MOST_LEVEL, base: float = -math.inf,
+             known: float | None = None) -> Levels:
+        """Returns the best or fixed levels of some rising gaps with what they cost: see `walked`. If the gaps are nested
+        all have the lows of one lead time. Any level is feasible if no bounds are given, and no gap is left out if no
+        cost is known."""
+        lows, above = self.lows_of(int(gaps[-1])), 0
+        turned = lows[None, ::-1].copy()
+        if not is_nested:
+            turned, above = self.rows_of(gaps)[:, ::-1].copy(), self.above
+        width = turned.shape[1]
+        # Levels are no less than their gaps, if these are nested and levels have bounds.
+        origin = 2 if is_nested and feasible else width
+        top = max(int(self.floor(gaps[-1])), width - above + self.after.high) + 1  # With less, nothing is ever owed.
+        table = self.figures_from(self.step * np.arange(above - origin, above + top + 1))
+        evened, even = self.evened(lows, table) if is_nested else (table, MOST_LEVEL)
+        multiple, highest = (feasible.multiple, feasible.top) if feasible else (1, MOST_LEVEL)
+        return walked(gaps, leasts, fixed, lows, turned, table, evened, even, origin, self.step, multiple, highest,
+                      cut, self.setup / self.span, base, self.holding * self.step / 2, allowed, ratio,
+                      math.inf if known is None else known, is_nested, known is not None)
+
+    def levels_with_fill(self, gaps: Sequence[int], shares: Sequence[float]) -> Iterator[tuple[int, list[int]]]:
         """Yields rising gaps, each with the least levels, in items, that meet these shares of demand at once."""
         for some in self.parts(gaps):
-            levels = self.levels_within(Means(self, some), np.array([*map(self.allowed, shares)]))
-            yield from zip(some.tolist(), levels.T.tolist())
+            levels = [self.walk(some, 0 * some, allowed=self.allowed(share), is_nested=self.has_one_lead)[0]
+                      for share in shares]
+            yield from zip(some.tolist(), np.transpose(levels).tolist())
 
-    def levels_within(self, means: Means, allowed: Floats) -> Whole:
-        """Returns the least levels, in items, with at most so much unmet demand: a row for each amount. Between two
-        cells it is shared by both."""
-        turned, chances = means.turned[UNMET:STOCK_LEFT], np.tile(means.chances, (len(allowed), 1))
-        each, highest = np.repeat(allowed, len(means.gaps)), np.full(len(chances), means.top)
-        cells = least_enough(turned, chances, 0 * highest, highest, each, 0.0)
-        here, below = (sums_from(turned, chances, highest - np.maximum(cells - less, 0))[0] for less in (0, 1))
-        spare = np.divide(self.step * (each - here), below - here, where=below > here, out=np.zeros_like(here))
-        levels: Whole = cells * self.step - np.minimum((spare + NEAR).astype(int), self.step - 1)
-        return levels.reshape(len(allowed), -1)
+    def floors(self, share: float, gaps: Whole) -> Floats:
+        """Returns what a policy that meets a share of demand at once costs at least, by some rising gaps: see the
+        module."""
+        _, costs = self.walk(gaps, 0 * gaps, allowed=self.allowed(share), ratio=self.ratio)
+        return costs - self.holding * self.step * self.net.mean * float(self.late.sum())
 
     def first_gap(self, cost: float, most: int) -> int:
         """Returns the first gap up to the most whose orders alone cost no more."""
         return int(np.argmax(np.cumsum(self.lows_of(most)) * self.span * cost * CLOSE >= self.setup))
 
-    def parts(self, gaps: Sequence[int]) -> Iterator[Whole]:
-        """Yields rising gaps in parts, whose tables are small."""
-        left = np.array(gaps, int)
-        while len(left):
-            cells = np.arange(1, len(left) + 1) * (self.beside + left)
-            count = max(1, int(np.searchsorted(cells, MOST_CELLS, "right")))
-            yield left[:count]
-            left = left[count:]
+    def lowest_point(self, cost: float) -> int:
+        """Returns the least s, but for the least feasible gap, of a policy that costs no more: see the module."""
+        if not self.has_one_lead or self.feasible.multiple > 1:
+            return self.feasible.least
+        levels = self.step * np.arange(self.after.high + 2)
+        cheap = int((self.figures_from(levels)[0] <= CLOSE * cost).argmax())
+        return max(self.feasible.least, self.step * (cheap - 1) + 1)
 
-    def costed(self, levels_of: LevelsOf, gaps: Sequence[int]) -> Levels:
-        """Returns levels of rising gaps with their costs. They are computed part by part."""
-        levels, costs = zip(*(levels_of(Means(self, some)) for some in self.parts(gaps)))
-        return np.concatenate(levels), np.concatenate(costs)
+    def levels_of(self, gaps: Whole, share: float = 0.0, fixed: Fixed | None = None, known: float = math.inf,
+                  lowest: int = 0, cut: int | None = None) -> Levels:
+        """Returns for each of some rising gaps the cheapest feasible level that meets a share of demand at once, or the
+        fixed one, with its cost. Gaps that cost more than a known policy are left out. But for the first gap, s is at
+        least `lowest`. A gap has none if the best of all is above the `cut`: by default, above the greatest S of all.
+        """
+        levels, costs = np.full(len(gaps), -1), np.full(len(gaps), math.inf)
+        looked, of_gaps = np.arange(len(gaps)), NONE
+        if fixed:
+            points, of_gaps = fixed(gaps)
+            looked = np.flatnonzero(self.fits(gaps, points, of_gaps))
+        if not self.has_one_lead and len(looked) > FEW and known < math.inf:
+            looked = looked[self.floors(0.0 if fixed else share, gaps[looked]) <= CLOSE * known]
+        if cut is None:
+            cut = self.feasible.top if self.feasible.has_all_levels else MOST_LEVEL
+        start = 0
+        for some in self.parts(gaps[looked]):
+            here = looked[start:start + len(some)]
+            start += len(some)
+            levels[here], costs[here] = self.walk(
+                some, self.items(some) + self.feasible.least, of_gaps[here] if fixed else NONE,
+                allowed=self.allowed(share), ratio=self.ratio, is_nested=self.has_one_lead, feasible=self.feasible,
+                cut=cut, base=self.holding * (lowest - self.offset), known=known)
+        return levels, costs
 
-    def best_levels(self, means: Means, share: float) -> Levels:
-        """Returns the cheapest feasible levels that meet a share of demand at once, or the newsvendor's if higher."""
-        allowed, count = self.allowed(share), len(means.gaps)
-        levels = least_enough(means.turned[UNMET:STOCK_LEFT], means.chances, self.floor(means.gaps),
-                              np.full(count, means.top), np.full(count, allowed), self.ratio)
-        places = self.places(means, levels)
-        spare = self.spare_of(places, allowed)
-        if self.feasible.has_all_levels:
-            return self.costs_of(places, spare)
-        return self.feasible_levels(means, places.levels * self.step - spare, allowed)
+    def least_of(self, gaps: Whole, share: float = 0.0, fixed: Fixed | None = None, known: float = math.inf,
+                 lowest: int = 0, cut: int | None = None) -> Candidate:
+        """Returns the cheapest of `levels_of`, with its gap in place of the reorder point."""
+        if not len(gaps):
+            return NO_POLICY
+        levels, costs = self.levels_of(gaps, share, fixed, known, lowest, cut)
+        # With several lead times, transforms have rounded the costs.
+        best = place_of_least(costs, 1 + NEAR if self.has_one_lead else CLOSE)
+        return Candidate(float(costs[best]), int(gaps[best]), int(levels[best]))
 
-    def feasible_levels(self, means: Means, levels: Whole, allowed: float) -> Levels:
-        """Returns the cheapest feasible levels with at most so much unmet demand, of which some levels are the cheapest
-        of all; -1 if there are none. Costs are convex in the level, so of multiples one of both beside it is best,
-        and beyond the greatest level that one."""
-        best, least = np.full(len(levels), -1), np.full(len(levels), math.inf)
-        for level in (levels // self.feasible.multiple * self.feasible.multiple, self.feasible.up(levels)):
-            level = np.minimum(level, self.feasible.top)
-            places, spare = self.places_at(means, level)
-            unmet = places.here[1] + spare / self.step * (places.below[1] - places.here[1])
-            is_enough = unmet <= allowed * (1 + NEAR) * places.totals
-            costs = np.where(is_enough, self.costs_of(places, spare)[1], math.inf)
-            best, least = np.where(costs < least, level, best), np.minimum(costs, least)
-        return best, least
-
-    def fixed_levels(self, means: Means, levels: Whole) -> Levels:
-        """Returns these levels, with their costs."""
-        return self.costs_of(*self.places_at(means, levels))
-
-    def places_at(self, means: Means, levels: Whole) -> tuple[GapLevels, Whole]:
-        """Returns places of gaps, and how far below them some levels are. Beyond the highest one, each item more is one
-        more in stock."""
-        cells = np.minimum(-(-levels // self.step), means.top)
-        return self.places(means, cells), cells * self.step - levels
-
-    def places(self, means: Means, levels: Whole) -> GapLevels:
-        """Returns levels of gaps, in cells, with the sums over the lows."""
-        totals, sums = np.cumsum(self.lows_of(int(means.gaps[-1])))[means.gaps], slice(0, 3)
-        here, below = (totals * means.at(cells, sums) for cells in (levels, levels - 1))
-        return GapLevels(means.gaps, levels, totals, here, below)
-
-    def spare_of(self, places: GapLevels, allowed: float) -> Whole:
-        """Returns how far below these places a level can be, in items, less than a cell, if so much may be unmet."""
-        if self.step == 1:
-            return np.zeros(len(places.gaps), int)
-        free, slope = allowed * places.totals - places.here[1], places.below[1] - places.here[1]
-        spare = np.minimum(self.step * np.divide(free, slope, where=slope > 0, out=np.ones_like(free)), self.step - 1)
-        least = self.items(places.gaps) + self.feasible.least
-        spare = np.minimum(spare.astype(int), places.levels * self.step - least)
-        return np.where(places.below[2] >= self.ratio * places.totals, spare, 0)
-
-    def costs_of(self, places: GapLevels, spare: Whole) -> Levels:
-        """Returns the levels that are so much below these places, with their costs; infinite if not feasible."""
-        levels = places.levels * self.step - spare
-        costs = self.setup / self.span + places.here[0] + spare / self.step * (places.below[0] - places.here[0])
-        is_allowed = self.feasible.has(levels - self.items(places.gaps), levels) & self.is_gap(places.gaps)
-        return levels, np.where(is_allowed, costs / places.totals, math.inf)
-
-    def cheapest_of_gaps(self, gaps: Sequence[int], share: float) -> Candidate:
-        """Returns the cheapest feasible policy of rising gaps that meets a share of demand at once."""
-        levels, costs = self.costed(partial(self.best_levels, share=share), gaps)
-        best = place_of_least(costs)
-        return self.policy(gaps[best], int(levels[best]))
-
-    def floors(self, share: float, gaps: Sequence[int]) -> Floats:
-        """Returns what a policy that meets a share of demand at once costs at least, by some rising gaps: see the
-        module."""
-        levels = self.step * np.arange(-gaps[-1] - 1, gaps[-1] + self.after.high + 2)
-        costs = least_costs(np.array(gaps), self.lows_of(gaps[-1]), self.figures_from(levels), self.setup / self.span,
-                            self.allowed(share), self.ratio)
-        floors: Floats = costs - self.holding * self.step * self.net.mean * float(self.late.sum())
-        return floors
-
-    def cheapest(self, levels_of: LevelsOf, lowest: int, share: float = 0.0) -> tuple[int, int]:
-        """Returns the gap and the level of the cheapest policy of all gaps that may cost least, if s is at least
-        `lowest` and a share of demand is met at once; or what a search finds if these take too long."""
-        known, most = math.inf, self.most
-
-        def policies_of(gaps: Sequence[int]) -> list[Candidate]:
-            """Returns policies of gaps, with infinite costs if they cost more than one that is known."""
-            looked = [gap for gap in gaps if gap <= most]
-            if len(self.late) and len(looked) > FEW and known < math.inf:
-                floors = self.floors(share, looked).tolist()
-                looked = [gap for gap, floor in zip(looked, floors) if floor <= CLOSE * known]
-            levels, costs = self.costed(levels_of, looked) if looked else (np.empty(0, int), np.empty(0))
-            found = dict(zip(looked, zip(costs.tolist(), levels.tolist())))
-            # Gaps stand in place of reorder points.
-            return [Candidate(cost, gap, level) for gap in gaps for cost, level in [found.get(gap, (math.inf, -1))]]
+    def cheapest(self, lowest: int, share: float = 0.0, fixed: Fixed | None = None) -> Candidate:
+        """Returns the cheapest policy of all gaps that may cost least, if s is at least `lowest` and a share of demand
+        is met at once, or with fixed levels; or what a search finds if these take too long. Its gap stands in place of
+        the reorder point."""
         grid, usual = self.grid(), min(self.most, round(self.usual_gap))
-        for some in (self.gaps(usual, usual) or grid[-1:], grid) if grid else ():
-            known = min(known, min(policies_of(some)).cost)
-            most = self.widest(known, lowest) if known < math.inf else most
-        if known == math.inf:
-            return 0, -1
-        if (most + 1) * work_of(power_of(self.net, self.longest).high + most, self.longest) > self.most_work:
-            self.is_searched, allowed = True, self.gaps(0, self.most)
-            _, gap, level = search(lambda places: policies_of([allowed[it] for it in places]), len(allowed) - 1)
-            return gap, level
-        found = policies_of(self.gaps(self.first_gap(known, most), most))
-        least = min(found).cost
-        _, gap, level = next(it for it in found if it.cost <= CLOSE * least)
-        return gap, level
+        known, most = NO_POLICY, self.most
+        for some in (self.gaps(usual, usual) or grid[-1:], grid):
+            if known.cost == math.inf or not self.has_one_lead:
+                gaps = np.array([gap for gap in some if gap <= most], int)
+                known = min(known, self.least_of(gaps, share, fixed, known.cost, lowest))
+                most = self.widest(known.cost, lowest) if known.cost < math.inf else most
+        if known.cost == math.inf:
+            return NO_POLICY
+        if not fixed:
+            lowest = max(lowest, self.lowest_point(known.cost))
+        most = self.widest(known.cost, lowest)
+        work = (most + 1) * work_of(power_of(self.net, self.longest).high + most, self.longest)
+        if work > MOST_WORK and not self.has_one_lead:
+            self.is_searched = True
+            return self.searched(share, fixed, known.cost, most)
+        gaps = self.every_gap(self.first_gap(known.cost, most), most)
+        found = self.least_of(gaps, share, fixed, known.cost, lowest, MOST_LEVEL if self.has_one_lead else None)
+        return found if found.cost <= CLOSE * known.cost else known
+
+    def searched(self, share: float, fixed: Fixed | None, known: float, most: int) -> Candidate:
+        """Returns the cheapest policy of a grid of gaps that gets finer beside the best: see `grid.search`."""
+        every = self.every_gap(0, self.most)
+
+        def policies_of(places: Sequence[int]) -> list[Candidate]:
+            """Returns policies of gaps, with infinite costs if they cost more than one that is known."""
+            gaps = every[[*places]]
+            levels, costs = self.levels_of(gaps[gaps <= most], share, fixed, known)
+            policies = {gap: Candidate(*row) for gap, *row in zip(gaps.tolist(), costs.tolist(), gaps.tolist(),
+                                                                  levels.tolist())}
+            return [policies.get(gap, NO_POLICY) for gap in gaps.tolist()]
+        return search(policies_of, len(every) - 1)
 
     def best(self, share: float = 0.0) -> Candidate:
         """Returns the cheapest feasible policy that meets at least this share of demand at once: that of all policies,
         if it is feasible."""
         if share not in self.found:
             free = self.free.best(share) if self.feasible != ALL else NO_POLICY
-            is_free = free.cost < math.inf and self.has(free)
-            point = free.level - self.items(self.gap_of(free.point, free.level))
-            self.found[share] = free._replace(point=point) if is_free else self.best_within(share)
+            if free.cost < math.inf and self.has(free):
+                point = free.level - self.items(self.gap_of(free.point, free.level))
+                self.found[share] = free._replace(point=point)
+            else:
+                self.found[share] = self.at_gap(self.cheapest(self.feasible.least, share))
         return self.found[share]
 
-    def best_within(self, share: float) -> Candidate:
-        """Returns the cheapest feasible policy that meets a share of demand at once, by a search."""
-        return self.policy(*self.cheapest(partial(self.best_levels, share=share), self.feasible.least, share))
+    def at_gap(self, found: Candidate, point: int | None = None) -> Candidate:
+        """Returns the policy of what a search has found, and perhaps a point."""
+        return self.policy(found.point, found.level, point) if found.cost < math.inf else NO_POLICY
+
+    def cheapest_of_gaps(self, gaps: Sequence[int], share: float) -> Candidate:
+        """Returns the cheapest feasible policy of rising gaps that meets a share of demand at once."""
+        return self.at_gap(self.least_of(np.array(gaps), share))
 
     def fullest(self) -> Candidate:
         """Returns the feasible policy that meets most demand at once: that of the greatest S and the least gap."""
@@ -451,19 +458,16 @@ class LongRun(Walk):
             found.append(self.policy(self.gap_of(point, top), top, point))
         return min(found)
 
-    def best_with_rest(self, point: int, rest: int, less: int = 0) -> Candidate:
+    def best_with_rest(self, point: int, rest: int, less: int) -> Candidate:
         """Returns the cheapest feasible policy with a reorder point and a rest of S. If that S is not feasible, it is
         the first from there on, or from so many items less on."""
-        def levels_of(means: Means) -> Levels:
-            spans = self.items(means.gaps)
+        def fixed(gaps: Whole) -> tuple[Whole, Whole]:
+            spans: Whole = self.items(gaps)
             if self.exact:
-                spans = np.maximum(spans, self.feasible.gap(means.gaps * self.step + rest - less))
-            levels, costs = self.fixed_levels(means, point + spans)
-            is_allowed = (spans < (means.gaps + 1) * self.step) & (spans <= self.feasible.most_gap)
-            return levels, np.where(is_allowed, costs, math.inf)
-        return self.policy(*self.cheapest(levels_of, point), point)
+                spans = np.maximum(spans, self.feasible.gap(gaps * self.step + rest - less))
+            return np.full(len(gaps), point), point + spans
+        return self.at_gap(self.cheapest(point, fixed=fixed), point)
 
     def best_with_level(self, level: int) -> Candidate:
         """Returns the cheapest feasible policy with an order-up-to level."""
-        return self.policy(*self.cheapest(
-            lambda means: self.fixed_levels(means, np.full(len(means.gaps), level)), 0))
+        return self.at_gap(self.cheapest(0, fixed=lambda gaps: (level - self.items(gaps), np.full(len(gaps), level))))

@@ -16,7 +16,6 @@ import math
 from collections import defaultdict
 from collections.abc import Iterable, Iterator, Mapping, Sequence
 from dataclasses import dataclass
-from functools import partial
 from typing import NamedTuple
 
 import numpy as np
@@ -141,7 +140,7 @@ class Narrowing:
         """Looks at these gaps, and goes on between those beside the best."""
         if not gaps:
             return
-        _, costs = self.theory.costed(partial(self.theory.best_levels, share=0.0), gaps)
+        _, costs = self.theory.levels_of(np.array(gaps))
         best = place_of_least(costs)
         if costs[best] < math.inf:
             self.least = float(np.fmin(self.least, costs[best]))
