@@ -4,11 +4,12 @@ from __future__ import annotations
 from collections.abc import Mapping, Sequence
 from pathlib import Path
 
-from crnplan.crnsim import long_run as exact_long_run, report, trajectory
+from crnplan.crnsim import report, trajectory
 from crnplan.curve import exchange_curve
-from crnplan.decide import doubt, sensitivity, verdicts
+from crnplan.decide import doubt, long_run, sensitivity, verdicts
 from crnplan.pages import backtest_tables, catalogue_tables, change_tables, control_tables, item_page, lateness
 from crnplan.pages.today_tables import TABLES as ON_A_DAY
+from crnplan.plan import what_ifs
 from crnplan.table import Column
 from crnplan.theory import suggestions
 
@@ -60,14 +61,14 @@ TABLES: Mapping[str, tuple[str, Sequence[Column]]] = {
     "coming.csv": ("The same over the coming periods, with `[run] horizon`.", item_page.COMING_COLUMNS),
     "doubt.csv, crnplan doubt": ("Policies under the laws that a history allows. A column stands if there is a figure.",
                                  doubt.COLUMNS),
-    "sensitivity.csv": ("How the best policy of an item moves.", sensitivity.MOVES),
+    "sensitivity.csv": ("How the best policy of an item moves.", what_ifs.COLUMNS),
     "trajectory.csv, crnplan trajectory": ("Policies period by period.", trajectory.COLUMNS),
     "laws.csv": ("The laws of an item.", item_page.LAW_COLUMNS),
     "crnplan suggest": ("Suggested policies.", [*suggestions.COLUMNS, suggestions.REASONS]),
     "crnplan run": ("A report of crnsim, exactly.", report.COLUMNS),
     "crnplan decide, crnplan check": ("Policies beside the base, over the coming periods.", verdicts.COLUMNS),
     "crnplan run --long-run": ("Policies beside the base, in the long run.", verdicts.LONG_RUN_COLUMNS),
-    "Scenario.long_run": ("Exact figures of the long run, in Python.", exact_long_run.COLUMNS),
+    "Scenario.long_run": ("Figures of the long run, in Python.", long_run.COLUMNS),
     "crnplan sensitivity": ("What a policy costs too much, here in the cases `base` and `demand_up`.",
                             sensitivity.columns_of(["base", "demand_up"]))}
 

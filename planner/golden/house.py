@@ -15,8 +15,7 @@ from typing import Any
 import crnplan as crn
 from crnplan.curve.gathered import CANDIDATES, OnCurve
 from crnplan.decide.keys import check_long_run
-from crnplan.decide.long_run import corrected_decision, long_run_decision
-from crnplan.decide.sensitivity import moves_of
+from crnplan.decide.long_run import corrected_decision
 from crnplan.demand.checks import check_history
 from crnplan.plan.answer import CHOSEN, Answer
 from crnplan.plan.catalogue import planned_folder
@@ -85,17 +84,13 @@ def long_run_rows(scenario: crn.Scenario, program: str, keys: int) -> Figures:
     report = scenario.long_run(keys=keys, program=program)
     best = scenario.policies[-1].name
     check = check_long_run(scenario, best, keys=[["2b7e151628aed2a7"]], runs=keys, program=program)
-    return {"costs": [list(it) for it in report.costs], "orders": [*report.orders],
-            "decision": by_frame(long_run_decision(report)), "check": by_frame(check.decision)}
+    return {"rows": by_policy(map(asdict, report.rows)), "decision": by_frame(report.decide()),
+            "check": by_frame(check.decision)}
 
 
 def sensitivity_rows(scenario: crn.Scenario, program: str) -> Figures:
-    """Returns what each policy costs too much in each case, and how the best policy moves."""
-    kept = scenario.policies[-1]
-    moves = moves_of(scenario, kept.name, (kept.s, kept.S)).moves
-    return {"losses": by_frame(crn.sensitivity(scenario, program=program)),
-            "moves": {it.words: {"words": None, "s": it.s, "S": it.S, "cost": it.cost, "fill": it.fill,
-                                 "kept_cost": it.kept_cost, "kept_fill": it.kept_fill} for it in moves}}
+    """Returns what each policy costs too much in each case."""
+    return {"losses": by_frame(crn.sensitivity(scenario, program=program))}
 
 
 def doubt_rows(scenario: crn.Scenario, counts: Any, leads: Any) -> Figures:
@@ -112,7 +107,7 @@ def sweep_rows(scenario: crn.Scenario, program: str) -> Figures:
 def drawn_stocks(scenario: crn.Scenario, program: str, periods: int) -> Figures:
     """Returns all figures of each period of a replication, by policy."""
     found = crn.trajectories(scenario, min(periods, scenario.periods), program=program)
-    return {policy.name: [list(period) for period in its] for policy, its in zip(scenario.policies, found)}
+    return {policy.name: [list(period[:4]) for period in its] for policy, its in zip(scenario.policies, found)}
 
 
 def plan_catalogue(files: Mapping[str, Any], folder: Path, program: str, jobs: int, **settings: Any) -> None:
@@ -223,7 +218,7 @@ def item_figures(depth: Depth) -> Figures:
     theory = {name: {"s": it.figures.point, "S": it.figures.level, "cost": it.figures.cost * scale,
                      "fill": it.figures.fill, "short": it.figures.short, "stock": it.figures.stock,
                      "orders": it.figures.orders} for name, it in compared.items()}
-    decision = {name: {"cost": it.run.cost * scale, "diff": it.run.difference * scale, "verdict": it.verdict}
+    decision = {name: {"cost": it.run.cost * scale, "diff": it.run.diff * scale, "verdict": it.verdict}
                 for name, it in compared.items()}
     return {"laws": law, "theory": theory, "decision": decision,
             "doubt": by_policy({**row, "policy": names.get(row["policy"], row["policy"])}

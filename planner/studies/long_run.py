@@ -6,7 +6,7 @@
 Each item has today's policy and the best by theory. The saving of the long run is exact by theory on the lattice of
 single items. Three intervals are compared with it:
 
-- own starts: 48 keys, a drawn start for each policy (`Scenario.long_run`);
+- own starts: 48 keys, a drawn start for each policy (`own_starts`);
 - one run of 24 replications of 1,024 periods, less the exact bias of the start (`theory.run_effects`);
 - the same run as it is.
 """
@@ -25,7 +25,6 @@ import numpy as np
 from scipy.special import ndtr
 
 from crnplan.decide.verdicts import t_quantile
-from crnplan.crnsim.long_run import keys_of, long_run_of
 from crnplan.crnsim.program import find_program
 from crnplan.errors import CrnplanError, Refused
 from crnplan.formats import MOST_ITEMS, MOST_PERIODS
@@ -34,6 +33,7 @@ from crnplan.scenario import Costs, Policy, Scenario
 from crnplan.theory.lattice import shape_of, theories_of, theory_on
 from crnplan.theory.run_effects import start_bias
 from planner.studies.long_run_items import Item, items_of
+from planner.studies.own_starts import keys_of, own_starts_of
 
 STORED = Path(__file__).with_name("long_run.txt")
 SEEDS = (1, 20261126, 48)
@@ -108,7 +108,7 @@ def outcome_of(item: Item, seed: int, program: Path) -> Outcome | None:
         if exact is None:
             return None
         begun = time.perf_counter()
-        own = long_run_of(scenario, program=program)
+        own = own_starts_of(scenario, program=program)
         seconds = time.perf_counter() - begun
         row = scenario.run(program=program).rows[1]
     except CrnplanError:

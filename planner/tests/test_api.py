@@ -79,7 +79,7 @@ def names_of_types() -> dict[str, object]:
     """Returns the names in annotations that modules import for checks of types alone."""
     names: dict[str, object] = {"Floats": numpy.ndarray, "Figure": Figure, "pd": pd, "np": numpy,
                                 "Client": object}  # that of Dask, whose import takes long
-    for part in ("crnsim.report", "crnsim.long_run", "decide.verdicts", "decide.keys", "decide.doubt",
+    for part in ("crnsim.report", "decide.long_run", "decide.verdicts", "decide.keys", "decide.doubt",
                  "theory.suggestions", "theory.many_laws", "demand.posterior", "demand.borrowing",
                  "curve.exchange_curve"):
         its = vars(importlib.import_module(f"crnplan.{part}"))

@@ -16,7 +16,6 @@ if TYPE_CHECKING:
                          Refused as Refused, ScenarioError as ScenarioError)
     from .scenario import Costs as Costs, Policy as Policy, Scenario as Scenario
     from .law import Law as Law
-    from .crnsim.long_run import LongRunReport as LongRunReport
     from .crnsim.report import Report as Report
     from .crnsim.program import find_program as find_program
     from .records import History as History, read_history as read_history, read_lead_times as read_lead_times
@@ -25,6 +24,7 @@ if TYPE_CHECKING:
     from .demand.fitting import fit_demand as fit_demand, fit_lead as fit_lead
     from .demand.learning import Prior as Prior, learn as learn
     from .decide.keys import check_keys as check_keys
+    from .decide.long_run import LongRunReport as LongRunReport
     from .decide.doubt import doubt as doubt
     from .decide.sensitivity import sensitivity as sensitivity
     from .crnsim.sweep import sweep as sweep

@@ -11,7 +11,6 @@ from typing import TYPE_CHECKING, Unpack
 
 from .catalogues import Catalogue, FileWords, Lost, ReadingWords, plan_catalogue, write_found
 from .crnsim.program import find_program
-from .decide.sensitivity import Moves
 from .errors import Refused, argument
 from .files import Folder, Room, own_folder
 from .items import plan_item as plan_one_item
@@ -29,6 +28,7 @@ from .plan.totals import Totals
 from .plan.item import Depth
 from .plan.question import Settings
 from .plan.survey import Survey
+from .plan.what_ifs import Moves
 from .records.catalogue_reading import CATALOGUE, READ, read_into
 from .records.defaults import Defaults
 from .records.items import Words

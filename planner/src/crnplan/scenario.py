@@ -25,11 +25,12 @@ from .money import Amount, Number, scaled_costs, whole
 from .table import Json, Result
 
 if TYPE_CHECKING:
-    from .crnsim.long_run import LongRunReport
     from .crnsim.report import Report
+    from .decide.long_run import LongRunReport
     from .theory.suggestions import Suggestions
 
 Tree = dict[str, Any]
+Levels = tuple[int, int]  # s and S of a policy
 # What stands for a law: a law, values with weights, or what was observed; and what stands for policies.
 Chances = Law | Mapping[int, int] | Iterable[Number]
 Policies = Iterable[object] | Mapping[str, tuple[int, int]] | Result
@@ -209,13 +210,14 @@ class Scenario:
 
     def long_run(self, policies: Policies | None = None, *, keys: int = 48,
                  program: str | Path | None = None) -> LongRunReport:
-        """Runs crnsim in the long run on any number of policies: the effect of the start is left out.
+        """Runs crnsim on any number of policies, and takes what the start adds to their costs out, by theory.
 
-        Each of the `keys`, 2 to 256, is a replication, and each policy starts from a state of its own. `policies` are
-        the others than the base, as in `run`. The stock, the periods and the replications of the scenario play no part,
-        and `unit` is left out. Raises what `run` raises, and Refused if there is no long run.
+        Each of the `keys`, 2 to 256, is a replication of 1,024 periods. All policies start with the mean position of
+        the base. `policies` are the others than the base, as in `run`. The stock, the periods and the replications of
+        the scenario play no part, and `unit` is left out. Raises what `run` raises, and NoTheory if there is no long
+        run, or if the numbers of the scenario are too far apart.
         """
-        from .crnsim.long_run import long_run_of
+        from .decide.long_run import long_run_of
         return long_run_of(self if policies is None else self._with_base(policies), keys, program)
 
 

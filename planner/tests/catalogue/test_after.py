@@ -24,7 +24,8 @@ from crnplan.plan.after import CHANGES, PLAN, common_changes, taken
 from crnplan.plan.aims import Aims
 from crnplan.plan.catalogue import planned_folder
 from crnplan.plan.changes import Change, rows_of
-from crnplan.plan.one import allowed_by, plan_one
+from crnplan.plan.choice import allowed_by
+from crnplan.plan.one import plan_one
 from crnplan.plan.question import Levels, Settings, question_of
 from crnplan.records.item import Item
 from crnplan.remarks import Remark

@@ -20,7 +20,7 @@ from crnplan.curve.exchange import Budget, chosen_by, with_more_orders
 from crnplan.curve.exchange_curve import CURVE, LEFT_OUT, POLICIES, Drawn, exchange_curve, points_of
 from crnplan.curve.gathered import CANDIDATES, HULLS
 from crnplan.plan.catalogue import ANSWERS, planned_folder
-from crnplan.plan.one import figures_of
+from crnplan.plan.choice import figures_of
 from crnplan.plan.question import Terms
 from crnplan.records.catalogue_reading import READ
 from crnplan.words import advice, sentence

@@ -21,7 +21,8 @@ from crnplan.plan.answer import Answer
 from crnplan.plan import learned
 from crnplan.plan.catalogue import take_prior
 from crnplan.plan.learned import PRIOR, PRIOR_WINDOW, drawn_of_groups, learned_of, learners
-from crnplan.plan.one import allowed_by, plan_one
+from crnplan.plan.choice import allowed_by
+from crnplan.plan.one import plan_one
 from crnplan.plan.question import ALL, CLASS, NONE, Question, Settings, question_of
 from crnplan.records.catalogue_reading import ADD_ITEM, CATALOGUE as FOLDER, Catalogued, Writer
 from crnplan.records.item import Item

@@ -16,7 +16,7 @@ from crnplan.law import Law
 from crnplan.plan import swings
 from crnplan.plan.answer import CHEAPER, THEORY, Answer
 from crnplan.plan.drawn import MOST, Drawn, Draws
-from crnplan.plan.one import choice_of, figures_of
+from crnplan.plan.choice import choice_of, figures_of
 from crnplan.plan.question import question_of
 from crnplan.plan.survey import size_of
 from crnplan.plan.swings import (BEST, CASES, CELLS, KEPT, KEPT_FILL, LAWS, LEAST_ERROR, TODAY, Known, Swing,

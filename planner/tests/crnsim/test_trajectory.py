@@ -15,10 +15,10 @@ from typing import Any
 import pytest
 from hypothesis import given, settings, strategies as st
 
-from crnplan.crnsim import trajectory
-from crnplan.crnsim.trajectory import net_demands, trajectories
+from crnplan.crnsim.trajectory import trajectories
+from crnplan.errors import ProgramError
 from crnplan.scenario import Scenario
-from planner.tests.conftest import Command
+from planner.tests.conftest import Command, script
 from planner.tests.crnsim.slow import History, draws_of, simulate
 
 # The example of docs/FORMATS.md, "What happens in a period": orders, net demands, stocks and positions.
@@ -45,7 +45,7 @@ def check(program: Path, scenario: Scenario) -> None:
             simulate(scenario, policy, history, [draw])
             stock, waiting = history.stock(), sum(history.due().values())
             periods.append((history.placed[-1][0], history.net[-1], stock, stock + waiting))
-        assert told == periods
+        assert [period[:4] for period in told] == periods
 
 
 def test_example_of_the_page(crnplan: Command, program: Path, top: Path) -> None:
@@ -93,32 +93,23 @@ def test_random_scenarios_are_as_simulated(program: Path, tree: dict[str, Any]) 
     check(program, Scenario.of_tree(tree))
 
 
-@pytest.mark.parametrize("level, runs", [(9_999 - 4, 1), (9_999 - 3, 3)])
-def test_packed_up_to_the_greatest_cost(level: int, runs: int, program: Path, top: Path,
-                                        monkeypatch: pytest.MonkeyPatch) -> None:
-    """A period takes one run up to the greatest holding cost, and three beyond, with the same figures."""
-    tree = tomllib.loads((top / "examples/two_policies.toml").read_text())
-    tree |= {"initial": 0, "policy": [{"name": "far", "s": 0, "S": level}, {"name": "near", "s": 1, "S": level + 1}]}
-    counted: list[int] = []
-    run_all = trajectory.run_all
-
-    def counting(path: Path, runs: Any, *jobs: int) -> list[str]:
-        kept = list(runs)
-        counted.append(len(kept))
-        return run_all(path, kept, *jobs)
-
-    monkeypatch.setattr(trajectory, "run_all", counting)
-    check(program, Scenario.of_tree(tree))
-    assert counted == [4, 4 * runs]
-
-
 def test_longest_run(program: Path, top: Path) -> None:
-    """The net demand of the most periods of a scenario takes the most replications that it can need."""
+    """The most periods of a scenario, at the greatest demands and levels."""
     tree = tomllib.loads((top / "examples/two_policies.toml").read_text())
     demand = {"values": [9997, 9998, 9999, 10000], "weights": [1, 2, 2, 1]}
-    scenario = Scenario.of_tree(tree | {"periods": 1024, "policy": tree["policy"][:1], "demand": demand})
-    drawn = [asked - back for asked, _, back in draws_of(scenario, scenario.key, 1024)]
-    assert net_demands(scenario, 1024, program) == drawn
+    policies = [{"name": "top", "s": 1_000_000, "S": 1_000_000}]
+    check(program, Scenario.of_tree(tree | {"periods": 1024, "policy": policies, "demand": demand}))
+
+
+@pytest.mark.parametrize("command, message", [
+    ('[ "$1" = words ] && echo none || ', "no words of a block"),
+    ('[ "$1" = words ] && "{program}" words 0000000000000001 $3 $4 $5 $6 || ', "the total of A is not that of")],
+    ids=["no words", "words of another key"])
+def test_another_program(command: str, message: str, program: Path, top: Path, tmp_path: Path) -> None:
+    """A program is refused whose words are none, or are not those of its report."""
+    other = script(tmp_path / "other", f'{command}"{program}" "$@"'.replace("{program}", str(program)))
+    with pytest.raises(ProgramError, match=message):
+        trajectories(Scenario.read(top / "examples/two_policies.toml"), 4, program=other)
 
 
 def test_pictures(crnplan: Command, program: Path, top: Path, tmp_path: Path) -> None:

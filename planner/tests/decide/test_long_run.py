@@ -3,7 +3,6 @@ from __future__ import annotations
 
 import json
 import math
-import statistics
 from collections.abc import Sequence
 from dataclasses import replace
 from pathlib import Path
@@ -11,11 +10,10 @@ from pathlib import Path
 import pytest
 from scipy import stats
 
-from crnplan.crnsim.long_run import LongRunReport
-from crnplan.crnsim.report import Row
+from crnplan.crnsim.report import Row, pooled
 from crnplan.decide import long_run
 from crnplan.decide.keys import check_long_run
-from crnplan.decide.long_run import corrected_decision, long_run_decision, start_warning
+from crnplan.decide.long_run import LongRunReport, corrected_decision, start_warning
 from crnplan.decide.sensitivity import sensitivity
 from crnplan.decide.verdicts import Compared, Decision
 from crnplan.errors import Refused
@@ -51,25 +49,39 @@ def report(program: Path) -> LongRunReport:
 
 
 def test_intervals_are_paired_t_intervals(report: LongRunReport) -> None:
-    rows, (base, *others) = by_name(long_run_decision(report, 0.9)), zip(*report.costs)
+    """The bias is that of a chain. It moves intervals, and leaves their widths."""
+    scenario, rows = report.scenario, by_name(report.decide(0.9))
+    assert (scenario.periods, scenario.replications, scenario.costs.unit) == (1024, 48, 0)
     joint, alone = stats.t.ppf(1 - 0.1 / 2 / 2, 47), stats.t.ppf(0.95, 47)
-    for name, costs in zip(["more", "less"], others):
-        row, diffs = rows[name], [(it - its) / 1020 for it, its in zip(costs, base)]
-        mean, error = statistics.mean(diffs), statistics.stdev(diffs) / math.sqrt(48)
-        own, own_error = statistics.mean(costs) / 1020, statistics.stdev(costs) / 1020 / math.sqrt(48)
-        assert [row.diff, row.std_error, row.low, row.high, row.cost, row.cost_low, row.cost_high] == pytest.approx(
-            [mean, error, mean - joint * error, mean + joint * error, own, own - alone * own_error,
-             own + alone * own_error])
-        assert row.verdict == ("worse" if mean > joint * error else "better" if mean < -joint * error else "undecided")
-        assert row.percent == pytest.approx(100 * mean / (statistics.mean(base) / 1020))
+    base = report.rows[0]
+    first = 0.0
+    for policy, exact in zip(scenario.policies, report.rows):
+        single = scenario.with_policies([policy])
+        bias = sum(expected(single)) / 1024 - by_chain(single)[0]
+        first = bias if exact is base else first
+        row, cost = rows[policy.name], float(exact.per_period) - bias
+        assert exact.diff_var is not None and exact.cov is not None and base.cov is not None
+        own = math.sqrt(exact.diff_var - base.cov / 48 + 2 * exact.cov / 48) / 1024
+        wanted = [cost, cost - alone * own, cost + alone * own]
+        assert [row.cost, row.cost_low, row.cost_high] == pytest.approx(wanted, abs=1e-6)
+        if exact is not base:
+            diff, error = float(exact.diff_mean) / 1024 - bias + first, math.sqrt(exact.diff_var) / 1024
+            wanted = [diff, error, diff - joint * error, diff + joint * error]
+            assert [row.diff, row.std_error, row.low, row.high] == pytest.approx(wanted, abs=1e-6)
     assert rows["today"].verdict == "base" and rows["today"].low is None
-    found = long_run_decision(report)
-    exact = {it.name: by_chain(PART.with_policies([it]))[0] for it in PART.policies}
+
+
+def test_figures_of_theory_stand_beside(report: LongRunReport) -> None:
+    found = report.decide()
+    exact = {policy.name: by_chain(PART.with_policies([policy]))[0] for policy in PART.policies}
     for name, row in by_name(found).items():
         wanted = exact[name], exact[name] - exact["today"]
         assert (row.theory_cost, row.theory_diff) == pytest.approx(wanted, abs=1e-7)
     assert found.warnings == () and found.theory and sentence(found.theory) == "exact but for rounding"
-    assert report.decide().frame.loc["more", "theory_cost"] == pytest.approx(exact["more"])
+    assert found.frame.loc["more", "theory_cost"] == pytest.approx(exact["more"])
+    frame = report.frame
+    assert frame.loc["more", "difference"] == pytest.approx(by_name(found)["more"].diff)
+    assert math.sqrt(frame.loc["more", "variance"]) == pytest.approx(by_name(found)["more"].std_error)
 
 
 @pytest.mark.parametrize("returns", [None, {0: 3, 1: 1, 2: 1}], ids=["none", "returns"])
@@ -144,12 +156,12 @@ def test_the_start_of_a_report_is_warned_of(initial: int, unit: int, program: Pa
 
 def test_no_interval(program: Path) -> None:
     """There is none for fewer than two orders, and without spread."""
-    for found in (long_run_decision(SLOW.long_run(keys=2, program=program)),
+    for found in (SLOW.long_run(keys=2, program=program).decide(),
                   corrected_decision(SLOW.run(program=program).rows, SLOW)):
         row = by_name(found)["more"]
         assert (row.std_error, row.low, row.high, row.cost_low, row.verdict) == (None, None, None, None, "undecided")
         assert Remark("few orders", {"policies": "more", "least": 2}) in found.warnings
-    found = long_run_decision(EVEN.long_run(program=program))
+    found = EVEN.long_run(program=program).decide()
     row = by_name(found)["equal"]
     assert (row.diff, row.std_error, row.low, row.verdict) == (0, None, None, "undecided")
     assert found.warnings == (Remark("no spread", {"policies": "equal"}),)
@@ -165,20 +177,15 @@ def test_a_start_beside_the_packs_is_said(initial: int, said: str, program: Path
     assert theory and sentence(theory) == "exact but for rounding" + said
 
 
-def test_disagreement_with_theory_is_said(report: LongRunReport, monkeypatch: pytest.MonkeyPatch) -> None:
-    """Theory is made wrong by a fifth of setup, then said to be on a coarse lattice, and then not known."""
-    theory = long_run.theory_of(PART)
-    theory.setup = theory.setup * 6 // 5
-    monkeypatch.setattr(long_run, "theory_of", lambda scenario: theory)
-    warning, = long_run_decision(report).warnings
-    assert warning.code == "far from theory"
-    theory.exact = False
-    coarse = long_run_decision(report)
-    assert coarse.warnings == ()
-    assert "by theory, rounded to steps of 1 items, so not compared with the intervals\n" in coarse.notes
-    monkeypatch.setattr(long_run, "theory_of", refuse)
-    found = long_run_decision(report)
-    assert "theory_cost" not in found.table.names and "theory is not known: too far apart" in found.text
+def test_disagreement_with_theory_is_said(report: LongRunReport) -> None:
+    """Theory's costs are made wrong by a fifth, then said to be on a coarse lattice."""
+    bias = report.bias._replace(costs=tuple(1.2 * cost for cost in report.bias.costs))
+    warning, = replace(report, bias=bias).decide().warnings
+    assert warning == Remark("far from theory", {"policies": "today, more, less"})
+    beside = replace(report, bias=bias._replace(on_lattice=False))
+    assert beside.decide().warnings == ()
+    with pytest.raises(NoTheory, match="nothing to order in the long run"):
+        replace(PART, version=2, returns=PART.demand).long_run()
 
 
 def refuse(scenario: Scenario) -> None:
@@ -189,7 +196,7 @@ def test_run(crnplan: Command, room: Path, program: Path) -> None:
     (room / "part.toml").write_text(PART.toml())
     forms: list[list[str]] = [[], ["--csv"], ["--json"]]
     text, table, tree = (crnplan("run", "part.toml", "--long-run", *form).output for form in forms)
-    assert text.startswith("The long run\n\npolicy ") and "each policy from a state of its own" in text
+    assert text.startswith("The long run\n\npolicy ") and "over 1,024 periods, less the bias of that start" in text
     assert [",".join(line.split()) for line in text.splitlines()[2:6]] == table.splitlines()
     assert json.loads(tree)["horizon"] == "the long run"
     assert crnplan("run", "part.toml", "--long-run", "--csv").output == table
@@ -243,9 +250,9 @@ def test_check_in_the_long_run(crnplan: Command, room: Path, program: Path) -> N
     turned = PART.with_policies(sorted(PART.policies, key=lambda it: it.name != "more"))
     keys = [(word, *KEY[1:]) for word in ("00000000000000a1", "00000000000000a2")]
     first, second = (replace(turned, key=key).long_run(program=program) for key in keys)
-    both = replace(first, scenario=turned, costs=first.costs + second.costs)
-    assert "".join(f"key {' '.join(key)}\n" for key in keys) + f"\n{long_run_decision(both).text}\n" in found.output
-    less = by_name(long_run_decision(both))["less"]
+    both = replace(first, rows=tuple(pooled([first.rows, second.rows], 48, 1024)), replications=96).decide()
+    assert "".join(f"key {' '.join(key)}\n" for key in keys) + f"\n{both.text}\n" in found.output
+    less = by_name(both)["less"]
     assert less.verdict == "better" and found.status == 1
     assert found.output.endswith("On these new histories more does not hold: less, today are better.\n")
     tree = json.loads(crnplan(*words, "--json").output)
@@ -263,10 +270,11 @@ def test_sensitivity_in_the_long_run(crnplan: Command, room: Path, program: Path
              "backlog_half": replace(even, costs=Costs(40, 3, 2, 4)),
              "backlog_double": replace(even, costs=Costs(40, 3, 2, 16))}
     for name, scenario in cases.items():
-        assert found.costs[name] == [it.per_period for it in scenario.long_run(program=program).rows]
+        costs = [float(cost) for cost in found.costs[name]]
+        assert costs == pytest.approx([row.cost for row in scenario.long_run(program=program).estimates])
     (room / "part.toml").write_text(even.toml())
     text = crnplan("sensitivity", "part.toml", "--long-run").output
-    assert text.startswith("The long run, each policy from a state of its own, without unit\n\npolicy ")
+    assert text.startswith("The long run, without unit\n\npolicy ")
     assert text == found.text
     horizon = json.loads(crnplan("sensitivity", "part.toml", "--long-run", "--json").output)["horizon"]
     assert horizon == text.split("\n")[0]

@@ -1,19 +1,15 @@
-"""Tests crnplan sensitivity and how the best policy moves, with scenarios that are changed by hand or made anew."""
+"""Tests crnplan sensitivity with scenarios that are changed by hand."""
 from __future__ import annotations
 
 import csv
-from decimal import Decimal
 from fractions import Fraction
 from pathlib import Path
-from typing import Any
 
 import pytest
 from hypothesis import given, strategies as st
 
 import crnplan as crn
-from crnplan.decide.sensitivity import AS_IT_IS, Moves, cases_of, changed_demand, moves_of
-from crnplan.theory.lattice import theories_of
-from crnplan.theory.suggestions import suggestions_of
+from crnplan.decide.sensitivity import changed_demand
 from planner.tests.conftest import Command
 from planner.tests.decide.answers import changed, report_of
 
@@ -120,68 +116,3 @@ def test_notes_what_is_left_out_or_rounded(room: Path, crnplan: Command, old: st
     assert told.status == 0 and note in told.output and not told.errors
     told = crnplan("sensitivity", "noted.toml", "--csv")
     assert told.status == 0 and note in told.errors and note not in told.output
-
-
-LAW = {0: 5, 2: 3, 4: 2, 9: 1}
-MORE = {0: 50, 2: 24, 3: 6, 4: 12, 5: 8, 9: 1, 10: 9}  # Each demand but 0 times 1.1, shared between two whole numbers.
-LESS = {0: 50, 1: 6, 2: 24, 3: 8, 4: 12, 8: 9, 9: 1}
-COSTS = {"setup": Decimal("22.5"), "holding": Decimal("0.3"), "backlog": Decimal("4.5")}
-KEPT = 4, 30
-# What each case changes: a cost by a factor, or a law.
-MOVED: dict[str, dict[str, Any]] = {
-    AS_IT_IS: {}, **{f"{name} {word}": {name: times} for name in COSTS
-                     for word, times in (("halved", Decimal("0.5")), ("doubled", Decimal(2)))},
-    "demand 10% up": {"demand": MORE}, "demand 10% down": {"demand": LESS},
-    "lead times one period longer": {"lead": {3: 1, 4: 1}}}
-
-
-def scenario_of(**changes: Any) -> crn.Scenario:
-    costs = {name: cost * changes.get(name, 1) for name, cost in COSTS.items()}
-    return crn.Scenario.of(changes.get("demand", LAW), changes.get("lead", {2: 1, 3: 1}), **costs, today=(3, 9))
-
-
-@pytest.fixture(scope="module")
-def moves() -> Moves:
-    return moves_of(scenario_of(), "mine", KEPT)
-
-
-@pytest.mark.parametrize("case", MOVED)
-def test_moves_are_those_of_scenarios_made_anew(case: str, moves: Moves) -> None:
-    """The best and the kept policy have theory's figures of the changed scenario."""
-    changed, its = scenario_of(**MOVED[case]), next(it for it in moves.moves if it.words == case)
-    best = next(it for it in suggestions_of(changed).rows if it.policy.name == "best" or "the best" in it.reasons)
-    kept = theories_of(changed)[0].figures(*KEPT)
-    scale, own = float(changed.scale), float(scenario_of().scale)
-    assert (its.s, its.S) == (best.policy.s, best.policy.S)
-    assert [its.cost / own, its.fill] == pytest.approx([best.figures.cost / scale, best.figures.fill], rel=1e-9)
-    assert [its.kept_cost / own, its.kept_fill] == pytest.approx([kept.cost / scale, kept.fill], rel=1e-9)
-    assert its.kept_more == pytest.approx(its.kept_cost / its.cost - 1) and its.kept_more >= -1e-9
-
-
-def test_all_cases_are_there(moves: Moves) -> None:
-    """The cases are those that are tested, as it is first. What cannot be changed is left out with a note below."""
-    assert {it.words for it in moves.moves} == set(MOVED) and moves.moves[0].words == AS_IT_IS
-    assert not moves.remarks and all(f"\n{it} " in moves.text for it in MOVED)
-    free = crn.Scenario.of({0: 9, 9_500: 1}, {32: 1}, setup=0, holding=1, backlog=9, today=(0, 9_500))
-    found = moves_of(free, "mine", KEPT)
-    assert not any(it.words.startswith("setup") for it in found.moves)
-    assert [it.facts["case"] for it in found.remarks] == ["demand 10% up", "lead time plus 1"]
-    assert found.text.split("\n\n")[3].splitlines() == [
-        "demand 10% up is left out: a demand would be 10,450, which is over 10,000",
-        "lead time plus 1 is left out: a lead time would be 33, which is over 32"]
-
-
-def test_a_case_without_a_best_policy_is_left_out() -> None:
-    """If a tenth less than 10 items is asked for, and 9.5 come back, nothing is ordered in the long run."""
-    found = moves_of(crn.Scenario.of({10: 1}, {1: 1}, returns={9: 1, 10: 1}, setup=9, holding=1, backlog=9, today=(3, 9)),
-                     "mine", KEPT)
-    assert [it.facts["case"] for it in found.remarks] == ["demand 10% down"]
-    assert not any(it.words == "demand 10% down" for it in found.moves) and len(found.moves) == 9
-    assert "demand 10% down" in found.text.splitlines()[-1] and "9.5 items come back and 9 are asked for" in found.text
-
-
-@pytest.mark.parametrize("fill, wanted", [(0.95, {"97.5%", "90%"}), (0.4, {"70%"}), (None, set())])
-def test_a_wanted_fill_rate_has_cases(fill: float | None, wanted: set[str]) -> None:
-    """Half and twice as much demand that is not met at once are cases too, if some is still met."""
-    found = {it.words for it in cases_of(scenario_of(), fill, [])}
-    assert {it.split()[3] for it in found if it.startswith("fill rate of ")} == wanted

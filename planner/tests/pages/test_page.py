@@ -19,7 +19,7 @@ from hypothesis import example, given, strategies as st
 from matplotlib.backends.backend_agg import FigureCanvasAgg
 from matplotlib.ticker import MaxNLocator
 
-from crnplan.crnsim.trajectory import Period
+from crnplan.crnsim.periods import Period
 from crnplan.curve.parts import Point
 from crnplan.demand.fitting import fit_demand
 from crnplan.pages.curves import curve_ends

@@ -14,7 +14,7 @@ import pytest
 from crnplan.curve.candidates import PRICES, candidates_of
 from crnplan.law import Law
 from crnplan.plan.aims import FILLS, Aims, Tried
-from crnplan.plan import one
+from crnplan.plan import choice, one
 from crnplan.plan.answer import BOUNDED, CHEAPER, RUN, SAME, Answer
 from crnplan.plan.bounds import MOST_COVERAGE, feasible_of
 from crnplan.plan.catalogue import planned_folder
@@ -192,11 +192,11 @@ def test_today_stays_if_it_keeps_what_is_promised(keeps: bool, program: Path, mo
     """Today's policy costs less and meets more by the law of the item, but stays only if it keeps the promise too."""
     free = plan_one(asked(**FILL), str(program)).chosen
     question = asked(Bounds(order_min=30), {"confidence": 0.5}, **FILL | {"levels": free.levels, "setup": Fraction(1)})
-    theory, known = question.theory(), one.figures_of
+    theory, known = question.theory(), choice.figures_of
     monkeypatch.setattr(Promises, "keeps", lambda *_: keeps)
-    monkeypatch.setattr(one, "figures_of", lambda *its: replace(known(*its), cost=1, fill=1) if its[-1] == free.levels
+    monkeypatch.setattr(choice, "figures_of", lambda *its: replace(known(*its), cost=1, fill=1) if its[-1] == free.levels
                         else known(*its))
-    assert (one.choice_of(theory, question, True).worse is not None) == keeps
+    assert (choice.choice_of(theory, question, True).worse is not None) == keeps
 
 
 def test_today_stays_beside_what_a_run_shows_as_worse(program: Path, monkeypatch: pytest.MonkeyPatch) -> None:

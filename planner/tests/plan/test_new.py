@@ -16,7 +16,8 @@ from crnplan.plan import one
 from crnplan.plan.answer import Answer
 from crnplan.plan.correction import tried_names
 from crnplan.plan.item import Depth
-from crnplan.plan.one import allowed_by, plan_batch, plan_one
+from crnplan.plan.choice import allowed_by
+from crnplan.plan.one import plan_batch, plan_one
 from crnplan.plan.question import Settings, question_of
 from crnplan.records.item import NEW, NO_DEMAND, Item
 from crnplan.remarks import Remark

@@ -18,7 +18,8 @@ from crnplan.chances import Floats
 from crnplan.errors import Refused
 from crnplan.money import rounded_costs
 from crnplan.plan.answer import Answer
-from crnplan.plan.totals import Totals, add_exactly
+from crnplan.plan.exact_sums import ExactSums
+from crnplan.plan.totals import Totals
 from crnplan.plan.question import finest
 from crnplan.records.item import Item
 from crnplan.remarks import Remark
@@ -115,19 +116,21 @@ def test_arrays_and_bytes(tmp_path: Path) -> None:
 
 @given(some.lists(some.floats(-1e15, 1e15), max_size=50), some.integers(1, 100))
 def test_sums_are_exact(numbers: list[float], times: int) -> None:
-    """Numbers that cancel one another leave the others whole, in any number and order."""
-    totals, many = Totals(), [*numbers, *([1e16, 0.1, -1e16] * 12)] * times
+    """Numbers that cancel one another leave the others whole, in any number, order and groups."""
+    many = [*numbers, *([1e16, 0.1, -1e16] * 12)] * times
+    exact = sum(map(Fraction, many))
+    sums = ExactSums()
     for number in many:
-        add_exactly(totals.parts["x"], number)
-    assert math.isclose(totals["x"], float(sum(map(Fraction, many))), rel_tol=1e-15, abs_tol=1e-9)
-    assert totals["y"] == 0 and len(totals.parts["x"]) <= 1_000
+        sums.add("x", number)
+    assert math.isclose(sums["x"], float(exact), rel_tol=1e-15, abs_tol=1e-9)
+    assert sums["y"] == 0 and "y" not in sums and len(sums.tree["x"]) < 100
     trees = []
     for some in (many[:len(many) // 3], many[len(many) // 3:]):
         part = Totals(verdicts=Counter("ab"), corrected=Counter({0.95: 2}), priced=1)
-        add_exactly(part.parts["x"], *some)
+        part.parts.add("x", *some)
         trees.append(json.loads(json.dumps(part.tree)))
     together = Totals.together(trees)
-    assert sum(map(Fraction, together.parts["x"])) == sum(map(Fraction, many))
+    assert sum(map(Fraction, together.parts.tree["x"])) == exact
     assert (together.verdicts, together.corrected, together.priced) == ({"a": 2, "b": 2}, {0.95: 4}, 2)
 
 

@@ -7,12 +7,11 @@ import numpy as np
 import pytest
 from hypothesis import example, given, settings, strategies as st
 
-from crnplan.decide.sensitivity import Case, move_of
 from crnplan.scenario import Costs, Scenario
 from crnplan.theory import feasible as bounds, levels, long_run
 from crnplan.theory.feasible import ALL, Feasible
 from crnplan.theory.grid import search
-from crnplan.theory.lattice import NoTheory, shape_of, theory_on
+from crnplan.theory.lattice import shape_of, theory_on
 from crnplan.theory.long_run import NO_POLICY, Candidate
 from crnplan.theory.many_laws import Promises
 from crnplan.theory.suggestions import MOST_EXCESS
@@ -144,8 +143,6 @@ def test_no_policy_within_the_range(monkeypatch: pytest.MonkeyPatch) -> None:
     assert theory.best(0.98) == NO_POLICY
     assert theory.cheapest_of_gaps([0, 3], 0.98) == NO_POLICY
     assert Promises(scenario, theory, 0, [scenario.demand], [], [0.98]).cheapest(NO_POLICY, 0.98) == NO_POLICY
-    with pytest.raises(NoTheory, match="no best policy within the ranges of s and S"):
-        move_of(Case("as it is", scenario, None), (0, 5))
 
 
 @pytest.mark.parametrize("is_compiled", [True, False])

@@ -39,10 +39,9 @@ def run(scenario: str, words: tuple[str, ...], horizon: int | None, stock: int |
     if not long_run:
         show_rows(base.run(policies, program=program).table, form or "csv")
         return
-    from ..decide.long_run import long_run_decision
     stated = {} if keys is None else {"keys": keys}
     runs = base.long_run(policies, program=program, **stated)
-    show(long_run_decision(runs, 0.95 if level is None else level), form)
+    show(runs.decide(0.95 if level is None else level), form)
 
 
 @command()

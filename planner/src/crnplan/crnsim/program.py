@@ -1,8 +1,4 @@
-"""Finds the program crnsim, runs it, and has it resume checkpoints: the state of a run between two blocks.
-
-docs/FORMATS.md defines the text of a checkpoint. It may give each policy another state, and `resume` continues from
-there. What the program writes is exact and proved for its stream; this module is not.
-"""
+"""Finds the program crnsim and runs it. What that writes is exact and proved for its stream; this module is not."""
 from __future__ import annotations
 
 import contextlib
@@ -11,19 +7,16 @@ import os
 import select
 import shutil
 import subprocess
-import tempfile
 import tomllib
-from collections.abc import Iterable, Iterator, Mapping, Sequence
+from collections.abc import Iterable, Iterator, Sequence
 from concurrent.futures import ThreadPoolExecutor
-from dataclasses import dataclass, field
+from dataclasses import dataclass
 from pathlib import Path
 from typing import IO
 
-from .. import formats
 from ..errors import ProgramError, ProgramFailed, argument
 from ..formats import STATUSES, status_of
 from ..interrupts import interrupted_later
-from ..scenario import Scenario
 
 VARIABLE = "CRNSIM"
 STREAMS = "input", "output", "errors"
@@ -32,11 +25,6 @@ JOBS = 4  # runs at a time: a run itself uses several processors
 FAILURES = {STATUSES[line] for line in ("reading", "writing", "thread", "gate", "memory")}
 # A run that takes longer never ends: the largest one takes some 30 ms on four processors.
 RUN_SECONDS = 100.0
-PERIODS_OF_BLOCK = 4
-FIELDS = 5
-# The greatest stock and position; more by MOST_DEMAND for each period that has passed, if there are returns. The stock
-# is at least as much below 0.
-MOST_STOCK = formats.MOST_ITEMS
 C_LIBRARY = ctypes.CDLL(None)
 
 
@@ -203,49 +191,3 @@ def writes_known_report(program: Path) -> bool:
     """Returns whether the program writes the known report on a small scenario. Raises ProgramError if it fails."""
     scenario, report = (Path(__file__).with_name(f"example.{end}").read_text("utf-8") for end in ("toml", "csv"))
     return run_program(program, scenario) == report
-
-
-@dataclass(frozen=True)
-class State:
-    """The state of a policy between two blocks: its stock, the cost of the current replication so far, the items that
-    arrive, by period of the replication, and the cost of each replication that is done."""
-
-    stock: int
-    cost: int = 0
-    due: Mapping[int, int] = field(default_factory=dict)
-    costs: tuple[int, ...] = ()
-
-
-def checkpoint_text(scenario: Scenario, block: int, states: Sequence[State]) -> str:
-    """Returns the checkpoint of a scenario before a block, with a state for each policy. Ranges are not checked."""
-    laws = [getattr(scenario, name) for name in formats.DRAWS]
-    sizes = [len(law.values) if law else 0 for law in laws]
-    rows: list[tuple[object, ...]] = [
-        ("checkpoint", formats.CHECKPOINT_VERSIONS[-1], block, scenario.periods, scenario.replications),
-        ("key", *scenario.key), ("costs", *(getattr(scenario.costs, name) for name in formats.COSTS)),
-        ("sizes", scenario.initial, *sizes[:2], len(scenario.policies)), ("returns", sizes[2])]
-    for kind, law in zip(formats.DRAW_ROWS, laws):
-        rows += [(kind, value, weight) for value, weight in (zip(law.values, law.weights) if law else ())]
-    for policy, state in zip(scenario.policies, states, strict=True):
-        rows += [("policy", policy.name, policy.s, policy.S),
-                 ("state", state.stock, state.cost, len(state.due), len(state.costs)),
-                 *(("due", period, state.due[period]) for period in sorted(state.due)),
-                 *(("cost", number, cost) for number, cost in enumerate(state.costs))]
-    return "".join(",".join([*map(str, row), *"-" * (FIELDS - len(row))]) + "\n" for row in (*rows, ("end",)))
-
-
-def replication_costs(text: str) -> list[int]:
-    """Returns the costs of the replications that are done, of all policies, in the order of a checkpoint's text."""
-    return [int(line.split(",")[2]) for line in text.splitlines() if line.startswith("cost,")]
-
-
-def resume_all(program: Path, runs: Iterable[tuple[str, str]]) -> list[str]:
-    """Continues runs, each the text of a scenario and that of its checkpoint, several at a time, and returns their
-    reports in order. Raises ProgramError."""
-    with tempfile.TemporaryDirectory(prefix="crnplan-") as folder:
-        resumed = []
-        for number, (scenario, checkpoint) in enumerate(runs):
-            path = Path(folder, f"{number}.csv")
-            path.write_text(checkpoint, "ascii")
-            resumed.append((scenario, "resume", str(path)))
-        return run_all(program, resumed)

@@ -4,6 +4,7 @@ from __future__ import annotations
 import contextlib
 from collections.abc import Iterable, Sequence
 from dataclasses import dataclass
+from operator import attrgetter
 from pathlib import Path
 
 from .. import formats
@@ -39,12 +40,15 @@ def numbers_of(name: str, first: int, last: int, step: int) -> range:
 
 def grid_of(scenario: Scenario, points: Iterable[Number], levels: Iterable[Number]) -> list[Policy]:
     """Returns the pairs of the grid with s <= S, without the base's own. Raises Refused, also as a ScenarioError."""
-    base, rising = scenario.policies[0], [whole(level, "S") for level in levels]
-    grid = [Policy.of_levels(point, level) for point in (whole(it, "s") for it in points) for level in rising
-            if point <= level and (point, level) != (base.s, base.S)]
+    base = scenario.policies[0]
+    rising = [whole(level, "S") for level in levels]
+    grid = list[Policy]()
+    for point in points:
+        s = whole(point, "s")
+        grid += [Policy.of_levels(s, S) for S in rising if s <= S and (s, S) != (base.s, base.S)]
     if not grid:
         raise Refused("the grid has no pair with s <= S beside the base")
-    if base.name in {policy.name for policy in grid}:
+    if any(policy.name == base.name for policy in grid):
         raise Refused(f"the base is called {base.name}, as a pair of the grid; give it another name")
     checked_tree(scenario.with_policies([base, *grid]).tree, any_number=True)
     return grid
@@ -52,10 +56,12 @@ def grid_of(scenario: Scenario, points: Iterable[Number], levels: Iterable[Numbe
 
 def run_parts(parts: Sequence[Scenario], program: str) -> list[Kept | Remark]:
     """Runs the program on scenarios, and returns the reports. Raises ProgramError."""
-    reports = [run_program(Path(program), plain_text(part.tree)) for part in parts]
-    for part, report in zip(parts, reports):
-        rows_of(part, report, program)
-    return [*map(Kept, reports)]
+    kept = list[Kept | Remark]()
+    for part in parts:
+        report = run_program(Path(program), plain_text(part.tree))
+        rows_of(part, report, program)  # which checks it
+        kept.append(Kept(report))
+    return kept
 
 
 def sweep(scenario: Scenario, s: Iterable[Number], S: Iterable[Number], *, jobs: int | None = None,
@@ -73,14 +79,14 @@ def sweep(scenario: Scenario, s: Iterable[Number], S: Iterable[Number], *, jobs:
     path = program_for(program, cluster)
     asked = scenario.with_policies([scenario.policies[0], *grid_of(scenario, s, S)])
     parts = {f"{number:05}": part for number, part in enumerate(parts_of(asked))}
-    digest = program_digest(path, cluster)
+    of_program = program_digest(path, cluster)
+    digests = {name: digest_of(plain_text(part.tree), of_program) for name, part in parts.items()}
     with contextlib.nullcontext() if out is None else own_folder(Path(out), "sweep") as folder:
         place = folder.store(REPORTS) if folder else Path(":memory:")
         with contextlib.closing(Store(place, Kept)) as reports:
-            asked_of = [(name, digest_of(plain_text(part.tree), digest)) for name, part in parts.items()]
-            work = Work(reports, lambda: asked_of, parts.__getitem__, run_parts, (path,), unit="scenarios", batch=1)
+            work = Work(reports, digests.items, parts.__getitem__, run_parts, (path,), unit="scenarios", batch=1)
             work.finish(workers_of(jobs, cluster, path), shown=progress)
             texts = {name: answer.report for name, _, answer in reports.answers() if isinstance(answer, Kept)}
-            base, *rows = joined([rows_of(part, texts[name], path) for name, part in parts.items()], path)
-    ranked = base, *sorted(rows, key=lambda row: row.diff_total)
+    base, *rows = joined([rows_of(part, texts[name], path) for name, part in parts.items()], path)
+    ranked = base, *sorted(rows, key=attrgetter("diff_total"))
     return Report(ranked, scenario.with_policies(Policy(row.policy, row.s, row.S) for row in ranked))

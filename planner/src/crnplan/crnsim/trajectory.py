@@ -1,45 +1,33 @@
-"""Counts stock, inventory position and orders of replication 0, period by period.
+"""Shows stock, inventory position and orders of replication 0, period by period.
 
-The figures are exact and come from the program; this module is not proved. A run with chosen costs counts what they are
-paid for, and the difference of the totals of t + 1 and t periods is what period t has counted.
-
-- **Packed.** With `unit` = 1 and `holding` = c, one run counts c times the stock plus the items ordered. Both can be
-  told apart if fewer than c items are ordered and the stock is at least 0. So all levels and the initial stock are
-  raised by so many items that none is ever owed. That changes no order, since orders depend on the levels less the
-  position alone.
-- **Apart.** If the levels have no room for that, three runs count items ordered, in stock and owed.
-- **Net demand.** A replication of 1 to 4 periods takes one block of the stream, so the last checkpoint of four runs,
-  with as many replications as there are blocks, lists what a policy that never orders has in stock in each period.
+The program says what each block of the stream draws, and `periods` runs each policy on these draws. The costs of its
+periods must add up to the total that the program reports.
 """
 from __future__ import annotations
 
 import itertools
-from collections.abc import Iterable, Iterator, Sequence
-from dataclasses import replace
+import re
+from bisect import bisect_right
+from collections.abc import Iterable, Sequence
+from dataclasses import astuple, replace
 from pathlib import Path
 from typing import NamedTuple
 
 from .. import formats
-from ..errors import Refused, argument
-from ..scenario import Costs, Policy, Scenario
+from ..errors import ProgramError, Refused, argument
+from ..law import Law
+from ..scenario import Policy, Scenario
 from ..table import DataTable, text, whole
-from .program import PERIODS_OF_BLOCK, find_program, replication_costs, run_all
-from .report import read_rows
+from .periods import Past, Period, Rates, periods_of
+from .program import find_program, run_all
+from .report import report_of
 
 JOBS = 8  # runs at a time: each is short, so that starting it takes most of its time
 MOST_DRAWN = 208
 MOST_POLICIES = 8
-AMPLE = Policy("ample", 0, 0)
-APART = Costs(0, 1, 0, 0), Costs(0, 0, 1, 0), Costs(0, 0, 0, 1)
-
-
-class Period(NamedTuple):
-    """What a period comes to for a policy, in items; stock and position at its end."""
-
-    ordered: int
-    net_demand: int
-    stock: int
-    position: int
+PERIODS_OF_BLOCK = 4
+# The words of a block as the program writes them: a line with its name for each of formats.DRAWS.
+WORDS = re.compile("".join(rf"{name}((?: [0-9a-f]{{16}}){{{PERIODS_OF_BLOCK}}})\n" for name in formats.DRAWS))
 
 
 class PeriodOf(NamedTuple):
@@ -59,10 +47,13 @@ COLUMNS = (
     whole("position", "items", "stock and all that is on order, at its end").by("figures.position"))
 
 
-def table_of(names: Iterable[str], found: Iterable[Sequence[Period]]) -> DataTable:
+def table_of(names: Iterable[str], shown: Iterable[Sequence[Period]]) -> DataTable:
     """Returns the periods of policies with these names."""
-    return DataTable.of(COLUMNS, [PeriodOf(name, number, period) for name, periods in zip(names, found)
-                                  for number, period in enumerate(periods)])
+    rows = list[PeriodOf]()
+    for name, periods in zip(names, shown):
+        for number, period in enumerate(periods):
+            rows.append(PeriodOf(name, number, period))
+    return DataTable.of(COLUMNS, rows)
 
 
 def chosen(scenario: Scenario, names: Sequence[str]) -> list[Policy]:
@@ -86,69 +77,49 @@ def shown_periods(scenario: Scenario, asked: int | None, is_drawn: bool) -> int:
     return periods
 
 
-def steps_of(totals: Iterable[int]) -> list[int]:
-    """Returns what each period has counted, from the totals of 1, 2, .. periods."""
-    return [after - before for before, after in itertools.pairwise([0, *totals])]
+def drawn(law: Law | None, words: Sequence[int]) -> list[int]:
+    """Returns what each word of 64 bits draws: from a list with each value as often as its weight says."""
+    if law is None:
+        return [0] * len(words)
+    ends = list(itertools.accumulate(law.weights))
+    values = list[int]()
+    for word in words:
+        place = word * ends[-1] >> 64
+        values.append(law.values[bisect_right(ends, place)])
+    return values
 
 
-def _texts(scenario: Scenario, costs: Costs, periods: Iterable[int], replications: int = 1) -> Iterator[str]:
-    """Yields the texts of runs that count, over so many periods."""
-    text = replace(scenario, costs=costs, periods=1, replications=replications, ring=formats.RING_SIZES[-1],
-                   source=None).toml()
-    # Only one line differs, and writing it takes less time than writing all.
-    for last in periods:
-        yield text.replace("\nperiods = 1\n", f"\nperiods = {last}\n")
-
-
-def _counts(program: Path, scenario: Scenario, costs: Sequence[Costs], periods: int) -> Iterator[list[list[int]]]:
-    """Yields, for each of the costs, what each period counts of each policy."""
-    runs = ((text,) for its in costs for text in _texts(scenario, its, range(1, periods + 1)))
-    totals = [[row.total for row in read_rows(report, str(program))] for report in run_all(program, runs, JOBS)]
-    for first in range(0, len(totals), periods):
-        yield [steps_of(column) for column in zip(*totals[first:first + periods])]
-
-
-def _packed(program: Path, scenario: Scenario, periods: int) -> list[tuple[list[int], list[int]]] | None:
-    """Returns what each policy orders and has in stock in each period, from packed counts. None if there is no room.
-
-    The position after a review is at least s, and all that was on order then has arrived after the longest lead time.
-    Before that, the initial stock alone meets the demand. A position is the initial one, or at most a demand below s.
-    """
-    demand, initial = scenario.demand.values[-1], scenario.initial
-    lowest = min(initial, *(policy.s for policy in scenario.policies))
-    more = max(0, (scenario.lead.values[-1] + 1) * demand - lowest)
-    scale = 1 + max(policy.S - min(policy.s - demand, initial) for policy in scenario.policies)
-    raised = replace(scenario, initial=initial + more, policies=tuple(
-        Policy(policy.name, policy.s + more, policy.S + more) for policy in scenario.policies))
-    most = max(raised.initial, *(policy.S for policy in raised.policies))
-    if scale > formats.limits("costs", "holding")[1] or most > formats.MOST_ITEMS:
-        return None
-    counts, = _counts(program, raised, [Costs(0, 1, scale, 0)], periods)
-    return [([step % scale for step in steps], [step // scale - more for step in steps]) for steps in counts]
-
-
-def net_demands(scenario: Scenario, periods: int, program: Path) -> list[int]:
-    """Returns the net demand of each of the first periods of replication 0."""
-    blocks = -(-periods // PERIODS_OF_BLOCK)
-    ample = replace(scenario, initial=formats.MOST_ITEMS, policies=(AMPLE,))
-    runs = ((text, "leg", str(blocks)) for text in _texts(ample, APART[1], range(1, PERIODS_OF_BLOCK + 1), blocks))
-    listed = [replication_costs(checkpoint) for checkpoint in run_all(program, runs)]
-    stocks = [[formats.MOST_ITEMS, *steps_of(totals)] for totals in zip(*listed)]
-    return [before - after for block in stocks for before, after in itertools.pairwise(block)][:periods]
+def draws_of(scenario: Scenario, periods: int, program: Path) -> Past:
+    """Returns what the first periods of replication 0 draw. Raises ProgramError."""
+    blocks = range(-(-periods // PERIODS_OF_BLOCK))
+    streams: list[list[int]] = [[] for _ in formats.DRAWS]
+    for block in run_all(program, [("", "words", *scenario.key, str(block)) for block in blocks], JOBS):
+        lines = WORDS.fullmatch(block)
+        if lines is None:
+            raise ProgramError(f"{program}: what it writes are no words of a block; name crnsim with "
+                               f"{argument('program')}")
+        for words, line in zip(streams, lines.groups()):
+            words += [int(word, 16) for word in line.split()]
+    demand, lead, returns = (words[:periods] for words in streams)
+    return Past(drawn(scenario.demand, demand), drawn(scenario.returns, returns), drawn(scenario.lead, lead))
 
 
 def trajectories(scenario: Scenario, periods: int, *, program: str | Path | None = None) -> list[list[Period]]:
-    """Returns the first periods of each policy of a scenario in replication 0, which alone keeps its random numbers if
-    the number of periods changes. Raises Refused if the scenario has fewer periods, and ProgramError.
+    """Returns the first periods of each policy of a scenario in replication 0.
+
+    That replication alone keeps its random numbers if the number of periods changes. Raises Refused if the scenario has
+    fewer periods, and ProgramError, also if a total is not that of the program.
     """
-    path, periods = find_program(program), shown_periods(scenario, periods, False)
-    net = net_demands(scenario, periods, path)
-    counts = _packed(path, scenario, periods) or [
-        (orders, [more - less for more, less in zip(held, owed)])
-        for orders, held, owed in zip(*_counts(path, scenario, APART, periods))]
-    found = []
-    for orders, stocks in counts:
-        changes = (order - demand for order, demand in zip(orders, net))
-        positions = itertools.islice(itertools.accumulate(changes, initial=scenario.initial), 1, None)
-        found.append([Period(*it) for it in zip(orders, net, stocks, positions)])
-    return found
+    path = find_program(program)
+    periods = shown_periods(scenario, periods, False)
+    past = draws_of(scenario, periods, path)
+    report = report_of(replace(scenario, periods=periods, replications=1, source=None), path)
+    rates = Rates(*astuple(scenario.costs))
+    shown = list[list[Period]]()
+    for policy, row in zip(scenario.policies, report.rows, strict=True):
+        run = periods_of(past, [(policy.s, policy.S)] * periods, scenario.initial)
+        if sum(period.cost(rates) for period in run) != row.total:
+            raise ProgramError(f"{path}: the total of {policy.name} is not that of its periods; name crnsim with "
+                               f"{argument('program')}")
+        shown.append(run)
+    return shown

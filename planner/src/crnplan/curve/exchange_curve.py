@@ -16,8 +16,8 @@ from typing import TYPE_CHECKING, NamedTuple
 import numpy as np
 
 from ..chances import Floats
-from ..crnsim.long_run import long_run_of
 from ..crnsim.report import counting
+from ..decide.long_run import long_run_of
 from ..errors import Refused
 from ..files import own_folder
 from ..jobs import Scheduler
@@ -105,13 +105,15 @@ NOTES = (
     "the same service (and no more orders or stock, where these are bounded too).")
 
 
-def stocks_by_run(question: Question, asked: Iterable[Levels], program: str | Path | None) -> dict[Levels, Floats]:
-    """Returns the mean stock of each policy, whose levels are in items, in each run. All meet the same demands; each
-    run starts from a state of its own. Raises ProgramError."""
+def stocks_by_run(question: Question, asked: Iterable[Levels], program: str | Path | None
+                  ) -> dict[Levels, tuple[float, float]]:
+    """Returns the mean stock in items of each policy, whose levels are in items, by a run less the bias of its start,
+    and the standard error. All meet the same demands. Raises ProgramError, and Refused."""
     box, levels = question.item.box, list(dict.fromkeys(asked))
     policies = [Policy.of_levels(round(point / box), round(level / box)) for point, level in levels]
     report = long_run_of(counting(question.scenario(0).with_policies(policies), "holding"), KEYS, program)
-    return dict(zip(levels, np.array(report.costs, float).T * box / report.periods))
+    stocks = [(estimate.cost * box, (estimate.own_error or 0.0) * box) for estimate in report.estimates]
+    return dict(zip(levels, stocks, strict=True))
 
 
 def confirmed(gathered: Gathered, choices: Mapping[str, Choice], said: Mapping[str, str], count: int,
@@ -131,8 +133,8 @@ def confirmed(gathered: Gathered, choices: Mapping[str, Choice], said: Mapping[s
             stocks[name] = (its.point, its.level), its.value
         counted = stocks_by_run(gathered.folder.question(item), (levels for levels, _ in stocks.values()), program)
         for name, (levels, value) in stocks.items():
-            runs = price * counted[levels]
-            sums[name] += value, runs.mean(), runs.var(ddof=1) / KEYS
+            stock, error = counted[levels]
+            sums[name] += value, price * stock, (price * error)**2
     money = gathered.folder.currency.text
     lines = [f"crnsim: the stock of {len(sample):,} of {items.count:,} items, taken at random, is worth"]
     wide, shares = max(map(len, said.values())), dict[str, float]()

@@ -8,16 +8,15 @@ from __future__ import annotations
 
 import contextlib
 import dataclasses
-import functools
 import secrets
 from collections.abc import Sequence
 from dataclasses import dataclass
 from pathlib import Path
 
 from .. import formats
-from ..crnsim.report import pooled, table_of
+from ..crnsim.report import Row, pooled, table_of
 from ..errors import Refused, argument
-from ..files import own_folder
+from ..files import Folder, own_folder
 from ..scenario import Scenario
 from ..table import DataTable, Json, Result
 from ..toml.scenarios import plain_text
@@ -120,6 +119,25 @@ def _with_base(scenario: Scenario, best: str) -> Scenario:
     return scenario.with_policies(sorted(scenario.policies, key=lambda policy: policy.name != best))
 
 
+def _pooled_run(scenario: Scenario, keys: Sequence[Key], program: str | Path | None,
+                folder: Folder | None = None) -> list[Row]:
+    """Runs a scenario under each key, and returns the rows of all replications. A folder gets what was run."""
+    reports = list[Sequence[Row]]()
+    for number, key in enumerate(keys, 1):
+        report = dataclasses.replace(scenario, key=key).run(program=program)
+        check_replications(report.rows, scenario.replications, "the report")
+        reports.append(report.rows)
+        if folder:
+            folder.write(f"key_{number}.toml", plain_text(report.scenario.tree))
+            folder.write(f"key_{number}.csv", report.text)
+    if len(reports) == 1:
+        return list(reports[0])
+    rows = pooled(reports, scenario.replications, scenario.periods)
+    if folder:
+        folder.write(POOLED, table_of(rows).csv)
+    return rows
+
+
 def check_keys(scenario: Scenario, best: str, *, keys: Sequence[Sequence[str]] = (), count: int | None = None,
                replications: int = formats.MOST_REPLICATIONS, level: float = 0.95, program: str | Path | None = None,
                out: str | Path | None = None) -> Check:
@@ -137,21 +155,12 @@ def check_keys(scenario: Scenario, best: str, *, keys: Sequence[Sequence[str]] =
                       f"{formats.MOST_REPLICATIONS} for each key; more come from more keys ({argument('keys')})")
     checked_level(level)
     asked = dataclasses.replace(_with_base(scenario, best), replications=replications)
-    all_keys, reports = keys_of(keys, count, scenario.key), []
+    all_keys = keys_of(keys, count, scenario.key)
     with contextlib.nullcontext() if out is None else own_folder(Path(out), "check") as folder:
         if folder:
             folder.remove(*KEPT)
-        for number, key in enumerate(all_keys, 1):
-            report = dataclasses.replace(asked, key=key).run(program=program)
-            check_replications(report.rows, replications, "the report")
-            reports.append(report.rows)
-            if folder:
-                folder.write(f"key_{number}.toml", plain_text(report.scenario.tree))
-                folder.write(f"key_{number}.csv", report.text)
-        rows = pooled(reports, replications, scenario.periods) if len(reports) > 1 else reports[0]
-        if folder and len(reports) > 1:
-            folder.write(POOLED, table_of(rows).csv)
-    total = replications * len(reports)
+        rows = _pooled_run(asked, all_keys, program, folder)
+    total = replications * len(all_keys)
     ranked = with_intervals(rows, total, level)
     return Check(best, tuple(all_keys), Decision(ranked, best, total, level, horizon_of(scenario), most=len(rows)))
 
@@ -160,12 +169,15 @@ def check_long_run(scenario: Scenario, best: str, *, keys: Sequence[Sequence[str
                    runs: int = 48, level: float = 0.95, program: str | Path | None = None) -> Check:
     """Compares each other policy with the policy named `best` in the long run, under new keys.
 
-    Keys are given and drawn as in `check_keys`. From each follow 48 keys of runs, or as many as `runs`, 2 to 256, and
-    those of all are pooled. Raises Refused, also for the scenario's own key, and ProgramError if a run fails.
+    Keys are given and drawn as in `check_keys`. Each has 48 replications of a long run, or as many as `runs`, 2 to 256,
+    and those of all are pooled. Raises Refused, also for the scenario's own key, NoTheory, and ProgramError if a run
+    fails.
     """
-    from ..crnsim.long_run import LongRunReport
-    from .long_run import long_run_decision
+    from .long_run import LongRunReport, long_scenario
     checked_level(level)
-    asked, all_keys = _with_base(scenario, best), keys_of(keys, count, scenario.key)
-    reports = (dataclasses.replace(asked, key=key).long_run(keys=runs, program=program) for key in all_keys)
-    return Check(best, tuple(all_keys), long_run_decision(functools.reduce(LongRunReport.plus, reports), level))
+    based = _with_base(scenario, best)
+    all_keys = keys_of(keys, count, scenario.key)
+    asked = long_scenario(based, runs)
+    rows = _pooled_run(asked, all_keys, program)
+    decision = LongRunReport.of(rows, asked, runs * len(all_keys)).decide(level)
+    return Check(best, tuple(all_keys), decision)

@@ -1,108 +1,189 @@
 """Compares policies in the long run, without the effect of the start, beside the figures of theory.
 
-There are two ways. `Scenario.long_run` draws a start for each policy and uses no theory. Theory's figures beside it are
-therefore an independent check. A report on runs from one common start is corrected by theory's exact bias
-of that start, which moves the intervals and leaves their widths.
+All policies of a run start with the same stock. What that adds to the expected cost of each is exact by theory
+(`theory/run_effects.py`). It is taken out, which moves the intervals and leaves their widths.
 
-Costs leave `unit` out, which adds unit times the mean net demand to every policy. Intervals are those of `intervals`.
+Costs leave `unit` out, which adds unit times the mean net demand to every policy. Intervals are those of `verdicts`.
 There is none if the rarer policy of a comparison places fewer than two orders in all replications, or if the
 difference is the same in all. Theory and all decimals are rounded and unproved; crnsim's costs are exact.
 """
 from __future__ import annotations
 
 import math
-from collections.abc import Iterable, Iterator, Sequence
-from dataclasses import replace
-from typing import NamedTuple
+from collections.abc import Iterator, Sequence
+from dataclasses import dataclass, replace
+from functools import cached_property
+from pathlib import Path
 
-from ..crnsim.long_run import LongRunReport
-from ..crnsim.report import Row
-from ..errors import Refused
+from .. import formats
+from ..crnsim.report import Row, report_of
+from ..errors import Refused, argument
 from ..remarks import Remark
 from ..scenario import Policy, Scenario
-from ..table import names_of
+from ..table import Cell, DataTable, Result, names_of, number
 from ..theory.lattice import NoTheory
+from ..theory.long_run import LongRun
 from ..theory.run_effects import StartBias, end_effects, start_bias, theory_of
-from .verdicts import (FEWEST_ORDERS, MOST_ROWS, Decision, Estimate, decided, estimates_of, horizon_of, ranked,
-                       t_quantile)
+from ..toml.scenarios import checked_tree
+from .verdicts import (FEWEST_ORDERS, MOST_ROWS, POLICY, Decision, Estimate, decided, estimates_of, far_from, horizon_of,
+                       ranked, t_quantile)
 
 # In standard errors of a difference. Measured: with smaller effects 94% of uncorrected 95% intervals hold.
 MOST_EFFECT = 0.25
 # Runs and theory are said to differ if chance alone lets them differ so much in this share of tables.
 CHANCE_OF_ALARM = 0.001
-LONG_RUN = Remark("long run")
+KEYS = 48
+LEAST_KEYS, MOST_KEYS = 2, formats.MOST_REPLICATIONS
+COLUMNS = (
+    *POLICY, number("cost", "money a period", "mean cost, without `unit`").by("cost"),
+    number("difference", "money a period", "cost less the base's").by("difference"),
+    number("variance", "squared money", "variance of the mean of that difference").by("variance"))
 
 
-def _decision(rows: Sequence[Row], estimates: Sequence[Estimate], replications: int, level: float,
-              theory: Sequence[Sequence[float | None]], sources: tuple[Remark, Remark], warnings: Iterable[Remark]
-              ) -> Decision:
-    """Returns a decision of the long run. `theory` has its figures of each policy, `sources` of what costs are."""
-    base = estimates[0].cost
-    percents = [100 * own.difference / base if base else None for own in estimates]
-    policies = ranked(rows, estimates, percents, level, replications, theory)
-    return Decision(policies, rows[0].policy, replications, level, LONG_RUN, *sources,
-                    (*_without_interval(estimates), *warnings))
+@dataclass(frozen=True)
+class LongRunReport(Result):
+    """A run of a scenario, whose first policy is the base, and what its start adds by theory.
+
+    The `rows` are exact, of so many `replications`: those of the scenario, or of several keys together.
+    """
+
+    scenario: Scenario
+    rows: tuple[Row, ...]
+    replications: int
+    bias: StartBias
+
+    @classmethod
+    def of(cls, rows: Sequence[Row], scenario: Scenario, replications: int, known: LongRun | None = None
+           ) -> LongRunReport:
+        """Makes the report of rows on a scenario, perhaps with other policies. Its theory may be known. Raises NoTheory.
+        """
+        asked = scenario.with_policies(Policy(row.policy, row.s, row.S) for row in rows)
+        return cls(asked, tuple(rows), replications, start_bias(asked, known))
+
+    @property
+    def is_exact(self) -> bool:
+        """Returns whether theory, and the bias of the start, are exact but for rounding."""
+        return self.bias.theory.exact and self.bias.on_lattice
+
+    @cached_property
+    def shifts(self) -> list[float]:
+        """Returns what is taken from the cost of a period of each policy."""
+        scenario = self.scenario
+        net = scenario.demand.mean - (scenario.returns.mean if scenario.returns else 0)
+        usual = scenario.costs.unit * float(net)
+        return [total / scenario.periods + usual for total in self.bias.biases]
+
+    @cached_property
+    def estimates(self) -> list[Estimate]:
+        """Returns what the run says of each policy, in money of a period."""
+        periods = self.scenario.periods
+        orders = list[float]()
+        for row in self.rows:
+            rate = self.bias.theory.figures(row.s, row.S).orders
+            orders.append(rate * periods * self.replications)
+        return estimates_of(self.rows, self.replications, periods, self.shifts, orders)
+
+    @cached_property
+    def effects(self) -> list[float | None]:
+        """Returns in standard errors what the start adds to each difference; None if that has no error."""
+        effects = list[float | None]()
+        for row, shift in zip(self.rows, self.shifts):
+            error = math.sqrt(row.diff_var or 0) / self.scenario.periods
+            effects.append((shift - self.shifts[0]) / error if error else None)
+        return effects
+
+    @property
+    def strong(self) -> list[str]:
+        """Returns the policies for which that is too much for intervals of the long run."""
+        return [row.policy for row, effect in zip(self.rows, self.effects) if effect and abs(effect) > MOST_EFFECT]
+
+    @property
+    def table(self) -> DataTable:
+        """Returns the figures of a period, indexed by `policy`, the base first."""
+        square = self.scenario.periods**2
+        cells: list[list[Cell]] = [
+            [row.policy, row.s, row.S, estimate.cost, estimate.difference, float(row.diff_var or 0) / square]
+            for row, estimate in zip(self.rows, self.estimates)]
+        return DataTable(COLUMNS, cells, index="policy")
+
+    def decide(self, level: float = 0.95) -> Decision:
+        """Returns all policies, the cheapest first, with paired-t intervals of a period at a level above 0 and below 1,
+        verdicts, and the figures of theory beside."""
+        base, costs = self.estimates[0].cost, self.bias.costs
+        percents = [100 * own.difference / base if base else None for own in self.estimates]
+        theory = [(cost, cost - costs[0], effect) for cost, effect in zip(costs, self.effects)]
+        policies = ranked(self.rows, self.estimates, percents, level, self.replications, theory)
+        scenario = self.scenario
+        runs = Remark("common start", {"initial": scenario.initial, "periods": scenario.periods})
+        return Decision(policies, self.rows[0].policy, self.replications, level, Remark("long run"), runs,
+                        self._exactness(), (*_without_interval(self.estimates), *self._warnings()))
+
+    def _exactness(self) -> Remark:
+        """Returns how exact theory's figures are."""
+        code = "rounded bias"
+        if self.bias.theory.exact:
+            code = "exact theory" if self.bias.on_lattice else "start beside the lattice"
+        return Remark(code, {"step": self.bias.theory.step})
+
+    def _warnings(self) -> Iterator[Remark]:
+        """Yields that the run is far from theory that is exact, if it is."""
+        if not self.is_exact:
+            return
+        quantile = t_quantile(CHANCE_OF_ALARM / (2 * len(self.rows)), self.replications - 1)
+        gaps = far_from(self.estimates, self.bias.costs, quantile, [0.0] * len(self.rows))
+        far = dict.fromkeys(gap.policy for gap in gaps if gap.error > 0)
+        if far:
+            yield Remark("far from theory", {"policies": names_of([*far], MOST_ROWS)})
 
 
 def _without_interval(estimates: Sequence[Estimate]) -> Iterator[Remark]:
     """Yields what must be said of policies without an interval."""
-    lacking = [(own.policy, min(own.orders, estimates[0].orders) < FEWEST_ORDERS)
-               for own in estimates[1:] if own.error is None]
-    few, same = ([policy for policy, is_rare in lacking if is_rare == asked] for asked in (True, False))
+    few, same = list[str](), list[str]()
+    for own in estimates[1:]:
+        if own.error is None:
+            is_rare = min(own.orders, estimates[0].orders) < FEWEST_ORDERS
+            (few if is_rare else same).append(own.policy)
     if few:
         yield Remark("few orders", {"policies": names_of(few, MOST_ROWS), "least": FEWEST_ORDERS})
     if same:
         yield Remark("no spread", {"policies": names_of(same, MOST_ROWS)})
 
 
-def _disagreeing(estimates: Sequence[Estimate], theory: Sequence[float], replications: int) -> list[str]:
-    """Returns the policies whose cost, or difference from the base, is further from theory's than chance allows."""
-    quantile, policies = t_quantile(CHANCE_OF_ALARM / (2 * len(estimates)), replications - 1), list[str]()
-    for own, cost in zip(estimates, theory):
-        gaps = [(own.cost - cost, own.own_error), (own.difference - cost + theory[0], own.error)]
-        if any(error is not None and error > 0 and abs(gap) > quantile * error for gap, error in gaps):
-            policies.append(own.policy)
-    return policies
+def long_scenario(scenario: Scenario, keys: int) -> Scenario:
+    """Returns the scenario of a long run with so many replications, without `unit`.
+
+    It has the most periods, and starts with the mean position of the first policy: a run that starts near the long run
+    is biased least. Raises Refused for a number that is not 2 to 256, ScenarioError with all faults, and NoTheory.
+    """
+    if not LEAST_KEYS <= keys <= MOST_KEYS:
+        raise Refused(f"{argument('keys', str(keys))}: the long run takes {LEAST_KEYS} to {MOST_KEYS} keys")
+    checked_tree(scenario.tree, any_number=True)
+    base = scenario.policies[0]
+    position = theory_of(scenario.with_policies([base])).mean_position(base.s, base.S)
+    initial = min(max(round(position), 0), formats.MOST_ITEMS)
+    return replace(scenario, periods=formats.MOST_PERIODS, replications=keys, initial=initial,
+                   ring=formats.RING_SIZES[-1], costs=replace(scenario.costs, unit=0), source=None)
 
 
-def long_run_decision(report: LongRunReport, level: float = 0.95) -> Decision:
-    """Compares the policies of runs from own starts, with theory's figures beside. `level` is above 0, below 1."""
-    rows, orders = report.rows, [math.inf if count is None else count for count in report.orders]
-    estimates = estimates_of(rows, report.keys, report.periods, [0.0] * len(rows), orders)
-    costs, off = list[float](), list[str]()
-    try:
-        theory = theory_of(report.scenario)
-        costs = [theory.figures(row.s, row.S).cost for row in rows]
-        source = Remark("exact theory" if theory.exact else "rounded theory", {"step": theory.step})
-        off = _disagreeing(estimates, costs, report.keys) if theory.exact else []
-    except NoTheory as fault:
-        source = Remark("no theory", {"reason": str(fault)})
-    runs = Remark("own starts", {"periods": report.periods, "keys": report.keys})
-    warnings = [Remark("far from theory", {"policies": names_of(off, MOST_ROWS)})] * bool(off)
-    return _decision(rows, estimates, report.keys, level, [(cost, cost - costs[0]) for cost in costs], (runs, source),
-                     warnings)
+def long_run_of(scenario: Scenario, keys: int = KEYS, program: str | Path | None = None) -> LongRunReport:
+    """Runs the policies of a scenario, whose first one is the base, in the long run: see `Scenario.long_run`."""
+    asked = long_scenario(scenario, keys)
+    return LongRunReport.of(report_of(asked, program).rows, asked, keys)
 
 
-class _Start(NamedTuple):
-    """What the start adds to a period of each policy, and in standard errors to its difference from the first one, if
-    that has any; and the policies for which that is too much for intervals of the long run."""
+def corrected_decision(rows: Sequence[Row], scenario: Scenario, level: float = 0.95) -> Decision:
+    """Compares the policies of a report in the long run: theory's bias of the common start is taken out.
 
-    bias: StartBias
-    shifts: list[float]
-    effects: list[float | None]
-    strong: list[str]
-
-
-def _start_of(rows: Sequence[Row], scenario: Scenario) -> _Start:
-    """Returns what the start adds, by theory. Raises NoTheory."""
-    scenario = scenario.with_policies(Policy(row.policy, row.s, row.S) for row in rows)
-    bias, periods = start_bias(scenario), scenario.periods
-    net = scenario.demand.mean - (scenario.returns.mean if scenario.returns else 0)
-    shifts = [total / periods + scenario.costs.unit * float(net) for total in bias.biases]
-    errors = [math.sqrt(row.diff_var or 0) / periods for row in rows]
-    effects = [(shift - shifts[0]) / error if error else None for shift, error in zip(shifts, errors)]
-    strong = [row.policy for row, effect in zip(rows, effects) if effect and abs(effect) > MOST_EFFECT]
-    return _Start(bias, shifts, effects, strong)
+    The report is on the scenario, perhaps with other policies. Raises Refused with one replication, and NoTheory.
+    """
+    if scenario.replications < 2:
+        raise Refused("one replication tells nothing of spread; give the report of at least 2")
+    report = LongRunReport.of(rows, scenario, scenario.replications)
+    decision = report.decide(level)
+    if not report.strong:
+        return decision
+    strong = Remark("strong start", {"policies": names_of(report.strong, MOST_ROWS), "most": MOST_EFFECT})
+    return replace(decision, warnings=(*decision.warnings, strong))
 
 
 def end_warning(scenario: Scenario, rows: Sequence[Row]) -> list[Remark]:
@@ -116,9 +197,10 @@ def end_warning(scenario: Scenario, rows: Sequence[Row]) -> list[Remark]:
     named_effects = list(zip(effects, (row.policy for row in rows)))
     (least, low), (most, high) = min(named_effects), max(named_effects)
     place = min(range(len(rows)), key=lambda place: rows[place].diff_total)
-    return [Remark("unit of the cheapest" if place else "unit at the end", {
-        "unit": unit, "base": base, "least": least, "low": low, "most": most, "high": high,
-        "cheapest": rows[place].policy, "effect": effects[place], "mean": float(rows[place].diff_mean)})]
+    cheapest = rows[place]
+    code = "unit of the cheapest" if place else "unit at the end"
+    return [Remark(code, {"unit": unit, "base": base, "least": least, "low": low, "most": most, "high": high,
+                          "cheapest": cheapest.policy, "effect": effects[place], "mean": float(cheapest.diff_mean)})]
 
 
 def start_warning(rows: Sequence[Row], scenario: Scenario) -> list[Remark]:
@@ -126,14 +208,15 @@ def start_warning(rows: Sequence[Row], scenario: Scenario) -> list[Remark]:
     `unit` is left out, since `end_warning` is about that."""
     if scenario.replications < 2 or len(rows) < 2:
         return []
+    free = replace(scenario, costs=replace(scenario.costs, unit=0))
     try:
-        start = _start_of(rows, replace(scenario, costs=replace(scenario.costs, unit=0)))
+        report = LongRunReport.of(rows, free, scenario.replications)
     except NoTheory:
         return []
-    if not start.strong or not start.bias.theory.exact:
+    if not report.strong or not report.bias.theory.exact:
         return []
     return [Remark("start of coming periods", {"periods": scenario.periods, "initial": scenario.initial,
-                                               "most": MOST_EFFECT, "policies": names_of(start.strong, MOST_ROWS)})]
+                                               "most": MOST_EFFECT, "policies": names_of(report.strong, MOST_ROWS)})]
 
 
 def coming_decision(given: Sequence[Row], scenario: Scenario, level: float = 0.95) -> Decision:
@@ -144,22 +227,3 @@ def coming_decision(given: Sequence[Row], scenario: Scenario, level: float = 0.9
     shown = [row for row in given if row.policy in listed]
     return replace(decision, horizon=horizon_of(scenario),
                    warnings=(*end_warning(scenario, given), *start_warning(shown, scenario)))
-
-
-def corrected_decision(rows: Sequence[Row], scenario: Scenario, level: float = 0.95) -> Decision:
-    """Compares the policies of a report in the long run: theory's bias of the common start is taken out.
-
-    The report is on the scenario, perhaps with other policies. Raises Refused with one replication, and NoTheory.
-    """
-    if scenario.replications < 2:
-        raise Refused("one replication tells nothing of spread; give the report of at least 2")
-    start, replications, periods = _start_of(rows, scenario), scenario.replications, scenario.periods
-    bias = start.bias
-    orders = [bias.theory.figures(row.s, row.S).orders * periods * replications for row in rows]
-    estimates = estimates_of(rows, replications, periods, start.shifts, orders)
-    theory = [(cost, cost - bias.costs[0], effect) for cost, effect in zip(bias.costs, start.effects)]
-    runs = Remark("common start", {"initial": scenario.initial, "periods": periods})
-    code = "exact theory" if bias.on_lattice else "start beside the lattice"
-    source = Remark(code if bias.theory.exact else "rounded bias", {"step": bias.theory.step})
-    strong = Remark("strong start", {"policies": names_of(start.strong, MOST_ROWS), "most": MOST_EFFECT})
-    return _decision(rows, estimates, replications, level, theory, (runs, source), [strong] * bool(start.strong))

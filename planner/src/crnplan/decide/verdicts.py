@@ -12,7 +12,7 @@ from __future__ import annotations
 import functools
 import math
 import sys
-from collections.abc import Sequence
+from collections.abc import Iterator, Sequence
 from dataclasses import dataclass
 from fractions import Fraction
 from pathlib import Path
@@ -95,6 +95,35 @@ class Estimate(NamedTuple):
     difference: float
     error: float | None
     orders: float
+
+    def in_money(self, scale: Fraction) -> Estimate:
+        """Returns the estimate in money of which one counts `scale` here."""
+        times = float(scale)
+        own = None if self.own_error is None else self.own_error / times
+        error = None if self.error is None else self.error / times
+        return Estimate(self.policy, self.cost / times, own, self.difference / times, error, self.orders)
+
+
+class Gap(NamedTuple):
+    """A figure of a policy, `cost` or `saving`, by theory and by a run with its standard error."""
+
+    policy: str
+    figure: str
+    theory: float
+    run: float
+    error: float
+
+
+def far_from(estimates: Sequence[Estimate], costs: Sequence[float], errors: float,
+             spare: Sequence[float]) -> Iterator[Gap]:
+    """Yields the figures that are further from theory's costs than so many standard errors, and what is to spare for
+    the policy. A saving is beside the first policy. Figures without a standard error are not compared."""
+    for estimate, cost, more in zip(estimates, costs, spare, strict=True):
+        gaps = (("cost", cost, estimate.cost, estimate.own_error),
+                ("saving", costs[0] - cost, -estimate.difference, estimate.error))
+        for figure, theory, run, error in gaps:
+            if error is not None and abs(run - theory) > errors * error + more:
+                yield Gap(estimate.policy, figure, theory, run, error)
 
 
 def checked_level(level: float) -> float:

@@ -11,9 +11,10 @@ from functools import cached_property
 from pathlib import Path
 from typing import Any, NamedTuple
 
-from ..crnsim.trajectory import Period, table_of
+from ..crnsim.periods import Period
+from ..crnsim.trajectory import table_of
 from ..decide.doubt import WITHIN
-from ..decide.verdicts import POLICY, Compared as ComparedRow
+from ..decide.verdicts import POLICY, Compared
 from ..demand import EMPIRICAL
 from ..demand.checks import largest_periods
 from ..demand.fitted import QUANTILES, Figures as LawFigures, FittedLaw, fit_words
@@ -21,7 +22,7 @@ from ..errors import Fault, spelt, worded
 from ..law import Law
 from ..money import Currency
 from ..plan.answer import THEORY, Figures
-from ..plan.item import Coming, Compared, Depth
+from ..plan.item import Coming, Depth, Shown
 from ..plan.question import Question
 from ..plan.settings import as_setting
 from ..records.dates import EVERY, period_name
@@ -69,7 +70,7 @@ class Range(NamedTuple):
 class ComingRow(NamedTuple):
     """A policy with its figures, over the coming periods."""
 
-    row: ComparedRow
+    row: Compared
     figures: Figures
 
 
@@ -89,17 +90,7 @@ class LawRow(NamedTuple):
 class PolicyRow(NamedTuple):
     """A policy beside the base in the long run."""
 
-    policy: Compared
-
-    @property
-    def own(self) -> dict[str, float | None]:
-        """Returns the ends of the interval of its cost."""
-        return dict(zip(("low", "high"), self.policy.own_ends))
-
-    @property
-    def ends(self) -> dict[str, float | None]:
-        """Returns the ends of the interval of its difference."""
-        return dict(zip(("low", "high"), self.policy.ends))
+    policy: Shown
 
     @property
     def reasons(self) -> str:
@@ -357,7 +348,7 @@ def item_page(words: ItemWords) -> str:
     exact, = exact_of([(item, answer)]).cells()
     doubted = dict(itertools.islice(words.doubted.items(), MOST_DOUBTED))
     regrets = [Range(name, 100 * row["regret"], 0.0, 100 * row["regret_90"]) for name, row in doubted.items()]
-    decided = [Range(row.name, row.difference, *row.ends, row.verdict) for row in depth.compared]
+    decided = [Range(row.name, row.difference, row.run.low, row.run.high, row.verdict) for row in depth.compared]
     coming = words.coming.rows if words.coming else []
     return rendered("item.html", {
         "words": words,

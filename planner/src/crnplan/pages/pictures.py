@@ -17,7 +17,7 @@ import numpy as np
 
 from ..chances import Floats
 from ..caches import cache_folder, has_home
-from ..crnsim.trajectory import Period
+from ..crnsim.periods import Period
 from ..curve.parts import Point
 from ..decide.doubt import MOST, Doubt
 from ..decide.verdicts import Compared, Decision

@@ -3,10 +3,10 @@ on the periods since."""
 from __future__ import annotations
 
 import dataclasses
-import math
+import statistics
 from collections import Counter
 from collections.abc import Iterable, Iterator, Sequence
-from dataclasses import dataclass, field
+from dataclasses import dataclass
 from fractions import Fraction
 from operator import attrgetter
 from typing import NamedTuple
@@ -18,6 +18,7 @@ from ..remarks import Remark, Value
 from .answer import Answer, Figures, LawFacts
 from .backtest.outcomes import Happened, Outcome
 from .backtest.sums import Estimate, Group
+from .exact_sums import ExactSums
 from .question import Settings
 
 # What an item's policy is beside the earlier one: the same, moved, the same though another costs less, new, or gone.
@@ -97,19 +98,23 @@ def rows_of(old: Item, new: Item, stop: int) -> Iterator[Remark]:
         yield Remark("other first period", {"periods": new.first - old.first})
 
 
+def plain_value(fact: Fraction | Value) -> Value:
+    """Returns a fact of a master as that of a remark."""
+    return float(fact) if isinstance(fact, Fraction) else fact
+
+
 def masters_of(old: Item, new: Item, earlier: tuple[int, int]) -> Iterator[Remark]:
     """Yields what has changed in the master of an item: costs, bounds and the like, lead times, and today's policy."""
     facts: dict[str, Value] = {}
     for name, field_name in COLUMNS.items():
-        values = [attrgetter(field_name)(item) for item in (old, new)]
-        if values[0] != values[1]:
-            facts |= {f"{name} {when}": float(value) if isinstance(value, Fraction) else value
-                      for when, value in zip(("before", "after"), values)}
+        fact = attrgetter(field_name)
+        if fact(old) != fact(new):
+            facts |= {f"{name} before": plain_value(fact(old)), f"{name} after": plain_value(fact(new))}
     if facts:
         yield Remark("other master", facts)
     if old.leads != new.leads:
-        means = [sum(item.leads) / len(item.leads) for item in (old, new)]
-        yield Remark("other lead times", {"before": means[0], "after": means[1], "seen": len(new.leads)})
+        yield Remark("other lead times", {"before": statistics.fmean(old.leads), "after": statistics.fmean(new.leads),
+                                          "seen": len(new.leads)})
     if old.levels != new.levels:
         s, S = new.levels or (None, None)
         yield Remark("other policy today", {"s": s, "S": S, "earlier": int(new.levels == earlier)})
@@ -191,22 +196,20 @@ class ChangeSums:
     """What the changes of all items add up to: how many there are of each kind, and for which reasons; what is gained
     by those that move, and what is given up by those that are damped, in money of a period by the laws of now."""
 
-    kinds: Counter[str] = field(default_factory=Counter)
-    reasons: Counter[str] = field(default_factory=Counter)
-    gained: float = 0.0
-    given_up: float = 0.0
-    since: SinceSums | None = None
+    kinds: Counter[str]
+    reasons: Counter[str]
+    gained: float
+    given_up: float
+    since: SinceSums | None
 
     @classmethod
     def of(cls, changes: Iterable[Change]) -> ChangeSums:
         """Adds up changes."""
-        sums, gains, known = cls(), {MOVED: list[float](), DAMPED: list[float]()}, list[Since]()
+        kinds, reasons, gains, known = Counter[str](), Counter[str](), ExactSums(), list[Since]()
         for change in changes:
-            sums.kinds[change.kind] += 1
-            sums.reasons.update({reason.code for reason in change.reasons})
-            if change.kind in gains:
-                gains[change.kind].append(change.gain or 0.0)
+            kinds[change.kind] += 1
+            reasons.update({reason.code for reason in change.reasons})
+            gains.add(change.kind, change.gain or 0.0)
             if change.since:
                 known.append(change.since)
-        return dataclasses.replace(sums, gained=math.fsum(gains[MOVED]), given_up=math.fsum(gains[DAMPED]),
-                                   since=SinceSums.of(known))
+        return cls(kinds, reasons, gains[MOVED], gains[DAMPED], SinceSums.of(known))

@@ -19,6 +19,7 @@ from typing import Any
 import numpy as np
 
 from ..chances import Floats
+from ..crnsim.periods import Past, periods_of
 from ..demand.learning import Prior
 from ..errors import Refused, argument
 from ..files import IN_KEPT, Folder
@@ -30,7 +31,6 @@ from ..stored import Store
 from ..theory.long_run import LongRun
 from ..work import Work
 from .aims import FILLS, Aims, Trial
-from .backtest.periods import Past, periods_of
 from .learned import drawn_from
 from .one import or_fault
 from .question import Levels, Settings, question_of

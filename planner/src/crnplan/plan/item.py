@@ -4,20 +4,19 @@ coming periods from today's stock, on the same random numbers as the answer's ow
 from __future__ import annotations
 
 from collections.abc import Mapping
-from dataclasses import asdict, replace
+from dataclasses import replace
 from fractions import Fraction
 from functools import cached_property
 from itertools import repeat
 from pathlib import Path
 from typing import Any, NamedTuple
 
+from ..crnsim.periods import Period
 from ..crnsim.program import find_program
 from ..crnsim.report import report_of
-from ..crnsim.trajectory import Period, trajectories
+from ..crnsim.trajectory import trajectories
 from ..decide.doubt import WITHIN, Doubt
-from ..decide.verdicts import (Compared as ComparedRow, Ends, Estimate, ends_of, t_quantile, verdict_of,
-                               with_intervals)
-from ..decide.sensitivity import Case, Move, Moves, moves_of
+from ..decide.verdicts import Compared, Estimate, ends_of, t_quantile, verdict_of, with_intervals
 from ..demand.checks import largest_periods, largest_places
 from ..demand.fitted import FittedLaw
 from ..demand.posterior import AllowedLaws
@@ -34,31 +33,36 @@ from ..theory.many_laws import CONFIDENCE, Promises, figures_of_laws
 from ..theory.suggestions import FILLS, Chosen, add_fills, chosen_policies
 from ..words import sentence
 from .answer import ALONE, CHOSEN, THEORY, TODAY, Answer, Figures
-from .one import LAWS, Sample, allowed_by, choice_of, figures_of, plan_one, sample_of
-from .question import NONE, Levels, Question, Settings, question_of
+from .checked_run import Sample
+from .choice import LAWS, allowed_by, choice_of, figures_of
+from .one import plan_one
+from .question import NONE, Levels, Question, Settings, question_of, terms_of
 from .settings import Tables, read_settings
+from .what_ifs import Moves, moves_of
 
 MOST_PERIODS = 104  # of a trajectory
 RULES = ("delimiter", "encoding", "decimal", "item", "leave_out")
 
 
-class Compared(NamedTuple):
+class Shown(NamedTuple):
     """A policy beside the base in the long run, in money of a period: today's policy, or else the chosen one.
 
     `cost` and `difference`, which is the cost less the base's, are theory's where that is exact, else the run's. `run` has
-    the run's figures, `own_ends` the interval of its cost and `ends` that of its difference, each by itself. `verdict`
-    is base, better, worse or undecided. `reasons` say why the policy is looked at.
+    the run's figures with intervals that hold each by itself, and the verdict by theory where that is exact, else by the
+    interval of the difference. `reasons` say why the policy is looked at.
     """
 
     name: str
     figures: Figures
     cost: float
     difference: float
-    run: Estimate
-    own_ends: Ends
-    ends: Ends
-    verdict: str
+    run: Compared
     reasons: tuple[str, ...]
+
+    @property
+    def verdict(self) -> str:
+        """Returns base, better, worse or undecided."""
+        return self.run.verdict
 
 
 class Without(NamedTuple):
@@ -73,7 +77,7 @@ class Coming(NamedTuple):
     hold together."""
 
     scenario: Scenario
-    rows: list[ComparedRow]
+    rows: list[Compared]
 
 
 class Depth:
@@ -155,7 +159,7 @@ class Depth:
         if (totals.get(TODAY), totals[self.chosen]) != (run.total_today, run.total_chosen):
             raise Refused(f"item {self.question.item.name!r}: {self.program} gives other totals than the plan has",
                           "plan it again with this program")
-        return sample_of(self.question, self.theory, report)
+        return Sample(self.question, self.theory, report)
 
     @property
     def scenario(self) -> Scenario:
@@ -173,19 +177,23 @@ class Depth:
         return sampled
 
     @cached_property
-    def compared(self) -> list[Compared]:
+    def compared(self) -> list[Shown]:
         """Returns all policies, the cheapest first."""
-        settings, is_exact, rows = self.question.settings, self.answer.source == THEORY, list[Compared]()
-        errors, base = t_quantile(1 - settings.level, settings.replications - 1), self.answer.today or self.answer.chosen
+        settings, base = self.question.settings, self.answer.today or self.answer.chosen
+        errors = t_quantile(1 - settings.level, settings.replications - 1)
+        rows = list[Shown]()
         for (policy, reasons), run in zip(self.policies.items(), map(self._sampled, self.sample.policies)):
             figures = figures_of(self.question, self.theory, (policy.s, policy.S))
-            own, ends = ends_of(run.cost, run.own_error, errors), ends_of(run.difference, run.error, errors)
-            cost, difference = run.cost, run.difference
-            if is_exact:
+            own_ends, ends = ends_of(run.cost, run.own_error, errors), ends_of(run.difference, run.error, errors)
+            cost, difference, verdict = run.cost, run.difference, verdict_of(*ends)
+            if self.answer.source == THEORY:
                 cost, difference = figures.cost, figures.cost - base.cost
-            known = (difference, difference) if is_exact else ends
-            verdict = "base" if policy.name == self.base else verdict_of(*known)
-            rows.append(Compared(policy.name, figures, cost, difference, run, own, ends, verdict, reasons))
+                verdict = verdict_of(difference, difference)
+            if policy.name == self.base:
+                verdict = "base"
+            beside = Compared(policy.name, figures.point, figures.level, run.cost, own_ends[0], own_ends[1],
+                              run.difference, None, run.error, ends[0], ends[1], verdict)
+            rows.append(Shown(policy.name, figures, cost, difference, beside, reasons))
         return sorted(rows, key=lambda row: row.difference)
 
     @cached_property
@@ -221,26 +229,11 @@ class Depth:
 
     @cached_property
     def moves(self) -> Moves:
-        """Returns how the best policy moves, and what it costs to keep the chosen one, in money."""
-        fill = self.question.item.fill
-        return moves_of(self.scenario, self.chosen, self.levels[CHOSEN], fill=None if fill is None else float(fill),
-                        find=self._move)
-
-    def _move(self, case: Case, kept: Levels) -> Move:
-        """Returns the move of a case, without a confidence in the fill rate of its best policy. Raises Refused."""
-        asked, box = self._asked(case), self.question.item.box
-        theory = asked.theory()
-        levels = choice_of(theory, asked).levels
-        best, own = (figures_of(asked, theory, of_policy) for of_policy in (levels, kept))
-        return Move.of(case, (levels[0] * box, levels[1] * box), best.cost, best.fill, own.cost, own.fill)
-
-    def _asked(self, case: Case) -> Question:
-        question, scenario, costs = self.question, case.scenario, asdict(case.scenario.costs)
-        laws = {name: replace(getattr(question, name), values=law.values, weights=law.weights)
-                for name, law in (("demand", scenario.demand), ("lead", scenario.lead))}
-        return replace(question, item=replace(question.item, fill=None if case.fill is None else Fraction(case.fill)),
-                       settings=replace(question.settings, confidence=None),
-                       rates={name: costs[name] for name in question.rates}, **laws)
+        """Returns how the best policy moves, and what it costs to keep the chosen one, in money. Fill rates of best
+        policies are without a confidence."""
+        settings = replace(self.question.settings, confidence=None)
+        terms = terms_of(self.question.item, self.answer.laws, settings)
+        return moves_of(terms, self.chosen, self.levels[CHOSEN])
 
     def _stock(self) -> int:
         """Returns today's stock in boxes; the initial stock of the run if that is not known."""
@@ -263,11 +256,12 @@ class Depth:
         scenario = replace(self.scenario, periods=periods, replications=replications, initial=self._stock(),
                            costs=costs)
         rows = with_intervals(report_of(scenario, self.program).rows, replications, self.question.settings.level)
-
-        def a_period(row: ComparedRow) -> ComparedRow:
-            low, high = (None if end is None else money(end / periods) for end in (row.low, row.high))
-            return replace(row, cost=money(row.cost), diff=money(row.diff / periods), low=low, high=high)
-        return Coming(scenario, [*map(a_period, rows)])
+        coming = list[Compared]()
+        for row in rows:
+            low = None if row.low is None else money(row.low / periods)
+            high = None if row.high is None else money(row.high / periods)
+            coming.append(replace(row, cost=money(row.cost), diff=money(row.diff / periods), low=low, high=high))
+        return Coming(scenario, coming)
 
 
 class Facts(NamedTuple):

@@ -6,10 +6,10 @@ from collections.abc import Iterator
 
 import numpy as np
 
+from ..crnsim.periods import Past, Rates, periods_of
 from ..law import Law
 from ..remarks import Remark
 from ..theory.long_run import LongRun
-from .backtest.periods import Past, Rates, periods_of
 from .question import Levels, Question
 
 PERIODS = 20_000  # of the runs

@@ -22,7 +22,7 @@ from ..options import check_words, option
 from ..records.bounds import Bounds
 from ..records.item import BORROW, NEW, Item
 from ..remarks import Remark
-from ..scenario import Costs, Scenario
+from ..scenario import Costs, Levels as Levels, Scenario
 from ..theory.lattice import lattice_of, rough_lattice, shape_of, theory_on
 from ..theory.long_run import LongRun
 from ..words import advice, sentence
@@ -34,7 +34,6 @@ SEED_BITS = 32
 VERSION = 9  # Answers of others are not used again.
 NONE, CLASS, ALL = BORROW
 MOST_GAPS = 4_000  # of a lattice: with 150 times as many, a search takes half a minute
-Levels = tuple[int, int]
 
 
 class Unplanned(CrnplanError):

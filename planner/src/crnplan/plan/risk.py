@@ -16,9 +16,8 @@ import numpy as np
 
 from ..records.columns import DAYS
 from ..records.observed import Day
-from ..records.stock import NONE
 from ..remarks import Remark
-from .today import Standing, demands_of
+from .today import Standing, demands_of, items_of
 
 
 @dataclass(frozen=True)
@@ -30,7 +29,7 @@ class Risk:
     @property
     def overdue(self) -> Fraction:
         """Returns how many items are overdue."""
-        return sum((arrival.items for arrival in self.standing.overdue), NONE)
+        return items_of(self.standing.overdue)
 
     @property
     def days_late(self) -> int:
@@ -59,13 +58,13 @@ class Risk:
     @cached_property
     def there(self) -> Fraction:
         """Returns the stock less what is owed, with what is due on the day."""
-        hand, day = self.standing.hand, self.standing.day
-        return hand.stock - hand.owed + sum((it.items for it in self.standing.arrivals if it.due == day), NONE)
+        standing = self.standing
+        return standing.there + items_of(arrival for arrival in standing.arrivals if arrival.due == standing.day)
 
     @property
     def doubtful(self) -> Fraction:
         """Returns what is on order and overdue, or has no date."""
-        return self.overdue + sum((it.items for it in self.standing.arrivals if it.due is None), NONE)
+        return self.overdue + items_of(arrival for arrival in self.standing.arrivals if arrival.due is None)
 
     @property
     def ends_before(self) -> bool:

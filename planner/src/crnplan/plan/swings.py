@@ -26,15 +26,15 @@ from ..law import Law
 from ..records.item import Item
 from ..remarks import Remark
 from ..stored import Store
-from ..theory.long_run import LongRun
 from ..work import Work
 from .answer import CHOSEN, TODAY as TODAY_POLICY, Answer
 from .catalogue import PlannedFolder
 from .drawn import Drawn, Estimate, estimated
-from .one import best_of, figures_of, or_fault
-from .question import Levels, Settings, Terms, rates_of, terms_of
+from .one import or_fault
+from .question import Levels, Settings, Terms, terms_of
 from .survey import Survey, size_of
 from .totals import Totals, asked_value
+from .what_ifs import Case, figures_in
 
 SWINGS = f"{IN_KEPT}swings.sqlite"
 VERSION = 2  # Answers of others are not used again.
@@ -69,28 +69,14 @@ def changed_lead(lead: Law, tenths: int) -> Law:
     return Law.of(weights)
 
 
-def changed(terms: Terms, what: str, tenths: int) -> Terms:
-    """Returns terms with so many tenths of a cost, of all demand, or of all lead times. Raises Refused if the costs are
-    too far apart."""
-    if what in LAWS:
-        change = changed_lead if what == LEADS else changed_demand
-        return replace(terms, **{what: change(getattr(terms, what), tenths)})
-    item = replace(terms.item, **{what: getattr(terms.item, what) * Fraction(tenths, 10)})
-    rates, scale, _ = rates_of(item)
-    return replace(terms, item=item, rates=rates, scale=scale)
-
-
-def figures_in(terms: Terms, known: LongRun | None, chosen: Levels, today: Levels) -> tuple[float, ...]:
-    """Returns the figures of a case, without a confidence in the fill rate of its best policy; none without a plan.
-    Theory of the same laws and other costs may be known."""
-    try:
-        theory = terms.theory(known)
-        best, _ = best_of(theory, terms)
-        policies = (best.point, best.level), chosen, today
-        anew, kept, base = (figures_of(terms, theory, levels) for levels in policies)
-    except Refused:
-        return ()
-    return base.cost, kept.cost, anew.cost, kept.fill
+def case_of(terms: Terms, what: str, tenths: int) -> Case:
+    """Returns the case of an item with so many tenths of a cost, of all demand, or of all lead times."""
+    if what == DEMAND:
+        return Case(what, laws={what: changed_demand(terms.demand, tenths)})
+    if what == LEADS:
+        return Case(what, laws={what: changed_lead(terms.lead, tenths)})
+    cost = getattr(terms.item, what)
+    return Case(what, {} if cost is None else {what: cost * Fraction(tenths, 10)})
 
 
 def swing_of(terms: Terms, chosen: Levels) -> Swing:
@@ -98,17 +84,29 @@ def swing_of(terms: Terms, chosen: Levels) -> Swing:
     change."""
     theory, today = terms.theory(), terms.levels
     assert today is not None
-    cases = ((terms if what == BACKLOG and not terms.has_backlog else changed(terms, what, tenths),
-              None if what in LAWS else theory) for what, tenths in CASES)
-    return Swing(tuple(figures_in(*case, chosen, today) for case in cases))
+    rows = list[tuple[float, ...]]()
+    for what, tenths in CASES:
+        known = None if what in LAWS else theory
+        try:
+            case = case_of(terms, what, tenths).of(terms)
+            _, (best, kept, base) = figures_in(case, [chosen, today], known)
+        except Refused:
+            rows.append(())
+        else:
+            rows.append((base.cost, kept.cost, best.cost, kept.fill))
+    return Swing(tuple(rows))
 
 
 def swing_batch(batch: Sequence[tuple[Item, Answer]], settings: Settings) -> list[Swing | Remark]:
     """Returns the figures of items with their answers, or why an item has none."""
-    def asked(item: Item, answer: Answer) -> Swing:
-        chosen = answer.chosen.point // item.box, answer.chosen.level // item.box
-        return swing_of(replace(terms_of(item, answer.laws, settings), cells=CELLS), chosen)
-    return [or_fault(lambda item: asked(item, answer), item) for item, answer in batch]
+    swings = list[Swing | Remark]()
+    for item, answer in batch:
+
+        def asked(item: Item, answer: Answer = answer) -> Swing:
+            chosen = answer.chosen.point // item.box, answer.chosen.level // item.box
+            return swing_of(replace(terms_of(item, answer.laws, settings), cells=CELLS), chosen)
+        swings.append(or_fault(asked, item))
+    return swings
 
 
 def drawn_items(folder: PlannedFolder, survey: Survey) -> dict[str, str]:
@@ -178,27 +176,39 @@ class Swings(NamedTuple):
 
 
 class Sample:
-    """The items that have a case, as arrays: their `answers`, their rows, their sizes, what of their demand the chosen
-    policies do not meet at once, and of that demand itself; `by_value`, or as shares. The first ones are taken for
-    certain, and the others have `chances`."""
+    """The items that have a case, as arrays.
+
+    They have their `answers`, their `rows`, their `sizes`, what of their demand the chosen policies do not meet at once
+    (`unmet`), and that demand itself (`asked`): by value, or as shares. The first ones are taken for certain, and the
+    others have chances. `lacking` items are not in the case.
+    """
 
     def __init__(self, known: Sequence[Known], place: int, drawn: Drawn, totals: Totals) -> None:
         """Takes the items that have the case at a place of `CASES`."""
-        some = sorted((one for one in known if one.swing.rows[place]), key=lambda one: one.item.name not in drawn.taken)
+        taken, others, lost = list[Known](), list[Known](), 0.0
+        for one in known:
+            is_taken = one.item.name in drawn.taken
+            if one.swing.rows[place]:
+                (taken if is_taken else others).append(one)
+            elif is_taken:
+                lost += size_of(one.answer)
+        some = taken + others
+        self._taken = len(taken)
+        self._chances = np.array([drawn.chances[one.item.name] for one in others])
         self.answers = [one.answer for one in some]
         self.rows = np.array([one.swing.rows[place] for one in some])
         self.sizes = np.array([size_of(answer) for answer in self.answers])
-        names = [one.item.name for one in some]
-        self._taken = sum(name in drawn.taken for name in names)
-        self._chances = np.array([drawn.chances[name] for name in names[self._taken:]])
-        by_value = totals["demand"] > 0
-        self.asked = np.array([asked_value(one.item, one.answer) if by_value else 1.0 for one in some])
-        self.unmet = self.asked * np.array([1 - answer.chosen.fill for answer in self.answers])
-        self.total, self.demand = totals["cost_today"] + totals["cost_chosen"], totals["demand"] or float(totals.compared)
-        self.all_unmet = self.demand - totals["met_chosen" if by_value else "fill_chosen"]
         self.lacking = len(known) - len(some)
-        lost = [size_of(one.answer) for one in known if not one.swing.rows[place] and one.item.name in drawn.taken]
-        self._is_enough = sum(lost) <= MOST_LACKING * self.total
+        self.total = totals["cost_today"] + totals["cost_chosen"]
+        self._is_enough = lost <= MOST_LACKING * self.total
+        if totals["demand"] > 0:
+            self.asked = np.array([asked_value(one.item, one.answer) for one in some])
+            self.demand, met = totals["demand"], totals["met_chosen"]
+        else:
+            self.asked = np.ones(len(some))
+            self.demand, met = float(totals.compared), totals["fill_chosen"]
+        self.unmet = self.asked * np.array([1 - answer.chosen.fill for answer in self.answers])
+        self.all_unmet = self.demand - met
 
     def sum_of(self, parts: Floats, sizes: Floats, total: float) -> Estimate:
         """Returns the sum of a figure over all items from its parts. That of items that are not taken for certain
@@ -220,20 +230,28 @@ class Sample:
         return Estimate(min(max(unmet, 0.0) / self.demand, 1.0), error / self.demand)
 
 
+def part_costs(what: str, totals: Totals) -> tuple[float, float]:
+    """Returns what the part of the cost that changes with a cost comes to, by today's and by the chosen policies."""
+    part = PARTS[what]
+    return totals[f"{part}_{TODAY_POLICY}"], totals[f"{part}_{CHOSEN}"]
+
+
 def cost_case(what: str, tenths: int, sample: Sample, totals: Totals) -> CaseSum:
     """Returns a case of another cost. What policies cost then is known for all items, and service is as planned."""
     more = tenths / 10 - 1
-    today, chosen = (more * totals[f"{PARTS[what]}_{policy}"] for policy in (TODAY_POLICY, CHOSEN))
+    today, chosen = (more * cost for cost in part_costs(what, totals))
+    beyond = sample.money_of(sample.rows[:, KEPT] - sample.rows[:, BEST])
     return CaseSum(what, tenths, Estimate(totals["cost_chosen"] + chosen), Estimate(totals["saving"] + today - chosen),
-                   sample.money_of(sample.rows[:, KEPT] - sample.rows[:, BEST]), planned_unmet(totals), sample.lacking)
+                   beyond, planned_unmet(totals), sample.lacking)
 
 
 def law_case(what: str, tenths: int, sample: Sample, totals: Totals) -> CaseSum:
     """Returns a case of other laws. What all items cost and save as planned is known: what the case changes of that is
     estimated."""
-    rows, answers = sample.rows, sample.answers
-    chosen = rows[:, KEPT] - np.array([answer.chosen.cost for answer in answers])
-    today = rows[:, TODAY] - np.array([answer.today.cost if answer.today else math.nan for answer in answers])
+    rows = sample.rows
+    planned = np.array([answer.chosen.cost for answer in sample.answers])
+    planned_today = np.array([answer.today.cost if answer.today else math.nan for answer in sample.answers])
+    chosen, today = rows[:, KEPT] - planned, rows[:, TODAY] - planned_today
     unmet = sample.unmet_share(rows[:, KEPT_FILL]) if sample.demand else None
     return CaseSum(what, tenths, sample.money_of(chosen).plus(totals["cost_chosen"]),
                    sample.money_of(today - chosen).plus(totals["saving"]),
@@ -252,9 +270,12 @@ def swings_of(known: Sequence[Known], drawn: Drawn, totals: Totals) -> Swings | 
                      planned_unmet(totals), 0)]
     for place, (what, tenths) in enumerate(CASES):
         sample = Sample(known, place, drawn, totals)
-        has_part = what in LAWS or totals[f"{PARTS[what]}_{TODAY_POLICY}"] + totals[f"{PARTS[what]}_{CHOSEN}"] > 0
-        if sample.answers and has_part:
-            cases.append((law_case if what in LAWS else cost_case)(what, tenths, sample, totals))
+        if not sample.answers:
+            continue
+        if what in LAWS:
+            cases.append(law_case(what, tenths, sample, totals))
+        elif sum(part_costs(what, totals)) > 0:
+            cases.append(cost_case(what, tenths, sample, totals))
     if len(cases) == 1:
         return None
     taken = [size_of(one.answer) for one in known if one.item.name in drawn.taken]

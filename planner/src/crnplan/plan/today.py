@@ -17,7 +17,7 @@ from dataclasses import dataclass, field, replace
 from difflib import get_close_matches
 from fractions import Fraction
 from functools import cached_property
-from operator import attrgetter
+from operator import attrgetter, itemgetter
 
 from ..errors import Refused, argument
 from ..records.columns import DAYS
@@ -80,13 +80,18 @@ class Standing:
     def laws(self) -> Laws:
         return self.answer.laws if self.answer else laws_without_demand(self.item)
 
+    @property
+    def there(self) -> Fraction:
+        """Returns the stock less what is owed."""
+        return self.hand.stock - self.hand.owed
+
     @cached_property
     def on_order(self) -> Fraction:
-        return sum((arrival.items for arrival in self.arrivals), NONE)
+        return items_of(self.arrivals)
 
     @cached_property
     def position(self) -> Fraction:
-        return self.hand.stock - self.hand.owed + self.on_order
+        return self.there + self.on_order
 
     @cached_property
     def is_due(self) -> bool:
@@ -125,7 +130,7 @@ class Standing:
     @cached_property
     def weeks(self) -> float | None:
         """Returns the weeks until a shortage at mean demand if nothing arrived: of the stock less what is owed."""
-        return self.weeks_of(self.hand.stock - self.hand.owed)
+        return self.weeks_of(self.there)
 
     @property
     def weeks_above(self) -> float | None:
@@ -162,8 +167,8 @@ class Standing:
     def there_within(self, periods: int) -> Fraction:
         """Returns the stock less what is owed, and what arrives within so many periods from the day on."""
         end = DAYS[self.every] * periods
-        return self.hand.stock - self.hand.owed + sum((arrival.items for arrival in self.arrivals if arrival.due is None
-                                                       or (arrival.due - self.day).days < end), NONE)
+        return self.there + items_of(arrival for arrival in self.arrivals
+                                     if arrival.due is None or (arrival.due - self.day).days < end)
 
     @property
     def horizons(self) -> dict[int, float]:
@@ -173,9 +178,11 @@ class Standing:
     @cached_property
     def chance(self) -> float:
         """Returns the chance of a shortage before delivery: see the module."""
-        laws = self.laws
-        return sum(chance * demand.above(math.floor(self.there_within(periods) / laws.box))
-                   for periods, chance, demand in demands_of(laws, self.horizons))
+        total = 0.0
+        for periods, chance, demand in demands_of(self.laws, self.horizons):
+            boxes = math.floor(self.there_within(periods) / self.laws.box)
+            total += chance * demand.above(boxes)
+        return total
 
     @property
     def time(self) -> float:
@@ -200,10 +207,12 @@ class Standing:
     @property
     def reasons(self) -> list[Remark]:
         """Returns why so many items are ordered."""
-        pack = self.item.bounds.pack
-        is_rounded = self.placed != self.to_level
-        return [self.reason, *[Remark("by override")] * (self.item.override is not None),
-                *[Remark("whole packs", {"packs": self.packs, "pack": pack})] * is_rounded]
+        reasons = [self.reason]
+        if self.item.override is not None:
+            reasons.append(Remark("by override"))
+        if self.placed != self.to_level:
+            reasons.append(Remark("whole packs", {"packs": self.packs, "pack": self.item.bounds.pack}))
+        return reasons
 
 
 @dataclass(frozen=True)
@@ -256,7 +265,7 @@ class Group:
 
     @property
     def owed(self) -> Fraction:
-        return sum((standing.hand.owed for standing in self.standings), NONE)
+        return sum_of_money(standing.hand.owed for standing in self.standings)
 
     @property
     def short(self) -> Fraction:
@@ -280,8 +289,12 @@ class Group:
     def additions(self) -> Iterator[Addition]:
         """Yields what to add next, the item nearest above s in weeks first, until the minimum is met."""
         total = self.value
-        waiting = [it for it in self.standings if not it.is_due and it.to_level > 0 and it.weeks_above is not None]
-        for standing in sorted(waiting, key=lambda it: (it.weeks_above, it.item.name)):
+        waiting = list[tuple[float, str, Standing]]()
+        for standing in self.standings:
+            weeks = standing.weeks_above
+            if not standing.is_due and standing.to_level > 0 and weeks is not None:
+                waiting.append((weeks, standing.item.name, standing))
+        for _, _, standing in sorted(waiting, key=itemgetter(0, 1)):
             worth = standing.worth(standing.placed)
             if self.minimum is None or total >= self.minimum:
                 return
@@ -291,7 +304,13 @@ class Group:
 
 
 def sum_of_money(parts: Iterable[Money]) -> Fraction:
+    """Returns the sum of amounts of items with a price."""
     return sum((part for part in parts if part is not None), NONE)
+
+
+def items_of(arrivals: Iterable[Arrival]) -> Fraction:
+    """Returns how many items arrive."""
+    return sum((arrival.items for arrival in arrivals), NONE)
 
 
 @dataclass(frozen=True)
@@ -323,8 +342,12 @@ class Today:
     @property
     def above(self) -> list[Standing]:
         """Returns the items above S, those that last longest first."""
-        return sorted((it for it in self.standings if it.to_level < 0),
-                      key=lambda it: (-(it.weeks_of(-it.to_level) or math.inf), it.item.name))
+        above = list[tuple[float, str, Standing]]()
+        for standing in self.standings:
+            if standing.to_level < 0:
+                weeks = standing.weeks_of(-standing.to_level) or math.inf
+                above.append((-weeks, standing.item.name, standing))
+        return [standing for _, _, standing in sorted(above, key=itemgetter(0, 1))]
 
     @property
     def owed(self) -> list[Standing]:

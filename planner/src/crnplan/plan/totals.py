@@ -1,9 +1,9 @@
-"""Adds up the answers to the items of a catalogue, without rounding, so that sums are those of any order."""
+"""Adds up the answers to the items of a catalogue."""
 from __future__ import annotations
 
 import math
-from collections import Counter, defaultdict
-from collections.abc import Iterable, Sequence
+from collections import Counter
+from collections.abc import Iterable
 from dataclasses import dataclass, field
 from statistics import NormalDist
 from typing import Any
@@ -13,28 +13,11 @@ from ..records.item import ENDED, NO_DEMAND, UNORDERED, Item
 from ..remarks import Remark
 from ..table import Json
 from .answer import CHOSEN, OURS, RUN, TODAY, Answer, CostParts, Figures
+from .exact_sums import ExactSums
 
-MOST_PARTS = 1_000  # of a sum
 COUNTERS = "verdicts", "letters", "corrected"
 COUNTS = "compared", "faults", "broken", "by_run", "without_interval", "promised", "covered", "priced", "overridden"
 UNCOMPARED = "uncompared"  # the name of sums over chosen policies that are compared with none
-
-
-def add_exactly(parts: list[float], *values: float) -> None:
-    """Adds numbers to the parts of a sum. Many parts are replaced by fewer with the same sum, without rounding: so it
-    does not matter in which order, and in which groups, numbers are added."""
-    parts.extend(values)
-    if len(parts) > MOST_PARTS:
-        parts[:] = exact_parts(parts)
-
-
-def exact_parts(values: Sequence[float]) -> list[float]:
-    """Returns the sum of numbers, what it lacks, what both lack, and so on, until nothing lacks."""
-    parts = list[float]()
-    while part := math.fsum([*values, *(-part for part in parts)]):
-        assert math.isfinite(part), "a figure is no number"
-        parts.append(part)
-    return parts
 
 
 def asked_value(item: Item, answer: Answer) -> float:
@@ -81,7 +64,7 @@ class Totals:
     with a price.
     """
 
-    parts: defaultdict[str, list[float]] = field(default_factory=lambda: defaultdict(list))
+    parts: ExactSums = field(default_factory=ExactSums)
     verdicts: Counter[str] = field(default_factory=Counter)
     compared: int = 0
     faults: int = 0
@@ -110,7 +93,7 @@ class Totals:
         elif item.past in UNORDERED:
             self.verdicts[item.past] += 1
             name = "value_idle" if item.past == NO_DEMAND else "value_ended"
-            add_exactly(self.parts[name], float(item.value or 0))
+            self.parts.add(name, float(item.value or 0))
         else:
             self.faults += 1
             self.broken += answer.code in OURS
@@ -120,8 +103,7 @@ class Totals:
         """Adds up totals that were written by `tree`."""
         totals = cls()
         for tree in trees:
-            for name, values in tree["parts"].items():
-                add_exactly(totals.parts[name], *values)
+            totals.parts.add_tree(tree["parts"])
             for counts in COUNTERS:
                 getattr(totals, counts).update(dict(tree[counts]))
             for count in COUNTS:
@@ -131,7 +113,7 @@ class Totals:
     @property
     def tree(self) -> Json:
         """Returns the totals as plain data."""
-        return {"parts": {name: exact_parts(values) for name, values in sorted(self.parts.items())},
+        return {"parts": self.parts.tree,
                 **{counts: [[*pair] for pair in sorted(getattr(self, counts).items())] for counts in COUNTERS},
                 **{count: getattr(self, count) for count in COUNTS}}
 
@@ -155,7 +137,7 @@ class Totals:
         return self.planned - self.compared
 
     def __getitem__(self, name: str) -> float:
-        return math.fsum(self.parts.get(name, ()))
+        return self.parts[name]
 
     def add(self, item: Item, answer: Answer) -> None:
         self.verdicts[answer.verdict] += 1
@@ -171,7 +153,7 @@ class Totals:
                        "held_plain": float(item.holding) * answer.correction.plain_stock}
         values |= self._compared(item, answer) if answer.is_compared else uncompared_sums(item, answer)
         for name, value in values.items():
-            add_exactly(self.parts[name], value)
+            self.parts.add(name, value)
 
     def _compared(self, item: Item, answer: Answer) -> dict[str, float]:
         """Counts an item that is compared with a policy of today, and returns what it adds to sums."""

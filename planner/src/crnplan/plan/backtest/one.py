@@ -19,7 +19,8 @@ from ...records.item import Item
 from ...remarks import Remark
 from ...theory.long_run import LongRun
 from ..answer import Figures
-from ..one import choice_of, figures_of, or_fault
+from ..choice import choice_of, figures_of
+from ..one import or_fault
 from ..question import Levels, Question, Settings, question_of
 from .outcomes import Happened, Outcome
 from .smoothing import smoothed_levels

@@ -14,11 +14,11 @@ from fractions import Fraction
 
 import numpy as np
 
+from ...crnsim.periods import Past, Rates, periods_of
 from ...demand.fitted import FittedLaw
 from ...records.item import Item
 from ..answer import Figures
 from ..question import Levels
-from .periods import Past, Rates, periods_of
 
 
 @dataclass(frozen=True)

@@ -14,6 +14,7 @@ import math
 from collections import defaultdict
 from collections.abc import Iterable, Mapping, Sequence
 from dataclasses import dataclass
+from functools import cached_property
 from typing import TYPE_CHECKING
 
 import numpy as np
@@ -64,11 +65,15 @@ class Ratio:
     items: Whole
     blocks: Whole
 
-    @property
+    @cached_property
+    def total(self) -> float:
+        """Returns what stands below the line, added exactly."""
+        return math.fsum(self.below.tolist())
+
+    @cached_property
     def value(self) -> float:
         """Returns the ratio; nan if nothing is below the line."""
-        below = float(self.below.sum())
-        return float(self.above.sum()) / below if below else math.nan
+        return math.fsum(self.above.tolist()) / self.total if self.total else math.nan
 
     @property
     def by_block(self) -> Floats:
@@ -80,7 +85,7 @@ class Ratio:
     @property
     def influence(self) -> Floats:
         """Returns by how much each part moves the ratio from that of all others."""
-        moved: Floats = (self.above - self.value * self.below) / self.below.sum()
+        moved: Floats = (self.above - self.value * self.below) / self.total
         return moved
 
     @property
@@ -118,17 +123,14 @@ class Group:
     plan in the periods since."""
 
     def __init__(self, tests: Sequence[Backtest | Since]) -> None:
-        self.tests, first = tests, min(test.first for test in tests)
+        self.tests = tests
         lengths = [len(test.demands) for test in tests]
         self.items = np.repeat(np.arange(len(tests)), lengths)
-        self.blocks = np.concatenate([test.first - first + np.arange(length) for test, length in
-                                      zip(tests, lengths)]) // BLOCK
+        first = min(test.first for test in tests)
+        periods = [test.first - first + np.arange(len(test.demands)) for test in tests]
+        self.blocks = np.concatenate(periods) // BLOCK
         self.means = np.repeat([test.mean for test in tests], lengths)
-        self.asked = self._joined(test.demands for test in tests) / self.means
-
-    @staticmethod
-    def _joined(rows: Iterable[Sequence[float]]) -> Floats:
-        return np.concatenate([np.array(row, float) for row in rows])
+        self.asked = joined(test.demands for test in tests) / self.means
 
     def _ratio(self, above: Floats, below: Floats) -> Ratio:
         return Ratio(above, below, self.items, self.blocks)
@@ -139,7 +141,8 @@ class Group:
 
     def unmet(self, policy: str) -> Ratio:
         """Returns the share of demand that was not met at once."""
-        return self._ratio(self._joined(it.unmet for it in self.outcomes(policy)) / self.means, self.asked)
+        unmet = joined(outcome.unmet for outcome in self.outcomes(policy))
+        return self._ratio(unmet / self.means, self.asked)
 
     def _promised(self, plans: Iterable[Outcome | None]) -> Floats:
         """Returns the share of demand that plans promised not to meet at once, in each period."""
@@ -157,18 +160,17 @@ class Group:
     def by_chance(self, tests: Sequence[Backtest]) -> Ratio:
         """Returns what the kept plan missed with all periods in a random order, by the tests of these items."""
         plans = [test.shuffled for test in tests]
-        asked = self._joined(test.shuffled_demands for test in tests) / self.means
-        unmet = self._joined(plan.unmet for plan in plans if plan) / self.means
-        above = unmet - self._promised(plans) * asked
-        return Ratio(above, asked, self.items, np.full(len(self.items), NO_BLOCK))
+        asked = joined(test.shuffled_demands for test in tests) / self.means
+        unmet = joined(plan.unmet for plan in plans if plan) / self.means
+        return Ratio(unmet - self._promised(plans) * asked, asked, self.items, np.full(len(self.items), NO_BLOCK))
 
     def costs(self, policy: str) -> Floats:
         """Returns the costs of a policy by item and period."""
-        return self._joined(it.costs for it in self.outcomes(policy))
+        return joined(outcome.costs for outcome in self.outcomes(policy))
 
     def dearer(self) -> Ratio:
         """Returns what the kept plan cost more than it promised, as a share of the promise."""
-        promised = np.array([it.promised_cost or 0.0 for it in self.outcomes(KEPT)])[self.items]
+        promised = np.array([outcome.promised_cost or 0.0 for outcome in self.outcomes(KEPT)])[self.items]
         return self._ratio(self.costs(KEPT) - promised, promised)
 
     def changes(self, policy: str) -> float:
@@ -179,6 +181,11 @@ class Group:
         """Returns what a policy cost more than the kept plan, as a share of what that cost."""
         kept = self.costs(KEPT)
         return self._ratio(self.costs(policy) - kept, kept)
+
+
+def joined(rows: Iterable[Sequence[float]]) -> Floats:
+    """Returns the figures of all items, one after another."""
+    return np.concatenate([np.array(row, float) for row in rows])
 
 
 @dataclass(frozen=True)
@@ -211,15 +218,20 @@ class Sums:
         """Adds up tests."""
         parts = Group(tests)
         missed, chance = parts.missed(), parts.by_chance(tests)
-        broken = sum(test.kept.fill is not None and (test.kept.promised_fill or 0) - test.kept.fill > SLACK
-                     for test in tests)
-        groups = groups_of(tests)
-        return cls(group, len(tests), 1 - parts.promised().value,
-                   {policy: own.unmet(policy).estimate for policy, own in groups.items()}, parts.dearer().estimate,
-                   {policy: own.beside(policy).estimate for policy, own in groups.items() if policy != KEPT},
-                   missed.estimate, chance.estimate, missed.less(chance), broken,
-                   sum((test.above or math.inf) > 1 for test in tests),
-                   {policy: own.changes(policy) for policy, own in groups.items() if policy not in (TODAY, KEPT)})
+        unmet, beside, changes = dict[str, Estimate](), dict[str, Estimate](), dict[str, float]()
+        for policy, own in groups_of(tests).items():
+            unmet[policy] = own.unmet(policy).estimate
+            if policy != KEPT:
+                beside[policy] = own.beside(policy).estimate
+            if policy not in (TODAY, KEPT):
+                changes[policy] = own.changes(policy)
+        broken = above = 0
+        for test in tests:
+            fill = test.kept.fill
+            broken += fill is not None and (test.kept.promised_fill or 0) - fill > SLACK
+            above += (test.above or math.inf) > 1
+        return cls(group, len(tests), 1 - parts.promised().value, unmet, parts.dearer().estimate, beside, missed.estimate,
+                   chance.estimate, missed.less(chance), broken, above, changes)
 
     @property
     def verdict(self) -> str:
@@ -231,9 +243,11 @@ class Sums:
         if self.missed.low > SLACK and not rare and not time:  # by both together
             time = self.time.value > self.chance.value
             rare = not time
-        if not rare and not time:
-            return HOLDS if self.missed.value <= SLACK else UNSURE
-        return BOTH if rare and time else TIME if time else RARE
+        if rare and time:
+            return BOTH
+        if rare or time:
+            return RARE if rare else TIME
+        return HOLDS if self.missed.value <= SLACK else UNSURE
 
 
 def summed(test: Backtest) -> bool:
@@ -249,8 +263,12 @@ def is_asked(tests: Sequence[Backtest]) -> bool:
 
 def groups_of(tests: Sequence[Backtest]) -> dict[str, Group]:
     """Returns by policy the tests of the items that have it, if anything is asked for in these."""
-    ran = {policy: [test for test in tests if getattr(test, policy)] for policy in POLICIES}
-    return {policy: Group(own) for policy, own in ran.items() if own and is_asked(own)}
+    groups = dict[str, Group]()
+    for policy in POLICIES:
+        own = [test for test in tests if getattr(test, policy)]
+        if own and is_asked(own):
+            groups[policy] = Group(own)
+    return groups
 
 
 def sums_of(tests: Iterable[Backtest]) -> list[Sums]:
@@ -261,4 +279,4 @@ def sums_of(tests: Iterable[Backtest]) -> list[Sums]:
             groups[ALL_ITEMS].append(test)
             if test.group:
                 groups[test.group].append(test)
-    return [Sums.of(name, groups[name]) for name in sorted(groups) if is_asked(groups[name])]
+    return [Sums.of(name, own) for name, own in sorted(groups.items()) if is_asked(own)]

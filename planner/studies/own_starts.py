@@ -1,7 +1,6 @@
-"""Computes costs of the long run by the program: each policy starts from a state of its own.
+"""Computes costs of the long run without theory: each policy of a run starts from a state of its own.
 
-A run starts with one stock for all policies and counts costs from period 0. The effect of that start falls only as 1
-over the number of periods, and for an item with few orders it is larger than the sampling error. Here it is left out:
+It is the outside value of what `theory.run_effects` takes out of a run from a common start:
 
 - Each of the keys is one replication. A uniform number of that key puts each policy on a position even over s to S.
 - 256 periods of our own follow, with the same demands, lead times and returns for all policies. They are drawn by the
@@ -12,50 +11,38 @@ over the number of periods, and for an item with few orders it is larger than th
 - Stock and outstanding orders then stand in a checkpoint with cost 0. The program resumes it and counts what is left of
   its 1,024 periods.
 
-So the cost of each key is exact and proved for its stream, from a start that is not. Costs leave `unit` out: in the
-long run it adds unit times the mean net demand to every policy.
+So the cost of each key is exact and proved for its stream, from a start that is not. Costs leave `unit` out.
 """
 from __future__ import annotations
 
-from collections.abc import Mapping, Sequence
-from dataclasses import dataclass, replace
-from fractions import Fraction
+import tempfile
+from collections.abc import Iterable, Mapping, Sequence
+from dataclasses import dataclass, field, replace
 from pathlib import Path
-from typing import TYPE_CHECKING, NamedTuple
+from typing import NamedTuple
 
 import numpy as np
 import numpy.typing as npt
 
-from .. import formats
-from ..toml.scenarios import checked_tree, plain_text
-from ..errors import Refused, argument
-from ..law import Law
-from ..scenario import Costs, Scenario, key_words
-from ..table import DataTable, Result, exact, text
-from .program import MOST_STOCK, PERIODS_OF_BLOCK, State, checkpoint_text, find_program, resume_all
-from .report import COLUMNS as REPORT_COLUMNS, Row, joined, parts_of, pooled, rows_of
-
-if TYPE_CHECKING:
-    from ..decide.verdicts import Decision
+from crnplan import formats
+from crnplan.crnsim.program import find_program, run_all
+from crnplan.crnsim.report import joined, parts_of, rows_of
+from crnplan.law import Law
+from crnplan.scenario import Scenario, key_words
+from crnplan.toml.scenarios import plain_text
 
 Words = npt.NDArray[np.uint64]
 Whole = npt.NDArray[np.int64]
 Key = tuple[str, ...]
 
 KEYS = 48
-MOST_KEYS = formats.MOST_REPLICATIONS
 OWN_PERIODS = 256
+PERIODS_OF_BLOCK = 4
+FIELDS = 5  # of a row of a checkpoint
 # The streams of our own periods, in the order of formats.DRAWS, and that of the start.
 OWN_STREAMS = (3, 4, 5)
 START_STREAM = 6
 AGES = formats.MOST_LEAD + 1
-COUNT_ORDERS = Costs(1, 0, 0, 0)
-# With fewer orders in all replications of our own periods, those of the counted periods are counted too.
-FEW_ORDERS = 20
-COLUMNS = (text("policy", "name of the policy"), *REPORT_COLUMNS[1:3],
-           exact("cost", "money a period", "mean cost, without `unit`"),
-           exact("difference", "money a period", "cost less the base's"),
-           exact("variance", "squared money", "variance of the mean of that difference"))
 
 # Of the cipher.
 PARITY = np.uint64(0x1BD11BDAA9FC1A22)
@@ -63,6 +50,17 @@ ROUNDS = 20
 ROTATIONS = (14, 16), (52, 57), (23, 40), (5, 37), (25, 33), (46, 12), (58, 22), (32, 32)
 HALF = np.uint64(32)
 LOW_HALF = np.uint64(2**32 - 1)
+
+
+@dataclass(frozen=True)
+class State:
+    """The state of a policy between two blocks: its stock, the cost of the current replication so far, the items that
+    arrive, by period of the replication, and the cost of each replication that is done."""
+
+    stock: int
+    cost: int = 0
+    due: Mapping[int, int] = field(default_factory=dict)
+    costs: tuple[int, ...] = ()
 
 
 class Settled(NamedTuple):
@@ -73,48 +71,41 @@ class Settled(NamedTuple):
     orders: Whole
 
 
-@dataclass(frozen=True)
-class LongRunReport(Result):
-    """Exact costs of the long run of a scenario, whose first policy is the base: by key those of each policy over so
-    many periods. `orders` has the orders of each policy in the counted periods of all keys; None if there are many."""
+class OwnStarts(NamedTuple):
+    """Exact costs of the long run: by key those of each policy over so many periods."""
 
-    scenario: Scenario
     costs: tuple[tuple[int, ...], ...]
     periods: int
-    orders: tuple[int | None, ...]
 
-    @property
-    def keys(self) -> int:
-        """Returns the number of keys: each is a replication."""
-        return len(self.costs)
 
-    def plus(self, other: LongRunReport) -> LongRunReport:
-        """Returns the report on the keys of both. The other is of the same scenario under another key."""
-        orders = tuple(None if one is None or two is None else one + two for one, two in zip(self.orders, other.orders))
-        return replace(self, costs=self.costs + other.costs, orders=orders)
+def checkpoint_text(scenario: Scenario, block: int, states: Sequence[State]) -> str:
+    """Returns the checkpoint of a scenario before a block, with a state for each policy. Ranges are not checked."""
+    laws = [getattr(scenario, name) for name in formats.DRAWS]
+    sizes = [len(law.values) if law else 0 for law in laws]
+    rows: list[tuple[object, ...]] = [
+        ("checkpoint", formats.CHECKPOINT_VERSIONS[-1], block, scenario.periods, scenario.replications),
+        ("key", *scenario.key), ("costs", *(getattr(scenario.costs, name) for name in formats.COSTS)),
+        ("sizes", scenario.initial, *sizes[:2], len(scenario.policies)), ("returns", sizes[2])]
+    for kind, law in zip(formats.DRAW_ROWS, laws):
+        rows += [(kind, value, weight) for value, weight in (zip(law.values, law.weights) if law else ())]
+    for policy, state in zip(scenario.policies, states, strict=True):
+        rows += [("policy", policy.name, policy.s, policy.S),
+                 ("state", state.stock, state.cost, len(state.due), len(state.costs)),
+                 *(("due", period, state.due[period]) for period in sorted(state.due)),
+                 *(("cost", number, cost) for number, cost in enumerate(state.costs))]
+    return "".join(",".join([*map(str, row), *"-" * (FIELDS - len(row))]) + "\n" for row in (*rows, ("end",)))
 
-    @property
-    def rows(self) -> list[Row]:
-        """Returns the rows of a report on so many replications of so many periods, in exact figures."""
-        reports = []
-        for costs in self.costs:
-            reports.append([Row(policy.name, policy.s, policy.S, cost, Fraction(cost, self.periods), cost - costs[0],
-                                Fraction(cost - costs[0]), None, None)
-                            for policy, cost in zip(self.scenario.policies, costs)])
-        return pooled(reports, 1, self.periods)
 
-    @property
-    def table(self) -> DataTable:
-        """Returns the exact figures of a period, indexed by `policy`, the base first."""
-        square = self.periods**2
-        return DataTable(COLUMNS, [[it.policy, it.s, it.S, it.per_period, it.diff_mean / self.periods,
-                                (it.diff_var or Fraction(0)) / square] for it in self.rows], index="policy")
-
-    def decide(self, level: float = 0.95) -> Decision:
-        """Returns all policies, the cheapest first, with paired-t intervals of a period at a level above 0 and below 1,
-        verdicts, and the figures of theory beside."""
-        from ..decide.long_run import long_run_decision
-        return long_run_decision(self, level)
+def resume_all(program: Path, runs: Iterable[tuple[str, str]]) -> list[str]:
+    """Continues runs, each the text of a scenario and that of its checkpoint, several at a time, and returns their
+    reports in order. Raises ProgramError."""
+    with tempfile.TemporaryDirectory(prefix="crnplan-") as folder:
+        resumed = []
+        for number, (scenario, checkpoint) in enumerate(runs):
+            path = Path(folder, f"{number}.csv")
+            path.write_text(checkpoint, "ascii")
+            resumed.append((scenario, "resume", str(path)))
+        return run_all(program, resumed)
 
 
 def keys_of(key: Sequence[str], count: int) -> list[Key]:
@@ -212,28 +203,14 @@ def _totals(program: Path, scenario: Scenario, block: int, states: Mapping[Key, 
                  for first in range(0, len(reports), count))
 
 
-def long_run_of(scenario: Scenario, keys: int = KEYS, program: str | Path | None = None) -> LongRunReport:
-    """Runs the policies of a scenario, whose first one is the base, in the long run: see `Scenario.long_run`."""
-    checked_tree(scenario.tree, any_number=True)
-    if not 2 <= keys <= MOST_KEYS:
-        raise Refused(f"{argument('keys', str(keys))}: the long run takes 2 to {MOST_KEYS} keys")
-    if scenario.demand.mean <= (scenario.returns.mean if scenario.returns else 0):
-        raise Refused("there is no long run: on average as much comes back as is asked for, so that nothing is "
-                      "ordered; look at the tables demand and returns")
-    found, block, words = find_program(program), first_block(scenario), keys_of(scenario.key, keys)
+def own_starts_of(scenario: Scenario, keys: int = KEYS, program: str | Path | None = None) -> OwnStarts:
+    """Runs the policies of a scenario, each from a state of its own under each of so many keys."""
+    block, words = first_block(scenario), keys_of(scenario.key, keys)
     own, first = settled(scenario, words_of_keys(words)), block * PERIODS_OF_BLOCK
-    room = MOST_STOCK + (first * formats.MOST_DEMAND if scenario.returns else 0)
-    if max(own.stocks.max(), (own.stocks + own.due.sum(axis=0)).max()) > room:
-        raise Refused(f"the stock rises above {room:,} items by what comes back, which no checkpoint may have; "
-                      "count in larger units, as boxes")
     asked = replace(scenario, periods=formats.MOST_PERIODS, replications=1, initial=0, ring=formats.RING_SIZES[-1],
                     costs=replace(scenario.costs, unit=0), source=None)
     states = {
         word: [State(int(stock), due={first + int(age): int(amounts[age]) for age in np.flatnonzero(amounts)})
                for stock, amounts in zip(stocks, due)]
         for word, stocks, due in zip(words, own.stocks, np.moveaxis(own.due, 0, 2))}
-    orders = own.orders.sum(axis=0)
-    counted: Sequence[int | None] = [None] * len(orders)
-    if orders.min() < FEW_ORDERS:
-        counted = [sum(column) for column in zip(*_totals(found, replace(asked, costs=COUNT_ORDERS), block, states))]
-    return LongRunReport(scenario, _totals(found, asked, block, states), asked.periods - first, tuple(counted))
+    return OwnStarts(_totals(find_program(program), asked, block, states), asked.periods - first)

@@ -1,4 +1,5 @@
-"""Compares runs of the long run, and checkpoints, with an independent program, a slow simulation and a Markov chain."""
+"""Compares runs from own starts, and checkpoints, with an independent program, a slow simulation and a Markov chain, and
+then the long run of crnplan with runs from own starts: an outside value, which uses no theory."""
 from __future__ import annotations
 
 import math
@@ -11,14 +12,15 @@ from pathlib import Path
 import numpy as np
 import pytest
 
-from crnplan.crnsim import long_run
-from crnplan.crnsim.program import State, checkpoint_text, replication_costs, resume_all
-from crnplan.crnsim.long_run import (OWN_PERIODS, OWN_STREAMS, START_STREAM, drawn, keys_of, long_run_of, places_of,
-                                     settled, stream_words, words_of_keys)
 from crnplan.crnsim.report import read_rows, report_of
+from crnplan.decide.long_run import long_run_of
 from crnplan.errors import ProgramError, Refused
 from crnplan.law import Law
 from crnplan.scenario import Costs, Policy, Scenario
+from planner.studies import own_starts
+from planner.studies.own_starts import (KEYS, OWN_PERIODS, OWN_STREAMS, START_STREAM, State, checkpoint_text, drawn,
+                                        keys_of, own_starts_of, places_of, resume_all, settled, stream_words,
+                                        words_of_keys)
 from planner.tests.conftest import script
 from planner.tests.crnsim.slow import History, draws_of, key_words, simulate, spread
 from planner.tests.theory.chain import by_chain
@@ -92,53 +94,61 @@ def test_own_periods_are_those_of_a_slow_simulation(scenario: Scenario) -> None:
             assert found.orders[number, place] == len(history.orders)
 
 
-def test_costs_and_orders_are_those_of_a_slow_simulation(scenario: Scenario, program: Path) -> None:
+def test_costs_are_those_of_a_slow_simulation(scenario: Scenario, program: Path) -> None:
     """Only stocks that a checkpoint may not have at block 1 lead to a later one: most runs count 1,020 periods."""
     asked = replace(scenario, costs=replace(scenario.costs, unit=0))
-    keys, found, orders = keys_of(scenario.key, 2), long_run_of(scenario, 2, program), []
-    for key, costs in zip(keys, found.costs):
+    found = own_starts_of(scenario, 2, program)
+    for key, costs in zip(keys_of(scenario.key, 2), found.costs):
         draws = draws_of(asked, key, 1024)[1024 - found.periods:]
         for (policy, history), cost in zip(histories(asked, key), costs, strict=True):
             simulate(asked, policy, history, draws)
             assert cost == sum(history.costs[OWN_PERIODS:])
-            orders.append(sum(period >= OWN_PERIODS for period in history.orders))
-    counted = [sum(orders[place::len(asked.policies)]) for place in range(len(asked.policies))]
-    assert found.orders in (tuple(counted), (None,) * len(counted))
-    assert min(counted) > 20 or found.orders[0] is not None
     far = scenario is SCENARIOS["stock far below 0"]
     assert found.periods == (1024 - 4 * 8 if far else 1020)
 
 
-CHAINS = [PLAIN, replace(PLAIN, lead=Law((2,), (1,))), replace(SCENARIOS["returns"], lead=Law((1, 2), (1, 1)))]
+def means(samples: np.ndarray) -> Iterator[tuple[float, float]]:
+    """Yields the mean of each column with its standard error, and then those of differences from the first column."""
+    for columns in (samples, samples - samples[:, :1]):
+        yield from zip(columns.mean(axis=0), columns.std(axis=0, ddof=1) / math.sqrt(len(samples)))
 
 
-@pytest.mark.parametrize("scenario", CHAINS, ids=["several lead times", "one lead time", "returns"])
+CHAINS = {"several lead times": replace(PLAIN, lead=Law((1, 3), (2, 1))),
+          "one lead time": replace(PLAIN, lead=Law((2,), (1,))),
+          "returns": replace(SCENARIOS["returns"], lead=Law((1, 2), (1, 1)))}
+
+
+@pytest.mark.parametrize("scenario", CHAINS.values(), ids=CHAINS)
 def test_mean_costs_are_those_of_a_chain(scenario: Scenario, program: Path) -> None:
     """The mean of each cost, and of each difference, lies within 4 standard errors of a Markov chain's."""
-    scenario = replace(scenario, lead=Law((1, 3), (2, 1))) if scenario is PLAIN else scenario
-    exact = [by_chain(scenario.with_policies([it]))[0] for it in scenario.policies]
-    found = long_run_of(scenario, 48, program)
-    costs = np.array(found.costs) / found.periods
-    for its, wanted in [*zip(costs.T, exact), *zip(costs.T - costs[:, 0], [it - exact[0] for it in exact])]:
-        assert abs(its.mean() - wanted) <= 4 * its.std(ddof=1) / math.sqrt(48)
-    assert found.frame["cost"].astype(float).tolist() == pytest.approx(costs.mean(axis=0).tolist())
-    variances = np.var(costs - costs[:, :1], axis=0, ddof=1) / 48
-    assert found.frame["variance"].astype(float).tolist() == pytest.approx(variances.tolist())
+    exact = [by_chain(scenario.with_policies([policy]))[0] for policy in scenario.policies]
+    wanted = [*exact, *(cost - exact[0] for cost in exact)]
+    found = own_starts_of(scenario, KEYS, program)
+    for (mean, error), cost in zip(means(np.array(found.costs) / found.periods), wanted, strict=True):
+        assert abs(mean - cost) <= 4 * error
+
+
+@pytest.mark.parametrize("name", ["several lead times", "returns", "one lead time"])
+def test_long_run_is_that_of_own_starts(name: str, program: Path) -> None:
+    """The bias by theory is right: costs, and differences, lie within 4 standard errors of runs without any theory."""
+    scenario = SCENARIOS[name]
+    own = own_starts_of(scenario, KEYS, program)
+    found = long_run_of(scenario, KEYS, program).estimates
+    figures = [(estimate.cost, estimate.own_error or 0.0) for estimate in found]
+    figures += [(estimate.difference, estimate.error or 0.0) for estimate in found]
+    for (mean, error), (cost, run_error) in zip(means(np.array(own.costs) / own.periods), figures, strict=True):
+        assert abs(mean - cost) <= 4 * math.hypot(error, run_error)
 
 
 def test_more_policies_than_a_run_takes(program: Path) -> None:
-    pairs = [(6 + it % 5, 14 + it) for it in range(33)]
+    pairs = [(6 + place % 5, 14 + place) for place in range(33)]
     whole = PLAIN.with_policies([Policy.of_levels(*pair) for pair in pairs])
     found = long_run_of(whole, 2, program)
-    alone = [long_run_of(PLAIN.with_policies([it]), 2, program).costs for it in whole.policies]
-    assert found.costs == tuple(tuple(its[key][0] for its in alone) for key in range(2))
-    few = SCENARIOS["few orders"]
-    one, other = (long_run_of(it, 2, program) for it in (few, replace(few, key=KEY[::-1])))
-    both = one.plus(other)
-    assert both.keys == 4 and both.costs == (*one.costs, *other.costs) and None not in one.orders
-    assert both.orders == tuple(map(lambda *its: sum(its), one.orders, other.orders))
-    many = long_run_of(PLAIN, 2, program)
-    assert many.plus(many).orders == (None,) * 3
+    assert [(row.s, row.S) for row in found.rows] == pairs
+    halves = (long_run_of(whole.with_policies([whole.policies[0], *half]), 2, program)
+              for half in (whole.policies[1:15], whole.policies[15:]))
+    alone = {row.policy: row for half in halves for row in half.rows}
+    assert [alone[row.policy] for row in found.rows] == [*found.rows]
 
 
 @pytest.mark.parametrize("run", [report_of, lambda scenario, program: long_run_of(scenario, 2, program)],
@@ -155,7 +165,7 @@ def test_keys_and_their_starts(monkeypatch: pytest.MonkeyPatch) -> None:
     """Keys follow from all words of a key, and each has a start of its own."""
     keys = {key for word in range(4) for key in keys_of([*KEY[:word], "0" * 16, *KEY[word + 1:]], 48)}
     assert len(keys | set(keys_of(KEY, 48))) == 5 * 48
-    monkeypatch.setattr(long_run, "OWN_PERIODS", 0)
+    monkeypatch.setattr(own_starts, "OWN_PERIODS", 0)
     wide = PLAIN.with_policies([Policy("wide", 0, 1_000_000)])
     starts = settled(wide, words_of_keys(keys_of(KEY, 48))).stocks[:, 0]
     assert len(set(starts.tolist())) == 48
@@ -165,11 +175,9 @@ def test_keys_and_their_starts(monkeypatch: pytest.MonkeyPatch) -> None:
 @pytest.mark.parametrize("scenario, keys, message", [
     (PLAIN, 1, "keys=1: the long run takes 2 to 256 keys"), (PLAIN, 257, "keys=257"),
     (replace(PLAIN, ring=3), 2, "ring"),
-    (replace(PLAIN, version=2, returns=PLAIN.demand), 2, "no long run: on average as much comes back"),
-    (replace(PLAIN, demand=Law((0,), (1,))), 2, "no long run"),
-    (replace(PLAIN, version=2, demand=Law((0, 10_000), (1, 1)), returns=Law((0, 9_999), (1, 1)),
-             policies=(Policy("top", 999_000, 1_000_000),)), 2, "rises above 1,0[0-9]0,000 items")],
-    ids=["one key", "many keys", "no ring", "as much comes back", "no demand", "too much stock"])
+    (replace(PLAIN, version=2, returns=PLAIN.demand), 2, "nothing to order in the long run"),
+    (replace(PLAIN, demand=Law((0,), (1,))), 2, "no item is ever asked for")],
+    ids=["one key", "many keys", "no ring", "as much comes back", "no demand"])
 def test_refusals(scenario: Scenario, keys: int, message: str, program: Path) -> None:
     with pytest.raises(Refused, match=message):
         long_run_of(scenario, keys, program)
@@ -189,7 +197,6 @@ def test_texts_are_those_of_an_independent_program(cut: Scenario, block: int) ->
     states = [State(stock, cost, dict(due), tuple(costs)) for stock, cost, due, costs in (
         run.state(place, block) for place in range(2))]
     assert checkpoint_text(cut, block, states) == text
-    assert replication_costs(text) == [cost for state in states for cost in state.costs]
 
 
 def made(scenario: Scenario, seed: int) -> tuple[Scenario, list[State]]:

@@ -10,9 +10,9 @@ import pytest
 from hypothesis import given, settings
 from hypothesis import strategies as st
 
+from crnplan.crnsim.periods import Past, Rates, periods_of
 from crnplan.crnsim.report import report_of
 from crnplan.law import Law
-from crnplan.plan.backtest.periods import Past, Period, Rates, periods_of
 from crnplan.scenario import Costs, Policy, Scenario
 from tests.program import oracle
 
@@ -56,7 +56,7 @@ def totals(scenario: Scenario, box: int = 1) -> list[Any]:
             items = Past([box * it for it in past.demands], [box * it for it in past.returns], past.leads)
             for period in periods_of(items, repeat((box * policy.s, box * policy.S), scenario.periods),
                                      box * scenario.initial):
-                boxes = Period(period.ordered // box, period.stock // box, period.unmet // box)
+                boxes = period._replace(ordered=period.ordered // box, stock=period.stock // box)
                 total += boxes.cost(rates)
         found.append(total)
     return found

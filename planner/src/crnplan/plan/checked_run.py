@@ -1,0 +1,125 @@
+"""Runs the policies of an item by crnsim, and checks theory by that: figures must not differ by more than chance allows.
+
+All policies of a run start with the same stock and meet the same random numbers. What that start adds to the costs is
+taken out, by theory. The interval of a difference is the paired-t interval (Law, Simulation Modeling and Analysis,
+chapter 10).
+"""
+from __future__ import annotations
+
+import dataclasses
+import math
+from collections.abc import Mapping
+
+import numpy as np
+
+from ..crnsim.report import Report, report_of
+from ..decide.long_run import LongRunReport
+from ..decide.verdicts import Estimate, ends_of, far_from, t_quantile
+from ..errors import Failed
+from ..formats import MOST_ITEMS, MOST_REPLICATIONS
+from ..remarks import Remark
+from ..scenario import Policy, Scenario, key_words
+from ..theory.long_run import LongRun
+from .answer import CHOSEN, Figures, Run
+from .question import Levels, Question, Unplanned
+
+# A figure of a run is looked at again, by a larger run under another key, if chance alone puts so few so far from
+# theory. That run must agree: in a sound catalogue of a million items, the chance that one of its three million figures
+# does not is 3 in 1,000.
+SUSPECT, CHANCE = 1e-4, 1e-9
+
+
+class Disagreement(Unplanned, Failed):
+    """A run whose figure is further from exact theory than chance allows: one of both is wrong, a fault of ours."""
+
+
+def scenario_of(question: Question, theory: LongRun, levels: Levels) -> Scenario:
+    """Returns the scenario of a run of today's policy, the base, if there is one, and of the chosen one with some
+    levels, unless it is the same. The run starts from the mean position of the chosen one."""
+    initial = min(max(round(theory.mean_position(*levels)), 0), MOST_ITEMS)
+    scenario = question.scenario(question.rates.get("backlog", 0), initial)
+    if levels == question.levels:
+        return scenario
+    return scenario.with_policies([*scenario.policies, Policy(CHOSEN, *levels)])
+
+
+class Sample:
+    """What a run of a question's scenario says of the long run. Raises Refused if the bias of the start is not known.
+
+    `policies` are the estimates in money, the first one being the base. `is_exact` says whether theory and the bias of
+    the start are.
+    """
+
+    def __init__(self, question: Question, theory: LongRun, report: Report) -> None:
+        """Takes the bias of the start out of a report."""
+        known = LongRunReport.of(report.rows, report.scenario, report.scenario.replications, theory)
+        self.policies: list[Estimate] = [estimate.in_money(question.scale) for estimate in known.estimates]
+        self.is_exact = known.is_exact
+
+
+def disagreement(sample: Sample, figures: Mapping[str, Figures], errors: float,
+                 spare: Mapping[str, float]) -> Remark | None:
+    """Returns the first figure of a run that is further from theory than so many standard errors and what is to spare
+    for its policy; None if there is none."""
+    names = [estimate.policy for estimate in sample.policies]
+    gaps = far_from(sample.policies, [figures[name].cost for name in names], errors, [spare[name] for name in names])
+    gap = next(gaps, None)
+    if gap is None:
+        return None
+    return Remark("disagrees", {"figure": f"{gap.figure} of {gap.policy}", "theory": gap.theory, "run": gap.run,
+                                "error": gap.error})
+
+
+def rare_cost(question: Question, theory: LongRun, levels: Levels, scenario: Scenario) -> float:
+    """Returns the mean cost a period, in money, of the rarest events: of so few that a run may have none of them.
+
+    These are orders, and the periods with the most items owed. A run without them shows no spread for them either. It
+    has none of n events that are expected with the chance exp(-n). Items owed come in runs of up to the longest lead
+    time and a period.
+    """
+    point, level = levels
+    periods, expected = scenario.periods * scenario.replications, -math.log(CHANCE)
+    orders = min(theory.figures(point, level).orders, expected / periods)
+    rare, owed = expected * (max(scenario.lead.values) + 1) / periods, 0.0
+    for gap, share in theory.gaps_of(point, level):
+        law = theory.below(gap)
+        chances, cells = law.chances[::-1], law.cells[::-1]
+        above = np.cumsum(chances) - chances
+        part = np.clip(rare - above, 0, chances)
+        owed += share * float(part @ np.maximum(cells * theory.step - level, 0))
+    return question.money(scenario.costs.setup * orders + scenario.costs.backlog * owed)
+
+
+def check_run(question: Question, theory: LongRun, report: Report, sample: Sample, figures: Mapping[str, Figures],
+              program: str) -> None:
+    """Raises Disagreement if a run is further from theory than chance allows, and so is a larger one under another key.
+    Nothing is compared if theory or the bias of the start is rounded."""
+    most = t_quantile(SUSPECT, report.scenario.replications - 1)
+    nothing = dict.fromkeys(figures, 0.0)
+    if not (theory.exact and sample.is_exact and disagreement(sample, figures, most, nothing)):
+        return
+    key = key_words(f"{question.settings.seed}\nagain\n{question.item.name}")
+    larger = dataclasses.replace(report.scenario, key=tuple(key), replications=MOST_REPLICATIONS)
+    again = Sample(question, theory, report_of(larger, program))
+    rare = {row.policy: rare_cost(question, theory, (row.s, row.S), larger) for row in report.rows}
+    of_base = rare[report.rows[0].policy]
+    spare = {name: cost + of_base for name, cost in rare.items()}
+    fault = disagreement(again, figures, t_quantile(CHANCE, MOST_REPLICATIONS - 1), spare)
+    if fault:
+        raise Disagreement(fault)
+
+
+def run_of(question: Question, report: Report, sample: Sample) -> Run:
+    """Returns the run of today's policy, if there is one, and of the last one of a report, which may be the same."""
+    rows, scenario, costs = report.rows, report.scenario, report.scenario.costs
+    base, chosen = sample.policies[0], sample.policies[-1]
+    run = Run(" ".join(scenario.key), scenario.periods, scenario.replications, scenario.initial, question.scale,
+              costs.setup, costs.holding, costs.backlog, rows[-1].total, chosen.cost)
+    if question.levels is None:
+        return run
+    saving = 0.0 - chosen.difference  # which is never -0.0
+    error = 0.0 if len(rows) == 1 else chosen.error
+    low, high = ends_of(saving, error, t_quantile(1 - question.settings.level, scenario.replications - 1))
+    return dataclasses.replace(run, total_today=rows[0].total, difference=rows[-1].diff_mean,
+                               variance=rows[-1].diff_var or rows[0].diff_mean, cost_today=base.cost, saving=saving,
+                               error=error, low=low, high=high)
