@@ -1,4 +1,4 @@
-use Rattle.std.proofs.Common.{◌≡◌, ℕ, ◌+◌, ◌-◌, ◌*◌, inr, ap, sym, subst, arith}
+use Rattle.std.proofs.Common.{rules, ◌≡◌, ℕ, ◌+◌, ◌-◌, ◌*◌, inr, ap, sym, subst, arith}
 use Rattle.crn_cipher.specs.declared.TheConstants.{BLOCK_WORDS}
 use Rattle.crn_proto.specs.Chains.{ProducerReaches}
 use Rattle.crn_ring.proofs.Bounds.{producer_steps}
@@ -38,3 +38,6 @@ find_room-requires-clause-remembers c = let p = c.args.self.now in
 
 pub store_rows-requires-clause-goes_on : goal.store_rows-requires-clause-goes_on
 store_rows-requires-clause-goes_on c = inr c.in-Blocks.ensures.passed
+
+pub publish_upto-requires-clause-at : goal.publish_upto-requires-clause-at
+publish_upto-requires-clause-at c = search rules

@@ -1,4 +1,4 @@
-use Rattle.std.proofs.Common.{◌≡◌, ℕ, ◌+◌, ◌-◌, ◌*◌, ap, subst, arith}
+use Rattle.std.proofs.Common.{rules, ◌≡◌, ℕ, ◌+◌, ◌-◌, ◌*◌, ap, subst, arith}
 use Rattle.crn_cipher.specs.declared.TheConstants.{BLOCK_WORDS}
 use Rattle.crn_proto.specs.Chains.{ReaderReaches}
 use Rattle.crn_ring.proofs.Bounds.{reader_steps}
@@ -22,3 +22,6 @@ load_cursor-cursor-requires-clause-goes_on c = let p = c.args.self.now in
 
 pub returns-clause-steps : goal.returns-clause-steps
 returns-clause-steps c = reader_steps _ _ _ _ (returns-clause-moves c)
+
+pub returns-clause-answer : goal.returns-clause-answer
+returns-clause-answer c = search rules
