@@ -12,9 +12,9 @@ import pandas as pd
 import pytest
 
 import crnplan as crn
-from crnplan.pages.board import Board, LeftOut, Row, service_cell
+from crnplan.pages.board import Board, Row
 from crnplan.pages.catalogue_tables import reasons_of
-from crnplan.pages.page import Money, Unit
+from crnplan.pages.page import Money, Unit, rendered
 from crnplan.plan.answer import CHEAPER, DEARER, RUN, SAME, THEORY, Answer
 from crnplan.plan.catalogue import planned_folder
 from crnplan.plan.drawn import Estimate
@@ -120,26 +120,23 @@ def test_what_would_change_the_answer(large: Path, tmp_path: Path) -> None:
         assert (said in page.words) == (items == 600)
 
 
-def test_service_without_demand_that_counts() -> None:
-    """A service is not said if no demand is known by which it is measured, and said of what is not met."""
-    assert service_cell(None) == "-"
-    assert service_cell(Estimate(0.125, 0.001)) == "87.5%"
-
-
-def test_what_is_not_known_well_enough() -> None:
-    """A figure whose standard error is above a tenth of it is not printed, and a line says why."""
+def test_what_is_not_known_well_enough(tmp_path: Path) -> None:
+    """A figure whose standard error is above a tenth of it is not printed, and a line says why. A service is not said if
+    no demand is known by which it is measured, and said of what is not met."""
     near, far = Estimate(100.0, 10.0), Estimate(100.0, 10.1)
-    cases = [CaseSum("", 10, Estimate(90.0), Estimate(50.0), Estimate(0.0), Estimate(0.04), 0),
+    cases = [CaseSum("", 10, Estimate(90.0), Estimate(50.0), Estimate(0.0), Estimate(0.125, 0.001), 0),
              CaseSum("demand", 12, near, far, far, Estimate(0.04, 0.005), 0),
-             CaseSum("demand", 8, near, near, near, Estimate(0.04, 0.003), 2)]
+             CaseSum("demand", 8, near, near, near, Estimate(0.04, 0.003), 2),
+             CaseSum("lead", 8, near, near, near, None, 0)]
     everything = Row("all", 500, 50.0, (0.9, 0.96), (1.0, 2.0))
-    board = Board(Money("", 2), 1.0, True, everything, [], [], Unit.of(1, 2), Unit.of(1, 2), 1, LeftOut(0, 0, 0, 0.0, 0.0, 0, 0),
-                  [], Swings(cases, 120, 30, 0.82))
-    assert board.cases == [["as planned", "90", "50", "96.0%", "0"],
-                           ["demand +20%", "100", "not known", "not known", "not known"],
-                           ["demand \u221220%", "100", "100", "96.0%", "100"]]
-    assert board.case_words == (
-        "From 120 items: 30 that carry 82% of all costs, and 90 drawn from the others. No standard error is above a tenth. "
+    board = Board(Money("", 2), 1.0, True, everything, [], [], 1, Swings(cases, 120, 30, 0.82))
+    (tmp_path / "page.html").write_text(rendered("swings.html", {"board": board}))
+    page = Page(tmp_path / "page.html")
+    assert page.tables["What would change the answer"][1:] == [
+        ["as planned", "90", "50", "87.5%", "0"], ["demand +20%", "100", "not known", "not known", "not known"],
+        ["demand \u221220%", "100", "100", "96.0%", "100"], ["lead times \u221220%", "100", "100", "-", "100"]]
+    assert page.words.endswith(
+        " From 120 items: 30 that carry 82% of all costs, and 90 drawn from the others. No standard error is above a tenth. "
         "Not known: its standard error is above a tenth of it. Up to 2 of these items have no plan in a case, and follow "
         "the others.")
 

@@ -23,7 +23,7 @@ from crnplan.crnsim.periods import Period
 from crnplan.curve.parts import Point
 from crnplan.demand.fitting import fit_demand
 from crnplan.pages.curves import curve_ends
-from crnplan.pages.item_page import history_plot
+from crnplan.pages.item_plots import history_plot
 from crnplan.pages.page import (UNITS, Money, Scale, number, percent, rendered, round_numbers, source,
                                 templates, tick)
 from crnplan.scenario import Policy
@@ -93,9 +93,8 @@ def test_bars_of_a_long_history() -> None:
     """Of 521 weeks the last 520 are drawn, but for those without demand. A curve's axes end near its named points."""
     item = SimpleNamespace(counts=(9, 0, *[1] * 519), box=1)
     law = fit_demand(item.counts, method="empirical")
-    words: Any = SimpleNamespace(item=item, every="week", question=SimpleNamespace(demand=law),
-                                 period_names=[f"W{week}" for week in range(521)])
-    plot = history_plot(words)
+    depth: Any = SimpleNamespace(question=SimpleNamespace(item=item, demand=law))
+    plot = history_plot(depth, [f"W{week}" for week in range(521)], "week")
     assert len(plot.bars) == 519 and plot.across == "week; the 1 before are not drawn" and plot.marks[0][1] == "W1"
     assert "521 weeks from W0 to W520, 528 items; 1 weeks without demand; the greatest demand is 9, in W0;" in \
         plot.description

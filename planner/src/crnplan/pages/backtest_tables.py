@@ -39,15 +39,21 @@ class Row(NamedTuple):
 
     @classmethod
     def of(cls, item: Item, test: Backtest | Remark) -> Row:
-        return cls(item, None, test) if isinstance(test, Remark) else cls(item, test, None)
+        if isinstance(test, Remark):
+            return cls(item, None, test)
+        return cls(item, test, None)
 
     @property
     def periods(self) -> int | None:
-        return len(self.test.demands) if self.test else None
+        if self.test:
+            return len(self.test.demands)
+        return None
 
     @property
     def left_out(self) -> str | None:
-        return advised(self.why) if self.why else None
+        if self.why:
+            return advised(self.why)
+        return None
 
 
 def _policy_columns(policy: str) -> Iterator[Column]:
@@ -70,7 +76,9 @@ def _met_by(policy: str) -> Callable[[Sums], float | None]:
     """Returns a function that returns the share of demand that a policy met at once."""
     def met(sums: Sums) -> float | None:
         unmet = sums.unmet.get(policy)
-        return 1 - unmet.value if unmet else None
+        if unmet:
+            return 1 - unmet.value
+        return None
     return met
 
 

@@ -4,6 +4,8 @@ from __future__ import annotations
 
 import math
 from collections.abc import Mapping, Sequence
+from dataclasses import dataclass
+from operator import itemgetter
 from typing import NamedTuple
 
 from ..plan.answer import CHOSEN, SAME, TODAY
@@ -13,21 +15,14 @@ from ..plan.survey import Survey
 from ..plan.totals import Totals
 from ..plan.swings import LEAST_ERROR, CaseSum, Swings, kept_swings
 from ..records.columns import periods_a_year
-from .catalogue_tables import READ_ROWS, UNREAD_ROWS, Reason
-from .page import MINUS, Money, Scale, Unit, percent
+from .page import Money, Scale, Unit
 
 MOST_CLASSES = 6
-MOST_REASONS = 3
 ALL, NO_CLASS = "all", "no class"
 BEFORE_AND_AFTER = TODAY, CHOSEN
 # The parts of the cost of a policy, and all together, in words, with the names of their sums.
 ALL_PARTS = "cost"
 PARTS = {"orders": "ordering", "stock": "holding", "late deliveries": "late", "together": ALL_PARTS}
-# What differs in a case, and by how much, in words.
-WORDS = {"": "as planned", "holding": "cost of stock", "backlog": "cost of delay", "demand": "demand",
-         "lead": "lead times"}
-NOT_KNOWN = "not known"
-PERCENTS = {8: f" {MINUS}20%", 10: "", 12: " +20%"}
 MOST_TIMES = 1_000  # as much as the largest saving may a cost be in the unit of savings
 LEAST_SERVICE = 5.0  # percent, by which the axis of service begins below the least one
 
@@ -42,14 +37,35 @@ class Row(NamedTuple):
     fills: tuple[float | None, ...]
     values: tuple[float, ...]
 
+    @classmethod
+    def of(cls, name: str, sums: Sequence[Totals], periods: float, by_value: bool) -> Row:
+        """Returns the row of one class, or of several together."""
+        def added(part: str) -> float:
+            return math.fsum(totals[part] for totals in sums)
+
+        items = sum(totals.compared for totals in sums)
+        part, weight = ("met", added("demand")) if by_value else ("fill", float(items))
+        fills, values = [], []
+        for policy in BEFORE_AND_AFTER:
+            fills.append(added(f"{part}_{policy}") / weight if weight else None)
+            values.append(added(f"value_{policy}"))
+        return cls(name, items, periods * added("saving"), tuple(fills), tuple(values))
+
 
 class Picture(NamedTuple):
-    """Service in percent and stock before and after: the scales of both, and of each row its places, in percent of the
-    width of the picture."""
+    """Service in percent and stock before and after: the scales of both, the latter in so much of money."""
 
     service: Scale
     stock: Scale
-    places: Sequence[tuple[Row, tuple[float | None, ...], tuple[float, ...]]]
+    size: float
+
+    def across(self, fill: float) -> float:
+        """Returns the place of a share of demand, in percent of the width."""
+        return self.service.at(100 * fill) / 10
+
+    def along(self, value: float) -> float:
+        """Returns the place of a value of stock, in percent of the width."""
+        return self.stock.at(value / self.size) / 10
 
 
 class Part(NamedTuple):
@@ -64,21 +80,8 @@ class Part(NamedTuple):
         return self.today - self.chosen
 
 
-class LeftOut(NamedTuple):
-    """The items that are left out: how many, in how many rows of demand, how many of them have a known value, what
-    their stock is worth, and a year's demand for them; and the other rows of demand that are left out: that could not be
-    read, and that were."""
-
-    items: int
-    rows: int
-    valued: int
-    stock: float
-    demand: float
-    unread: int
-    read: int
-
-
-class Board(NamedTuple):
+@dataclass(frozen=True)
+class Board:
     """The figures of the first screen. Money is that of a year, `periods` of the plan's. Service is `by_value`, or the
     mean over items if none has a price."""
 
@@ -88,22 +91,25 @@ class Board(NamedTuple):
     all: Row
     rows: Sequence[Row]
     parts: Sequence[Part]
-    unit: Unit
-    value_unit: Unit
     changed: int
-    left_out: LeftOut
-    reasons: Sequence[Reason]
     swings: Swings | None
 
     @property
-    def others(self) -> int:
-        """Returns how many items are left out for other reasons."""
-        return self.left_out.items - sum(reason.count for reason in self.reasons)
+    def unit(self) -> Unit:
+        """Returns the unit of savings."""
+        return self.money.unit(row.saving for row in (self.all, *self.rows))
+
+    @property
+    def value_unit(self) -> Unit:
+        """Returns the unit of the value of stock."""
+        return self.money.unit(self.all.values)
 
     @property
     def shown(self) -> Sequence[Row]:
         """Returns the rows of the table: all items, and their classes if there are several."""
-        return [self.all, *self.rows] if len(self.rows) > 1 else [self.all]
+        if len(self.rows) > 1:
+            return [self.all, *self.rows]
+        return [self.all]
 
     @property
     def part_unit(self) -> Unit:
@@ -114,58 +120,34 @@ class Board(NamedTuple):
     def saved_unit(self) -> Unit:
         """Returns the unit of what is saved of these parts: a smaller one if that is far less than they cost."""
         unit = self.money.unit(part.saving for part in self.parts)
-        return unit if unit.size * MOST_TIMES <= self.part_unit.size else self.part_unit
+        if unit.size * MOST_TIMES <= self.part_unit.size:
+            return unit
+        return self.part_unit
 
     @property
-    def stock_words(self) -> str:
-        """Returns how much more or less the new stock is worth, and how much more or less it costs to hold it."""
-        stock = next(part for part in self.parts if part.name == "stock")
-        worth = self.more_or_less(self.all.values[1] - self.all.values[0])
-        return f"The mean stock is worth {worth}, and to hold it costs {self.more_or_less(-stock.saving)} a year."
-
-    def more_or_less(self, amount: float) -> str:
-        """Returns an amount that is more or less than today's, in words."""
-        return f"{self.money.rounded(abs(amount))} {'less' if amount < 0 else 'more'}"
+    def held(self) -> float:
+        """Returns what the new levels save of holding stock."""
+        return next(part.saving for part in self.parts if part.name == "stock")
 
     @property
-    def cases(self) -> Sequence[Sequence[str]]:
-        """Returns what would change the answer, as rows of cells: the case, what the new levels cost then, save beside
-        today's and serve, and what levels that are chosen anew would save beyond."""
-        unit, beyond_unit = self.case_unit, self.beyond_unit
-        return [[WORDS[case.what] + PERCENTS[case.tenths], self.case_cell(case.cost, unit),
-                 self.case_cell(case.saving, unit), service_cell(case.unmet), self.case_cell(case.beyond, beyond_unit)]
-                for case in self._cases]
+    def least_error(self) -> float:
+        """Returns the standard error of a service that counts as known, however little is not met."""
+        return LEAST_ERROR
 
     @property
     def _cases(self) -> Sequence[CaseSum]:
-        return self.swings.cases if self.swings else ()
-
-    def case_cell(self, amount: Estimate, unit: Unit) -> str:
-        """Returns an amount of money of a period as one of a year, if it is known."""
-        return unit.cell(self.periods * amount.value) if amount.is_known() else NOT_KNOWN
-
-    @property
-    def case_words(self) -> str:
-        """Returns from which items the cases are known, which there must be, and what is not known; nothing if all is
-        known of all items."""
-        swings, said = self.swings, list[str]()
-        assert swings is not None
-        drawn = swings.computed - swings.taken
-        if swings.computed < self.all.items:
-            said.append(f"From {swings.computed:,} items: {swings.taken:,} that carry {percent(swings.share, 0)} of all "
-                        f"costs, and {drawn:,} drawn from the others. No standard error is above a tenth.")
-        if any(NOT_KNOWN in row for row in self.cases):
-            said.append(f"{NOT_KNOWN.capitalize()}: its standard error is above a tenth of it.")
-        if swings.lacking:
-            said.append(f"Up to {swings.lacking:,} of these items have no plan in a case, and follow the others.")
-        return " ".join(said)
+        if self.swings:
+            return self.swings.cases
+        return ()
 
     @property
     def case_unit(self) -> Unit:
         """Returns the unit of what these cases cost and save: that of savings, which are smaller, unless costs had too
         many digits in it."""
-        costs = [case.cost._replace(value=case.cost.value / MOST_TIMES) for case in self._cases]
-        return self._unit_of([*costs, *(case.saving for case in self._cases)])
+        amounts = []
+        for case in self._cases:
+            amounts += [case.cost._replace(value=case.cost.value / MOST_TIMES), case.saving]
+        return self._unit_of(amounts)
 
     @property
     def beyond_unit(self) -> Unit:
@@ -181,63 +163,48 @@ class Board(NamedTuple):
         fills = [100 * fill for row in self.shown for fill in row.fills if fill is not None]
         if not self.by_value or not fills:
             return None
-        service = Scale.between(max(0.0, min(fills) - LEAST_SERVICE), 100.0)
-        stock = Scale.of([value / self.value_unit.size for row in self.shown for value in row.values])
-        places = [(row, tuple(None if fill is None else service.at(100 * fill) / 10 for fill in row.fills),
-                   tuple(stock.at(value / self.value_unit.size) / 10 for value in row.values)) for row in self.shown]
-        return Picture(service, stock, places)
+        size = self.value_unit.size
+        values = [value / size for row in self.shown for value in row.values]
+        least = max(0.0, min(fills) - LEAST_SERVICE)
+        return Picture(Scale.between(least, 100.0), Scale.of(values), size)
 
 
-def service_cell(unmet: Estimate | None) -> str:
-    """Returns the share of demand that is met at once, if what is not met is known."""
-    if unmet is None:
-        return percent(None)
-    return percent(1 - unmet.value) if unmet.is_known(LEAST_ERROR) else NOT_KNOWN
+def size_of(sums: tuple[str, Totals]) -> tuple[float, str]:
+    """Returns what sorts classes: what they save or lose."""
+    name, totals = sums
+    return -abs(totals["saving"]), name
 
 
-def row_of(name: str, sums: Sequence[Totals], periods: float, by_value: bool) -> Row:
-    """Returns the row of one class, or of several together."""
-    def added(part: str) -> float:
-        return math.fsum(totals[part] for totals in sums)
-    items = sum(totals.compared for totals in sums)
-    part, weight = ("met", added("demand")) if by_value else ("fill", float(items))
-    return Row(name, items, periods * added("saving"),
-               tuple(added(f"{part}_{policy}") / weight if weight else None for policy in BEFORE_AND_AFTER),
-               tuple(added(f"value_{policy}") for policy in BEFORE_AND_AFTER))
-
-
-def rows_of(sums: Mapping[str, Totals], periods: float, by_value: bool) -> list[Row]:
+def rows_of(classes: Mapping[str, Totals], periods: float, by_value: bool) -> list[Row]:
     """Returns the classes that save or lose most, in order of their names, and all others as one row."""
-    names = sorted(sums, key=lambda name: (-abs(sums[name]["saving"]), name))
-    most = MOST_CLASSES if len(names) <= MOST_CLASSES else MOST_CLASSES - 1
-    shown = [row_of(name or NO_CLASS, [sums[name]], periods, by_value) for name in names[:most]]
-    shown.sort(key=lambda row: row.name)
-    others = [sums[name] for name in names[most:]]
-    return [*shown, *[row_of(f"{len(others)} others", others, periods, by_value)] * bool(others)]
+    ranked = sorted(classes.items(), key=size_of)
+    most = MOST_CLASSES
+    if len(ranked) > most:
+        most -= 1
+    rows = [Row.of(name or NO_CLASS, [sums], periods, by_value) for name, sums in ranked[:most]]
+    rows.sort(key=itemgetter(0))
+    others = [sums for _, sums in ranked[most:]]
+    if others:
+        rows.append(Row.of(f"{len(others)} others", others, periods, by_value))
+    return rows
 
 
 def parts_of(totals: Totals, periods: float) -> list[Part]:
     """Returns what the parts of the cost come to in a year of so many periods."""
-    return [Part(words, *(periods * totals[f"{name}_{policy}"] for policy in BEFORE_AND_AFTER))
+    return [Part(words, periods * totals[f"{name}_{TODAY}"], periods * totals[f"{name}_{CHOSEN}"])
             for words, name in PARTS.items()]
 
 
-def left_out_of(survey: Survey, reasons: Sequence[Reason]) -> LeftOut:
-    """Returns what the items are worth that are left out, as far as that is known: a year's demand is if a policy alone
-    is missing."""
-    left = [reason for reason in reasons if reason.kind == "item"]
-    return LeftOut(sum(reason.count for reason in left), sum(reason.rows for reason in left),
-                   sum(reason.valued for reason in left), float(sum(reason.value for reason in left)),
-                   math.fsum(survey.asked), *(sum(reason.rows for reason in reasons if reason.group == group)
-                                              for group in (UNREAD_ROWS, READ_ROWS)))
-
-
-def board_of(folder: PlannedFolder, survey: Survey, reasons: Sequence[Reason], money: Money) -> Board:
-    """Returns the first screen of a plan, whose items are left out for some reasons."""
+def board_of(folder: PlannedFolder, survey: Survey, money: Money) -> Board:
+    """Returns the first screen of a plan."""
     totals, periods = survey.totals, float(periods_a_year(folder.every))
     by_value = totals["demand"] > 0
-    rows = rows_of(survey.classes, periods, by_value)
-    everything = row_of(ALL, [totals], periods, by_value)
-    return Board(money, periods, by_value, everything, rows, parts_of(totals, periods), money.unit([row.saving for row in (everything, *rows)]),
-                 money.unit(everything.values), totals.compared - totals.verdicts[SAME], left_out_of(survey, reasons),
-                 [reason for reason in reasons if reason.kind == "item"][:MOST_REASONS], kept_swings(folder, survey))
+    return Board(
+        money=money,
+        periods=periods,
+        by_value=by_value,
+        all=Row.of(ALL, [totals], periods, by_value),
+        rows=rows_of(survey.classes, periods, by_value),
+        parts=parts_of(totals, periods),
+        changed=totals.compared - totals.verdicts[SAME],
+        swings=kept_swings(folder, survey))

@@ -49,6 +49,7 @@ ROWS_AT_ONCE = 100  # of the tables that are written side by side
 ROWS_A_GROUP = 45  # which are laid out together; the first group is printed
 MOST_SAVINGS = 15
 MOST_REASONS = 12  # of each kind
+FIRST_REASONS = 3  # on the first screen
 # A name whose file would have more letters is cut, and its digest stands behind it. File systems allow 255 bytes.
 MOST_LETTERS, KEPT_LETTERS, DIGITS = 120, 80, 32
 MOST_DIGITS = 16  # of a number in the table of items
@@ -132,21 +133,20 @@ def catalogue_page(folder: PlannedFolder, survey: Survey, orders: OrdersToday | 
         "totals": totals,
         "money": money.exact,
         "orders": orders,
-        "board": board_of(folder, survey, reasons, money),
+        "board": board_of(folder, survey, money),
         "controls": controls_of(folder.read.controls(), folder.decimals, currency.code),
-        "remarks": folder.read.remarks(),
-        "ends": totals.run_ends(folder.settings.level),
         "aims": aims_of(folder, totals),
         "lost": missing_of(folder.counts, totals.answered),
         "past": past_line(past_of(folder)),
         "changes": change_lines(folder),
         "moved": moved_rows(folder),
         "reasons": reasons,
+        "first_reasons": FIRST_REASONS,
+        "asked": math.fsum(survey.asked),
         "most_reasons": MOST_REASONS,
         "plot": plot,
         "points": points,
-        "has_curve": bool(curve),
-        "is_old": curve is not None,
+        "curve": curve,
         "bars": bars,
         "bar_scale": Scale.of([0.0, *(end for bar in bars for end in bar[1:])]),
         "together": math.fsum(bar.saving for bar in bars),
@@ -156,7 +156,6 @@ def catalogue_page(folder: PlannedFolder, survey: Survey, orders: OrdersToday | 
         "columns": [column.among(rows) for column in ITEM_COLUMNS if not column.is_optional or column.is_filled(rows)],
         "pages": pages_of(folder.path, rows),
         "codes": sorted(codes.items()),
-        "choices": sorted(Counter(row.cells["verdict"] for row in rows).items()),
         "warned": sum(row.cells["warnings"] != "" for row in rows)})
 
 
@@ -254,7 +253,9 @@ def file_name(name: str) -> str:
     if len(plain) > MOST_LETTERS:
         return f"{plain[:KEPT_LETTERS]}~~{sha256(name)[:DIGITS]}.html"
     small = sum(1 << place for place, letter in enumerate(plain) if letter.islower())
-    return f"{plain}~{small:x}.html" if small else f"{plain}.html"
+    if small:
+        return f"{plain}~{small:x}.html"
+    return f"{plain}.html"
 
 
 def file_of(folder: Path, name: str) -> Path:

@@ -59,19 +59,25 @@ class Decision:
 
     @property
     def verdict(self) -> str:
-        return self.answer.verdict if self.answer else self.item.past
+        if self.answer:
+            return self.answer.verdict
+        return self.item.past
 
     @property
     def planned_by(self) -> str | None:
         """Returns whose figures costs and savings are."""
-        return PLANNED_BY[self.answer.source] if self.answer else None
+        if self.answer:
+            return PLANNED_BY[self.answer.source]
+        return None
 
     @property
     def mean(self) -> float | None:
         """Returns the mean of the law of demand; 0 for an item without any."""
         if self.answer:
             return self.answer.law.mean
-        return 0.0 if self.item.past == NO_DEMAND else None
+        if self.item.past == NO_DEMAND:
+            return 0.0
+        return None
 
     @property
     def periods(self) -> int:
@@ -79,11 +85,15 @@ class Decision:
 
     @property
     def abc(self) -> str | None:
-        return self.item.abc if self.answer else None
+        if self.answer:
+            return self.item.abc
+        return None
 
     @property
     def xyz(self) -> str | None:
-        return xyz_of(self.item.counts) if self.answer else None
+        if self.answer:
+            return xyz_of(self.item.counts)
+        return None
 
     @property
     def codes(self) -> str:
@@ -104,7 +114,9 @@ class Decision:
     @cached_property
     def chosen(self) -> Mapping[str, Any]:
         """Returns the same of the chosen policy; if nothing is ordered, s and S are 0."""
-        return self._facts(self.answer.chosen) if self.answer else {"s": 0, "S": 0}
+        if self.answer:
+            return self._facts(self.answer.chosen)
+        return {"s": 0, "S": 0}
 
     def _facts(self, figures: Figures | None) -> Mapping[str, Any]:
         if figures is None:
@@ -145,17 +157,23 @@ class ExactRow(NamedTuple):
 
     def _cost(self, total: int | None) -> Fraction | None:
         """Returns what a period costs by the cost of all replications, in the program's units."""
-        return None if total is None else total / (self.answer.run.replications * self._units)
+        if total is None:
+            return None
+        return total / (self.answer.run.replications * self._units)
 
     @property
     def saving(self) -> Fraction | None:
         difference = self.answer.run.difference
-        return None if difference is None else -difference / self._units
+        if difference is None:
+            return None
+        return -difference / self._units
 
     @property
     def variance(self) -> Fraction | None:
         variance = self.answer.run.variance
-        return None if variance is None else variance / self._units**2
+        if variance is None:
+            return None
+        return variance / self._units**2
 
     @property
     def _units(self) -> Fraction:
@@ -245,12 +263,16 @@ class Reason:
         """Returns its kind; of rows that are left out `unread` or `read`."""
         if self.kind != "row":
             return self.kind
-        return READ_ROWS if was_read(self.first.remark) else UNREAD_ROWS
+        if was_read(self.first.remark):
+            return READ_ROWS
+        return UNREAD_ROWS
 
     @property
     def lines(self) -> int:
         """Returns how many rows there are: of an item all that it has."""
-        return self.rows if self.kind == "item" else max(self.rows, self.count)
+        if self.kind == "item":
+            return self.rows
+        return max(self.rows, self.count)
 
     @property
     def pattern(self) -> str:

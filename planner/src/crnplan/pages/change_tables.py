@@ -25,17 +25,23 @@ class ChangeRow(NamedTuple):
     def gain_share(self) -> float | None:
         """Returns what the change gains as a share of what the earlier policy costs."""
         before, gain = self.change.before, self.change.gain
-        return gain / before.cost if before and before.cost and gain is not None else None
+        if before and before.cost and gain is not None:
+            return gain / before.cost
+        return None
 
     @property
     def periods_since(self) -> int | None:
         since = self.change.since
-        return len(since.demands) if since else None
+        if since:
+            return len(since.demands)
+        return None
 
     @property
     def demand_since(self) -> int | None:
         since = self.change.since
-        return sum(since.demands) if since else None
+        if since:
+            return sum(since.demands)
+        return None
 
     @property
     def codes(self) -> str:

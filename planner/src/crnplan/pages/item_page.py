@@ -4,7 +4,6 @@ from __future__ import annotations
 
 import itertools
 import textwrap
-from collections import Counter
 from collections.abc import Iterable, Sequence
 from dataclasses import replace
 from functools import cached_property
@@ -17,9 +16,8 @@ from ..decide.doubt import WITHIN
 from ..decide.verdicts import POLICY, Compared
 from ..demand import EMPIRICAL
 from ..demand.checks import largest_periods
-from ..demand.fitted import QUANTILES, Figures as LawFigures, FittedLaw, fit_words
+from ..demand.fitted import Figures as LawFigures, FittedLaw, fit_words
 from ..errors import Fault, spelt, worded
-from ..law import Law
 from ..money import Currency
 from ..plan.answer import THEORY, Figures
 from ..plan.item import Coming, Depth, Shown
@@ -30,31 +28,21 @@ from ..remarks import Remark
 from ..table import MONEY, Cell, Column, DataTable
 from ..words import advised, exactness, sentence
 from .catalogue_tables import DECISION_COLUMNS, Decision, exact_of
-from .columns import columns_of
+from .columns import columns_of, declared
+from .item_plots import ALONE, history_plot, law_plot, stock_plot
 from .law_words import law_said, law_words
-from .page import (OF_CHOSEN, OF_TODAY, UNITS, Line, Plot, Scale, capital, marks_of, number, rendered, templates,
-                   tick)
+from .page import Scale, capital, number, rendered, templates
 from .verdicts import VERDICTS
 
-ALONE = "the law of this item alone"
 # The summary has so many lines of so many characters. Its table needs four: the heading, two policies, and a blank one.
 LINES, WIDTH, LEAST_TABLE = 24, 80, 4
 # The page has all warnings; in the summary each is cut to one or two lines.
 MOST_WARNED, TWO_LINES = 4, 150
 LARGE = 100_000  # From here on amounts of money in the summary have no decimals.
-# The columns of the summary's table, with their headings and how they are spelt; and those that are left out if a line
-# is too long, in this order.
-SCREEN = {"policy": ("policy", ""), "s": ("s", ""), "S": ("S", ""), "theory_cost": ("theory", MONEY),
-          "fill": ("fill", ".1%"), "short": ("short", ".1%"), "stock": ("stock", ",.1f"), "orders": ("orders", ".3f"),
-          "run_cost": ("crnsim", MONEY), "verdict": ("verdict", "")}
+# The columns of the summary's table, and those of them that are left out if a line is too long, in this order.
+SCREEN = declared("words")["screen"]
 OPTIONAL = ("orders", "stock", "short", "run_cost", "fill")
 MOST_DOUBTED = 10  # policies of which the page shows the doubt
-MOST_BARS = 520
-BAR = 0.85  # of the width of a period
-# The classes of lines of the law of a period's demand (its mean, and what 99 of 100 periods do not exceed), and of the
-# law of the item alone.
-MEAN, HIGH, OF_ALONE = "of-mean", "of-high", "of-alone"
-Counts = Sequence[tuple[int, int]]  # values with their weights
 
 
 class Range(NamedTuple):
@@ -158,7 +146,9 @@ class ItemWords:
 
     def money(self, amount: float | None) -> str:
         """Returns an amount of money; - if there is none."""
-        return "-" if amount is None else self.currency.named(number(amount, self.currency.digits))
+        if amount is None:
+            return "-"
+        return self.currency.named(number(amount, self.currency.digits))
 
     def spoken(self, saving: float) -> str:
         return f"{self.money(abs(saving))} {'more' if saving < 0 else 'less'}"
@@ -184,7 +174,9 @@ class ItemWords:
     def promise(self) -> str:
         """Returns how sure the choice is under the laws that the history allows, and which cost to promise."""
         is_known = self.depth.chosen in self.doubted and self.question.has_backlog
-        return self._sentences("promise") if is_known else ""
+        if is_known:
+            return self._sentences("promise")
+        return ""
 
     @property
     def largest(self) -> str:
@@ -244,7 +236,9 @@ class ItemWords:
     @property
     def over_coming_periods(self) -> str:
         """Returns what the coming periods say of the policies; nothing if they were not asked for."""
-        return self._sentences("over_coming_periods") if self.coming else ""
+        if self.coming:
+            return self._sentences("over_coming_periods")
+        return ""
 
     @property
     def below(self) -> str:
@@ -302,8 +296,8 @@ def screen_table(words: ItemWords, most: int) -> str:
     for policy in words.depth.compared:
         if len(kept) < most:
             kept.add(policy.name)
-    costs = [policy.cost for policy in words.depth.compared if policy.name in kept]
-    digits = 0 if max(map(abs, costs)) >= LARGE else min(words.decimals, 2)
+    costs = [abs(policy.cost) for policy in words.depth.compared if policy.name in kept]
+    digits = 0 if max(costs) >= LARGE else min(words.decimals, 2)
     table = policies_of(words)
     table = replace(table, rows=[row for row in table.rows if row[0] in kept])
     for left_out in range(len(OPTIONAL) + 1):
@@ -311,7 +305,9 @@ def screen_table(words: ItemWords, most: int) -> str:
         columns = []
         for column in shown.columns:
             heading, style = SCREEN[column.name]
-            columns.append(replace(column, name=heading, shown=f",.{digits}f" if style == MONEY else style))
+            if style == MONEY:
+                style = f",.{digits}f"
+            columns.append(replace(column, name=heading, shown=style))
         lines = replace(shown, columns=columns).text
         if max(map(len, lines.splitlines())) <= WIDTH:
             break
@@ -349,7 +345,9 @@ def item_page(words: ItemWords) -> str:
     doubted = dict(itertools.islice(words.doubted.items(), MOST_DOUBTED))
     regrets = [Range(name, 100 * row["regret"], 0.0, 100 * row["regret_90"]) for name, row in doubted.items()]
     decided = [Range(row.name, row.difference, row.run.low, row.run.high, row.verdict) for row in depth.compared]
-    coming = words.coming.rows if words.coming else []
+    coming = []
+    if words.coming:
+        coming = [Range(row.policy, row.diff, row.low, row.high, row.verdict) for row in words.coming.rows]
     return rendered("item.html", {
         "words": words,
         "scale_of": scale_of,
@@ -358,115 +356,16 @@ def item_page(words: ItemWords) -> str:
         "doubted": doubted,
         "regrets": regrets,
         "decided": decided,
-        "coming": [Range(row.policy, row.diff, row.low, row.high, row.verdict) for row in coming],
+        "coming": coming,
         "laws": [*laws_of(words.question, depth.single).spelt(is_shown=True)],
-        "history_plot": history_plot(words),
-        "law_plot": law_plot(words),
-        "stock_plot": stock_plot(words)})
+        "history_plot": history_plot(depth, words.period_names, words.every),
+        "law_plot": law_plot(depth, words.every),
+        "stock_plot": stock_plot(depth, words.every)})
 
 
 def scale_of(rows: Iterable[Range]) -> Scale:
     """Returns the scale of the intervals of policies."""
     return Scale.of([end for row in rows for end in (row.mean, row.low, row.high) if end is not None])
-
-
-def history_said(counts: Sequence[int], names: Sequence[str], every: str) -> str:
-    """Returns what a picture of a history shows, in figures."""
-    if not counts:
-        return f"no {every} of the record"
-    most = max(counts)
-    return (f"{len(counts):,} {every}s from {names[0]} to {names[-1]}, {sum(counts):,} items; "
-            f"{counts.count(0):,} {every}s without demand; the greatest demand is {most:,}, in "
-            f"{names[counts.index(most)]}")
-
-
-def history_plot(words: ItemWords) -> Plot:
-    """Returns the demand by period as bars, of the last periods if they are many. Lines are the mean of the law, which
-    counts in boxes, and what 99 of 100 periods do not exceed by it."""
-    counts, names, every = words.item.counts, words.period_names, words.every
-    figures, box = words.question.demand.figures, words.item.box
-    mean, high = box * figures.mean, box * figures.quantiles[QUANTILES[1]]
-    mean_name = f"mean of the law: {number(mean, 2)} a {every}"
-    high_name = f"99 of 100 {every}s by the law: at most {number(high)}"
-    shown = counts[-MOST_BARS:]
-    left_out = len(counts) - len(shown)
-    scale, width = Scale.of([*shown, mean, high], is_whole=True), UNITS / max(len(shown), 1)
-    return Plot(
-        title=f"Demand by {every}, and the law that it is planned by",
-        description=f"{history_said(counts, names, every)}; {mean_name}; {high_name}.",
-        scale=scale,
-        marks=marks_of(names[-MOST_BARS:]) if names else [],
-        across=f"{every}; the {left_out:,} before are not drawn" if left_out else every,
-        lines=[Line(mean_name, MEAN, f"M0 {scale.down(mean):g}H{UNITS}"),
-               Line(high_name, HIGH, f"M0 {scale.down(high):g}H{UNITS}")],
-        bars=[(round(place * width, 3), scale.at(count)) for place, count in enumerate(shown) if count],
-        width=round(BAR * width, 3))
-
-
-def counts_of(law: Law | FittedLaw | None) -> Counts:
-    return [*zip(law.values, law.weights)] if law else []
-
-
-def laws_drawn(words: ItemWords) -> dict[str, tuple[str, Counts]]:
-    """Returns the classes and the counts of what was seen, of the law, and of that of the item alone, but for those that
-    are as what was seen."""
-    boxes = Counter(-(-count // words.item.box) for count in words.item.counts)
-    seen = sorted(boxes.items())
-    laws = {"the law": (OF_CHOSEN, counts_of(words.question.demand)), ALONE: (OF_ALONE, counts_of(words.depth.single))}
-    drawn = {name: (css, counts) for name, (css, counts) in laws.items() if counts and counts != seen}
-    return {"what was seen": (OF_TODAY, seen), **drawn} if seen else drawn
-
-
-def law_plot(words: ItemWords) -> Plot:
-    """Returns in how many periods demand is at least so large, as it was seen, by the law, and by that of the item
-    alone, as lines with a step behind each value. Its words say it at the marks of the axis."""
-    laws, every = laws_drawn(words), words.every
-    totals = {name: sum(count for _, count in counts) for name, (_, counts) in laws.items()}
-    scale = Scale.of_chances(min(counts[-1][1] / totals[name] for name, (_, counts) in laws.items()))
-    across = Scale.of([counts[-1][0] for _, counts in laws.values()], is_whole=True)
-    lines, said = [], []
-    for name, (css, counts) in laws.items():
-        path, left = "M0 0", totals[name]
-        for value, count in counts:
-            left -= count
-            path += f"H{across.at(value):g}V{scale.down(left / totals[name]):g}"
-        lines.append(Line(name, css, path))
-        shares = []
-        for least in filter(None, across.ticks):
-            above = sum(count for value, count in counts if value >= least)
-            shares.append(f"at least {tick(least)} in {above / totals[name]:.2%}")
-        said.append(f"{name}: {', '.join(shares)}")
-    return Plot(
-        title=f"In how many {every}s demand is so large, as it was seen and by the law",
-        description=f"{'; '.join(said)}.",
-        scale=scale,
-        marks=across.marks,
-        across=f"{'boxes' if words.item.box > 1 else 'items'} that a {every} asks for, at least",
-        lines=lines)
-
-
-def stock_plot(words: ItemWords) -> Plot:
-    """Returns the stock of policies at the end of each period as lines with a step for each period."""
-    every, box = words.every, words.item.box
-    stocks = {}
-    for name, periods in words.depth.trajectory.items():
-        stocks[name] = [box * period.stock for period in periods]
-    scale = Scale.of([*itertools.chain(*stocks.values())], is_whole=True)
-    lines, said = [], []
-    for name, own in stocks.items():
-        path = f"M0 {scale.down(own[0]):g}"
-        for place, stock in enumerate(own, 1):
-            path += f"V{scale.down(stock):g}H{UNITS * place / len(own):g}"
-        lines.append(Line(name, OF_CHOSEN if name == words.depth.chosen else OF_TODAY, path))
-        said.append(f"{name}: from {number(min(own))} to {number(max(own))}, {number(sum(own) / len(own), 1)} in the "
-                    f"mean, items owed at the end of {sum(stock < 0 for stock in own)} {every}s")
-    return Plot(
-        title=f"Stock at the end of each {every} of one run",
-        description=f"{len(own):,} {every}s; {'; '.join(said)}.",
-        scale=scale,
-        marks=marks_of([*map(str, range(len(own)))]),
-        across=f"{every} of the run, numbered from 0",
-        lines=lines)
 
 
 def scenario_text(words: ItemWords) -> str:

@@ -7,7 +7,9 @@ from ..demand.fitted import FittedLaw
 
 def source_words(prior: str) -> str:
     """Returns from which items a law was learned: all, or those of a class."""
-    return "all items of the catalogue" if prior == "all" else f"the items of class {prior}"
+    if prior == "all":
+        return "all items of the catalogue"
+    return f"the items of class {prior}"
 
 
 def law_words(law: FittedLaw) -> str:

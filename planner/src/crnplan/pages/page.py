@@ -108,7 +108,9 @@ class Money(Currency):
         """Returns the name of a unit, as EUR million, or millions; nothing if there is nothing to say."""
         if self.code:
             return self.named(unit.word).strip()
-        return f"{unit.word}s" if unit.word else ""
+        if unit.word:
+            return f"{unit.word}s"
+        return ""
 
     def heading(self, words: str, unit: Unit) -> str:
         """Returns the name of an axis, or the heading of a column, of this unit."""
@@ -239,7 +241,9 @@ class Scale(NamedTuple):
 
     def word(self, value: float) -> str:
         """Returns the text of a round number."""
-        return f"1 in {1 / value:,.0f}" if self.is_of_chances else tick(value)
+        if self.is_of_chances:
+            return f"1 in {1 / value:,.0f}"
+        return tick(value)
 
     @property
     def heights(self) -> list[Mark]:

@@ -110,7 +110,9 @@ def base_of(decision: Decision) -> Compared:
 
 
 def percent_of(row: Compared) -> str:
-    return "" if row.percent is None else f"{row.percent:+.2f}%"
+    if row.percent is None:
+        return ""
+    return f"{row.percent:+.2f}%"
 
 
 def draw_difference(axes: Axes, place: int, row: Compared) -> None:

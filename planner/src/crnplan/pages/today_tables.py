@@ -72,7 +72,9 @@ class Row:
     @property
     def placed(self) -> int:
         """Returns today's order in whole packs; 0 if there is none."""
-        return self.standing.placed if self.standing.is_due else 0
+        if self.standing.is_due:
+            return self.standing.placed
+        return 0
 
     @property
     def excess(self) -> Fraction:
@@ -125,12 +127,16 @@ class GroupRow:
     @property
     def number(self) -> str:
         """Returns the number of today's order of a supplier; empty if nothing is ordered."""
-        return self.today.number(self.group.name) if self.group.due else ""
+        if self.group.due:
+            return self.today.number(self.group.name)
+        return ""
 
     @property
     def file(self) -> str:
         """Returns the file of today's order; empty if nothing is ordered."""
-        return supplier_file(self.today.place(self.group.name)) if self.group.due else ""
+        if self.group.due:
+            return supplier_file(self.today.place(self.group.name))
+        return ""
 
 
 Stands = Row | UnknownRow | Addition | Risk
@@ -138,16 +144,22 @@ Reasoned = Row | UnknownRow | Risk | Ended
 
 
 def point_of(row: Stands) -> int | None:
-    return row.standing.levels[0] if row.standing else None
+    if row.standing:
+        return row.standing.levels[0]
+    return None
 
 
 def level_of(row: Stands) -> int | None:
-    return row.standing.levels[1] if row.standing else None
+    if row.standing:
+        return row.standing.levels[1]
+    return None
 
 
 def placed_worth(row: Stands) -> Money:
     """Returns what an order in whole packs is worth."""
-    return row.standing.worth(row.standing.placed) if row.standing else None
+    if row.standing:
+        return row.standing.worth(row.standing.placed)
+    return None
 
 
 def codes(row: Reasoned) -> str:
@@ -387,4 +399,6 @@ def has_stock(path: Path) -> bool:
 
 def orders_by_masters(path: Path) -> OrdersToday | None:
     """Returns what a planned folder says today by the stock of its masters; None if these have none."""
-    return orders_today(path, {}, Words(), None) if has_stock(path) else None
+    if has_stock(path):
+        return orders_today(path, {}, Words(), None)
+    return None

@@ -67,7 +67,9 @@ class Meaning(NamedTuple):
 
 
 def with_places(whole_part: str, digits: int) -> str:
-    return f"{whole_part}.{'0' * digits}" if digits else whole_part
+    if digits:
+        return f"{whole_part}.{'0' * digits}"
+    return whole_part
 
 
 def money_format(table: DataTable) -> str:
@@ -88,7 +90,9 @@ def number_format(column: Column, table: DataTable) -> str:
         return money_format(table)
     parts = SPELT.fullmatch(style)
     if parts is None:
-        return "#,##0" if column.kind == "whole" else "#,##0.0###"
+        if column.kind == "whole":
+            return "#,##0"
+        return "#,##0.0###"
     digits = int(parts["digits"])
     whole_part = "#,##0" if parts["group"] else "0"
     if parts["kind"] == "%":
