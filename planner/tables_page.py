@@ -48,6 +48,7 @@ TABLES: Mapping[str, tuple[str, Sequence[Column]]] = {
                          ON_A_DAY["orders"]),
     "today_above.csv": (f"Items above S. {AS_ORDERS}", more(ON_A_DAY["above"])),
     "today_dead.csv": (f"Stock that nobody has asked for. {AS_ORDERS}", more(ON_A_DAY["dead"])),
+    "today_stopped.csv": (f"Items that are ordered no longer. {AS_ORDERS}", more(ON_A_DAY["stopped"])),
     "today_owed.csv": (f"Items that are owed. {AS_ORDERS}", more(ON_A_DAY["owed"])),
     "today_classes.csv, today_suppliers.csv": ("What these come to by class, and by supplier.",
                                                ON_A_DAY["suppliers"]),

@@ -104,16 +104,14 @@ def number_format(column: Column, table: DataTable) -> str:
 
 def write_cell(sheet: Worksheet, row: int, place: int, cell: Cell, style: Format) -> int:
     """Writes a cell, empty for no figure, and returns how many letters it needs."""
-    if is_missing(cell):
+    if cell is None or is_missing(cell):
         return 0
-    if isinstance(cell, str):
-        if cell:
-            sheet.write_string(row, place, cell, style)
-        return len(cell)
-    figure = float(cell or 0)
-    if not math.isfinite(figure):
-        sheet.write_string(row, place, str(cell), style)
-        return len(str(cell))
+    if isinstance(cell, str) or not math.isfinite(cell):
+        words = str(cell)
+        if words:
+            sheet.write_string(row, place, words, style)
+        return len(words)
+    figure = float(cell)
     sheet.write_number(row, place, figure, style)
     return len(f"{figure:,.2f}") + ROOM
 
