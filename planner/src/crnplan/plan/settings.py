@@ -17,8 +17,8 @@ from ..options import PLAN, Option, option, table_of, within
 from ..records.choosing import Condition
 from ..records.columns import COLUMNS, ROLES, unit_fault
 from ..toml.documents import Path as Place, TreeFault, shown
-from ..toml.rules import (MISSING, RANGE, Check, Key, Table, choice, date, flag, money, number, numbers, read_tables,
-                          share, text, texts)
+from ..toml.rules import (MISSING, RANGE, Check, Key, Table, choice, date, flag, money, no_faults, number, numbers,
+                          read_tables, share, text, texts)
 
 Tables = Mapping[str, Mapping[str, Any]]
 CONFIG = "crnplan.toml"
@@ -107,11 +107,6 @@ def conditions(path: Place, value: Any) -> list[TreeFault]:
     return faults
 
 
-def nothing(path: Place, value: Any) -> list[TreeFault]:
-    """Finds no fault: what stands there is not ours."""
-    return []
-
-
 # The checks of keys by the kind of their word.
 CHECKS: dict[str, Check] = {"text": text, "column": text, "texts": texts, "flag": flag, "date": date, "cost": cost,
                             "price": price}
@@ -180,7 +175,7 @@ def catalogue_rules() -> Table:
                 keys["where"] = Key(conditions)
             case _:
                 keys[word.key] = rule_of(word)
-    return Table({"catalogue": Table(keys)}, other=Key(nothing))
+    return Table({"catalogue": Table(keys)}, other=Key(no_faults))
 
 
 RULES, CATALOGUE_RULES = settings_rules(), catalogue_rules()

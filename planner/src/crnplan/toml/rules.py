@@ -11,6 +11,7 @@ import re
 from collections.abc import Callable, Container, Hashable, Iterable, Mapping
 from dataclasses import dataclass, field
 from difflib import get_close_matches
+from operator import attrgetter
 from pathlib import Path as FilePath
 from typing import Any
 
@@ -33,6 +34,15 @@ KINDS = {bool: "true or false", int: "a whole number", float: "a number with a p
 LESS = {key: advice for advice, keys in ADVICE["above"].items() for key in keys}
 
 
+# A number with a point that may stand before thousands.
+THOUSANDS = re.compile(r"[+-]?[1-9][0-9]{0,2}\.[0-9]{3}")
+
+
+def no_faults(*checked: Any) -> list[TreeFault]:
+    """Finds no fault."""
+    return []
+
+
 @dataclass(frozen=True)
 class Key:
     """What may stand at a key, whether it must be there, and its value if it is not."""
@@ -53,35 +63,55 @@ class Table:
     keys: Mapping[str, Key | Table]
     needed: bool = False
     is_list: bool = False
-    joint: JointCheck = lambda path, table, good: []
+    joint: JointCheck = no_faults
     other: Key | None = None
     elsewhere: Mapping[str, str] = field(default_factory=dict)
-    joint_of_list: Callable[[Path, list[Any]], list[TreeFault]] = lambda path, tables: []
+    joint_of_list: Callable[[Path, list[Any]], list[TreeFault]] = no_faults
 
     def completed(self, tree: Mapping[str, Any]) -> dict[str, Any]:
         """Returns a tree without faults, with the default of each key that is not there."""
-        return dict(tree) | {
-            name: rule.completed(tree.get(name, {})) if isinstance(rule, Table) else tree.get(name, rule.default)
-            for name, rule in self.keys.items()}
+        whole = dict(tree)
+        for name, rule in self.keys.items():
+            if isinstance(rule, Table):
+                whole[name] = rule.completed(tree.get(name, {}))
+            else:
+                whole.setdefault(name, rule.default)
+        return whole
 
 
 def kind_of(value: Any) -> str:
-    return "a number with a point" if isinstance(value, float) else KINDS.get(type(value), "a date or a time")
+    """Returns the kind of a value in words."""
+    if isinstance(value, float):
+        return "a number with a point"
+    return KINDS.get(type(value), "a date or a time")
+
+
+def advice_on_kind(value: Any, wanted: str) -> str:
+    """Returns what to do about a value that is not of the wanted kind."""
+    advice: str = ADVICE["kinds"][wanted]
+    if isinstance(value, float) and "whole number" in wanted:
+        spelt = getattr(value, "spelt", "")
+        advice = "count in a smaller unit, cents for example, or round"
+        if THOUSANDS.fullmatch(spelt):
+            advice = f"write {spelt.replace('.', '')} for thousands; else {advice}"
+    elif isinstance(value, str) and wanted == "a whole number":
+        odd = odd_advice(value)
+        if odd:
+            return odd
+        if value.strip().isdigit():
+            return "write it without the quotes"
+    elif isinstance(value, dict) and wanted == "a list of tables":
+        return "write [[policy]] in place of [policy]"
+    return advice
 
 
 def wrong_kind(path: Path, value: Any, wanted: str) -> list[TreeFault]:
-    kind, advice = kind_of(value), ADVICE["kinds"][wanted]
-    kind = "empty" if value in ("", [], {}) and wanted.startswith(kind) else kind
-    if "whole number" in wanted and isinstance(value, float):
-        spelt = getattr(value, "spelt", "")
-        thousands = re.fullmatch(r"[+-]?[1-9][0-9]{0,2}\.[0-9]{3}", spelt)
-        either = f"write {spelt.replace('.', '')} for thousands; else " if thousands else ""
-        advice = f"{either}count in a smaller unit, cents for example, or round"
-    elif wanted == "a whole number" and isinstance(value, str):
-        advice = odd_advice(value) or "write it without the quotes" * value.strip().isdigit() or advice
-    elif wanted == "a list of tables" and isinstance(value, dict):
-        advice = "write [[policy]] in place of [policy]"
-    return [TreeFault(KIND, path, f"{shown(value)} is {kind}; {wanted} should stand here", advice)]
+    """Returns the fault of a value that is not of the wanted kind."""
+    kind = kind_of(value)
+    if value in ("", [], {}) and wanted.startswith(kind):
+        kind = "empty"
+    what = f"{shown(value)} is {kind}; {wanted} should stand here"
+    return [TreeFault(KIND, path, what, advice_on_kind(value, wanted))]
 
 
 def once_each(faults: Iterable[tuple[Hashable, TreeFault]]) -> list[TreeFault]:
@@ -99,12 +129,18 @@ def number(least: int, most: int) -> Check:
             return wrong_kind(path, value, "a whole number")
         if least <= value <= most:
             return []
-        less = LESS.get(next(str(part) for part in reversed(path) if isinstance(part, str)), f"write {most:,} or less")
-        if path[:2] == ("lead", "values"):
-            less = f"an order arrives after {most} periods at most: take longer periods"
-        return [TreeFault(RANGE, path, f"{shown(value)} is not from {least:,} to {most:,}",
-                          less if value > most else f"write {least} or more")]
+        what = f"{shown(value)} is not from {least:,} to {most:,}"
+        advice = f"write {least} or more" if value < least else advice_on_more(path, most)
+        return [TreeFault(RANGE, path, what, advice)]
     return check
+
+
+def advice_on_more(path: Path, most: int) -> str:
+    """Returns what to do about a number above the greatest one."""
+    if path[:2] == ("lead", "values"):
+        return f"an order arrives after {most} periods at most: take longer periods"
+    *_, key = [part for part in path if isinstance(part, str)]
+    return LESS.get(key, f"write {most:,} or less")
 
 
 def numbers(least: int, most: int) -> Check:
@@ -118,62 +154,82 @@ def numbers(least: int, most: int) -> Check:
             return [TreeFault(RANGE, path, "the list is empty", "write at least one number")]
         if {*map(type, value)} == {int} and least <= min(value) and max(value) <= most:  # nearly always
             return []
-        return once_each((entry < least if type(entry) is int else kind_of(entry), fault)
-                         for place, entry in enumerate(value, 1) for fault in one((*path, place), entry))
+        faults: list[tuple[Hashable, TreeFault]] = []
+        for place, entry in enumerate(value, 1):
+            kind = entry < least if type(entry) is int else kind_of(entry)
+            faults += [(kind, fault) for fault in one((*path, place), entry)]
+        return once_each(faults)
     return check
 
 
-def check_of(kind: str, is_of_kind: Callable[[Any], bool], is_good: Callable[[Any], object] = lambda value: True,
-             words: Callable[[Any], tuple[str, str]] = lambda value: ("", ""), rule: int = RANGE) -> Check:
-    """Returns the check of a value: of its kind first, then whether it is good. If it is not, it breaks a rule, and
-    `words` gives what is wrong with it and what to do."""
+def kind_check(kind: str, is_of_kind: Callable[[Any], bool]) -> Check:
+    """Returns the check of the kind of a value."""
     def check(path: Path, value: Any) -> list[TreeFault]:
-        if not is_of_kind(value):
-            return wrong_kind(path, value, kind)
-        return [] if is_good(value) else [TreeFault(rule, path, *words(value))]
+        return [] if is_of_kind(value) else wrong_kind(path, value, kind)
     return check
-
-
-def is_string(value: Any) -> bool:
-    return isinstance(value, str)
 
 
 def is_text(value: Any) -> bool:
+    """Returns whether a value is a text that is not empty."""
     return isinstance(value, str) and value != ""
 
 
-def is_whole(value: Any) -> bool:
-    return type(value) is int
+def are_texts(value: Any) -> bool:
+    """Returns whether a value is a list of texts."""
+    return isinstance(value, list) and all(map(is_text, value))
 
 
-text = check_of("a text", is_text)
-texts = check_of("a list of texts", lambda value: isinstance(value, list) and all(map(is_text, value)))
-flag = check_of("true or false", lambda value: isinstance(value, bool))
-date = check_of("a date", lambda value: is_text(value) or type(value) is datetime.date)
-# An amount of money: a number that is not below 0.
-money = check_of("a number", lambda value: is_whole(value) or isinstance(value, float),
-                 lambda value: 0 <= value < math.inf, lambda value: (f"{shown(value)} is no cost", "write 0 or more"))
+def is_flag(value: Any) -> bool:
+    """Returns whether a value is true or false."""
+    return isinstance(value, bool)
+
+
+def is_date(value: Any) -> bool:
+    """Returns whether a value is a date, or a text that may be one."""
+    return is_text(value) or type(value) is datetime.date
+
+
+text, texts = kind_check("a text", is_text), kind_check("a list of texts", are_texts)
+flag, date = kind_check("true or false", is_flag), kind_check("a date", is_date)
+
+
+def money(path: Path, value: Any) -> list[TreeFault]:
+    """Returns the faults of an amount of money: a number that is not below 0."""
+    if type(value) is not int and not isinstance(value, float):
+        return wrong_kind(path, value, "a number")
+    if 0 <= value < math.inf:
+        return []
+    return [TreeFault(RANGE, path, f"{shown(value)} is no cost", "write 0 or more")]
 
 
 def share(example: str) -> Check:
     """Returns the check of a share between 0 and 1. `example` says what to write for what."""
-    return check_of("", lambda value: True, lambda value: isinstance(value, float) and 0 < value < 1,
-                    lambda value: (f"{shown(value)} is not between 0 and 1", f"write {example}"))
+    def check(path: Path, value: Any) -> list[TreeFault]:
+        if isinstance(value, float) and 0 < value < 1:
+            return []
+        return [TreeFault(RANGE, path, f"{shown(value)} is not between 0 and 1", f"write {example}")]
+    return check
 
 
 def choice(*values: str) -> Check:
     """Returns the check of one of some texts. If they are many, the first ones are named."""
-    def words(value: Any) -> tuple[str, str]:
-        close = get_close_matches(str(value), values, 1)
-        advice = " or ".join(f'"{one}"' for one in close or values[:MOST_NAMED])
-        return f"{shown(value)} is none of {names_of(values, MOST_NAMED)}", f"write {advice}"
-    return check_of("", lambda value: True, values.__contains__, words)
+    def check(path: Path, value: Any) -> list[TreeFault]:
+        if value in values:
+            return []
+        near = get_close_matches(str(value), values, 1) or values[:MOST_NAMED]
+        advice = " or ".join(f'"{name}"' for name in near)
+        what = f"{shown(value)} is none of {names_of(values, MOST_NAMED)}"
+        return [TreeFault(RANGE, path, what, f"write {advice}")]
+    return check
 
 
-def meant(name: str, known: Mapping[str, Any]) -> str:
+def meant(name: str, known: Iterable[str]) -> str:
     """Returns the known name that is spelt like this one; the empty text if none is."""
-    same = [one for one in known if one.lower() == name.lower()]
-    return next(iter(same or get_close_matches(name.lower(), known, 1)), "")
+    for other in known:
+        if other.lower() == name.lower():
+            return other
+    close = get_close_matches(name.lower(), known, 1)
+    return close[0] if close else ""
 
 
 class Judge:
@@ -186,15 +242,13 @@ class Judge:
     def __init__(self, rules: Table, newest: Table | None = None, says_both: bool = False) -> None:
         """Notes where each key of a document belongs, in words."""
         self.rules, self.says_both, self.tables = rules, says_both, (newest or rules).keys
-        homes: dict[str, list[str]] = {}
+        self.homes: dict[str, list[str]] = {}
         for name, rule in self.tables.items():
             keys, home = [name], f"{DOCUMENT}, above its first table"
             if isinstance(rule, Table):
                 keys, home = [*rule.keys], f"[[{name}]]" if rule.is_list else f"[{name}]"
             for key in keys:
-                homes.setdefault(key, []).append(home)
-        self.homes = {key: " or ".join(filter(None, [", ".join(tables[:-1]), tables[-1]]))
-                      for key, tables in homes.items()}
+                self.homes.setdefault(key, []).append(home)
 
     def faults(self, tree: Mapping[str, Any]) -> list[TreeFault]:
         return self._of_table((), tree, self.rules)
@@ -204,26 +258,43 @@ class Judge:
         if key in rules.elsewhere:
             return rules.elsewhere[key]
         if key in self.homes:
-            return f"it belongs to {self.homes[key]}: move this line there"
-        close = meant(key, rules.keys) or next((one for one in (*self.homes, *self.tables)
-                                                if one.lower() == key.lower()), "")
-        others = "" if self.says_both else f"; the keys here are {', '.join(rules.keys)}"
-        return odd_advice(key) or (f"write {close}" if close else f"remove it{others}")
+            *homes, last = self.homes[key]
+            place = f"{', '.join(homes)} or {last}" if homes else last
+            return f"it belongs to {place}: move this line there"
+        odd = odd_advice(key)
+        if odd:
+            return odd
+        close = meant(key, rules.keys)
+        for name in (*self.homes, *self.tables):
+            if not close and name.lower() == key.lower():
+                close = name
+        if close:
+            return f"write {close}"
+        return "remove it" if self.says_both else f"remove it; the keys here are {', '.join(rules.keys)}"
 
     def _of_table(self, path: Path, table: Any, rules: Table) -> list[TreeFault]:
         """Returns the faults of a table: unknown and missing keys, values, and what stands beside each other."""
         if not isinstance(table, dict):
             return wrong_kind(path, table, "a table")
-        unknown = [] if rules.other else [key for key in table if key not in rules.keys]
-        instead = set() if self.says_both else {meant(key, rules.keys) for key in unknown}
-        faults = [TreeFault(UNKNOWN, (*path, key), "there should be no such key", self._advice_on_unknown(key, rules))
-                  for key in unknown]
-        faults += [TreeFault(MISSING, path, f"the key {key} is missing", _advice_on_missing(path, key, rule))
-                   for key, rule in rules.keys.items() if rule.needed and key not in table and key not in instead]
-        others = {} if rules.other is None else {key: rules.other for key in table if key not in rules.keys}
-        for key, rule in (*rules.keys.items(), *others.items()):
+        others = [key for key in table if key not in rules.keys]
+        faults: list[TreeFault] = []
+        instead: set[str] = set()
+        if rules.other is None:
+            for key in others:
+                advice = self._advice_on_unknown(key, rules)
+                faults.append(TreeFault(UNKNOWN, (*path, key), "there should be no such key", advice))
+            if not self.says_both:
+                instead = {meant(key, rules.keys) for key in others}
+        for key, rule in rules.keys.items():
+            if rule.needed and key not in table and key not in instead:
+                advice = _advice_on_missing(path, key, rule)
+                faults.append(TreeFault(MISSING, path, f"the key {key} is missing", advice))
+        for key, rule in rules.keys.items():
             if key in table:
                 faults += self._of_value((*path, key), table[key], rule)
+        if rules.other is not None:
+            for key in others:
+                faults += self._of_value((*path, key), table[key], rules.other)
         spoilt = {fault.path[len(path)] for fault in faults if len(fault.path) > len(path)}
         return faults + rules.joint(path, table, table.keys() - spoilt)
 
@@ -234,8 +305,10 @@ class Judge:
             return self._of_table(path, value, rule)
         if not isinstance(value, list):
             return wrong_kind(path, value, "a list of tables")
-        tables = (self._of_table((*path, entry), table, rule) for entry, table in enumerate(value, 1))
-        return [*rule.joint_of_list(path, value), *(fault for faults in tables for fault in faults)]
+        faults = [*rule.joint_of_list(path, value)]
+        for entry, table in enumerate(value, 1):
+            faults += self._of_table((*path, entry), table, rule)
+        return faults
 
 
 def _advice_on_missing(path: Path, key: str, rule: Key | Table) -> str:
@@ -250,17 +323,19 @@ def _advice_on_missing(path: Path, key: str, rule: Key | Table) -> str:
 
 def _place_text(path: Path, rules: Table) -> str:
     """Returns a path in words, as [TABLE.TABLE] KEY."""
-    tables = list[str]()
-    rule: Key | Table | None = rules
-    for part in path:
-        rule = rule.keys.get(str(part), rule.other) if isinstance(rule, Table) else None
-        if not isinstance(rule, Table):
-            break
-        tables.append(str(part))
-    rest = [f"entry {part}" if isinstance(part, int) else part for part in path[len(tables):]]
     if not path:
         return DOCUMENT
-    return " ".join([f"[{'.'.join(tables)}]", ", ".join(rest)]).strip() if tables else f"[{rest[0]}]"
+    tables: list[str] = []
+    for part in path:
+        rule = rules.keys.get(str(part), rules.other)
+        if not isinstance(rule, Table):
+            break
+        rules = rule
+        tables.append(str(part))
+    if not tables:
+        return f"[{path[0]}]"
+    rest = [f"entry {part}" if isinstance(part, int) else part for part in path[len(tables):]]
+    return " ".join([f"[{'.'.join(tables)}]", ", ".join(rest)]).strip()
 
 
 def read_tables(path: str | FilePath, rules: Table) -> Tree:
@@ -268,10 +343,13 @@ def read_tables(path: str | FilePath, rules: Table) -> Tree:
 
     Raises Refused if it can't be read, and RefusedFaults with all that is wrong with it, by line.
     """
-    tree, faults = read_judged(read_bytes(path), Judge(rules).faults)
+    tree, broken = read_judged(read_bytes(path), Judge(rules).faults)
+    faults = []
+    for fault in sorted(broken, key=attrgetter("line", "column")):
+        what = f"{_place_text(fault.path, rules)}: {fault.what}; {fault.advice}"
+        if fault.rule == 1:
+            what = f"this is no TOML document: {fault.reason}"
+        faults.append(Fault(what, str(path), fault.line, fault.column))
     if faults:
-        words = (f"this is no TOML document: {fault.reason}" if fault.rule == 1 else
-                 f"{_place_text(fault.path, rules)}: {fault.what}; {fault.advice}" for fault in faults)
-        named = [Fault(what, str(path), fault.line, fault.column) for what, fault in zip(words, faults)]
-        raise RefusedFaults(sorted(named, key=lambda fault: (fault.line, fault.column)))
+        raise RefusedFaults(faults)
     return tree

@@ -9,14 +9,13 @@ import itertools
 import json
 import re
 import tomllib
-from collections.abc import Container, Mapping
+from collections.abc import Container, Hashable, Mapping
 from typing import Any, TypeGuard
 
 from .. import formats
 from ..errors import ScenarioError
 from .documents import DOCUMENT, Path, Tree, TreeFault, odd_advice, older_text, read_judged, shown
-from .rules import (RANGE, Check, Judge, Key, Table, check_of, is_string, is_whole, number, numbers, once_each,
-                    wrong_kind)
+from .rules import RANGE, Check, JointCheck, Judge, Key, Table, no_faults, number, numbers, once_each, wrong_kind
 
 VERSION, LENGTHS, ORDER, SUM, LEVELS, NAME, RING, COUNT = (
     formats.RULES[name] for name in ("Version", "Lengths", "Order", "WeightSum", "Levels", "Name", "RingSize",
@@ -28,36 +27,62 @@ MOST_SHOWN = 20
 COMMENT_AT_END = re.compile(r"\n\n(#[^\n]*\n)+\Z")
 
 
-def _word_words(word: str) -> tuple[str, str]:
-    advice = "write a-f in lower case" if formats.WORD.fullmatch(word.lower()) else odd_advice(word)
-    advice = advice or (f"it has {len(word)} characters" if len(word) != 16 else "write digits of 0-9a-f alone")
-    return f"{shown(word)} is not 16 digits of 0-9a-f", advice
+def _advice_on_word(word: str) -> str:
+    if formats.WORD.fullmatch(word.lower()):
+        return "write a-f in lower case"
+    odd = odd_advice(word)
+    if odd:
+        return odd
+    return "write digits of 0-9a-f alone" if len(word) == 16 else f"it has {len(word)} characters"
 
 
-_word_faults = check_of("a text of 16 digits of 0-9a-f", is_string, formats.WORD.fullmatch, _word_words)
+def _word_faults(path: Path, word: Any) -> list[TreeFault]:
+    """Returns the faults of a word of the key."""
+    if not isinstance(word, str):
+        return wrong_kind(path, word, "a text of 16 digits of 0-9a-f")
+    if formats.WORD.fullmatch(word):
+        return []
+    return [TreeFault(RANGE, path, f"{shown(word)} is not 16 digits of 0-9a-f", _advice_on_word(word))]
 
 
 def _key_faults(path: Path, value: Any) -> list[TreeFault]:
     """Returns the faults of the key of the random stream, each kind of fault once."""
     if not isinstance(value, list):
         return wrong_kind(path, value, "a list of four texts")
-    count = [] if len(value) == formats.WORDS_OF_KEY else [
-        TreeFault(RANGE, path, f"there are {len(value)} texts, not 4", "write four, each of 16 digits")]
-    faults = [fault for place, word in enumerate(value, 1) for fault in _word_faults((*path, place), word)]
-    return count + once_each((fault.advice if fault.rule == RANGE else fault.rule, fault) for fault in faults)
+    faults: list[tuple[Hashable, TreeFault]] = []
+    for place, word in enumerate(value, 1):
+        for fault in _word_faults((*path, place), word):
+            faults.append((fault.advice if fault.rule == RANGE else fault.rule, fault))
+    count = []
+    if len(value) != formats.WORDS_OF_KEY:
+        count.append(TreeFault(RANGE, path, f"there are {len(value)} texts, not 4", "write four, each of 16 digits"))
+    return count + once_each(faults)
 
 
-def _name_words(name: str) -> tuple[str, str]:
+def name_faults(path: Path, name: Any) -> list[TreeFault]:
+    """Returns the faults of the name of a policy."""
+    if not isinstance(name, str):
+        return wrong_kind(path, name, "a text")
+    if formats.NAME.fullmatch(name):
+        return []
     least, most = formats.limits("policy", "name")
-    advice = odd_advice(name) or (f"it has {len(name)} characters: write {least} to {most}"
-                                  if not least <= len(name) <= most else "write letters, digits, _ and - alone")
-    return f"{shown(name)} is not {least} to {most} of A-Z a-z 0-9 _ -", advice
+    advice = "write letters, digits, _ and - alone"
+    if not least <= len(name) <= most:
+        advice = f"it has {len(name)} characters: write {least} to {most}"
+    what = f"{shown(name)} is not {least} to {most} of A-Z a-z 0-9 _ -"
+    return [TreeFault(NAME, path, what, odd_advice(name) or advice)]
 
 
-name_faults = check_of("a text", is_string, formats.NAME.fullmatch, _name_words, NAME)
 RINGS = f"{', '.join(map(str, formats.RING_SIZES[:4]))}, .., {formats.RING_SIZES[-1]:,}"
-_ring_faults = check_of("a whole number", is_whole, formats.RING_SIZES.__contains__, lambda value: (
-    f"{shown(value)} is not one of {RINGS}", f"write ring = {formats.RING_SIZES[-1]}"), RING)
+
+
+def _ring_faults(path: Path, value: Any) -> list[TreeFault]:
+    """Returns the faults of the size of the ring."""
+    if type(value) is not int:
+        return wrong_kind(path, value, "a whole number")
+    if value in formats.RING_SIZES:
+        return []
+    return [TreeFault(RING, path, f"{shown(value)} is not one of {RINGS}", f"write ring = {formats.RING_SIZES[-1]}")]
 
 
 def _are_whole(values: Any) -> TypeGuard[list[int]]:
@@ -66,20 +91,24 @@ def _are_whole(values: Any) -> TypeGuard[list[int]]:
 
 def _draws_faults(path: Path, table: Mapping[str, Any], _good: Container[str]) -> list[TreeFault]:
     """Returns the faults of values and weights beside each other: their numbers, values that do not rise, the sum."""
-    values, weights, faults = table.get("values"), table.get("weights"), list[TreeFault]()
+    values, weights = table.get("values"), table.get("weights")
+    faults: list[TreeFault] = []
     if isinstance(values, list) and isinstance(weights, list) and len(values) != len(weights):
         faults.append(TreeFault(LENGTHS, path, f"there are {len(values)} values and {len(weights)} weights",
                                 "write one weight for each value"))
     if _are_whole(values) and values != sorted({*values}):
-        faults += once_each((ORDER, TreeFault(
-            ORDER, (*path, "values", entry), f"{shown(high)} is not above the {shown(low)} before it",
-            "write each value once, rising, with its weight"))
-            for entry, (low, high) in enumerate(itertools.pairwise(values), 2) if low >= high)
+        falls: list[tuple[Hashable, TreeFault]] = []
+        for entry, (low, high) in enumerate(itertools.pairwise(values), 2):
+            if low >= high:
+                what = f"{shown(high)} is not above the {shown(low)} before it"
+                falls.append((ORDER, TreeFault(ORDER, (*path, "values", entry), what,
+                                               "write each value once, rising, with its weight")))
+        faults += once_each(falls)
     least, most = formats.WEIGHT_SUMS
     if _are_whole(weights) and not least <= sum(weights) <= most:
         advice = "divide all weights by the same number" if sum(weights) > 0 else "give some value a weight above 0"
-        faults.append(TreeFault(SUM, (*path, "weights"), f"they come to {shown(sum(weights))}, which is not from "
-                                f"{least:,} to {most:,}", advice))
+        what = f"they come to {shown(sum(weights))}, which is not from {least:,} to {most:,}"
+        faults.append(TreeFault(SUM, (*path, "weights"), what, advice))
     return faults
 
 
@@ -88,27 +117,28 @@ def _levels_faults(path: Path, policy: Mapping[str, Any], _good: Container[str])
     point, level = policy.get("s"), policy.get("S")
     if type(point) is not int or type(level) is not int or point <= level:
         return []
-    return [TreeFault(LEVELS, path, f"the reorder point s = {shown(point)} is above the order-up-to level S = "
-                      f"{shown(level)}", "interchange them, or raise S")]
+    what = f"the reorder point s = {shown(point)} is above the order-up-to level S = {shown(level)}"
+    return [TreeFault(LEVELS, path, what, "interchange them, or raise S")]
 
 
 def _policies_faults(path: Path, policies: list[Any]) -> list[TreeFault]:
     """Returns the faults of policies beside each other: their number, and names that stand twice."""
-    faults, seen, (least, most) = list[TreeFault](), dict[str, int](), formats.POLICIES
+    faults: list[TreeFault] = []
+    seen: dict[str, int] = {}
+    least, most = formats.POLICIES
     if not least <= len(policies) <= most:
         advice = "split them over several scenarios, with the same first policy" if policies else "write one at least"
         faults.append(TreeFault(COUNT, path, f"there are {len(policies)} policies, not {least} to {most}", advice))
     for entry, policy in enumerate(policies, 1):
         name = policy.get("name") if isinstance(policy, dict) else None
         if isinstance(name, str) and seen.setdefault(name, entry) != entry:
-            faults.append(TreeFault(NAME, (*path, entry, "name"), f"{shown(name)} is the name of policy {seen[name]} "
-                                    "too", "write another name"))
+            what = f"{shown(name)} is the name of policy {seen[name]} too"
+            faults.append(TreeFault(NAME, (*path, entry, "name"), what, "write another name"))
     return faults
 
 
 # The version is judged by itself: with another one, the rest is judged as the version that fits it.
-CHECKS: dict[str, Check] = {"version": lambda path, value: [], "key": _key_faults, "ring": _ring_faults,
-                            "name": name_faults}
+CHECKS: dict[str, Check] = {"version": no_faults, "key": _key_faults, "ring": _ring_faults, "name": name_faults}
 
 
 def _rules(version: int) -> Table:
@@ -119,8 +149,9 @@ def _rules(version: int) -> Table:
             check = CHECKS.get(key.name) or in_range(*formats.limits(key.table, key.name))
             tables.setdefault(key.table, {})[key.name] = Key(check, needed=key.name != "version")
     document = tables.pop("")
-    document |= {name: Table(keys, True, joint=_draws_faults) if name in formats.DRAWS else Table(keys, True)
-                 for name, keys in tables.items()}
+    for name, keys in tables.items():
+        joint: JointCheck = _draws_faults if name in formats.DRAWS else no_faults
+        document[name] = Table(keys, True, joint=joint)
     document["policy"] = Table(tables["policy"], True, is_list=True, joint=_levels_faults,
                                joint_of_list=_policies_faults)
     newer = {key: f"write version = {since}, which has {key}" for key, since in formats.SINCE.items()
@@ -134,10 +165,14 @@ JUDGES = {version: Judge(_rules(version), NEWEST, says_both=True) for version in
 
 def _advice_on_version() -> str:
     """Returns what to write as the version, with the tables that each adds."""
-    first, ways = formats.VERSIONS[0], list[str]()
+    first = formats.VERSIONS[0]
+    ways: list[str] = []
     for version in formats.VERSIONS:
+        way = f"version = {version}"
         added = [key for key, since in formats.SINCE.items() if first < since == version]
-        ways.append(f"version = {version}" + f" with a table {' and '.join(added)}" * bool(added))
+        if added:
+            way += f" with a table {' and '.join(added)}"
+        ways.append(way)
     return f"write {', or '.join(ways)}, above the first table"
 
 
@@ -145,18 +180,28 @@ def _place_text(path: Path, tree: Any) -> str:
     """Returns a path in words; a policy has its name beside its number, where the tree has one."""
     if not path:
         return DOCUMENT
-    is_table = isinstance(NEWEST.keys.get(str(path[0])), Table)
-    home, rest = (f"table {path[0]}", path[1:]) if is_table else (DOCUMENT, path)
+    parts, rest = [DOCUMENT], path
+    if isinstance(NEWEST.keys.get(str(path[0])), Table):
+        parts, rest = [f"table {path[0]}"], path[1:]
     if path[0] == "policy" and rest and isinstance(rest[0], int) and isinstance(tree["policy"], list):
-        policy = tree["policy"][rest[0] - 1]
-        name = policy.get("name") if isinstance(policy, dict) else None
-        home, rest = f"policy {rest[0]}", rest[1:]
-        if isinstance(name, str):
-            text = ascii(name)[1:-1]
-            home += f' ("{text}")' if len(text) <= LONGEST_NAME else f' ("{text[:LONGEST_NAME]}...")'
-    parts = [f"entry {part}" if isinstance(part, int) else f"key {part if part.isascii() else ascii(part)[1:-1]}"
-             for part in rest]
-    return ", ".join([home, *parts])
+        parts, rest = [_policy_text(rest[0], tree["policy"][rest[0] - 1])], rest[1:]
+    for part in rest:
+        if isinstance(part, int):
+            parts.append(f"entry {part}")
+        else:
+            parts.append(f"key {part if part.isascii() else ascii(part)[1:-1]}")
+    return ", ".join(parts)
+
+
+def _policy_text(number: int, policy: Any) -> str:
+    """Returns the number of a policy, with its name if it has one, cut if that is long."""
+    name = policy.get("name") if isinstance(policy, dict) else None
+    if not isinstance(name, str):
+        return f"policy {number}"
+    text = ascii(name)[1:-1]
+    if len(text) > LONGEST_NAME:
+        text = f"{text[:LONGEST_NAME]}..."
+    return f'policy {number} ("{text}")'
 
 
 def faults_of(tree: dict[str, Any]) -> list[TreeFault]:
@@ -182,8 +227,10 @@ def read_scenario(data: bytes) -> tuple[Tree, list[TreeFault]]:
 def error_of(faults: list[TreeFault], file: str = "") -> ScenarioError:
     """Returns the error with these faults of a file. Its text has the first 20."""
     named = [fault.fault(file) for fault in faults]
-    lines, more = [str(fault) for fault in named[:MOST_SHOWN]], len(faults) - MOST_SHOWN
-    return ScenarioError(named, "\n".join(lines + [f"and {more} more faults; crnplan why says all"] * (more > 0)))
+    lines = [str(fault) for fault in named[:MOST_SHOWN]]
+    if len(faults) > MOST_SHOWN:
+        lines.append(f"and {len(faults) - MOST_SHOWN} more faults; crnplan why says all")
+    return ScenarioError(named, "\n".join(lines))
 
 
 def checked_tree(tree: Tree, any_number: bool = False) -> Tree:
@@ -199,13 +246,15 @@ def checked_tree(tree: Tree, any_number: bool = False) -> Tree:
 
 def plain_text(tree: Tree) -> str:
     """Returns a tree without comments: the keys of the document, its tables, its policies."""
-    tables = [(f"\n[{name}]\n", table) for name, table in tree.items() if isinstance(table, dict)]
+    tables = [("", {key: value for key, value in tree.items() if key != "policy" and not isinstance(value, dict)})]
+    tables += [(f"\n[{name}]\n", table) for name, table in tree.items() if isinstance(table, dict)]
     tables += [("\n[[policy]]\n", policy) for policy in tree["policy"]]
-    document = {key: value for key, value in tree.items() if key != "policy" and not isinstance(value, dict)}
-    lines = list[str]()
-    for heading, table in [("", document), *tables]:
-        # JSON spells whole numbers, texts and lists of such as TOML does.
-        lines += [heading, *(f"{key} = {json.dumps(value, ensure_ascii=False)}\n" for key, value in table.items())]
+    lines: list[str] = []
+    for heading, table in tables:
+        lines.append(heading)
+        for key, value in table.items():
+            # JSON spells whole numbers, texts and lists of such as TOML does.
+            lines.append(f"{key} = {json.dumps(value, ensure_ascii=False)}\n")
     return "".join(lines)
 
 
@@ -216,8 +265,9 @@ def head_of(source: str) -> str:
 
 def _merge(old: Any, tree: Tree) -> None:
     """Changes the table of a document to what a tree has. What is equal keeps its spelling and its comments."""
-    for key in [key for key in old if key not in tree]:
-        del old[key]
+    for key in [*old]:
+        if key not in tree:
+            del old[key]
     for key, value in tree.items():
         if isinstance(value, dict) and isinstance(old.get(key), dict):
             _merge(old[key], value)
