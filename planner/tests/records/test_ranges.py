@@ -97,6 +97,7 @@ def rows_in_ranges(sheet: Sheet, room: Path, words: Words, sizes: Sizes) -> tupl
 @example('A,1,2,x\n' * 9 + 'A,1,2,"a\n', 16)
 @example("A,1,2,3\n A, 1,2, 3\n", 200)
 @example("A,1,2\nA,1,2,3,4\n", 200)
+@example("A,1,2,3,4\nA,1,2,3\n", 200)
 @example("A,1,2,3\n" * 3 + "\ufeffA,1,2,3\n", 8)
 def test_any_cuts_give_the_rows_of_csv(text: str, size: int) -> None:
     """Reads any small table in ranges of any size, by pandas where it may, as csv reads all of it at once."""

@@ -95,21 +95,23 @@ def amounts_of(text: str) -> Mapping[str, Amount]:
     shell = SHELL.fullmatch(bare)
     if shell is None or shell["before"] and (shell["behind"] or shell["unit"]):
         return {}
-    signs = [*filter(None, (shell["first"], shell["second"], shell["last"])), *["-"] * is_wrapped]
+    signs = shell["first"] + shell["second"] + shell["last"] + "-" * is_wrapped
     if len(signs) > 1:
         return {}
     currency = shell["before"] or shell["behind"] or ""
     word = shell["unit"] or ""
-    factor = -1 if signs and signs[0] in MINUS else 1
-    found = dict[str, Amount]()
+    unit = UNITS.get(plain_name(word), word) if word else ""
+    amounts = dict[str, Amount]()
     for sign, form in FORMS.items():
         digits = form.fullmatch(shell["digits"])
         if digits:
-            whole = re.sub("[^0-9]", "", digits["whole"])
             part = digits["part"] or ""
-            found[sign] = Amount(factor * Fraction(int(whole + part), 10**len(part)), digits["group"] or "",
-                                 sign if part else "", SIGNS.get(currency, currency), UNITS.get(plain_name(word), word) if word else "")
-    return found
+            number = Fraction(int(re.sub("[^0-9]", "", digits["whole"]) + part), 10**len(part))
+            if signs and signs in MINUS:
+                number = -number
+            decimal = sign if part else ""
+            amounts[sign] = Amount(number, digits["group"] or "", decimal, SIGNS.get(currency, currency), unit)
+    return amounts
 
 
 def other_reading(text: str, decimal: str) -> str | None:
@@ -159,7 +161,7 @@ class ColumnReader(ABC, Generic[Reading]):
             by_sign = self.readings(text)
             self.see(text, by_sign)
             if self.stated is None and ("," in text or "." in text):
-                signs = [sign for sign, found in by_sign.items() if found]
+                signs = [sign for sign, readings in by_sign.items() if readings]
                 if len(signs) == 1:
                     self.sides.setdefault(signs[0], text)
                 self.is_doubtful |= len(joined(by_sign)) > 1
@@ -178,22 +180,26 @@ class ColumnReader(ABC, Generic[Reading]):
 
     def chosen(self, cell: str | Shown) -> Reading:
         """Returns the one reading of a text, or of a number of a workbook. Raises Unreadable."""
-        text = str(cell)
-        by_sign = {"": self.stored(cell)} if isinstance(cell, Shown) else self.readings(text)
-        every = joined(by_sign)
-        by_column = len(every) > 1 and self.sign
-        sign = "" if isinstance(cell, Shown) else self.stated or by_column
-        found = by_sign[sign] if sign else every
-        if len(found) == 1:
-            return next(iter(found))
-        if not found:
-            other = next((sign for sign, its in by_sign.items() if self.stated and its), "")
-            raise Unreadable("no number by this sign" if other else self.none, text, other=other)
-        raise self.doubt(text, found)
+        text, sign = str(cell), None
+        if isinstance(cell, Shown):
+            readings = joined({"": self.stored(cell)})
+        else:
+            by_sign = self.readings(text)
+            readings = joined(by_sign)
+            sign = self.stated or (self.sign if len(readings) > 1 else None)
+        fitting = by_sign[sign] if sign else readings
+        if len(fitting) == 1:
+            return next(iter(fitting))
+        if fitting:
+            raise self.doubt(text, fitting)
+        if sign and self.stated and readings:
+            other = next(sign for sign, own in by_sign.items() if own)
+            raise Unreadable("no number by this sign", text, other=other)
+        raise Unreadable(self.none, text, other="")
 
     def doubt(self, text: str, found: Collection[Reading]) -> Unreadable:
         """Returns what is said of a text with several readings."""
-        signs = " and ".join(repr(shown(its)) for its in self.sides.values())
+        signs = " and ".join(repr(shown(side)) for side in self.sides.values())
         readings = " or ".join(text for _, text in sorted(map(self.named, found), reverse=True))
         return Unreadable("two signs" if signs else "two readings", text, readings=readings, signs=signs)
 

@@ -5,7 +5,7 @@ import datetime
 import re
 import tomllib
 import unicodedata
-from collections.abc import Callable, Collection, Mapping, Sequence
+from collections.abc import Callable, Collection, Iterable, Mapping, Sequence
 from dataclasses import dataclass
 from pathlib import Path
 from typing import Any, Union
@@ -103,10 +103,18 @@ def plain_name(name: str) -> str:
     return words[0] + plain[1:] if words[:1] in (["s"], ["S"]) else plain
 
 
+def some_of(texts: Iterable[str], most: int) -> str:
+    """Returns texts with commas between, at most so many, and `..` for the others."""
+    some = [*texts]
+    if len(some) > most:
+        some[most:] = [".."]
+    return ", ".join(some)
+
+
 def named_lines(lines: Sequence[int | str]) -> str:
     """Returns `line 3` or `lines 3, 5, 8`. Only the first lines are named."""
-    text = ", ".join(map(str, lines[:MOST_NAMED])) + (", .." if len(lines) > MOST_NAMED else "")
-    return f"line{'s' * (len(lines) > 1)} {text}"
+    text = some_of(map(str, lines), MOST_NAMED)
+    return f"lines {text}" if len(lines) > 1 else f"line {text}"
 
 
 def text_of(cell: Cell) -> str:

@@ -12,7 +12,7 @@ import numpy as np
 from ..errors import Fault, Refused, argument
 from ..remarks import Remark
 from ..words import message
-from .cells import HEADINGS, Cell, Flags, Numbers, on_one_line, plain_name
+from .cells import HEADINGS, Cell, Flags, Numbers, on_one_line, plain_name, some_of
 from .columns import ROLES, listed
 from .sources import Column, Mark, Sheet
 
@@ -146,12 +146,11 @@ def places_of(rows: Rows, some: Numbers) -> tuple[str, dict[Cell, int]]:
 
 def named_values(counts: Mapping[Cell, int]) -> str:
     """Returns values with how many rows have each, the most frequent first."""
+    ranked = sorted(counts, key=lambda value: (-counts[value], str(value)))
     texts = list[str]()
-    for value in sorted(counts, key=lambda value: (-counts[value], str(value))):
+    for value in ranked[:MOST_VALUES + 1]:
         texts.append(f"{on_one_line(str(value)) or 'nothing'}: {counts[value]:,}")
-    if len(texts) > MOST_VALUES:
-        texts[MOST_VALUES:] = [".."]
-    return ", ".join(texts)
+    return some_of(texts, MOST_VALUES)
 
 
 def said_of_marks(kind: str, sheet: Sheet, counts: Mapping[str, Mapping[Cell, int]],

@@ -12,6 +12,8 @@ import re
 import unicodedata
 from collections.abc import Iterable, Mapping
 
+from .cells import some_of
+
 # What some languages write before or behind a name, as in `6 de enero de 2025`, `6 d’abril`.
 BESIDE_NAME = re.compile(r"^(?:de[l ] ?|d['’]|of )|(?: de| del| of)$")
 # A short name of Windows that Babel's tables lack, with its language.
@@ -57,7 +59,7 @@ def _called(languages: Iterable[str]) -> str:
     """Returns the English names of the first of these languages."""
     from babel import Locale
     names = sorted({str(Locale.parse(language).english_name) for language in languages})
-    return ", ".join(names[:MOST_LANGUAGES]) + ", .." * (len(names) > MOST_LANGUAGES)
+    return some_of(names, MOST_LANGUAGES)
 
 
 def months_of(names: Iterable[str]) -> Mapping[str, Mapping[int, str]]:

@@ -49,10 +49,14 @@ def word_of(cell: Cell) -> str:
 def level_faults(cells: Mapping[str, Cell], roles: Sequence[str], s: Fraction | None,
                  S: Fraction | None) -> list[CellFault]:
     """Returns what is wrong with the levels of a row, by their roles: one of them alone, or s above S."""
-    if s is None or S is None:
-        missing, other = roles if s is None else roles[::-1]
-        return [] if s is S else [fault(missing, "", "one level", missing=missing, other=other)]
-    return [fault(roles[0], cells[roles[0]], "s above S", s=int(s), S=int(S))] if s > S else []
+    low, high = roles
+    if s is None and S is None:
+        return []
+    if s is None:
+        return [fault(low, "", "one level", missing=low, other=high)]
+    if S is None:
+        return [fault(high, "", "one level", missing=high, other=low)]
+    return [fault(low, cells[low], "s above S", s=int(s), S=int(S))] if s > S else []
 
 
 def override_faults(cells: Mapping[str, Cell], roles: Sequence[str], s: Fraction | None, S: Fraction | None,

@@ -82,8 +82,8 @@ class Reader:
         self.numbers = dict.fromkeys(("open_orders", "twice", "named", "ready", "left_out", "late"), 0)
         self.moves_of, totals = self._moves()
         known = set[int]()
-        for its in rows.values():
-            known.update(np.unique(its.codes["item"][its.good]).tolist())
+        for table in rows.values():
+            known.update(np.unique(table.codes["item"][table.good]).tolist())
         self.items = sorted(known - totals, key=self.names.__getitem__)
 
     @property
@@ -105,8 +105,11 @@ class Reader:
     @property
     def split(self) -> Counter[tuple[str, str]]:
         """Returns by table and column of a place how many items have rows of several places."""
-        return Counter({(kind, name): items for kind, rows in self.rows.items()
-                        for name, items in split_items(rows).items()})
+        split = Counter[tuple[str, str]]()
+        for kind, rows in self.rows.items():
+            for name, items in split_items(rows).items():
+                split[kind, name] = items
+        return split
 
     def values(self) -> list[Fraction | None]:
         """Returns the value of the mean demand of each item, in order of names; None without a price or demand."""
@@ -118,7 +121,8 @@ class Reader:
         price = self.masters.price(self._cells(self.masters_of(item))) if asked > 0 else None
         if price is None:
             return None
-        return price * Fraction(asked, self.record.periods.stop - self.record.first_of(int(moves.periods.min())))
+        first = self.record.first_of(int(moves.periods.min()))
+        return price * Fraction(asked, self.record.periods.stop - first)
 
     def _cells(self, masters: Numbers) -> dict[str, Cell]:
         """Returns the cells of the first of these rows of masters, by role; none without a row."""
@@ -258,52 +262,56 @@ class Reader:
 
     def _item(self, code: int, moves: Moves, masters: Numbers, receipts: Receipts) -> Item:
         """Returns an item by its code. Raises Left."""
-        every = self.words.every
         words = self.words
         self._check_measures(code)
         master = self._master(code, masters, receipts.leads, moves)
         self._check_far(moves)
-        start = self.record.periods[0]
         first = self._first(master.since, moves)
         asked, back, netted = self._counts(moves, first)
-        past = past_of(master.item.status, asked, words.least, every, words.stopped == BY_TEST)
+        past = past_of(master.item.status, asked, words.least, words.every, words.stopped == BY_TEST)
         item = replace(master.item, counts=tuple(asked), returns=tuple(back) if any(back) else (), past=past, first=first,
                        rows=len(moves.lines), abc=self.letters.get(code, ""), receipts=tuple(receipts.days))
         if item.levels and round(item.levels[1] / item.box) > MOST_ITEMS:
             raise Left("items", item.line, fault("S", item.levels[1], "S too large", most=MOST_ITEMS))
-        self.numbers["late"] += first > start and master.since is None
+        is_late = first > self.record.periods[0]
+        self.numbers["late"] += is_late and master.since is None
         self.decimals = max(self.decimals, master.decimals)
         self.sources.update(master.sources.items())
         remarks = list[Remark]()
         if len(masters) > 1:
             remarks.append(Remark("equal masters", {"masters": len(masters)}))
-        if first > start:
-            code_of_start = "late" if master.since is None else "since"
-            remarks.append(Remark(code_of_start, {"period": period_name(first, every)}))
-        if item.box > 1:
-            remarks.append(Remark("boxes", {"items": item.box}))
-        if netted:
-            remarks.append(Remark("taken off earlier", {"amounts": netted}))
-        if item.stock and item.stock < 0:
-            remarks.append(Remark("stock below 0", {"owed": float(-item.stock)}))
-        if self.twice[code]:
-            remarks.append(Remark("rows twice", {"rows": self.twice[code]}))
-        if past in (STOPPED, PHASE_OUT):
-            is_stated = item.status == past
-            remarks.append(Remark("stated status", {"status": past}) if is_stated else quiet_remark(item, every))
-        late = remark_on(item, words.lead_from)
-        if late:
-            remarks.append(late)
+        if is_late:
+            start = "late" if master.since is None else "since"
+            remarks.append(Remark(start, {"period": period_name(first, words.every)}))
+        remarks += self._remarks(item, netted, self.twice[code])
         return overridden(replace(item, remarks=tuple(remarks)) if remarks else item, item.override)
+
+    def _remarks(self, item: Item, netted: int, twins: int) -> Iterator[Remark]:
+        """Yields what is to be said of an item and of its rows: of the amounts that were taken off earlier periods, and of
+        the rows that stand twice."""
+        if item.box > 1:
+            yield Remark("boxes", {"items": item.box})
+        if netted:
+            yield Remark("taken off earlier", {"amounts": netted})
+        if item.stock and item.stock < 0:
+            yield Remark("stock below 0", {"owed": float(-item.stock)})
+        if twins:
+            yield Remark("rows twice", {"rows": twins})
+        if item.past in (STOPPED, PHASE_OUT):
+            is_stated = item.status == item.past
+            yield Remark("stated status", {"status": item.past}) if is_stated else quiet_remark(item, self.words.every)
+        late = remark_on(item, self.words.lead_from)
+        if late:
+            yield late
 
     def _first(self, since: int | None, moves: Moves) -> int:
         """Returns where the history of an item begins: in the period since when its master has it, which may be behind the
         record, or earlier if it was seen then. Without that as it is seen first, and with the record if it never is."""
         periods = self.record.periods
-        seen = int(moves.periods.min()) if len(moves.lines) else None
-        if since is None:
-            return periods[0] if seen is None else self.record.first_of(seen)
-        return min(max(since if seen is None else min(seen, since), periods.start), periods.stop)
+        seen = [int(moves.periods.min())] if len(moves.lines) else []
+        if since is not None:
+            return min(max(min([since, *seen]), periods.start), periods.stop)
+        return self.record.first_of(seen[0]) if seen else periods.start
 
     def _counts(self, moves: Moves, first: int) -> tuple[list[int], list[int], int]:
         """Returns demand and returns by period from one on, and how many amounts were taken off earlier periods. Raises
@@ -313,15 +321,14 @@ class Reader:
             return [0] * periods, [], 0
         asked, netted, unmet = summed(moves.periods - first, moves.asked, periods)
         if unmet is not None:
-            amount = -int(moves.asked[unmet])
+            amount = int(moves.asked[unmet])
             period = period_name(int(moves.periods[unmet]), self.words.every)
-            raise Left("demand", int(moves.lines[unmet]), fault("quantity", -amount, "unmet return", amount=amount,
-                                                                period=period))
+            why = fault("quantity", amount, "unmet return", amount=-amount, period=period)
+            raise Left("demand", int(moves.lines[unmet]), why)
         back = sums_of(moves.periods - first, moves.back, periods).tolist() if moves.back.any() else []
-        total = sum(asked)
         returned = sum(back)
-        if returned >= total and returned:
-            raise Left("demand", 0, fault("quantity", returned, "all comes back", back=returned, asked=total))
+        if returned and returned >= sum(asked):
+            raise Left("demand", 0, fault("quantity", returned, "all comes back", back=returned, asked=sum(asked)))
         return asked, back, netted
 
     def _check_measures(self, item: int) -> None:
@@ -331,26 +338,30 @@ class Reader:
             return
         mine = self.named(item)
         _, places = np.unique(rows.codes["measure"][mine], return_index=True)
-        units = {row: text_of(rows.cell("measure", row)) for row in mine[np.sort(places)].tolist()}
-        unknown = {row: unit for row, unit in units.items() if unit not in self.words.factors}
+        unknown = list[str]()
+        for row in mine[np.sort(places)].tolist():
+            unit = text_of(rows.cell("measure", row))
+            if unit not in self.words.factors:
+                unknown.append(unit)
+                line = int(rows.lines[row])
         if len(unknown) > 1:
-            *_, (row, unit) = unknown.items()
-            raise Left("demand", int(rows.lines[row]), fault(
-                "measure", unit, "measures", measures=" and ".join(map(repr, unknown.values())), text=unit))
+            measures = " and ".join(map(repr, unknown))
+            raise Left("demand", line, fault("measure", unknown[-1], "measures", measures=measures, text=unknown[-1]))
 
     def _master(self, item: int, rows: Numbers, leads: Sequence[int], moves: Moves) -> Master:
         """Returns the master of an item. Raises Left."""
         name = self.names[item]
         if not len(rows):
             kind = "orders" if leads and not len(moves.lines) else "demand"
-            raise Left(kind, int(moves.lines[0]) if len(moves.lines) else 0, fault("item", name, "no master"))
+            line = int(moves.lines[0]) if len(moves.lines) else 0
+            raise Left(kind, line, fault("item", name, "no master"))
         lines = self.rows["items"].lines[rows].tolist()
         if not self._are_equal(rows):
             column, places = places_of(self.rows["items"], rows)
             code = "masters of places" if column else "several masters"
+            first = str(next(iter(places), ""))
             raise Left("items", lines[1], fault("item", name, code, masters=len(rows), lines=named_lines(lines),
-                                                column=column, first=str(next(iter(places), "")),
-                                                values=named_values(places)))
+                                                column=column, first=first, values=named_values(places)))
         cells = self._cells(rows)
         stated = UNPRINTABLE.sub(" ", text_of(cells.get("class")))
         group = stated if any(self.whole.groups) else self.letters.get(item, "")
@@ -363,12 +374,14 @@ class Reader:
 
     def _check_far(self, moves: Moves) -> None:
         """Raises Left if some amounts are far above all others, as if counted a thousand times too large."""
+        if self.words.far != LEAVE_OUT:
+            return
+        called = self.demand.rows.sheet.called
         for role, amounts in (("quantity", moves.asked), ("returned", moves.back)):
-            far = far_above(amounts) if self.words.far == LEAVE_OUT and role in self.demand.rows.columns else 0
+            far = far_above(amounts)
             if far:
                 ranked = np.argsort(-amounts, kind="stable")
                 lines = moves.lines[ranked[:far]].tolist()
-                (least, below) = amounts[ranked[far - 1:far + 1]].tolist()
-                called = named_lines([*map(self.demand.rows.sheet.called, lines)])
-                raise Left("demand", lines[0], fault(role, int(amounts[ranked[0]]), "far", lines=called,
+                largest, least, below = amounts[ranked[[0, far - 1, far]]].tolist()
+                raise Left("demand", lines[0], fault(role, largest, "far", lines=named_lines([*map(called, lines)]),
                                                      times=least // below, next=below))

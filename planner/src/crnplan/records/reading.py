@@ -13,7 +13,7 @@ from ..remarks import Remark, Value
 from ..words import message
 from .amounts import DECIMALS, KINDS, NAMES, other_reading
 from .blocks import DATES
-from .cells import MOST_NAMED, Numbers, named_lines, shown, text_of
+from .cells import MOST_NAMED, Numbers, named_lines, shown, some_of, text_of
 from .columns import NO_ROW, converted, stated_columns
 from .faults import RefusedFiles, Reject
 from .observed import History
@@ -84,8 +84,8 @@ class Reading:
             values = [text_of(cell) for cell in self.rows.columns[role].distinct]
             if text not in values:
                 others = [repr(shown(value)) for value in values if value]
-                some = ", ".join([*others[:MOST_NAMED], *[".."] * (len(others) > MOST_NAMED)])
-                raise self.refused("no row of the item", text=text, name=name, count=len(others), others=some)
+                raise self.refused("no row of the item", text=text, name=name, count=len(others),
+                                   others=some_of(others, MOST_NAMED))
             chosen &= self.rows.having(role, [code for code, value in enumerate(values) if value == text])
         if items:
             wanted = " and ".join(f"{name} = {self.rules.item[name]}" for name in items.values())

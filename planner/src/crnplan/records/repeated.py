@@ -62,21 +62,25 @@ def files_within(sheets: Mapping[str, Sheet], parts: Iterable[Mapping[str, Share
 def names_apart(tables: Mapping[str, Rows]) -> dict[bool, list[str]]:
     """Returns the names of items that begin with a digit and have rows in the masters alone (True), or in the demand
     alone."""
-    demand, masters = (np.unique(tables[kind].codes["item"][tables[kind].good]) for kind in ("demand", "items"))
     names = tables["items"].columns["item"].distinct
-    apart = {True: np.setdiff1d(masters, demand), False: np.setdiff1d(demand, masters)}
-    return {is_master: [str(names[code]) for code in codes.tolist() if str(names[code])[:1].isdecimal()]
-            for is_master, codes in apart.items()}
+    named = [rows.codes["item"][rows.good] for rows in (tables["items"], tables["demand"])]
+    apart = dict[bool, list[str]]()
+    for is_master, (mine, others) in {True: named, False: named[::-1]}.items():
+        alone = [str(names[code]) for code in np.setdiff1d(mine, others).tolist()]
+        apart[is_master] = [name for name in alone if name[:1].isdecimal()]
+    return apart
 
 
 def zeros_apart(parts: Iterable[Mapping[bool, Sequence[str]]]) -> Iterator[Remark]:
     """Yields what is to be said of items of the demand that would have a master but for zeros before their names."""
-    found = [*parts]
-    masters = {name.lstrip("0"): name for part in found for name in part[True]}
-    pairs = sorted((name, masters[name.lstrip("0")]) for part in found for name in part[False]
-                   if name.lstrip("0") in masters)
-    if pairs:
-        yield Remark("zeros apart", {"items": len(pairs), "name": pairs[0][0], "master": pairs[0][1]})
+    masters, demand = dict[str, str](), list[str]()
+    for part in parts:
+        masters |= {name.lstrip("0"): name for name in part[True]}
+        demand += part[False]
+    apart = sorted(name for name in demand if name.lstrip("0") in masters)
+    if apart:
+        master = masters[apart[0].lstrip("0")]
+        yield Remark("zeros apart", {"items": len(apart), "name": apart[0], "master": master})
 
 
 def sums_of_columns(counts: Mapping[str, Mapping[Cell, int]], readers: Mapping[str, AmountReader]) -> dict[str, Fraction]:

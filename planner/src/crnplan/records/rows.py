@@ -59,9 +59,12 @@ class Rows:
             parts.append(block)
             count += len(block)
         for name, kind in JOINED.items():
-            setattr(self, name, np.concatenate([np.zeros(0, kind), *(getattr(part, name) for part in parts)]))
-        self.codes = {role: np.concatenate([np.zeros(0, np.int32), *(part.columns[role].codes for part in parts)])
-                      for role in self.columns}
+            arrays = [getattr(part, name) for part in parts]
+            setattr(self, name, np.concatenate([np.zeros(0, kind), *arrays]))
+        self.codes = dict[str, npt.NDArray[np.int32]]()
+        for role in self.columns:
+            arrays = [part.columns[role].codes for part in parts]
+            self.codes[role] = np.concatenate([np.zeros(0, np.int32), *arrays])
 
     def __len__(self) -> int:
         return len(self.lines)
@@ -111,9 +114,12 @@ class Rows:
 
     def counts(self, role: str) -> Iterator[tuple[Cell, int]]:
         """Yields each value of a column that good rows have, and how many have it; nothing if there is no column."""
-        if role in self.columns:
-            counts = np.bincount(self.codes[role][self.good]).tolist()
-            yield from (pair for pair in zip(self.columns[role].distinct, counts) if pair[1])
+        if role not in self.columns:
+            return
+        counts = np.bincount(self.codes[role][self.good]).tolist()
+        for cell, count in zip(self.columns[role].distinct, counts):
+            if count:
+                yield cell, count
 
     def by_item(self, good: Flags, values: Numbers | None = None) -> Callable[[int], Numbers]:
         """Returns the function that gives the good rows of an item, in their order, by its code; or their columns in a
@@ -121,9 +127,10 @@ class Rows:
         rows = np.flatnonzero(good)
         codes = self.codes["item"][rows]
         count = len(self.columns["item"].distinct)
-        # numpy sorts whole numbers of 16 bits by their digits.
-        order = rows[np.argsort(codes.astype(np.uint16) if count <= 1 << 16 else codes, kind="stable")]
         ends = [0, *np.cumsum(np.bincount(codes, minlength=count)).tolist()]
+        if count <= 1 << 16:  # numpy sorts whole numbers of 16 bits by their digits.
+            codes = codes.astype(np.uint16)
+        order = rows[np.argsort(codes, kind="stable")]
         sorted_values = order if values is None else values[:, order]
         return lambda item: sorted_values[..., ends[item]:ends[item + 1]]
 
@@ -192,8 +199,11 @@ class Rows:
 
 def rows_of(sheet: Sheet) -> Rows:
     """Returns all rows of a table, which are read one by one."""
-    return Rows(sheet, ((place << FILE_BITS, block) for place, file in enumerate(sheet.files)
-                        for block in read_blocks(file, file.rows())))
+    def blocks() -> Iterator[tuple[int, Block]]:
+        for place, file in enumerate(sheet.files):
+            for block in read_blocks(file, file.rows()):
+                yield place << FILE_BITS, block
+    return Rows(sheet, blocks())
 
 
 def far_above(amounts: Numbers, times_of_few: int = TIMES_OF_FEW) -> int:

@@ -18,7 +18,7 @@ from xml.etree.ElementTree import Element, iterparse
 from ..errors import Fault, RefusedFaults
 from ..remarks import Remark
 from ..words import message
-from .cells import Cell
+from .cells import Cell, some_of
 from .number_formats import Format, formats_of, number_of
 from .sources import Row, Rules, Sheet, readable, refused, state_of
 
@@ -250,5 +250,4 @@ def sheet_of_book(path: Path, sheet: str | None, rules: Rules) -> Sheet:
 
 def listed(names: Iterable[str]) -> str:
     """Returns names of sheets, some of them if there are many."""
-    some = [*names]
-    return ", ".join([*some[:MOST_LISTED], *[".."] * (len(some) > MOST_LISTED)]) or "none"
+    return some_of(names, MOST_LISTED) or "none"
