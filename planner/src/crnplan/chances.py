@@ -46,5 +46,6 @@ def mixture(parts: Iterable[tuple[float, Floats]]) -> Floats:
 def blurred(chances: Floats, part: Any, axis: int = 0) -> Floats:
     """Returns chances of which a part of each goes to each neighbour along an axis. At an edge it stays."""
     lines = np.moveaxis(chances, axis, 0)
-    below, above = np.concatenate([lines[:1], lines[:-1]]), np.concatenate([lines[1:], lines[-1:]])
+    below = np.concatenate([lines[:1], lines[:-1]])
+    above = np.concatenate([lines[1:], lines[-1:]])
     return np.moveaxis((1 - 2 * part) * lines + part * (below + above), 0, axis)

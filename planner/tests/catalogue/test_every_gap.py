@@ -11,7 +11,7 @@ import pytest
 
 from crnplan.chances import Floats, Whole
 from crnplan.curve import every_gap
-from crnplan.curve.every_gap import GAIN, best_policies, searched_policies
+from crnplan.curve.every_gap import GAIN, best_policies
 from crnplan.scenario import Costs, Scenario
 from crnplan.theory.feasible import ALL, Feasible
 from crnplan.theory.lattice import shape_of, theory_on
@@ -91,11 +91,10 @@ def test_vertices_by_hand(is_compiled: bool, monkeypatch: pytest.MonkeyPatch) ->
 @pytest.mark.parametrize("step, feasible", [(1, ALL), (3, BOUNDS[1]), (1, BOUNDS[3])], ids=str)
 def test_ways(step: int, feasible: Feasible, leads: int, monkeypatch: pytest.MonkeyPatch) -> None:
     """Finds the same as it is written and as it is compiled."""
-    find, theory = (best_policies, theory_by(LUMPY, step, feasible)) if leads == 1 else (
-        searched_policies, late_theory(LUMPY, None, step)[0].within(feasible))
-    gaps, figures = find(theory, CASES)
+    theory = theory_by(LUMPY, step, feasible) if leads == 1 else late_theory(LUMPY, None, step)[0].within(feasible)
+    gaps, figures = best_policies(theory, CASES)
     leave_as_written(monkeypatch, every_gap)
-    its, others = find(theory, CASES)
+    its, others = best_policies(theory, CASES)
     assert its.tolist() == gaps.tolist() and np.allclose(others, figures, 1e-12, 1e-12)
 
 
@@ -194,7 +193,7 @@ def figures_by_level(demand: Pair, back: Pair | None, step: int, gap: int) -> Fl
 def test_search_with_several_lead_times(demand: Pair, back: Pair | None, step: int, feasible: Feasible) -> None:
     """Has the figures of its policies. No other costs less by more than a share."""
     theory = late_theory(demand, back, step)[0].within(feasible)
-    gaps, (levels, *figures) = searched_policies(theory, CASES)
+    gaps, (levels, *figures) = best_policies(theory, CASES)
     least, (order, holding, price) = np.full(len(gaps), np.inf), CASES
     for gap in theory.gaps(0, theory.most):
         table = figures_by_level(demand, back, step, gap)

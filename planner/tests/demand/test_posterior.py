@@ -9,7 +9,8 @@ from scipy import stats
 
 from crnplan.chances import Floats, mixture
 from crnplan.demand import posterior
-from crnplan.demand.families import FAMILIES, UNIFORMS, fits_of, greatest_mean, predictive_of
+from crnplan.demand.families import FAMILIES, fits_of, greatest_mean, predictive_of
+from crnplan.demand.family import UNIFORMS
 from crnplan.demand.fitting import fit_lead
 from crnplan.demand.posterior import allowed_laws, allowed_leads, demand_laws, members_of, round_history, stratified
 from crnplan.demand.sample import Sample

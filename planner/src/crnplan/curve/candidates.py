@@ -21,7 +21,7 @@ from ..plan.question import Settings, Terms, terms_of
 from ..records.item import Item
 from ..remarks import Remark
 from ..theory.long_run import LongRun
-from .every_gap import best_policies, searched_policies
+from .every_gap import best_policies
 
 # Answers of other versions are not used again.
 VERSION = 6
@@ -51,7 +51,8 @@ def lower_hull(owner: Whole, cost: Floats, unmet: Floats) -> Whole:
     `owner` has whole numbers from 0 on. Prices rise strictly from each vertex to the next.
     """
     order = np.lexsort((unmet, cost, owner))
-    least, is_first = unmet[order], np.append(True, np.diff(owner[order]) > 0)
+    least = unmet[order]
+    is_first = np.append(True, np.diff(owner[order]) > 0)
     for its in np.split(least, np.flatnonzero(is_first)[1:]):
         np.minimum.accumulate(its, out=its)
     meets_more = is_first | np.append(True, least[1:] < least[:-1])
@@ -88,7 +89,7 @@ def best_by_price(theory: LongRun, value: float, costs: Sequence[tuple[float, fl
     feasible policies with one lead time, else those that a search finds. A unit has a `value`."""
     pairs = np.repeat(np.transpose(costs), len(PRICES), axis=1)
     cases = np.array([*pairs, np.tile(value * PRICES, len(costs))])
-    gaps, figures = (best_policies(theory, cases) if theory.has_one_lead else searched_policies(theory, cases))
+    gaps, figures = best_policies(theory, cases)
     return gaps.reshape(len(costs), -1), np.moveaxis(figures.reshape(4, len(costs), -1), 1, 0)
 
 
@@ -128,10 +129,12 @@ def rounded(figures: Floats) -> Floats:
 
 def candidates_of(terms: Terms) -> Candidates:
     """Returns the candidates of an item with a price. Raises Refused if it has no theory."""
-    item, demand = terms.item, float(terms.demand.mean)
+    item = terms.item
+    demand = float(terms.demand.mean)
     setup, holding = (terms.money(terms.rates[name]) for name in ("setup", "holding"))
     assert item.price is not None
-    theory, box = terms.theory(), item.box
+    theory = terms.theory()
+    box = item.box
     gaps, figures = best_by_price(theory, float(item.price) * box, variants_of(setup, holding, demand))
     is_new = (np.diff(gaps, prepend=-1) != 0) | (np.diff(figures[:, 0], prepend=-1) != 0)
     level, stock, unmet, orders = np.moveaxis(figures, 1, 0)[:, is_new]

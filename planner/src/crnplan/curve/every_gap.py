@@ -25,7 +25,8 @@ from ..theory.long_run import STOCK_LEFT, UNMET, LongRun
 from ..theory.shortfalls import LEAST_CHANCE
 
 # Shares of the best cost: by which gaps may be better that are not looked at, and beyond which costs are far more.
-GAIN, FAR_MORE = 5e-5, 0.1
+GAIN = 5e-5
+FAR_MORE = 0.1
 NEARLY = 1 - 1e-6  # times a price: with one so far below, the best level is not dearer by rounding.
 FEW = 2  # One in so many gaps of a grid is looked at first.
 FINE = 64  # Beside the best gap, others are looked at that are so many times narrower apart.
@@ -41,7 +42,9 @@ def add_low(sums: Floats, table: Floats, place: int, low: float, before: Floats,
     last = place + width - 1
     sums[0, last] = line[0] * (last * before[0] - before[1]) - line[1] * before[0]
     for row in range(2):
-        here, added, cell = sums[row, place:place + width], table[row], 0
+        here = sums[row, place:place + width]
+        added = table[row]
+        cell = 0
         while cell < width:
             here[cell] += low * added[cell]
             cell += 1
@@ -65,14 +68,17 @@ def set_point(sums: Floats, total: float, levels: Floats, place: int, points: Fl
 @compiled
 def first_of_price(sums: Floats, total: float, levels: Floats, price: float, points: Floats) -> tuple[int, int]:
     """Returns the place of the level that is best for a price, and how many levels were set."""
-    first, least, place = 0, np.inf, 0
+    first = 0
+    least = np.inf
+    place = 0
     while place < len(levels):
         set_point(sums, total, levels, place, points)
         if points[1, place] > least:
             break
         cost = points[1, place] + price * points[2, place]
         if cost < least:
-            first, least = place, cost
+            first = place
+            least = cost
         place += 1
     return first, place
 
@@ -81,17 +87,21 @@ def first_of_price(sums: Floats, total: float, levels: Floats, price: float, poi
 def vertices_of(sums: Floats, total: float, levels: Floats, prices: Floats, points: Floats, kept: Whole) -> int:
     """Finds the vertices of the lower hull of levels with rising stock between two prices: from the first one on until
     more stock costs more than it can gain. Returns how many there are, and sets their places."""
-    size, limit, (first, done) = 0, np.inf, first_of_price(sums, total, levels, NEARLY * prices[0], points)
+    size = 0
+    limit = np.inf
+    first, done = first_of_price(sums, total, levels, NEARLY * prices[0], points)
     for place in range(first, len(levels)):
         if place >= done:
             set_point(sums, total, levels, place, points)
-        stock, unmet = points[1, place], points[2, place]
+        stock = points[1, place]
+        unmet = points[2, place]
         if stock > limit:
             break
         if size and unmet >= points[2, kept[size - 1]]:
             continue
         while size > 1:
-            before, last = kept[size - 2], kept[size - 1]
+            before = kept[size - 2]
+            last = kept[size - 1]
             if ((stock - points[1, last]) * (points[2, before] - points[2, last])
                     > (points[1, last] - points[1, before]) * (points[2, last] - unmet)):
                 break
@@ -108,10 +118,12 @@ def choose_points(sums: Floats, total: float, levels: Floats, prices: Floats, po
     does the stock. `points` gets rows with levels that matter, and with the means of both sums, stock and unmet demand:
     between two cells a mean."""
     kept = np.empty(len(levels), np.int64)
-    size, place = vertices_of(sums, total, levels, prices, points, kept), 0
+    size = vertices_of(sums, total, levels, prices, points, kept)
+    place = 0
     for each in range(len(prices)):
         while place + 1 < size:
-            here, after = kept[place], kept[place + 1]
+            here = kept[place]
+            after = kept[place + 1]
             if points[1, after] - points[1, here] >= prices[each] * (points[2, here] - points[2, after]):
                 break
             place += 1
@@ -127,13 +139,17 @@ def compare_gap(gap: int, total: float, span: float, points: Floats, chosen: Who
     one that is not met at once."""
     orders = 1 / (span * total)
     for case in range(len(best)):
-        place, growth = chosen[ranks[case]], np.inf
+        place = chosen[ranks[case]]
+        growth = np.inf
         if place < 0:
             continue
         cost = costs[0, case] * orders + costs[1, case] * points[1, place] + costs[2, case] * points[2, place]
         if cost < best[case] * (1 - NEAR / 10):
-            best[case], found[0, case] = cost, gap
-            found[1, case], found[2, case], found[3, case] = points[0, place], points[1, place], points[2, place]
+            best[case] = cost
+            found[0, case] = gap
+            found[1, case] = points[0, place]
+            found[2, case] = points[1, place]
+            found[3, case] = points[2, place]
         if best[case] > floor[case]:
             growth = (cost - best[case] * (1 + NEAR)) / (best[case] - floor[case])
         due[case] = total * (1 + max(0.0, growth))
@@ -142,10 +158,12 @@ def compare_gap(gap: int, total: float, span: float, points: Floats, chosen: Who
 @compiled
 def ranks_due(ranks: Whole, due: Floats, total: float) -> tuple[int, int]:
     """Returns the first rank of a case that is due, and the one after the last."""
-    start, stop = len(ranks), 0
+    start = len(ranks)
+    stop = 0
     for case in range(len(ranks)):
         if due[case] <= total:
-            start, stop = min(start, ranks[case]), max(stop, ranks[case] + 1)
+            start = min(start, ranks[case])
+            stop = max(stop, ranks[case] + 1)
     return start, stop
 
 
@@ -158,18 +176,27 @@ def compare_gaps(lows: Floats, span: float, table: Floats, line: Floats, gaps: W
     in cells. The prices that are `asked` rise, and `ranks` says which of them is that of each case. A gap is looked at
     for the prices from the first to the last one of a case that is due.
     """
-    width, done, looks, due = table.shape[1], 0, 0, np.zeros(len(ranks))
-    sums, before = np.zeros((2, gaps[0, -1] + width)), np.zeros(2)
-    points, chosen, levels = np.empty((3, len(places) + 1)), np.empty(len(asked), np.int64), np.append(0.0, places)
+    width = table.shape[1]
+    done = 0
+    looks = 0
+    due = np.zeros(len(ranks))
+    sums = np.zeros((2, gaps[0, -1] + width))
+    before = np.zeros(2)
+    points = np.empty((3, len(places) + 1))
+    chosen = np.empty(len(asked), np.int64)
+    levels = np.append(0.0, places)
     for each in range(gaps.shape[1]):
-        gap, first = gaps[0, each], gaps[1, each]
+        gap = gaps[0, each]
+        first = gaps[1, each]
         while done <= gap:
             add_low(sums, table, done, lows[done], before, line)
             done += 1
         start, stop = ranks_due(ranks, due, before[0])
         if start >= stop:
             continue
-        levels[first], chosen[:], looks = least[each], -1, looks + 1
+        levels[first] = least[each]
+        chosen[:] = -1
+        looks = looks + 1
         near = levels[first:int(np.searchsorted(levels, gap + width - 1.0))]
         choose_points(sums, before[0], near, asked[start:stop], points, chosen[start:stop])
         compare_gap(gap, before[0], span, points, chosen, ranks, costs, floor, best, found, due)
@@ -182,21 +209,33 @@ def set_means(chances: Floats, low: int, rounded: float, step: int, means: Float
     the stock is below S, from the cell `low` on: before a period's demand, and after it. Their sum may be any, and those
     of at most `rounded` are none. Stock less what is owed is the level less the mean of how far it is above the stock.
     """
-    size, cell = means.shape[1], low + chances.shape[1] - 1
+    size = means.shape[1]
+    cell = low + chances.shape[1] - 1
     means[:, cell + 1:] = 0.0
-    total_before, owed_before, total, owed = 0.0, 0.0, 0.0, 0.0
+    total_before = 0.0
+    owed_before = 0.0
+    total = 0.0
+    owed = 0.0
     while cell >= low:
-        owed_before, owed = owed_before + total_before, owed + total
+        owed_before = owed_before + total_before
+        owed = owed + total
         if cell >= 0:
-            means[0, cell], means[1, cell] = owed_before, owed
-        before, after = chances[0, cell - low], chances[1, cell - low]
+            means[0, cell] = owed_before
+            means[1, cell] = owed
+        before = chances[0, cell - low]
+        after = chances[1, cell - low]
         total_before += before if before > rounded else 0.0
         total += after if after > rounded else 0.0
         cell -= 1
-    mean, stock, unmet, level = owed / total + low, means[0], means[1], 0
+    mean = owed / total + low
+    stock = means[0]
+    unmet = means[1]
+    level = 0
     while level < size:
-        before, after = stock[level] / total_before, unmet[level] / total
-        stock[level], unmet[level] = step * max(after + level - mean, 0.0), step * max(after - before, 0.0)
+        before = stock[level] / total_before
+        after = unmet[level] / total
+        stock[level] = step * max(after + level - mean, 0.0)
+        unmet[level] = step * max(after - before, 0.0)
         level += 1
 
 
@@ -209,8 +248,10 @@ def best_levels(chances: Floats, low: int, step: int, orders: Floats, gaps: Whol
     high = low + chances.shape[2]
     enough = places[min(int(np.searchsorted(places, high)), len(places) - 1)]  # all is met there
     means = np.empty((2, max(high, int(max(least[-1], float(enough))) + 2)))
-    points, chosen = np.empty((3, len(places) + 1)), np.empty(len(asked), np.int64)
-    levels, found = np.append(0.0, places), np.empty((len(least), 4, len(ranks)))
+    points = np.empty((3, len(places) + 1))
+    chosen = np.empty(len(asked), np.int64)
+    levels = np.append(0.0, places)
+    found = np.empty((len(least), 4, len(ranks)))
     for each in range(len(least)):
         first = gaps[1, each]
         set_means(chances[:, each], low, LEAST_CHANCE / orders[each], step, means)
@@ -222,66 +263,11 @@ def best_levels(chances: Floats, low: int, step: int, orders: Floats, gaps: Whol
     return found
 
 
-def least_costs(table: Floats, asked: Floats, ranks: Whole, costs: Floats) -> Floats:
-    """Returns the least cost of stock and unmet demand of any low for each case."""
-    points, chosen = np.empty((3, table.shape[1])), np.empty(len(asked), int)
-    choose_points(table, 1.0, np.arange(table.shape[1], dtype=float), asked, points, chosen)
-    stock, unmet = points[1:, chosen[ranks]]
-    least: Floats = costs[1] * stock + costs[2] * unmet
-    return least
-
-
-class Cases:
-    """The policies that cost least of those that were compared. By case an order costs something, an item in stock, and
-    one that is not met at once.
-
-    `gaps` are those of feasible policies; narrower ones stand for those without a low. `levels` are feasible, in cells.
-    `best` has the least costs, and `found` rows with gaps, levels in cells, stock and unmet demand.
-    """
-
-    def __init__(self, theory: LongRun, costs: Floats, width: int) -> None:
-        """Takes the costs as rows. Levels are looked at up to so many cells above the widest gap."""
-        self.theory, self.costs, feasible, step = theory, costs, theory.feasible, theory.step
-        self.gaps = theory.every_gap(0, theory.most)
-        self.lows = theory.lows_of(int(self.gaps[-1]))
-        if feasible.has_narrow_gaps:
-            self.gaps = self.gaps[self.lows[self.gaps] > 0]
-        self.orders = 1 / (theory.span * np.cumsum(self.lows))
-        self.levels = np.unique(np.minimum(feasible.up(step * np.arange(self.gaps[-1] + width)), feasible.top)) / step
-        self.asked, self.ranks = np.unique(costs[2] / costs[1], return_inverse=True)
-        self.best, self.found = np.full(len(self.ranks), np.inf), np.zeros((4, len(self.ranks)))
-
-    def bounds(self, gaps: Whole) -> tuple[Whole, Floats]:
-        """Returns some gaps, for each the place of the first level above its least one, and that one, in cells."""
-        least = (self.theory.items(gaps) + self.theory.feasible.least) / self.theory.step
-        return np.array([gaps, np.searchsorted(self.levels, least, "right")]), least
-
-    def policies(self) -> tuple[Whole, Floats]:
-        """Returns the gaps of the best policies, and their levels in items, stock, unmet demand and orders."""
-        gaps = self.found[0].astype(int)
-        return gaps, np.array([np.rint(self.theory.step * self.found[1]), *self.found[2:], self.orders[gaps]])
-
-
-def best_policies(theory: LongRun, costs: Floats) -> tuple[Whole, Floats]:
-    """Returns the best of all feasible policies with one lead time: see `Cases`."""
-    feasible, step = theory.feasible, theory.step
-    width = max(theory.after.high, feasible.least // step) + feasible.multiple // step + 3
-    its, table = Cases(theory, costs, width), theory.figures_from(step * np.arange(width))[[STOCK_LEFT, UNMET]]
-    table = np.maximum(table, 0)
-    floor = least_costs(table[:, feasible.least // step:].copy(), its.asked, its.ranks, costs)
-    if min(feasible.multiple, step) > 1:  # the least level of a gap may be none of a narrower one
-        floor[:] = -np.inf
-    for some in (its.gaps[gap_grid(len(its.gaps) - 1)[::FEW]], its.gaps):
-        compare_gaps(its.lows, theory.span, table, np.array([step, step * theory.after.mean]), *its.bounds(some),
-                     its.levels, its.asked, its.ranks, costs, floor, its.best, its.found)
-        its.best *= 1 + NEAR
-    return its.policies()
-
-
 @compiled
 def may_gain(places: Whole, costs: Floats, least: Floats, at: int) -> bool:
     """Returns whether a case may cost less by more than a share between a place and the next one: see `finer`."""
-    is_end, width = at == 0 or at == len(places) - 2, places[at + 1] - places[at]
+    is_end = at == 0 or at == len(places) - 2
+    width = places[at + 1] - places[at]
     for case in range(len(least)):
         if min(costs[at, case], costs[at + 1, case]) > (1 + FAR_MORE) * least[case]:
             continue
@@ -290,7 +276,8 @@ def may_gain(places: Whole, costs: Floats, least: Floats, at: int) -> bool:
         here = (costs[at + 1, case] - costs[at, case]) / width
         before = (costs[at, case] - costs[at - 1, case]) / (places[at] - places[at - 1])
         after = (costs[at + 2, case] - costs[at + 1, case]) / (places[at + 2] - places[at + 1])
-        fall, bend = before * (after - here), after - before
+        fall = before * (after - here)
+        bend = after - before
         if fall <= 0 if bend == 0 else costs[at, case] + fall / bend * width < (1 - GAIN) * least[case]:
             return True
     return False
@@ -304,12 +291,16 @@ def finer(places: Whole, gaps: Whole, costs: Floats) -> Whole:
     A convex function is above the lines through two places on either side of a stretch. Stretches are left out of which
     both ends cost far more than the best. Those beside the best are halved until they are short in any case.
     """
-    least, best, widths = costs[0].copy(), np.zeros(costs.shape[1], np.int64), places[1:] - places[:-1]
+    least = costs[0].copy()
+    best = np.zeros(costs.shape[1], np.int64)
+    widths = places[1:] - places[:-1]
     for place in range(1, len(places)):
-        here, case = costs[place], 0
+        here = costs[place]
+        case = 0
         while case < len(best):
             if here[case] < least[case]:
-                least[case], best[case] = here[case], place
+                least[case] = here[case]
+                best[case] = place
             case += 1
     is_due = widths > 1
     for at in np.flatnonzero(is_due):
@@ -321,19 +312,98 @@ def finer(places: Whole, gaps: Whole, costs: Floats) -> Whole:
     return halves
 
 
-def searched_policies(theory: LongRun, costs: Floats) -> tuple[Whole, Floats]:
-    """Returns the best policies of a grid of gaps, and then of gaps ever finer beside the best: see `Cases`."""
-    its = Cases(theory, costs, theory.beside + theory.after.high + theory.feasible.multiple // theory.step + 3)
-    new, places, tables = np.array(gap_grid(len(its.gaps) - 1)), np.empty(0, int), list[Floats]()
-    while len(new):
-        for some in theory.parts(its.gaps[new]):
-            tables.extend(best_levels(*theory.shortfalls.stocks(some), theory.step, its.orders[some],
-                                      *its.bounds(some), its.levels, its.asked, its.ranks, costs))
-        places = np.append(places, new)
-        order = np.argsort(places)
-        totals = np.array([tables[place][3] for place in order])
-        new = finer(places[order], its.gaps[places[order]], totals)
-    best, own = np.unique(order[totals.argmin(axis=0)], return_inverse=True)
-    levels = np.array([tables[place][:3] for place in best])[own, :, np.arange(len(own))]
-    its.found = np.vstack([its.gaps[places[best]][own], levels.T])
-    return its.policies()
+class Cases:
+    """The policies that cost least of those that were compared. By case an order costs something, an item in stock, and
+    one that is not met at once.
+
+    `gaps` are those of feasible policies; narrower ones stand for those without a low. `levels` are feasible, in cells.
+    `best` has the least costs, and `found` rows with gaps, levels in cells, stock and unmet demand.
+    """
+
+    def __init__(self, theory: LongRun, costs: Floats) -> None:
+        """Takes the costs as rows."""
+        self.theory = theory
+        self.costs = costs
+        feasible = theory.feasible
+        step = theory.step
+        self.gaps = theory.every_gap(0, theory.most)
+        self.lows = theory.lows_of(int(self.gaps[-1]))
+        if feasible.has_narrow_gaps:
+            self.gaps = self.gaps[self.lows[self.gaps] > 0]
+        self.orders = 1 / (theory.span * np.cumsum(self.lows))
+        # Levels are looked at up to so many cells above the widest gap.
+        high = theory.beside + theory.after.high
+        if theory.has_one_lead:
+            high = max(theory.after.high, feasible.least // step)
+        self.width = high + feasible.multiple // step + 3
+        levels = feasible.up(step * np.arange(self.gaps[-1] + self.width))
+        self.levels = np.unique(np.minimum(levels, feasible.top)) / step
+        self.asked, self.ranks = np.unique(costs[2] / costs[1], return_inverse=True)
+        self.best = np.full(len(self.ranks), np.inf)
+        self.found = np.zeros((4, len(self.ranks)))
+
+    def bounds(self, gaps: Whole) -> tuple[Whole, Floats]:
+        """Returns some gaps, for each the place of the first level above its least one, and that one, in cells."""
+        least = (self.theory.items(gaps) + self.theory.feasible.least) / self.theory.step
+        return np.array([gaps, np.searchsorted(self.levels, least, "right")]), least
+
+    def floor(self, table: Floats) -> Floats:
+        """Returns the least cost of stock and unmet demand of any low for each case; none if the least level of a gap
+        may be no level of a narrower one."""
+        feasible = self.theory.feasible
+        step = self.theory.step
+        if min(feasible.multiple, step) > 1:
+            return np.full(len(self.ranks), -np.inf)
+        lows = table[:, feasible.least // step:].copy()
+        points = np.empty((3, lows.shape[1]))
+        chosen = np.empty(len(self.asked), int)
+        choose_points(lows, 1.0, np.arange(lows.shape[1], dtype=float), self.asked, points, chosen)
+        stock, unmet = points[1:, chosen[self.ranks]]
+        return np.asarray(self.costs[1] * stock + self.costs[2] * unmet)
+
+    def compare_all(self) -> None:
+        """Compares all gaps that may be best, with one lead time."""
+        theory = self.theory
+        step = self.theory.step
+        table = np.maximum(theory.figures_from(step * np.arange(self.width))[[STOCK_LEFT, UNMET]], 0)
+        line = np.array([step, step * theory.after.mean])
+        floor = self.floor(table)
+        for some in (self.gaps[gap_grid(len(self.gaps) - 1)[::FEW]], self.gaps):
+            compare_gaps(self.lows, theory.span, table, line, *self.bounds(some), self.levels, self.asked, self.ranks,
+                         self.costs, floor, self.best, self.found)
+            self.best *= 1 + NEAR
+
+    def search(self) -> None:
+        """Compares a grid of gaps, and then gaps ever finer beside the best."""
+        theory = self.theory
+        new = np.array(gap_grid(len(self.gaps) - 1))
+        places = np.empty(0, int)
+        tables = list[Floats]()
+        while len(new):
+            for some in theory.parts(self.gaps[new]):
+                stocks, low = theory.shortfalls.stocks(some)
+                tables.extend(best_levels(stocks, low, theory.step, self.orders[some], *self.bounds(some), self.levels,
+                                          self.asked, self.ranks, self.costs))
+            places = np.append(places, new)
+            order = np.argsort(places)
+            totals = np.array([tables[place][3] for place in order])
+            new = finer(places[order], self.gaps[places[order]], totals)
+        best, own = np.unique(order[totals.argmin(axis=0)], return_inverse=True)
+        levels = np.array([tables[place][:3] for place in best])[own, :, np.arange(len(own))]
+        self.found = np.vstack([self.gaps[places[best]][own], levels.T])
+
+    def policies(self) -> tuple[Whole, Floats]:
+        """Returns the gaps of the best policies, and their levels in items, stock, unmet demand and orders."""
+        gaps = self.found[0].astype(int)
+        return gaps, np.array([np.rint(self.theory.step * self.found[1]), *self.found[2:], self.orders[gaps]])
+
+
+def best_policies(theory: LongRun, costs: Floats) -> tuple[Whole, Floats]:
+    """Returns the best of all feasible policies for each case, with several lead times of those that a search finds:
+    see `Cases`."""
+    cases = Cases(theory, costs)
+    if theory.has_one_lead:
+        cases.compare_all()
+    else:
+        cases.search()
+    return cases.policies()

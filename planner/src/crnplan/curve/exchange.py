@@ -29,10 +29,12 @@ from .parts import (AS_IS, COST, FIGURES, UNMET, VALUE, Choice, Dearer, Point, S
 # A budget that is not used up is filled with steps whose price is at most so many times that of the step too many.
 FILL = 2.0
 # Costs of an order are doubled until there are few enough orders, then halved between the last two.
-DOUBLINGS, HALVINGS = 13, 16
+DOUBLINGS = 13
+HALVINGS = 16
 # Steps that are looked at one by one, at most, unless more have the same price; and into how many stretches more steps
 # are cut.
-MOST_STEPS, CUTS = 200_000, 64
+MOST_STEPS = 200_000
+CUTS = 64
 # Calls a function with each part, in order, and with words from further columns, as `map` does.
 Over = Callable[..., Iterator[Any]]
 
@@ -49,7 +51,8 @@ class Items:
         """Asks for what all items have in common. Raises ValueError if there is no part."""
         counts, most, extra = zip(*over(measured))
         *starts, self.count = itertools.accumulate(counts, initial=0)
-        self.over, self.starts = over, starts
+        self.over = over
+        self.starts = starts
         self.units = units_of(np.max(most, axis=0).tolist(), self.count)
         self.most_extra = Dearer(*np.max(extra, axis=0).tolist())
         asked, now = zip(*self.each(summed))
@@ -137,16 +140,23 @@ class Ladder:
     """
 
     def __init__(self, items: Items, dearer: Dearer = AS_IS) -> None:
-        self.items, self.dearer = items, dearer
+        self.items = items
+        self.dearer = dearer
         self.grid = self.stretches(np.array([-np.inf, *PRICES, np.inf]))
         self.start, self.end = self.grid[0].before, self.grid[-1].after
         self.whole = [stretch for stretch in self.grid if stretch.steps]
 
     def stretches(self, edges: Floats, before: Whole | None = None) -> list[Stretch]:
         """Returns the stretches between prices. The figures `before` are those of the start, if they are not known."""
-        counts, sums, start, span = np.zeros(1, int), np.zeros(1, int), np.zeros(1, int), np.full(1, -np.inf)
+        counts = np.zeros(1, int)
+        sums = np.zeros(1, int)
+        start = np.zeros(1, int)
+        span = np.full(1, -np.inf)
         for its in self.items.each(stretches_of, self.dearer, edges):
-            counts, sums, start, span = counts + its[0], sums + its[1], start + its[2], np.maximum(span, its[3])
+            counts = counts + its[0]
+            sums = sums + its[1]
+            start = start + its[2]
+            span = np.maximum(span, its[3])
         *changes, falls = sums
         first = start if before is None else before
         places = np.column_stack([first, first[:, None] + np.cumsum(changes, axis=1)]).T
@@ -155,8 +165,8 @@ class Ladder:
 
     def steps(self, function: Callable[..., Steps], *words: Any) -> Steps:
         """Returns the steps that a function returns for each part, the place of its first item, and further words."""
-        parts = self.items.over(function, self.items.starts, *always(self.items.units, self.dearer, *words))
-        prices, owner, changes = (np.concatenate(part, axis=-1) for part in zip(*parts))
+        parts = zip(*self.items.over(function, self.items.starts, *always(self.items.units, self.dearer, *words)))
+        prices, owner, changes = [np.concatenate(part, axis=-1) for part in parts]
         order = np.argsort(prices, kind="stable")
         return Steps(prices[order], owner[order], changes[:, order])
 
@@ -173,22 +183,35 @@ class Ladder:
         some = stretches or self.grid
         best = max(way * int(place[VALUE]) for stretch in some for place in (stretch.before, stretch.after))
         for stretch in some:
-            rises = int(stretch.after[VALUE] - stretch.before[VALUE]) - stretch.falls
-            if way * int(stretch.before[VALUE]) + (rises if way > 0 else -stretch.falls) > best:
-                best = max(best, int((way * self.places(stretch)[1][VALUE]).max()) if stretch.is_small else
-                           way * self.extreme(way, self.cut(stretch)))
+            before = int(stretch.before[VALUE])
+            most = before * way - stretch.falls
+            if way > 0:
+                most += int(stretch.after[VALUE]) - before
+            if most <= best:
+                continue
+            if stretch.is_small:
+                _, places = self.places(stretch)
+                most = int((way * places[VALUE]).max())
+            else:
+                most = way * self.extreme(way, self.cut(stretch))
+            best = max(best, most)
         return way * best
 
     def crossing(self, figure: int, way: int, most: int, stretches: Sequence[Stretch]) -> Crossing | None:
         """Returns the last step before which a figure, times `way`, is at most so much; None if it is always more. At
         the end it is more."""
         for stretch in reversed(stretches):
-            if way * int(stretch.before[figure]) + (stretch.falls if figure == VALUE else 0) > most:
+            least = way * int(stretch.before[figure])
+            if figure == VALUE:
+                least += stretch.falls
+            if least > most:
                 continue
-            found = self._last(figure, way, most, stretch) if stretch.is_small else \
-                self.crossing(figure, way, most, self.cut(stretch))
-            if found:
-                return found
+            if stretch.is_small:
+                crossing = self._last(figure, way, most, stretch)
+            else:
+                crossing = self.crossing(figure, way, most, self.cut(stretch))
+            if crossing:
+                return crossing
         return None
 
     def _last(self, figure: int, way: int, most: int, stretch: Stretch) -> Crossing | None:
@@ -233,15 +256,18 @@ class Ladder:
         """Returns a choice at a border, in which steps beside it are taken, or taken back, one by one, each of which
         uses some of what is to spare of a figure. An item for whose step there is too little stays as it is."""
         windows = self.windows(border.price, way)
-        falls = -sum(window.falls for window in windows) if figure == VALUE else 0
-        moved, stays = Counter[int](), np.zeros(self.items.count, bool)
+        falls = 0
+        if figure == VALUE:
+            falls = -sum(window.falls for window in windows)
+        moved = Counter[int]()
+        stays = np.zeros(self.items.count, bool)
         sums = (border.before if way > 0 else border.after).copy()
         for window in windows:
             steps = self.steps(fitting, window.low, window.high, (border.price, border.owner), figure, way,
                                spare + falls)
             taken = []
-            for place, (owner, use) in [*enumerate(zip(steps.owner.tolist(), (way * steps.changes[figure]).tolist()))
-                                        ][::way]:
+            uses = zip(steps.owner.tolist(), (way * steps.changes[figure]).tolist())
+            for place, (owner, use) in [*enumerate(uses)][::way]:
                 if use > spare or stays[owner]:
                     stays[owner] = True
                     continue
@@ -249,21 +275,21 @@ class Ladder:
                 moved[owner] += way
                 taken.append(place)
             sums += way * steps.changes[:, taken].sum(axis=1)
-            falls += window.falls if figure == VALUE else 0
+            if figure == VALUE:
+                falls += window.falls
         return self.choice(border.price, border.owner - (way > 0), sums, moved)
 
     def windows(self, price: float, way: int) -> list[Stretch]:
         """Returns stretches from a price on, upwards or downwards, to that at which a budget is no longer filled: each
         with few steps, if they have different prices."""
-        low, high = (price, FILL * price) if way > 0 else (price / FILL, price)
+        low, high = sorted((price, price * FILL**way))
         windows = list[Stretch]()
         for stretch in self.stretches(grid(low, high)):
-            last = windows[-1] if windows else None
-            if last and last.steps + stretch.steps <= MOST_STEPS:
-                windows[-1] = last._replace(high=stretch.high, steps=last.steps + stretch.steps,
-                                            falls=last.falls + stretch.falls)
-            else:
-                windows.append(stretch)
+            if windows and windows[-1].steps + stretch.steps <= MOST_STEPS:
+                last = windows.pop()
+                stretch = last._replace(high=stretch.high, steps=last.steps + stretch.steps,
+                                        falls=last.falls + stretch.falls)
+            windows.append(stretch)
         return windows[::way]
 
 
@@ -279,9 +305,13 @@ class Crossing(NamedTuple):
 def gap_of(items: Items, point: Point, dearer: Dearer = AS_IS) -> float:
     """Returns the share by which setup and holding of a point are at most above the best with its service, and with no
     more orders or stock, if these are dearer."""
-    parts = [0.0, *(2.0**-np.arange(DOUBLINGS)).tolist()] if dearer != AS_IS else [0.0]
+    parts = [0.0]
+    if dearer != AS_IS:
+        parts += (2.0**-np.arange(DOUBLINGS)).tolist()
     least = items.least_cost(point, *(Dearer(part * dearer.orders, part * dearer.stock) for part in parts))
-    return max(0.0, point.cost / least - 1) if least > 0 else math.inf
+    if least <= 0:
+        return math.inf
+    return max(0.0, point.cost / least - 1)
 
 
 class OffCurve(Refused):
@@ -315,11 +345,15 @@ class Budget:
     def choice(self, items: Items, dearer: Dearer = AS_IS) -> Choice | None:
         """Returns the choice that keeps the stock value or the share; None if none does."""
         ladder = items.ladder(dearer)
-        return ladder.with_value(self.value) if self.value is not None else ladder.with_fill(self.fill or 0.0)
+        if self.value is not None:
+            return ladder.with_value(self.value)
+        return ladder.with_fill(self.fill or 0.0)
 
     def kept(self, choice: Choice | None) -> Choice | None:
         """Returns a choice that has no more orders than are allowed; None if it has more."""
-        return choice if choice and choice.point.orders <= (self.orders or math.inf) * (1 + NEAR) else None
+        if choice is None or choice.point.orders > (self.orders or math.inf) * (1 + NEAR):
+            return None
+        return choice
 
 
 def chosen_by(items: Items, budget: Budget) -> Choice:
@@ -330,7 +364,8 @@ def chosen_by(items: Items, budget: Budget) -> Choice:
     up to those that are allowed. If orders are too many, they are made dearer.
     """
     ladder = items.ladder()
-    start, end = items.point(ladder.start), items.point(ladder.end)
+    start = items.point(ladder.start)
+    end = items.point(ladder.end)
     if budget.value is not None and budget.value > end.value and budget.value > (
             most := ladder.extreme(1) * items.units[VALUE]) * (1 + NEAR):
         raise OffCurve(argument("stock_value", f"{budget.value:,.10g}"),
@@ -356,7 +391,9 @@ def with_more_orders(items: Items, budget: Budget) -> Choice:
     choice = _border(items.most_extra.stock, lambda amount: budget.kept(budget.choice(items, Dearer(stock=amount))),
                      budget.kept(budget.choice(items)), is_least=False)
     if choice is None:
-        least = "stock of so little value" if budget.value is not None else "this service"
+        least = "this service"
+        if budget.value is not None:
+            least = "stock of so little value"
         raise OffCurve(argument("orders", f"{budget.orders:g}"), f"{least} takes more orders, or is not to be had",
                        "name more orders or more stock")
     return choice
@@ -370,7 +407,8 @@ def with_fewer_orders(items: Items, budget: Budget, first: Choice) -> Choice:
     def choice_of(amount: float) -> Choice | None:
         nonlocal fewest
         choice = budget.choice(items, Dearer(orders=amount))
-        fewest = min(fewest, choice.point.orders) if choice else fewest
+        if choice:
+            fewest = min(fewest, choice.point.orders)
         return budget.kept(choice)
     choice = _border(items.most_extra.orders, choice_of, None, is_least=True)
     if choice is None:
@@ -383,7 +421,8 @@ def _border(most: float, choice_of: Callable[[float], Choice | None], first: Cho
             is_least: bool) -> Choice | None:
     """Returns the choice with the least extra cost, or the greatest, with which a budget is kept; None if there is
     none. `choice_of` has the choice for an extra cost, `first` is that for none."""
-    low, last = 0.0, first
+    low = 0.0
+    last = first
     for high in (most / 2.0**np.arange(DOUBLINGS, -1, -1)).tolist():
         choice = choice_of(high)
         best, beyond = (choice, last) if is_least else (last, choice)
@@ -394,5 +433,6 @@ def _border(most: float, choice_of: Callable[[float], Choice | None], first: Cho
                 best = nearer or best
                 low, high = (low, middle) if bool(nearer) is is_least else (middle, high)
             return best
-        low, last = high, choice
+        low = high
+        last = choice
     return None if is_least else last

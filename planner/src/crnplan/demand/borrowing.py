@@ -38,11 +38,15 @@ LEAST_CHANCE = 1e-9
 def weighed_sizes(weights: Floats, cells: Whole, widths: Whole, table: Floats, ends: Whole) -> Floats:
     """Returns the sum of the laws of sizes in a table (see `size_table`), each up to the width of its cell, with a row
     of weights for each cell."""
-    chances, points = np.zeros(widths.max()), weights.shape[1]
+    chances = np.zeros(widths.max())
+    points = weights.shape[1]
     for row in range(len(cells)):
-        laws, sums = table[ends[cells[row]]:ends[cells[row] + 1]].reshape(points, -1), chances[:widths[row]]
+        laws = table[ends[cells[row]]:ends[cells[row] + 1]].reshape(points, -1)
+        sums = chances[:widths[row]]
         for point in range(points):
-            weight, law, size = weights[row, point], laws[point], 0
+            weight = weights[row, point]
+            law = laws[point]
+            size = 0
             while size < len(sums):
                 sums[size] += weight * law[size]
                 size += 1
@@ -71,7 +75,8 @@ class Posterior:
     def bayes(self) -> float:
         """Returns the Bayes factor (Kass and Raftery, Bayes factors, 1995, section 2) for the prior against the flat
         one."""
-        shares, sizes = self.shares.mean(axis=1), self.sizes.mean(axis=1)
+        shares = self.shares.mean(axis=1)
+        sizes = self.sizes.mean(axis=1)
         return float(shares @ self.prior @ sizes / (shares @ FLAT @ sizes))
 
     @cached_property
@@ -145,7 +150,8 @@ def looked_at(prior: Prior, sample: Sample, item_class: str | None, box: int,
     such part, nor has a new one.
     """
     name, learned = prior.of_item(item_class, sample.pack)
-    known, packs = Borrowed(sample.demands, name, why_alone(prior, sample, box)), sample.packs
+    known = Borrowed(sample.demands, name, why_alone(prior, sample, box))
+    packs = sample.packs
     if known.alone or not learned:
         return known, []
     posterior = Posterior.of(packs, learned.chances, is_new)
@@ -156,7 +162,8 @@ def looked_at(prior: Prior, sample: Sample, item_class: str | None, box: int,
     known = replace(known, guard=guard)
     if min(guard) <= LEVEL:
         return replace(known, alone=Remark("unlike histories")), []
-    alike, flat = posterior.bayes / (1 + posterior.bayes), replace(posterior, prior=FLAT, most=cap_of(packs))
+    alike = posterior.bayes / (1 + posterior.bayes)
+    flat = replace(posterior, prior=FLAT, most=cap_of(packs))
     return replace(known, share=alike * posterior.share), [(alike, posterior), (1 - alike, flat)]
 
 
@@ -192,7 +199,8 @@ def borrowed_laws(prior: Prior, observed: Observed | Iterable[Any], item_class: 
     If the law of the item alone is taken, so is its `allowed_laws`. Arguments are as in `law_of`, and so is what is
     raised; `times` is the number of laws.
     """
-    random, (boxes, sample) = random_of(times, seed), sample_of(observed, box, is_new)
+    random = random_of(times, seed)
+    boxes, sample = sample_of(observed, box, is_new)
     _, parts = looked_at(prior, sample, item_class, box, is_new)
     if not parts:
         return allowed_laws(boxes, times=times, seed=seed)

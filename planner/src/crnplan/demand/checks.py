@@ -37,7 +37,9 @@ MOST_LARGEST = 3  # periods that are shown with the law, with the share of the v
 # So many periods without demand at the end of the record are named if as many come by luck with at most this chance.
 NO_DEMAND = 0.05
 # Demands far above all others: the chance to find one where there is none, how many are looked for, and among how many.
-OUTLIERS, MOST_OUTLIERS, LEAST_DEMANDS = 0.01, 3, 10
+OUTLIERS = 0.01
+MOST_OUTLIERS = 3
+LEAST_DEMANDS = 10
 # The seasons of dated periods: their names, with how many periods each has.
 CALENDAR: dict[str | None, dict[str, int]] = {
     None: {}, "day": {"weekday": 7, "season": 365}, "week": {"season": 52}, "month": {"season": 12}}
@@ -69,7 +71,9 @@ def season_of(name: str, length: int, every: str | None, first: int, size: int) 
     """Returns a season of the calendar; without dates one that begins with the first period. A week belongs to the
     quarter of its Thursday."""
     if every is None:
-        parts = length if length <= MOST_PARTS else PARTS
+        parts = PARTS
+        if length <= MOST_PARTS:
+            parts = length
         return Season(name, length, np.arange(size) % length * parts // length, parts, "place")
     middle = datetime.timedelta(3 if every == "week" else 0)
     days = [first_day(first + place, every) + middle for place in range(size)]
@@ -83,11 +87,20 @@ def seasons_of(every: str | None, first: int, size: int, length: int | None) -> 
     a named length takes the place of those of the calendar. Raises Refused for one of less than 2 periods."""
     if length is not None and length < 2:
         raise Refused(f"a season of {length} periods is none; say 2 or more")
-    lengths = CALENDAR[every] if length is None else {"season": length}
-    short = [Remark("season untested", {"season": name, "periods": YEARS * own, "unit": every or "period"})
-             for name, own in lengths.items() if size < YEARS * own]
-    return [season_of(name, own, None if length else every, first, size) for name, own in lengths.items()
-            if size >= YEARS * own], short if lengths else [Remark("season untested without dates")]
+    lengths, calendar = CALENDAR[every], every
+    if length is not None:
+        lengths, calendar = {"season": length}, None
+    if not lengths:
+        return [], [Remark("season untested without dates")]
+    seasons = list[Season]()
+    untested = list[Remark]()
+    for name, own in lengths.items():
+        if size >= YEARS * own:
+            seasons.append(season_of(name, own, calendar, first, size))
+        else:
+            facts: dict[str, Value] = {"season": name, "periods": YEARS * own, "unit": every or "period"}
+            untested.append(Remark("season untested", facts))
+    return seasons, untested
 
 
 @dataclass(frozen=True)
@@ -128,20 +141,23 @@ class Facts:
         """Returns the numbers, without the seasons that are taken out, as the only row of an array."""
         numbers = np.array(self.numbers, dtype=float)
         mean = numbers.mean()
-        for season in (season for season in self.seasons if season.name in self.taken):
-            numbers += mean - _means(season, numbers)[season.part_of]
+        for season in self.seasons:
+            if season.name in self.taken:
+                numbers += mean - _means(season, numbers)[season.part_of]
         return np.round(numbers[None], 9)
 
     def autocorrelation(self) -> Effect:
         """Returns the autocorrelation of neighbours. The facts have the largest one too, if it is of another lag."""
         by_lag = autocorrelations(centred(self.rows))[:, 0]
-        lag, at_1 = int(np.argmax(np.abs(by_lag))), float(by_lag[0])
+        lag = int(np.argmax(np.abs(by_lag)))
+        at_1 = float(by_lag[0])
         return at_1, {"at_1": at_1, "lag": lag + 1, "at_lag": float(by_lag[lag])}
 
     def trend(self) -> Effect:
         """Returns half of the rise along the straight line through a history, as a share of the mean. The facts have
         how much the mean of the last third is above that of the first; None if the first third has no demand."""
-        numbers, time = self.rows[0], centred(np.arange(len(self.numbers), dtype=float))
+        numbers = self.rows[0]
+        time = centred(np.arange(len(self.numbers), dtype=float))
         third = len(numbers) // 3
         rise = float(time @ numbers / (time @ time) * time[-1])
         return rise / float(numbers.mean()), {"change": _change(numbers[:third], numbers[-third:])}
@@ -150,15 +166,21 @@ class Facts:
         """Returns the mean after the step that explains most over the mean before it, less 1."""
         place = int(places_of(len(self.numbers))[np.argmax(steps(centred(self.rows)))])
         change = _change(self.rows[0, :place], self.rows[0, place:])
-        since = first_day(self.first + place, self.every).isoformat() if self.every else None
-        return math.inf if change is None else change, {"change": change, "name": self.name(place), "since": since}
+        since = None
+        if self.every:
+            since = first_day(self.first + place, self.every).isoformat()
+        size = math.inf if change is None else change
+        return size, {"change": change, "name": self.name(place), "since": since}
 
     def season(self, season: Season) -> Effect:
         """Returns the amplitude of a sine whose means over the parts of a season vary as those of the history."""
         means = _means(season, self.rows[0]) / self.rows.mean()
         width = math.pi / season.parts
-        averaged = math.sin(width) / width if season.length > season.parts else 1.0  # a sine within a part
-        most, least = int(means.argmax()), int(means.argmin())
+        averaged = 1.0
+        if season.length > season.parts:  # a sine within a part
+            averaged = math.sin(width) / width
+        most = int(means.argmax())
+        least = int(means.argmin())
         ends = zip(("most_first", "most_last", "least_first", "least_last"), season.ends(most) + season.ends(least))
         return math.sqrt(2 * means.var()) / averaged, {"most": float(means[most]), "least": float(means[least]),
                                                        **dict(ends), "unit": season.unit, "length": season.length}
@@ -183,7 +205,8 @@ def tests_of(facts: Facts, in_full: bool = True) -> tuple[Check, ...]:
     if len(facts.numbers) < LEAST_PERIODS or len({*facts.numbers}) == 1:
         return ()
     seasons = {season.name: season.part_of for season in facts.seasons}
-    orders, kinds = Orders(facts.numbers), statistics_of(seasons)
+    orders = Orders(facts.numbers)
+    kinds = statistics_of(seasons)
     level = FALSE_ALARMS / len(kinds)
     most = 1.0 if in_full else level
     if not (p_values := orders.p_values(seasons, most)):
@@ -194,14 +217,17 @@ def tests_of(facts: Facts, in_full: bool = True) -> tuple[Check, ...]:
         p_values |= {name: left.get(name, 1.0) for name in LEVELS}
     effects = {"autocorrelation": facts.autocorrelation(), "trend": rest.trend(), "shift": rest.shift(),
                **{season.name: facts.season(season) for season in facts.seasons}}
-    least = _least_seen(facts, {name: bound_of(drawn, level) for name, drawn in orders.statistics(kinds).items()},
-                        level) if in_full else {}
+    least = dict[str, float]()
+    if in_full:
+        bounds = {name: bound_of(drawn, level) for name, drawn in orders.statistics(kinds).items()}
+        least = _least_seen(facts, bounds, level)
     return tuple(Check(name, p_values.get(name, 1.0), *effects[name], least.get(name)) for name in kinds)
 
 
 def _least_seen(facts: Facts, bounds: Mapping[str, float], level: float) -> dict[str, float]:
     """Returns what the tests of a history would have seen, but for a shift."""
-    scores, count = tilted(Sample.of(facts.numbers)), len(facts.numbers)
+    scores = tilted(Sample.of(facts.numbers))
+    count = len(facts.numbers)
     seen: dict[str, Callable[[float], float]] = {
         "autocorrelation": partial(autocorrelation_seen, count, level),
         "trend": partial(trend_seen, scores, count, bounds["trend"]),
@@ -241,10 +267,11 @@ class Checks:
     def frame(self) -> pd.DataFrame:
         """Returns a table with a row for each test, and the columns `p`, `warns`, `size`, `least_seen` and `words`."""
         import pandas as pd
-        rows = [[test.p, test.name in self.warned, test.size, test.least_seen,
-                 sentence(Remark(f"found {test.name}", test.facts))] for test in self.tests]
-        return pd.DataFrame(rows, pd.Index([test.name for test in self.tests], name="test"),
-                            ["p", "warns", "size", "least_seen", "words"])
+        rows = list[list[object]]()
+        for test in self.tests:
+            words = sentence(Remark(f"found {test.name}", test.facts))
+            rows.append([test.name, test.p, test.name in self.warned, test.size, test.least_seen, words])
+        return pd.DataFrame(rows, columns=["test", "p", "warns", "size", "least_seen", "words"]).set_index("test")
 
     @property
     def lines(self) -> list[str]:
@@ -267,8 +294,11 @@ def check_history(observed: Observed | Iterable[Number], *, season: int | None =
     of less than 2 periods.
     """
     numbers = numbers_of(observed, "demand")
-    every, first = (observed.every, observed.first) if isinstance(observed, History) else (None, 1)
-    return _checked(numbers, every, first, None if season is None else whole(season, "season"), True)
+    if season is not None:
+        season = whole(season, "season")
+    if isinstance(observed, History):
+        return _checked(numbers, observed.every, observed.first, season, True)
+    return _checked(numbers, None, 1, season, True)
 
 
 def remarks_of(numbers: Sequence[int], every: str | None = None, first: int = 1,
@@ -283,13 +313,20 @@ def _checked(numbers: Sequence[int], every: str | None, first: int, season: int 
     seasons, untested = seasons_of(every, first, len(numbers), season)
     facts = Facts(numbers, seasons, every, first)
     checks = Checks(len(numbers), len(numbers) - numbers.count(0), tests_of(facts, in_full))
-    seen = {test.name: test.least_seen for test in checks.tests
-            if test.name not in checks.warned and test.least_seen is not None}
-    silent = [Remark("silent tests", seen)] if seen else []
-    few = [Remark("few periods", {"periods": len(numbers)})] if len(numbers) < LEAST_PERIODS else []
+    unknown = list[Remark]()
+    if checks.tests:
+        seen: dict[str, Value] = {}
+        for test in checks.tests:
+            if test.name not in checks.warned and test.least_seen is not None:
+                seen[test.name] = test.least_seen
+        if seen:
+            unknown.append(Remark("silent tests", seen))
+        unknown += untested
+    elif len(numbers) < LEAST_PERIODS:
+        unknown.append(Remark("few periods", {"periods": len(numbers)}))
+    largest = largest_periods(numbers, every, first) if in_full else ()
     return replace(checks, warnings=tuple(_warnings(facts, checks)), notes=tuple(_notes(facts)),
-                   unknown=(*silent, *untested) if checks.tests else tuple(few),
-                   largest=largest_periods(numbers, every, first) if in_full else ())
+                   unknown=tuple(unknown), largest=largest)
 
 
 def _warnings(facts: Facts, checks: Checks) -> Iterator[Remark]:
@@ -303,7 +340,9 @@ def _warnings(facts: Facts, checks: Checks) -> Iterator[Remark]:
     for name in (*LEVELS, "season", "weekday", "autocorrelation"):
         if name not in kinds:
             continue
-        test, is_beside, lost = kinds[name], len(kinds) > 1, dict[str, Value](study=None)
+        test = kinds[name]
+        is_beside = len(kinds) > 1
+        lost = dict[str, Value](study=None)
         # Of an autocorrelation beside other warnings, or below 0, it is not known what is lost by who does not heed it.
         if name != "autocorrelation" or not (is_beside or test.size < 0):
             variation = float(np.std(facts.numbers) / np.mean(facts.numbers))
@@ -335,15 +374,17 @@ def loss_of(kind: str, size: float, variation: float, length: int = 0) -> Loss:
     """Returns what was lost with the effect that is nearest to one of this kind and size, which may be infinite, if a
     period's demand has this coefficient of variation."""
     law = min(STUDIED, key=lambda name: abs(math.log(max(variation, 1e-9) / STUDIED[name])))
-    near = [loss for loss in losses() if loss[:2] == (kind, law)]
-    of_length = min((loss.effect_length for loss in near), key=lambda own: abs(math.log(own / length))) if length else 0
-    return min((loss for loss in near if loss.effect_length == of_length),
-               key=lambda loss: abs(loss.effect_size / 100 - min(size, 10.0)))
+    def distance(loss: Loss) -> tuple[float, float]:
+        """Returns how far a loss is by the length of a season, and then by the size."""
+        of_length = abs(math.log(loss.effect_length / length)) if length else loss.effect_length
+        return of_length, abs(loss.effect_size / 100 - min(size, 10.0))
+    return min((loss for loss in losses() if loss[:2] == (kind, law)), key=distance)
 
 
 def _notes(facts: Facts) -> Iterator[Remark]:
     """Yields what `check_history` says beside the tests."""
-    numbers, demands = facts.numbers, sorted((number for number in facts.numbers if number), reverse=True)
+    numbers = facts.numbers
+    demands = sorted((number for number in facts.numbers if number), reverse=True)
     if not demands:
         yield Remark("no demand")
         return
@@ -358,7 +399,8 @@ def _notes(facts: Facts) -> Iterator[Remark]:
         yield Remark("few demands in record", {"demands": len(demands), "periods": len(numbers),
                                                "least": LEAST_DEMANDS, **_largest(facts, 1)})
         return
-    if far := len(outliers_of(demands, pack)):
+    far = len(outliers_of(demands, pack))
+    if far:
         yield Remark("far demands", {"next": demands[far], **_largest(facts, far)})
 
 
@@ -407,8 +449,10 @@ def outliers_of(demands: Sequence[int], pack: int) -> list[int]:
     ranked = sorted((demand for demand in demands if demand), reverse=True)
     if len(ranked) < LEAST_DEMANDS:
         return []
-    packs, far = np.array(ranked) / pack, 0
-    logarithms, roundings = np.log(packs), 1 / (12 * packs**2)
+    packs = np.array(ranked) / pack
+    far = 0
+    logarithms = np.log(packs)
+    roundings = 1 / (12 * packs**2)
     for above in range(MOST_OUTLIERS):
         left = len(packs) - above
         distances = logarithms[above:] - logarithms[above:].sum() / left

@@ -17,7 +17,6 @@ A new family is a class with its name, and an instance in `FAMILIES`; docs/GUIDE
 from __future__ import annotations
 
 import math
-from abc import ABC, abstractmethod
 from collections.abc import Callable, Mapping
 from dataclasses import dataclass
 from functools import partial
@@ -26,17 +25,13 @@ from typing import Any, NamedTuple
 import numpy as np
 from scipy import special
 
-from ..chances import DEMANDS, LEAST_TAIL, Floats, Whole, cut, scaled
+from ..chances import DEMANDS, Floats, Whole, cut, scaled
 from ..compiled import compiled
-from ..formats import MOST_DEMAND
 from . import EMPIRICAL, LEAST_DEMANDS
+from .family import LEAST_CHANCE, Family, Fit, Parameters
 from .sample import Sample
 
-Parameters = tuple[Any, ...]  # of a family: numbers of a member, or columns with one for each of several
 WORSE = 10.0  # in BIC: families further behind the best are not looked at
-UNIFORMS = 5  # columns of uniform numbers, at most, for members
-LEAST_CHANCE = 1e-300
-FIRST_WIDTH = 128  # of drawn laws; ever more until all but a tail is there
 
 # Negative binomial laws.
 # With the greatest size, such a law is all but a Poisson law. Of a single demand in as many periods as there may be, the
@@ -62,77 +57,6 @@ MOST_BULKS = 0.5  # the largest share of bulks
 BULK_VARIATION, BULK_FREEDOM = 0.25, 2.0
 
 
-class Fit(NamedTuple):
-    """The member of a family with the greatest likelihood, with the logarithm of that and the Bayesian information
-    criterion (Schwarz, Estimating the dimension of a model, 1978)."""
-
-    family: Family
-    member: Parameters
-    log_likelihood: float
-    bic: float
-
-    def law(self, most: int) -> Floats:
-        """Returns the law of the member, without the end of its tail. `most` is the largest number that was seen."""
-        return cut(self.family.laws(tuple(np.array([[it]]) for it in self.member), most)[0])
-
-
-class Family(ABC):
-    """A family of laws: how it is fitted, what it says of the next period, and how its members are drawn.
-
-    It has `chances` or `logarithms`, each of which is made of the other. The priors of the predictive law and of the
-    draws are the same, so the mean of many drawn members is that law.
-    """
-
-    @property
-    @abstractmethod
-    def name(self) -> str:
-        """Returns the name of the family, by which a method asks for it."""
-
-    @abstractmethod
-    def likeliest(self, sample: Sample) -> Parameters | None:
-        """Returns the member with the greatest likelihood; None if the sample does not allow the family."""
-
-    @abstractmethod
-    def predictive(self, sample: Sample, ends: Whole) -> Floats:
-        """Returns the posterior predictive law of cells: with the doubt about the parameters, from a weak prior of them.
-        Its sum may be below 1 by the chance of numbers beyond the cells."""
-
-    @abstractmethod
-    def drawn(self, sample: Sample, uniform: Floats, counted: float = 1.0) -> Parameters:
-        """Draws members from the posterior law of their parameters.
-
-        `uniform` has columns of uniform numbers, with one for each member. Each number of the sample counts as
-        `counted` numbers: 1 for the posterior, less for a coarsened one.
-        """
-
-    def chances(self, values: Whole, *parameters: Any) -> Floats:
-        """Returns the chances of values: of a member, or a row for each if parameters are columns."""
-        return np.asarray(np.exp(self.logarithms(values, *parameters)))
-
-    def logarithms(self, values: Whole, *parameters: Any) -> Floats:
-        """Returns the logarithms of `chances`."""
-        return np.asarray(np.log(np.maximum(self.chances(values, *parameters), LEAST_CHANCE)))
-
-    def fit(self, sample: Sample) -> Fit | None:
-        """Returns the likeliest member. If the first parameter is a share of 0, it is none."""
-        member = self.likeliest(sample)
-        if member is None:
-            return None
-        likelihood = float(sample.counts @ self.logarithms(sample.values, *member))
-        return Fit(self, member, likelihood, (len(member) - (member[0] == 0)) * math.log(sample.size) - 2 * likelihood)
-
-    def laws(self, parameters: Parameters, most: int) -> Floats:
-        """Returns a row of chances of 0, 1, 2 and so on for each member, without the end of the tail. `most` is the
-        largest number that was seen."""
-        width = max(FIRST_WIDTH, 2 * most)
-        while True:
-            chances = self.chances(DEMANDS[:width], *parameters)
-            total = chances.sum(axis=1, keepdims=True)
-            if width > MOST_DEMAND or total.min() > 1 - LEAST_TAIL:
-                return np.asarray(chances / total)
-            width *= 2
-
-
 class Poisson(Family):
     """Poisson laws. The parameter is the mean."""
 
@@ -146,7 +70,8 @@ class Poisson(Family):
 
     def predictive(self, sample: Sample, ends: Whole) -> Floats:
         """Returns the law of a number whose mean has a gamma law: it is negative binomial."""
-        size, rest = sample.total + 0.5, 1 / (sample.size + 1)
+        size = sample.total + 0.5
+        rest = 1 / (sample.size + 1)
         chances = NEGATIVE_BINOMIAL.chances(DEMANDS[:len(ends)], size, rest)
         return with_rest(chances, ends, special.betainc(size, ends[-1] + 1, 1 - rest))
 
@@ -168,7 +93,8 @@ class Geometric(Family):
 
     def predictive(self, sample: Sample, ends: Whole) -> Floats:
         """Returns the law of a number whose p has a beta law, from a flat prior of p."""
-        first, second = sample.size + 1.0, sample.total + 1.0
+        first = sample.size + 1.0
+        second = sample.total + 1.0
         at_least = np.exp(special.betaln(first, second + np.append(0, ends + 1)) - special.betaln(first, second))
         return -np.diff(at_least)
 
@@ -200,7 +126,8 @@ class NegativeBinomial(Family):
         if sample.squares <= sample.total:
             return None
         score = partial(score_of_size, sample.above, sample.size, sample.mean)
-        low, high = math.log(LEAST_SIZE), math.log(MOST_SIZE)
+        low = math.log(LEAST_SIZE)
+        high = math.log(MOST_SIZE)
         if score(high)[0] >= 0:
             return None
         size = math.exp(root_of(score, low, high))
@@ -214,9 +141,11 @@ class NegativeBinomial(Family):
         """Returns the posterior predictive law. For a given size p has a beta law, so only the sizes are summed."""
         sizes, likelihoods = self._posterior(sample, 1.0)
         shares = scaled(np.exp(likelihoods - likelihoods.max()))
-        sizes, shares = sizes[shares > LEAST_SHARE], shares[shares > LEAST_SHARE]
+        sizes = sizes[shares > LEAST_SHARE]
+        shares = shares[shares > LEAST_SHARE]
         most_mean = greatest_mean(sample)
-        above, first = most_mean / (sizes + most_mean), sample.size * sizes
+        above = most_mean / (sizes + most_mean)
+        first = sample.size * sizes
         total = float(shares @ special.betainc(sample.total, first, above))
         # Numbers beyond the cells are at most as likely as with the greatest mean.
         beyond = float(shares @ special.betainc(ends[-1] + 1, sizes, above))
@@ -229,8 +158,10 @@ class NegativeBinomial(Family):
 
     def drawn(self, sample: Sample, uniform: Floats, counted: float = 1.0) -> Parameters:
         """Draws sizes and 1 - p. For a given size, p has a beta law that is cut at the greatest mean."""
-        (sizes, likelihoods), most_mean = self._posterior(sample, counted), greatest_mean(sample)
-        size, total = counted * sample.size, counted * sample.total
+        sizes, likelihoods = self._posterior(sample, counted)
+        most_mean = greatest_mean(sample)
+        size = counted * sample.size
+        total = counted * sample.total
         within = special.betainc(total, size * sizes, most_mean / (sizes + most_mean))
         shares = within * np.exp(likelihoods - likelihoods.max())
         place = np.searchsorted(np.cumsum(shares)[:-1] / shares.sum(), uniform[0])
@@ -252,9 +183,13 @@ def root_of(function: Callable[[float], tuple[float, float]], low: float, high: 
     place = (low + high) / 2
     while True:
         value, slope = function(place)
-        low, high = (place, high) if value > 0 else (low, place)
+        if value > 0:
+            low = place
+        else:
+            high = place
         step = place - value / slope if slope else low
-        step = step if low < step < high else (low + high) / 2
+        if not low < step < high:
+            step = (low + high) / 2
         if abs(step - place) <= ROOT:
             return step
         place = step
@@ -276,7 +211,9 @@ def beta_negative_binomial(size: Floats, first: Floats, second: float, most_mean
     their mean is at most so much: a row for each size. Without the bound it is the beta negative binomial law (Johnson,
     Kemp and Kotz, Univariate Discrete Distributions, third edition, section 6.2.3)."""
     above = most_mean / (size + most_mean)  # the greatest value of 1 - p
-    (a, b), scale = (second + values, first + size), special.betaln(first + size, second)
+    a = second + values
+    b = first + size
+    scale = special.betaln(first + size, second)
 
     def rising(start: Floats, ratios: Floats) -> Floats:
         """Returns numbers by the logarithm of the first one, and the ratio of each further one to that before it."""
@@ -321,7 +258,8 @@ class Hurdle(Family):
 
     def drawn(self, sample: Sample, uniform: Floats, counted: float = 1.0) -> Parameters:
         """Draws the share, whose posterior is a beta law, and the parameters of sizes."""
-        zeros, demands = counted * sample.zeros, counted * (sample.size - sample.zeros)
+        zeros = counted * sample.zeros
+        demands = counted * (sample.size - sample.zeros)
         share = (special.betaincinv(zeros + 0.5, demands + 0.5, uniform[-1]) if zeros
                  else np.zeros_like(uniform[-1]))
         return share, *self.sizes.drawn(sample.excess, uniform[:-1], counted)
@@ -412,7 +350,8 @@ class Bulk(Family):
         """Returns the predictive law of ordinary demand and of bulks, whose size has Student's law."""
         parts = parts_of(sample)
         assert parts is not None
-        bulks, freedom = parts.bulks, parts.bulks.size - 1 + BULK_FREEDOM
+        bulks = parts.bulks
+        freedom = parts.bulks.size - 1 + BULK_FREEDOM
         deviation = math.sqrt(parts.squares() / freedom * (1 + 1 / bulks.size))
         share = bulks.size / (sample.size + 1)
         below = special.stdtr(freedom, (ends[1:] + 0.5 - bulks.mean) / deviation)
@@ -439,7 +378,8 @@ class Bulk(Family):
 def parts_of(sample: Sample) -> Parts | None:
     """Divides a sample into the most likely parts (Scott and Symons, Clustering methods based on likelihood ratio
     criteria, 1971). None if there is no ordinary number above 0 below at most half of all."""
-    values, counts = sample.values.astype(float), sample.counts.astype(float)
+    values = sample.values.astype(float)
+    counts = sample.counts.astype(float)
     bulks = sample.size - np.cumsum(counts)[:-1]
     allowed = (bulks <= MOST_BULKS * sample.size) & (values[:-1] > 0)
     if not allowed.any():
@@ -464,7 +404,8 @@ def parts_of(sample: Sample) -> Parts | None:
     return Parts(ordinary, Sample(sample.values[place:], sample.counts[place:]), min(fits, key=lambda fit: fit.bic))
 
 
-POISSON, NEGATIVE_BINOMIAL = Poisson(), NegativeBinomial()
+POISSON = Poisson()
+NEGATIVE_BINOMIAL = NegativeBinomial()
 FAMILIES: dict[str, Family] = {family.name: family for family in (
     POISSON, NEGATIVE_BINOMIAL, Hurdle(Geometric()), Hurdle(POISSON), Hurdle(NEGATIVE_BINOMIAL), Hurdle(Lognormal()),
     Bulk())}
@@ -473,9 +414,10 @@ METHODS = ("auto", "predictive", EMPIRICAL, *FAMILIES)
 
 def fits_of(sample: Sample) -> dict[str, Fit]:
     """Returns all families that a sample allows, the least BIC first; none for less than two numbers above 0."""
-    families = FAMILIES.items() if sample.demands >= LEAST_DEMANDS else ()
-    fits = {name: fit for name, family in families if (fit := family.fit(sample))}
-    return dict(sorted(fits.items(), key=lambda pair: pair[1].bic))
+    if sample.demands < LEAST_DEMANDS:
+        return {}
+    fits = sorted(filter(None, (family.fit(sample) for family in FAMILIES.values())), key=lambda fit: fit.bic)
+    return {fit.family.name: fit for fit in fits}
 
 
 def near_of(fits: Mapping[str, Fit]) -> dict[str, Fit]:

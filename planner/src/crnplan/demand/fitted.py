@@ -39,7 +39,9 @@ class Figures:
     @classmethod
     def of(cls, law: Law, *, is_sample: bool = False) -> Figures:
         """Computes the figures of a law. A sample has its unbiased variance."""
-        values, weights, size = np.array(law.values), np.array(law.weights), law.size
+        values = np.array(law.values)
+        weights = np.array(law.weights)
+        size = law.size
         mean = float(weights / size @ values)
         places = np.searchsorted(np.cumsum(weights), [np.ceil(share * size - 1e-6) for share in QUANTILES])
         variance: float | None = float(weights / size @ (values - mean)**2)
@@ -136,7 +138,8 @@ class FittedLaw(Law):
     def lower(self) -> Remark | None:
         """Returns a remark if a law of demand has a much lower mean or variance than what was seen; both are in
         items."""
-        seen, law = self.diagnostics.history, self.figures
+        seen = self.diagnostics.history
+        law = self.figures
         if self.is_of_leads or self.family == EMPIRICAL or not seen.variance or self.diagnostics.share == 0:
             return None
         assert law.variance is not None
@@ -156,7 +159,10 @@ def numbers_of(observed: Observed | Iterable[Any], what: str,
     scenario can have. Raises RefusedFiles with the places of all such numbers, and Refused for a Series by dates whose
     periods are not known, are not in order, or stand twice.
     """
-    numbers = [*observed.counts] if isinstance(observed, Observed) else _whole_numbers(_dense(observed, what), what)
+    if isinstance(observed, Observed):
+        numbers = [*observed.counts]
+    else:
+        numbers = _whole_numbers(_dense(observed, what), what)
     most = max(numbers, default=0)
     if numbers and (wrong(most, most) or wrong(min(numbers), most)):
         reasons = [wrong(number, most) for number in numbers]
@@ -198,7 +204,8 @@ def _whole_numbers(observed: Iterable[Any], what: str) -> list[int]:
 
 def fit_words(law: FittedLaw) -> Iterator[str]:
     """Yields how a law was fitted; nothing of one that was asked for as it was seen."""
-    fit, borrowed = law.diagnostics, law.diagnostics.borrowed
+    fit = law.diagnostics
+    borrowed = law.diagnostics.borrowed
     if fit.method == EMPIRICAL:
         return
     if fit.side:
@@ -263,9 +270,11 @@ def _guard_words(family: str, shares: Shares, passes: bool) -> str:
 def notes_of(law: FittedLaw, name: str) -> list[str]:
     """Returns how a law was fitted and its figures, in lines under the name of a table; none of one that was asked for
     as it was seen."""
-    rows = {} if law.diagnostics.method == EMPIRICAL else {"seen": law.diagnostics.history}
+    lines = [*fit_words(law)]
+    if law.diagnostics.method != EMPIRICAL:
+        lines.append(f"seen: {law.diagnostics.history}")
     if law.family != EMPIRICAL:
-        rows["law"] = law.figures
-    lines = [*fit_words(law), *(f"{title}: {its}" for title, its in rows.items())]
-    lines += [advised(law.lower)] if law.lower else []
+        lines.append(f"law: {law.figures}")
+    if law.lower:
+        lines.append(advised(law.lower))
     return [f"{name}: {line}" for line in lines]

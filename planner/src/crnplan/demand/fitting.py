@@ -89,9 +89,13 @@ def seen_share(sample: Sample, law: Floats) -> float:
     and a variance of at least `LEAST_VARIANCE` of those that were seen."""
     values = np.arange(len(law))
     mean = float(law @ values)
-    variance, own = float(law @ (values - mean)**2), sample.squares / sample.size
-    lower, missing = sample.mean - mean, LEAST_VARIANCE * sample.variance - variance
-    of_mean = 1 - (1 - LEAST_MEAN) * sample.mean / lower if mean < LEAST_MEAN * sample.mean else 0.0
+    variance = float(law @ (values - mean)**2)
+    own = sample.squares / sample.size
+    lower = sample.mean - mean
+    missing = LEAST_VARIANCE * sample.variance - variance
+    of_mean = 0.0
+    if mean < LEAST_MEAN * sample.mean:
+        of_mean = 1 - (1 - LEAST_MEAN) * sample.mean / lower
     if missing <= 0:
         return of_mean
     # With a share x of what was seen the variance is higher by x (own - variance + lower^2) - x^2 lower^2.
@@ -116,12 +120,15 @@ def family_law(boxes: Sequence[int], method: str, box: int = 1) -> FittedLaw:
     """Returns a law of families: of a named one, or of those that the guard lets pass. Raises Refused if the history
     does not allow the named one."""
     sample = Sample.of(boxes)
-    packs, pack = sample.packs, sample.pack
+    packs = sample.packs
+    pack = sample.pack
     fits = fits_of(packs)
     if method in FAMILIES and method not in fits:
         raise Refused(f"the history does not allow the family {method}; it allows {', '.join(fits) or 'none'}")
     guard = {name: shares_of(packs, fit.law(packs.most)) for name, fit in near_of(fits).items()}
-    names = [method] if method in FAMILIES else [name for name, shares in guard.items() if shares.passes]
+    names = [name for name, shares in guard.items() if shares.passes]
+    if method in FAMILIES:
+        names = [method]
     known = Diagnostics(Law.of_numbers(boxes), method, pack, {name: fit.bic for name, fit in fits.items()}, guard)
     if not names:
         return FittedLaw.made(known.seen, EMPIRICAL, known, box)
@@ -137,9 +144,10 @@ def family_law(boxes: Sequence[int], method: str, box: int = 1) -> FittedLaw:
     weights = [value / sum(likely) for value in likely]
     law = scaled(mixture(zip(weights, laws))[:cap + 1])
     share = min(share_of(sample, law), 1 - seen_share(sample, law))
+    known = replace(known, families=dict(zip(names, weights)), cap=cap, share=share)
     parts = parts_of(packs) if "bulk" in names else None
-    known = replace(known, families=dict(zip(names, weights)), cap=cap, share=share,
-                    bulks=parts and (parts.bulks.size, pack * int(parts.bulks.values[0])))
+    if parts:
+        known = replace(known, bulks=(parts.bulks.size, pack * int(parts.bulks.values[0])))
     law = mixture([(share, law), (1 - share, sample.law)])
     return FittedLaw.made(Law.of_chances(law), names[0], known, box)
 
@@ -184,7 +192,12 @@ def leads_of(observed: Observed | Iterable[Number]) -> list[int]:
     """Returns lead times in periods. Raises RefusedFaults with the place of each that is not from 1 to 32."""
     above = f"is above {MOST_LEAD}; take longer periods (weeks for days, months for weeks), for demands too"
     below = "is below 1; write 1 if the order is there for the next period's demand"
-    return numbers_of(observed, "lead time", lambda it, most: above if it > MOST_LEAD else below if it < 1 else "")
+
+    def wrong(number: int, most: int) -> str:
+        if number > MOST_LEAD:
+            return above
+        return below if number < 1 else ""
+    return numbers_of(observed, "lead time", wrong)
 
 
 def sides_of(counts: Floats) -> Floats:

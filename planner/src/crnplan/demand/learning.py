@@ -40,7 +40,8 @@ from .sample import Sample
 LOGITS = (-5.5, 6.5)  # of the share: from 0.4% to 99.8% of periods
 MEANS = (0.05, 100.0)  # of m
 DISPERSIONS = np.array([0.4, 0.7, 1.0, 1.6, 3.0, 6.0, 15.0, 60.0])
-SHARE_CELLS, MEAN_CELLS = 24, 24
+SHARE_CELLS = 24
+MEAN_CELLS = 24
 SIZE_CELLS = MEAN_CELLS * len(DISPERSIONS)
 SHARE_POINTS, MEAN_POINTS = 10, 8  # in a cell
 SHAPE = (SHARE_CELLS, MEAN_CELLS, len(DISPERSIONS))
@@ -55,7 +56,8 @@ VERSION = 2  # of the text; another grid is another version
 UNITS = 2**40  # of a chance of 1: the last bits of a sum, which differ by machine, are rounded off
 KIND = "prior of crnplan"
 NONE, CLASS, ALL = BORROW  # "all" is the name of the prior of the whole catalogue too
-LEAST_ITEMS, LEAST_ON_REQUEST = 100, 30
+LEAST_ITEMS = 100
+LEAST_ON_REQUEST = 30
 MOST_ITEMS = 3000  # on which a prior is estimated
 FLAT_ITEMS = 1  # that the flat prior counts for
 CLASS_ITEMS = 30  # that the prior of the catalogue counts for in a class
@@ -111,8 +113,9 @@ def size_table() -> tuple[Floats, Whole]:
 def size_widths() -> Whole:
     """Returns after how many sizes what is left of the laws of each cell is at most 1, 0.1 and so on to 1e-9: of its
     greatest mean, of which most is left."""
+    least = np.array([[10.0**-level] for level in range(LEVELS)])
     tails = [1 - np.cumsum(law[-1]) for law in size_laws()]
-    return np.array([[np.argmax(its <= 10.0**-level) + 1 for level in range(LEVELS)] for its in tails])
+    return np.array([np.argmax(tail <= least, axis=1) + 1 for tail in tails])
 
 
 def _scaled(logarithms: Floats) -> Floats:
@@ -186,7 +189,9 @@ def add_row(total: Floats, row: Floats, weight: float) -> None:
 @compiled
 def expected_of(shares: Floats, sizes: Floats, starts: Whole, groups: Whole, prior: Floats) -> Floats:
     """Returns `Cells.expected`."""
-    cells, own, likely = np.zeros(prior.shape), np.empty(prior.shape[1]), np.empty(prior.shape[1])
+    cells = np.zeros(prior.shape)
+    own = np.empty(prior.shape[1])
+    likely = np.empty(prior.shape[1])
     for group in range(len(starts)):
         possible = np.flatnonzero(shares[group])
         own[:] = likely[:] = 0.0
@@ -288,7 +293,9 @@ class Prior:
         if pack > 1:
             return ALL, self.packs
         own = self.classes.get(item_class or "")
-        return (str(item_class), own) if own else (ALL, self.whole)
+        if own is None:
+            return ALL, self.whole
+        return str(item_class), own
 
     @property
     def text(self) -> str:
@@ -302,7 +309,8 @@ class Prior:
         """Returns what `text` gave. Raises Refused if it is no such text; `name` says where it stands."""
         try:
             tree = json.loads(text)
-            kind, version = tree.pop("kind"), tree.pop("version")
+            kind = tree.pop("kind")
+            version = tree.pop("version")
         except (ValueError, TypeError, LookupError, AttributeError):
             raise Refused(f"{name}: this is no {KIND}", "learn one from the catalogue") from None
         if (kind, version) != (KIND, VERSION):
@@ -311,8 +319,10 @@ class Prior:
             if tree["borrow"] not in BORROW or (tree["borrow"] == NONE) is bool(tree["whole"]):
                 raise ValueError("something is learned unless nothing is borrowed")
             tree["classes"] = {name: Learned.from_tree(learned) for name, learned in tree["classes"].items()}
-            tree |= {part: Learned.from_tree(tree[part]) if tree[part] else None for part in ("whole", "packs")}
-            tree |= {count: int(tree[count]) for count in ("seed", "items", "outside")}
+            for part in ("whole", "packs"):
+                tree[part] = Learned.from_tree(tree[part]) if tree[part] else None
+            for count in ("seed", "items", "outside"):
+                tree[count] = int(tree[count])
             return cls(**tree)
         except (ValueError, TypeError, LookupError, AttributeError, OverflowError):
             raise Refused(f"{name}: the {KIND} is damaged", "learn it anew") from None
@@ -345,7 +355,9 @@ def classes_of(items: Sequence[tuple[str, Any]], histories: Histories, classes: 
         raise Refused("there are no classes to borrow from; give a class for each item, or borrow=\"all\"")
     if isinstance(histories, Mapping) != isinstance(classes, Mapping):
         raise Refused("give classes by item if the histories are by item, else in the order of the histories")
-    names = [classes.get(name) for name, _ in items] if isinstance(classes, Mapping) else [*classes]
+    names = [*classes]
+    if isinstance(classes, Mapping):
+        names = [classes.get(name) for name, _ in items]
     if len(names) != len(items):
         raise Refused(f"there are {len(items):,} histories and {len(names):,} classes; give one for each")
     return [str(name or "") for name in names]
@@ -359,8 +371,9 @@ def learned(samples: Sequence[Sample], seed: int, above: Floats | None = None) -
         places = np.random.default_rng(seed).choice(len(every), MOST_ITEMS, replace=False)
         every = [every[place] for place in np.sort(places)]
     chunks = chunks_of(every)
-    pulled = above is not None and len(samples) <= MOST_PULLED
-    start, items = (above, CLASS_ITEMS) if above is not None and pulled else (FLAT, FLAT_ITEMS)
+    start, items = FLAT, FLAT_ITEMS
+    if above is not None and len(samples) <= MOST_PULLED:
+        start, items = above, CLASS_ITEMS
     chances = estimated(chunks, start, items * start)
     gains = np.log10(marginal(chunks, chances) / marginal(chunks, FLAT))
     return Learned.of(chances, len(samples), len(gains), float(gains.mean()))
@@ -399,9 +412,11 @@ def learn(histories: Histories, classes: Classes | None = None, borrow: str = "a
     within = [sample for sample in samples if not is_outside(sample)]
     outside = len(samples) - len(within)
     if len(within) < least:
-        left_out = f" ({outside:,} more have larger sizes than can be learned from)" if outside else ""
-        remedy = (f"ask for it with least={len(within)}, or fit each alone with borrow=\"none\""
-                  if len(within) >= LEAST_ON_REQUEST else "fit each item alone, with borrow=\"none\"")
+        left_out, remedy = "", "fit each item alone, with borrow=\"none\""
+        if outside:
+            left_out = f" ({outside:,} more have larger sizes than can be learned from)"
+        if len(within) >= LEAST_ON_REQUEST:
+            remedy = f"ask for it with least={len(within)}, or fit each alone with borrow=\"none\""
         raise Refused(f"there are {len(within)} items to learn from{left_out}, and it takes {least}", remedy)
     whole = learned(within, seed)
     groups: defaultdict[str, list[Sample]] = defaultdict(list)
@@ -410,5 +425,7 @@ def learn(histories: Histories, classes: Classes | None = None, borrow: str = "a
             groups[name].append(sample)
     by_class = {name: learned(group, seed, whole.chances) for name, group in sorted(groups.items())}
     packs = [sample.packs for sample in samples if sample.pack > 1 and not is_outside(sample.packs)]
-    of_packs = learned(packs, seed, whole.chances) if len(packs) >= LEAST_ON_REQUEST else None
+    of_packs = None
+    if len(packs) >= LEAST_ON_REQUEST:
+        of_packs = learned(packs, seed, whole.chances)
     return Prior(borrow, seed, len(items), outside, whole, by_class, of_packs)

@@ -43,7 +43,8 @@ ROUNDING = 1e-9  # Orders whose statistics differ by less are as suspicious.
 SEEN = 0.8
 SIZES = [step / 20 for step in range(1, 21)]  # of the effects that are tried
 # Within an equal block of time the mean stays: so many in the record, and at most so many in a part of a season.
-BLOCKS, BLOCKS_OF_PART = 104, 13
+BLOCKS = 104
+BLOCKS_OF_PART = 13
 
 
 def centred(rows: Floats) -> Floats:
@@ -83,7 +84,8 @@ def places_of(size: int) -> Whole:
 def steps(far: Floats) -> Floats:
     """Returns the sum of squares that a step after each of these numbers of periods explains, in columns. Its share of
     all squares rises with the difference of the means before and after it, divided by its standard error."""
-    size, before = far.shape[1], places_of(far.shape[1])
+    size = far.shape[1]
+    before = places_of(far.shape[1])
     sums = np.cumsum(far, axis=1)[:, before[0] - 1:before[-1]]
     explained: Floats = np.square(sums, out=sums)
     explained *= size / (before * (size - before))
@@ -114,7 +116,8 @@ class Drawn:
     65,536 periods; small numbers are read faster."""
 
     def __init__(self, size: int, first: int) -> None:
-        self.random, self.rows = np.random.default_rng([SEED, first]), np.empty((0, size), np.uint16)
+        self.random = np.random.default_rng([SEED, first])
+        self.rows = np.empty((0, size), np.uint16)
 
     def orders(self, start: int, end: int) -> Places:
         """Returns some of them, in rows. They are drawn as they are needed, always the same."""
@@ -161,8 +164,10 @@ class Orders:
     def p_values(self, seasons: Mapping[str, Whole], level: float) -> dict[str, float]:
         """Returns the p values of all tests that have one of at most a level. A test is left when enough orders are as
         suspicious. A season has the part of each period."""
-        kinds, parts = statistics_of(seasons), np.array([*seasons.values()], np.int64).reshape(-1, len(self.codes))
-        counts, most = np.ones(len(kinds), np.int64), most_of(level, TIMES + 1)
+        kinds = statistics_of(seasons)
+        parts = np.array([*seasons.values()], np.int64).reshape(-1, len(self.codes))
+        counts = np.ones(len(kinds), np.int64)
+        most = most_of(level, TIMES + 1)
         for orders in self.drawn(AT_ONCE):
             counts += suspicious(self.far, self.ranks, orders, parts, most - counts)
             if counts.min() > most:
@@ -175,12 +180,23 @@ def suspicious(far: Floats, ranks: Floats, orders: Places, parts: Whole, most: W
     """Returns for each test, of the order and of each row of parts, how many orders of a history are as suspicious as
     that itself, of which it takes distances and ranks, until all tests are left: those that have more than `most`. The
     order is tested with three lags."""
-    size, seasons, squares, rank_squares, edge = len(far), len(parts), 0.0, 0.0, max(1, math.ceil(EDGE * len(far)))
-    counts, weights, row, ranked = np.zeros_like(most), np.zeros(size), np.zeros(size + LAGS), np.zeros(size)
-    found, least, most_parts = np.zeros(len(most)), np.zeros(len(most)), parts.max() + 1 if seasons else 0
-    sums, sizes = np.zeros((seasons, most_parts)), np.zeros((seasons, most_parts))
+    size = len(far)
+    seasons = len(parts)
+    squares = 0.0
+    rank_squares = 0.0
+    edge = max(1, math.ceil(EDGE * len(far)))
+    counts = np.zeros_like(most)
+    weights = np.zeros(size)
+    row = np.zeros(size + LAGS)
+    ranked = np.zeros(size)
+    found = np.zeros(len(most))
+    least = np.zeros(len(most))
+    most_parts = parts.max() + 1 if seasons else 0
+    sums = np.zeros((seasons, most_parts))
+    sizes = np.zeros((seasons, most_parts))
     for place in range(size):
-        squares, rank_squares = squares + far[place]**2, rank_squares + ranks[place]**2
+        squares += far[place]**2
+        rank_squares += ranks[place]**2
         if edge <= place + 1 <= size - edge:
             weights[place] = size / ((place + 1.0) * (size - place - 1))
         for season in range(seasons):
@@ -189,8 +205,10 @@ def suspicious(far: Floats, ranks: Floats, orders: Places, parts: Whole, most: W
         below = slope = explained = first = second = third = 0.0
         for place in range(size):
             other = orders[order, place] if order >= 0 else place
-            number, rank = far[other], ranks[other]
-            row[place + LAGS], ranked[place] = number, rank
+            number = far[other]
+            rank = ranks[other]
+            row[place + LAGS] = number
+            ranked[place] = rank
             first += number * row[place + 2]
             second += number * row[place + 1]
             third += number * row[place]
@@ -199,9 +217,11 @@ def suspicious(far: Floats, ranks: Floats, orders: Places, parts: Whole, most: W
             explained = max(explained, below * below * weights[place])
         found[0] = size * (size + 2) / squares**2 * (
             first**2 / (size - 1) + second**2 / (size - 2) + third**2 / (size - 3))
-        found[1], found[2] = slope**2 * 12 / (size * (size**2 - 1.0)) / rank_squares, explained / squares
+        found[1] = slope**2 * 12 / (size * (size**2 - 1.0)) / rank_squares
+        found[2] = explained / squares
         for season in range(seasons):
-            sums[season], found[3 + season] = 0.0, 0.0
+            sums[season] = 0.0
+            found[3 + season] = 0.0
             for place in range(size):
                 sums[season, parts[season, place]] += ranked[place]
             for part in np.flatnonzero(sizes[season]):

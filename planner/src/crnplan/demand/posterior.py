@@ -30,7 +30,8 @@ from ..errors import Refused
 from ..formats import MOST_WEIGHT
 from ..law import Law
 from ..records.observed import Observed
-from .families import UNIFORMS, Family, Fit, Parameters, fits_of, near_of
+from .families import fits_of, near_of
+from .family import UNIFORMS, Family, Fit, Parameters
 from .fitting import FEW, LEAST_LEADS, SIDES, boxes_of, counts_of, lead_law, leads_of, risen, sides_of
 from .sample import Sample
 
@@ -43,7 +44,8 @@ LEAST_SEEN = 1e-12
 PROPOSED = 0.3  # what a number counts for the draws of members
 COUNTED = 0.5  # what a number counts in the posterior
 # Laws end at the largest demand seen, at the largest of so many demands, at least so many times the former, or between.
-DEMANDS_OF_END, LEAST_END = 30_000, 1.5
+DEMANDS_OF_END = 30_000
+LEAST_END = 1.5
 
 
 @dataclass(frozen=True)
@@ -113,7 +115,8 @@ def end_of(sample: Sample) -> float:
 
 def demand_laws(sample: Sample, times: int, random: np.random.Generator) -> tuple[dict[str, int], list[Floats]]:
     """Draws laws of demand: how many each family gave, and their chances."""
-    packs, pack = sample.packs, sample.pack
+    packs = sample.packs
+    pack = sample.pack
     fits = near_of(fits_of(packs))
     if not fits:
         laws = (round_history(np.zeros(1), sample, 0.0, random, COUNTED) for _ in range(times))
@@ -157,7 +160,8 @@ def allowed_laws(observed: Observed | Iterable[Any], *, times: int = 100, box: i
     largest one seen (`end_of`: 9 times after 2 demands, 4 after 12, 2 after 172), those above 10,000 count as 10,000,
     and what is less likely than 1 in 131,072 is left out. A law has at least one demand above 0, if the history has.
     """
-    random, sample = random_of(times, seed, 0), Sample.of(boxes_of(observed, box))
+    random = random_of(times, seed, 0)
+    sample = Sample.of(boxes_of(observed, box))
     families, laws = demand_laws(sample, times, random)
     return AllowedLaws(families, tuple(law_of_chances(law, sample.most) for law in laws))
 
@@ -169,13 +173,17 @@ def allowed_leads(observed: Observed | Iterable[Any], *, times: int = 100, seed:
     times are blurred: how much is drawn too. A single lead time is what a supplier says, and stays as it is. Raises
     RefusedFaults.
     """
-    random, numbers = random_of(times, seed, 1), leads_of(observed)
+    random = random_of(times, seed, 1)
+    numbers = leads_of(observed)
     if len(numbers) < LEAST_LEADS:
         return AllowedLaws({FROM_HISTORY: times}, (Law(tuple(numbers), (MOST_WEIGHT,)),) * times)
-    counts, sides, family = counts_of(numbers), np.zeros(times), FROM_HISTORY
+    counts = counts_of(numbers)
+    sides = np.zeros(times)
+    family = FROM_HISTORY
     if len(numbers) < FEW:
         below = np.cumsum(sides_of(counts))[:-1]
-        sides, family = SIDES[np.searchsorted(below, stratified(random, 1, times)[0])], "blurred"
+        sides = SIDES[np.searchsorted(below, stratified(random, 1, times)[0])]
+        family = "blurred"
     weights = np.zeros((times, len(counts)))
     weights[:, counts > 0] = random.standard_gamma(counts[counts > 0], (times, np.count_nonzero(counts)))
     return AllowedLaws({family: times}, tuple(map(lead_law, weights, sides)))

@@ -20,7 +20,8 @@ from ..compiled import compiled
 from ..formats import MOST_DEMAND
 
 # A pack is recognised after so many demands above 0, if they all have its divisor by luck with a chance of 2^-8.
-PACKED, PACK_BITS = 3, 8.0
+PACKED = 3
+PACK_BITS = 8.0
 TIMES, SEED = 199, 1  # of drawn histories
 COUNTED = 32  # uniform numbers, after which those of each row are counted
 ROUNDING = 1e-9  # Histories with the same counts vary as much and are as far, however their sums are rounded.
@@ -176,23 +177,33 @@ def drawn_figures(rising: Floats, rows: Whole, places: Whole, first: Whole, last
     """Returns of histories that are drawn by uniform numbers (see `Uniform`) their squared size times their variance,
     and their `distances`. No number is above the last one. The draws of a number stand together: they are counted one
     by one, or row by row if there are many."""
-    times, size, rank = first.shape[1], len(rising) // first.shape[1], 0
-    seen, now, totals = np.zeros(times, np.int64), np.zeros(times, np.int64), np.zeros(times)
-    squares, far = np.zeros(times), np.zeros(times)
+    times = first.shape[1]
+    size = len(rising) // first.shape[1]
+    rank = 0
+    seen = np.zeros(times, np.int64)
+    now = np.zeros(times, np.int64)
+    totals = np.zeros(times)
+    squares = np.zeros(times)
+    far = np.zeros(times)
     for number in range(last + 1):
-        end, mean = len(rising) if number == last else np.searchsorted(rising, below[number]), 2 * means[number]
+        end = len(rising) if number == last else np.searchsorted(rising, below[number])
+        mean = 2 * means[number]
         while end - rank < times // 2 and rank < end:
             row = rows[rank]
-            seen[row], totals[row], squares[row] = seen[row] + 1, totals[row] + number, squares[row] + number * number
+            seen[row] = seen[row] + 1
+            totals[row] = totals[row] + number
+            squares[row] = squares[row] + number * number
             far[row] += (2 * places[rank] + 1) / size * tails[number] - mean
             rank += 1
         if rank < end:
-            rank, now[:] = end, first[end // COUNTED]
+            rank = end
+            now[:] = first[end // COUNTED]
             for row in rows[end - end % COUNTED:end]:
                 now[row] += 1
             for row in range(times):
                 more = now[row] - seen[row]
-                totals[row], squares[row] = totals[row] + more * number, squares[row] + more * number * number
+                totals[row] = totals[row] + more * number
+                squares[row] = squares[row] + more * number * number
                 far[row] += ((now[row] + seen[row]) / size * tails[number] - mean) * more
             seen[:] = now
     return size * squares - totals**2, far
@@ -208,10 +219,12 @@ def shares_of(sample: Sample, chances: Floats) -> Shares:
     """Returns the shares of a sample under a law. The same sample and law have the same shares."""
     law = np.zeros(max(len(chances), sample.most + 1))
     law[:len(chances)] = chances / chances.sum()
-    summed, size = Summed.of(law), sample.size
+    summed = Summed.of(law)
+    size = sample.size
     below = summed.below
     squares, far = drawn_figures(*uniforms(size), len(chances) - 1, *summed)
-    own, common = size * sample.squares, size * float(law @ below**2)
+    own = size * sample.squares
+    common = size * float(law @ below**2)
     own_far = float(distances(np.repeat(sample.values, sample.counts)[None], summed)[0])
     alike = (squares >= own * (1 - ROUNDING), squares <= own * (1 + ROUNDING),
              far + common >= (own_far + common) * (1 - ROUNDING))

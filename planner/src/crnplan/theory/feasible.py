@@ -64,11 +64,13 @@ class Feasible:
         low = cell * step
         if exact and self.has_narrow_gaps:
             return low
-        near, most = low + (0 if exact else (step - 1) // 2), self.widest
+        near = low + (0 if exact else (step - 1) // 2)
+        most = self.widest
         near -= (near - most) * (near > most) * (low <= most)
         if self.has_narrow_gaps:
             return near
-        least, middle = self.gap(low), self.gap(near)
+        least = self.gap(low)
+        middle = self.gap(near)
         return least + (middle - least) * (middle < low + step)
 
     def has(self, point: Any, level: Any) -> Any:

@@ -14,7 +14,8 @@ CLOSE = 1 + 1e-9  # Costs whose ratio is at most this are equal but for rounding
 
 def gap_grid(most: int) -> list[int]:
     """Returns gaps from 0 to the most: all of them while they are small, and further apart as they grow."""
-    gaps, gap = [], 0
+    gaps = []
+    gap = 0
     while gap < most:
         gaps.append(gap)
         gap = gap + 1 if gap < SMALL_GAP else max(gap + 1, int(gap * GRID_GROWTH))
@@ -30,9 +31,11 @@ def search(policies_of: Callable[[Sequence[int]], Iterable[Candidate]], most: in
     grid = gap_grid(most)
     known = dict(zip(grid, policies_of(grid)))
     while True:
-        gaps, least = sorted(known), min(known.values()).cost
+        gaps = sorted(known)
+        least = min(known.values()).cost
         place, best = next((place, gap) for place, gap in enumerate(gaps) if known[gap].cost <= CLOSE * least)
-        below, above = gaps[max(place - 1, 0)], gaps[min(place + 1, len(gaps) - 1)]
+        below = gaps[max(place - 1, 0)]
+        above = gaps[min(place + 1, len(gaps) - 1)]
         between = sorted({(below + best) // 2, (best + above + 1) // 2} - known.keys())
         if not between:
             return known[best]

@@ -83,38 +83,50 @@ class Shape:
 
     def is_small(self, step: int, widest: int, most_gaps: int) -> bool:
         """Returns whether the tables of the scenario on this lattice can be made in time."""
+        if not self.has_room(step):
+            return False
         gap = self.gap / step
-        if self.leads > 1:
-            works = (self.late_work(step, it) for it in [*gap_grid(int(gap)), widest / step])
-            return self.has_room(step) and sum(works) <= MOST_WORK
-        return self.has_room(step) and gap <= most_gaps and self.level / step <= MOST_CELLS
+        if self.leads == 1:
+            return gap <= most_gaps and self.level / step <= MOST_CELLS
+        work = self.late_work(step, widest / step)
+        for narrower in gap_grid(int(gap)):
+            work += self.late_work(step, narrower)
+        return work <= MOST_WORK
 
 
 def shape_of(scenario: Scenario, least_gap: int = 0) -> Shape:
     """Returns the shape of a scenario. Raises NoTheory if it has no best policy."""
-    costs, tables = scenario.costs, net_tables(scenario)
+    costs = scenario.costs
+    tables = net_tables(scenario)
     for name, cost in (("holding", costs.holding), ("backlog", costs.backlog)):
         if cost == 0:
             raise NoTheory(f"the cost {name} is 0, so there is no best policy: stock, or being short, costs nothing; "
                            "give it a cost above 0", "costs", name)
     laws = [chances_in(table) for table in tables]
-    demand, *others = (float(chances @ values) for values, chances in laws)
-    back = sum(others)
-    mean, squares = demand - back, float(sum(chances @ values**2 for values, chances in laws))
+    means = [float(chances @ values) for values, chances in laws]
+    demand, back = means[0], sum(means[1:])
+    mean = demand - back
+    squares = float(sum(chances @ values**2 for values, chances in laws))
     variance = squares - demand**2 - back**2
+    if demand == 0:
+        raise NoTheory("no item is ever asked for; give a demand above 0 a weight", "demand")
     if mean <= 1e-9 * demand:
         raise NoTheory(f"on average {back:g} items come back and {demand:g} are asked for in a period, so there is "
-                       "nothing to order in the long run; look at the tables demand and returns" if demand else
-                       "no item is ever asked for; give a demand above 0 a weight", "demand")
+                       "nothing to order in the long run; look at the tables demand and returns", "demand")
     rate = 2 * costs.setup * (costs.holding + costs.backlog) / (costs.holding * costs.backlog)
     order = math.sqrt(rate * mean) + (rate * variance)**(1 / 3)
-    base, high = math.gcd(*(int(np.gcd.reduce(its)) for its, _ in laws)), max(int(its[-1]) for its, _ in laws)
-    leads, height = [*scenario.lead.chances], 0.0
-    if back:  # Returns may lift the stock so far above S: beyond, the chance is below any rounding.
+    occurring = np.concatenate([values for values, _ in laws])
+    base = int(np.gcd.reduce(occurring))
+    high = int(occurring.max())
+    leads = [*scenario.lead.chances]
+    height = rise = 0.0
+    if len(tables) > 1:
+        rise = max(0, max(tables[1].values) - min(tables[0].values))
+    if back:
         step = max(1, high // CELLS_OF_SHAPE)
         net = sum_of(LatticeLaw.of(tables[0], step), LatticeLaw.of(tables[1], step).reflected)
-        height = 0.0 if net.low >= 0 else step * DIGITS / decay_of(net)
-    rise = max([0, *(max(its.values) - min(tables[0].values) for its in tables[1:])])
+        if net.low < 0:  # Returns may lift the stock so far above S: beyond, the chance is below any rounding.
+            height = step * DIGITS / decay_of(net)
     return Shape(base, mean, math.sqrt(variance), high, leads[-1], len(leads), order, height, rise, least_gap)
 
 

@@ -5,6 +5,8 @@ lead times each gap has its own row: how far the stock is below S (see `shortfal
 """
 from __future__ import annotations
 
+from typing import NamedTuple
+
 import numpy as np
 
 from ..chances import Floats, Whole
@@ -14,45 +16,58 @@ from .grid import CLOSE
 NEAR = 1e-12  # Shares, and costs by their ratio, that differ by less are equal but for rounding.
 
 
+class Lows(NamedTuple):
+    """The lows of a gap, of which figures are summed: see `walked`. `weights` has their chances, the lowest first."""
+
+    table: Floats
+    evened: Floats
+    is_even: bool
+    weights: Floats
+
+
 @compiled
-def sum_at(table: Floats, evened: Floats, is_even: bool, weights: Floats, place: int, row: int) -> float:
+def sum_at(lows: Lows, place: int, row: int) -> float:
     """Returns the sum of a figure over the lows of a gap, of which the highest is at a place: see `walked`."""
-    size = len(weights)
-    if is_even:
-        low_sums = evened[row + 3, place] - evened[row + 3, place - size]
-        total: float = evened[row, place] + weights[0] * low_sums
+    size = len(lows.weights)
+    if lows.is_even:
+        last_sums = lows.evened[row + 3, place] - lows.evened[row + 3, place - size]
+        total: float = lows.evened[row, place] + lows.weights[0] * last_sums
     else:
-        total = np.dot(table[row, place - size + 1:place + 1], weights)
+        total = np.dot(lows.table[row, place - size + 1:place + 1], lows.weights)
     return total
 
 
 @compiled
-def sum_between(table: Floats, evened: Floats, is_even: bool, weights: Floats, cells: float, row: int) -> float:
+def sum_between(lows: Lows, cells: float, row: int) -> float:
     """Returns a sum for a level between two places. Beyond the table it goes on as at its end."""
-    place = min(int(np.ceil(cells)), table.shape[1] - 1)
+    place = min(int(np.ceil(cells)), lows.table.shape[1] - 1)
     share = place - cells
-    here = sum_at(table, evened, is_even, weights, place, row)
+    here = sum_at(lows, place, row)
     if share == 0:
         return here
-    below = sum_at(table, evened, is_even, weights, place - 1, row)
+    below = sum_at(lows, place - 1, row)
     return here + share * (below - here)
 
 
 @compiled
-def least_place(table: Floats, evened: Floats, is_even: bool, weights: Floats, floor: int, near: int, allowed: float,
-                ratio: float) -> int:
-    """Returns the least place from a floor on that is enough, or the end of the table. Higher ones are enough too. It is
-    looked for from a place near it on, in strides that double until they are too long."""
-    low, high, place, stride = floor, table.shape[1] - 1, near, 1
+def least_place(lows: Lows, floor: int, near: int, allowed: float, ratio: float) -> int:
+    """Returns the least place from a floor on that is enough, or the end of the table. Higher ones are enough too. The
+    search begins at a place near it, in strides that double until they are too long."""
+    low = floor
+    high = lows.table.shape[1] - 1
+    place = near
+    stride = 1
     while low < high:
         place = min(max(place, low), high - 1)
-        is_enough = sum_at(table, evened, is_even, weights, place, 2) >= ratio
+        is_enough = sum_at(lows, place, 2) >= ratio
         if is_enough and allowed < np.inf:
-            is_enough = sum_at(table, evened, is_even, weights, place, 1) <= allowed
+            is_enough = sum_at(lows, place, 1) <= allowed
         if is_enough:
-            high, place = place, place - stride
+            high = place
+            place -= stride
         else:
-            low, place = place + 1, place + stride
+            low = place + 1
+            place += stride
         stride *= 2
         if not low <= place < high:
             place = (low + high) // 2
@@ -60,23 +75,23 @@ def least_place(table: Floats, evened: Floats, is_even: bool, weights: Floats, f
 
 
 @compiled
-def spare_at(table: Floats, evened: Floats, is_even: bool, weights: Floats, place: int, allowed: float,
-             ratio: float) -> float:
+def spare_at(lows: Lows, place: int, allowed: float, ratio: float) -> float:
     """Returns how far below a place, as a share of a cell, a level is enough: see `least_place`."""
-    if sum_at(table, evened, is_even, weights, place - 1, 2) < ratio:
+    if sum_at(lows, place - 1, 2) < ratio:
         return 0.0
-    unmet = sum_at(table, evened, is_even, weights, place, 1)
-    slope = sum_at(table, evened, is_even, weights, place - 1, 1) - unmet
+    unmet = sum_at(lows, place, 1)
+    slope = sum_at(lows, place - 1, 1) - unmet
     return (allowed - unmet) / slope if slope > 0 else 1.0
 
 
 @compiled
-def cheaper_of(table: Floats, evened: Floats, is_even: bool, weights: Floats, level: int, origin: int, step: int,
-               multiple: int, least: int, top: int, cut: int, allowed: float) -> tuple[int, float]:
+def cheaper_of(lows: Lows, level: int, origin: int, step: int, multiple: int, least: int, top: int, cut: int,
+               allowed: float) -> tuple[int, float]:
     """Returns the cheapest level that may be chosen, and the sum of its stock costs, if some level is the cheapest of
     all; infinity if there is none, or if that level is above the `cut`. Costs are convex in the level, so it is one of
     both multiples beside that one, or beyond the greatest level that one."""
-    best, least_cost = -1, np.inf
+    best = -1
+    least_cost = np.inf
     if level > cut:
         return best, least_cost
     for rest in (0, multiple - 1):
@@ -85,27 +100,28 @@ def cheaper_of(table: Floats, evened: Floats, is_even: bool, weights: Floats, le
             continue
         cells = chosen / step + origin
         if chosen != level and allowed < np.inf:
-            unmet = sum_between(table, evened, is_even, weights, cells, 1)
+            unmet = sum_between(lows, cells, 1)
             if unmet > allowed * (1 + NEAR):
                 continue
-        cost = sum_between(table, evened, is_even, weights, cells, 0)
+        cost = sum_between(lows, cells, 0)
         if cost < least_cost:
-            best, least_cost = chosen, cost
+            best = chosen
+            least_cost = cost
         if chosen == level:
             break
     return best, least_cost
 
 
 @compiled
-def walked(gaps: Whole, leasts: Whole, fixed: Whole, lows: Floats, turned: Floats, table: Floats, evened: Floats,
+def walked(gaps: Whole, leasts: Whole, fixed: Whole, chances: Floats, turned: Floats, table: Floats, evened: Floats,
            even: int, origin: int, step: int, multiple: int, top: int, cut: int, setup: float, base: float, rise: float,
            allowed: float, ratio: float, known: float, is_nested: bool, is_pruned: bool) -> tuple[Whole, Floats]:
     """Returns for each of some rising gaps the best level, in items, and what both cost a period: infinity if there is
     none, or if the gap is left out. If the gaps are nested, each has the lows up to its own.
 
     `leasts` has the least feasible level of each gap, in items. Feasible ones are multiples up to the `top`, and a gap
-    has none if the best of all is above the `cut`. If there are `fixed` levels, each gap has its one. `lows` has the
-    chances of the lows up to the widest gap. `turned` has the chances of how far a low is below S, the farthest one
+    has none if the best of all is above the `cut`. If there are `fixed` levels, each gap has its one. `chances` are
+    those of the lows up to the widest gap. `turned` has the chances of how far a low is below S, the farthest one
     first: a row for each gap, or one for all if they are nested. `table` has, by level of a low in cells, the stock
     costs, the unmet demand and the chance of no backlog of a period; its place `origin` is the highest low of the level
     0. From the gap `even` on, sums follow from `evened`: rows with what the lows before `even` add to these three at
@@ -116,36 +132,46 @@ def walked(gaps: Whole, leasts: Whole, fixed: Whole, lows: Floats, turned: Float
     nested, than one before: see `long_run.py`. All but orders costs at least `base`, and `rise` more by cell, but for
     the first gap.
     """
-    width, is_sought = turned.shape[1], len(fixed) == 0
-    least_cost, limit, total, due, added, place = table[0].min(), CLOSE * known, 0.0, 0.0, 0, 0
-    levels, costs = np.full(len(gaps), -1), np.full(len(gaps), np.inf)
+    width = turned.shape[1]
+    is_sought = len(fixed) == 0
+    least_cost = table[0].min()
+    limit = CLOSE * known
+    total = 0.0
+    due = 0.0
+    added = 0
+    place = 0
+    levels = np.full(len(gaps), -1)
+    costs = np.full(len(gaps), np.inf)
     for each, gap in enumerate(gaps):
         while added <= gap:
-            total += lows[added]
+            total += chances[added]
             added += 1
         floor = least_cost if each == 0 else max(least_cost, base + rise * gap)
         if is_pruned and (total < due or setup / total + floor > limit):
             continue
-        weights, size = turned[0 if is_nested else each], 1.0
+        weights = turned[0 if is_nested else each]
+        size = 1.0
         if is_nested:
-            weights, size = weights[width - gap - 1:], total
-        is_even = gap >= even
+            weights = weights[width - gap - 1:]
+            size = total
+        lows = Lows(table, evened, gap >= even, weights)
         if is_sought:
             first = origin - (-leasts[each] // step)
             if is_nested:  # The least level that is enough does not fall from one gap to the next.
                 first = max(first, place)
             first = min(first, table.shape[1] - 1)
-            place = least_place(table, evened, is_even, weights, first, place, allowed * size, ratio * size)
+            place = least_place(lows, first, place, allowed * size, ratio * size)
             level = (place - origin) * step
             if step > 1:
-                share = spare_at(table, evened, is_even, weights, place, allowed * size, ratio * size)
+                share = spare_at(lows, place, allowed * size, ratio * size)
                 level -= min(int(min(step * share + NEAR, step - 1.0)), level - leasts[each])
-            level, cost = cheaper_of(table, evened, is_even, weights, level, origin, step, multiple, leasts[each], top,
+            level, cost = cheaper_of(lows, level, origin, step, multiple, leasts[each], top,
                                      cut, allowed * size)
         else:
             level = fixed[each]
-            cost = sum_between(table, evened, is_even, weights, level / step + origin, 0)
-        levels[each], costs[each] = level, setup / total + cost / size
+            cost = sum_between(lows, level / step + origin, 0)
+        levels[each] = level
+        costs[each] = setup / total + cost / size
         limit = min(limit, CLOSE * costs[each])
         if is_nested and is_sought and cost < np.inf and limit > least_cost:
             due = total + max(0.0, setup + cost - total * limit) / (limit - least_cost)

@@ -41,7 +41,7 @@ from typing import Any, NamedTuple
 import numpy as np
 
 from ..chances import Floats, Whole
-from ..scenario import Costs, Scenario
+from ..scenario import Costs, Policy, Scenario
 from .feasible import ALL, Feasible, Places
 from .grid import CLOSE, gap_grid, search
 from .levels import NEAR, walked
@@ -99,10 +99,15 @@ class LongRun(Walk):
     def __init__(self, scenario: Scenario, step: int, exact: bool, most: int, feasible: Feasible = ALL) -> None:
         """Makes the laws of a scenario. `most` is the largest gap that a search looks at."""
         super().__init__(scenario, step, exact)
-        self.feasible, self.found = feasible, dict[float, Candidate]()
-        costs, leads = scenario.costs, scenario.lead.chances
-        self.setup, self.holding, self.backlog = costs.setup, costs.holding, costs.backlog
-        self.most, self.shorts = most, dict[int, Floats]()
+        self.feasible = feasible
+        self.found = dict[float, Candidate]()
+        costs = scenario.costs
+        leads = scenario.lead.chances
+        self.setup = costs.setup
+        self.holding = costs.holding
+        self.backlog = costs.backlog
+        self.most = most
+        self.shorts = dict[int, Floats]()
         self.figured = dict[tuple[int, int], Figures]()
         self.asked = self.demand.mean * step  # the mean demand of a period, in items
         # How far the mean stock less the mean backlog is below the mean low, in items.
@@ -114,7 +119,8 @@ class LongRun(Walk):
         self.beside = self.above + max(self.net.high, power_of(self.net, len(self.late)).high)
         if len(leads) == 1:
             under_way = sum_of(under_way, self.above_low)
-            self.above, self.beside = 0, under_way.high
+            self.above = 0
+            self.beside = under_way.high
         self.after = sum_of(under_way, self.net)
         self.one_period = Surplus(self.after, step)
         self.one_before = Surplus(sum_of(under_way, self.back.reflected), step)
@@ -122,13 +128,17 @@ class LongRun(Walk):
     def within(self, feasible: Feasible) -> LongRun:
         """Returns the same theory with other feasible policies."""
         other = copy.copy(self)
-        other.feasible, other.found = feasible, {}
+        other.feasible = feasible
+        other.found = {}
         return other
 
     def priced(self, costs: Costs, most: int, feasible: Feasible) -> LongRun:
         """Returns the same theory with other costs, another `most` and other feasible policies."""
         other = self.within(feasible)
-        other.setup, other.holding, other.backlog, other.most = costs.setup, costs.holding, costs.backlog, most
+        other.setup = costs.setup
+        other.holding = costs.holding
+        other.backlog = costs.backlog
+        other.most = most
         other.figured = {}
         other.__dict__.pop("free", None)
         return other
@@ -156,7 +166,8 @@ class LongRun(Walk):
     def figures_from(self, levels: Whole) -> Floats:
         """Returns rows with stock costs, unmet demand, the chance of no backlog and the stock at the end of a period
         that starts from lows at these levels, in items."""
-        after, before = self.one_period, self.one_before
+        after = self.one_period
+        before = self.one_before
         return figures_at(levels, self.step, after.law.low, after.below, after.taken, before.law.low, before.below,
                           before.taken, self.holding, self.backlog)
 
@@ -241,9 +252,14 @@ class LongRun(Walk):
         """Returns the figures of a policy; if the lattice is not exact, between those of the gaps beside its own."""
         (gap, share), *others = self.gaps_of(point, level)
         figures = self.figures_of_gap(gap, level)
-        for other, its in others:
-            figures = Figures(*(share * one + its * two for one, two in zip(figures, self.figures_of_gap(other, level))))
+        for other, rest in others:
+            pairs = zip(figures, self.figures_of_gap(other, level))
+            figures = Figures(*(share * here + rest * there for here, there in pairs))
         return figures
+
+    def pairs_of(self, policies: Iterable[Policy]) -> set[tuple[int, int]]:
+        """Returns the gaps, each with an order-up-to level, whose figures those of policies are means of."""
+        return {(gap, policy.S) for policy in policies for gap, _ in self.gaps_of(policy.s, policy.S)}
 
     def figures_of_gap(self, gap: int, level: int) -> Figures:
         """Returns the figures of a gap and an order-up-to level."""
@@ -256,7 +272,8 @@ class LongRun(Walk):
             return
         for (gap, level), row in zip(new, self.lows_below([gap for gap, _ in new])):
             levels = level - self.step * np.arange(-self.above, len(row) - self.above)
-            table, orders = self.figures_from(levels), 1 / self.periods(gap)
+            table = self.figures_from(levels)
+            orders = 1 / self.periods(gap)
             stock_cost, unmet, held, stock = (table @ row).tolist()
             cost = self.setup * orders + stock_cost
             self.figured[gap, level] = Figures(cost, 1 - unmet / self.asked, 1 - held, stock, orders)
@@ -270,7 +287,8 @@ class LongRun(Walk):
 
     def fits(self, gap: Any, point: Any, level: Any) -> Any:
         """Returns whether policies are feasible and have these gaps."""
-        items, span = self.items(gap), level - point
+        items = self.items(gap)
+        span = level - point
         is_of_gap = (items <= span) & (span < (gap + 1) * self.step) & (span <= self.feasible.most_gap)
         return is_of_gap & self.feasible.has(point, level)
 
@@ -293,7 +311,8 @@ class LongRun(Walk):
         """Returns the sums of `walked` from where on lows have the same chance, and that place."""
         if len(lows) < MOST_WALKED:
             return table, len(lows)
-        low, rows = lows[-1], table[:3]
+        low = lows[-1]
+        rows = table[:3]
         is_other = abs(lows - low) > EVEN * low
         even = int(np.flatnonzero(np.append(True, is_other))[-1])
         added = 0 * rows
@@ -304,13 +323,15 @@ class LongRun(Walk):
     def walk(self, gaps: Whole, leasts: Whole, fixed: Whole = NONE, *, allowed: float = math.inf, ratio: float = 0.0,
              is_nested: bool = True, feasible: Feasible | None = None, cut: int = MOST_LEVEL, base: float = -math.inf,
              known: float | None = None) -> Levels:
-        """Returns the best or fixed levels of some rising gaps with what they cost: see `walked`. If the gaps are nested
-        all have the lows of one lead time. Any level is feasible if no bounds are given, and no gap is left out if no
+        """Returns the best or fixed levels of some rising gaps with what they cost: see `walked`. Nested gaps have the
+        lows of one lead time. Any level is feasible if no bounds are given, and no gap is left out if no
         cost is known."""
-        lows, above = self.lows_of(int(gaps[-1])), 0
+        lows = self.lows_of(int(gaps[-1]))
+        above = 0
         turned = lows[None, ::-1].copy()
         if not is_nested:
-            turned, above = self.rows_of(gaps)[:, ::-1].copy(), self.above
+            turned = self.rows_of(gaps)[:, ::-1].copy()
+            above = self.above
         width = turned.shape[1]
         # Levels are no less than their gaps, if these are nested and levels have bounds.
         origin = 2 if is_nested and feasible else width
@@ -353,8 +374,10 @@ class LongRun(Walk):
         fixed one, with its cost. Gaps that cost more than a known policy are left out. But for the first gap, s is at
         least `lowest`. A gap has none if the best of all is above the `cut`: by default, above the greatest S of all.
         """
-        levels, costs = np.full(len(gaps), -1), np.full(len(gaps), math.inf)
-        looked, of_gaps = np.arange(len(gaps)), NONE
+        levels = np.full(len(gaps), -1)
+        costs = np.full(len(gaps), math.inf)
+        looked = np.arange(len(gaps))
+        of_gaps = NONE
         if fixed:
             points, of_gaps = fixed(gaps)
             looked = np.flatnonzero(self.fits(gaps, points, of_gaps))
@@ -386,8 +409,10 @@ class LongRun(Walk):
         """Returns the cheapest policy of all gaps that may cost least, if s is at least `lowest` and a share of demand
         is met at once, or with fixed levels; or what a search finds if these take too long. Its gap stands in place of
         the reorder point."""
-        grid, usual = self.grid(), min(self.most, round(self.usual_gap))
-        known, most = NO_POLICY, self.most
+        grid = self.grid()
+        usual = min(self.most, round(self.usual_gap))
+        known = NO_POLICY
+        most = self.most
         for some in (self.gaps(usual, usual) or grid[-1:], grid):
             if known.cost == math.inf or not self.has_one_lead:
                 gaps = np.array([gap for gap in some if gap <= most], int)

@@ -26,14 +26,17 @@ from ..law import Law
 from ..scenario import Policy, Scenario
 from .feasible import ALL, Feasible
 from .lattice import NoTheory, Shape, finest, shape_of, theory_on
-from .long_run import NO_POLICY, Candidate, LongRun, place_of_least
+from .long_run import NO_POLICY, Candidate, Figures, LongRun, place_of_least
 from .shortfalls import falling_under, transforms_of
 from .walk import Walk, room_for
 
 DEVIATIONS = 8  # of the net demand of the lead time, which have room
 # What a law may take: cells, times what each takes (a constant, for each period of the lead time, for each pair of
 # them). With fewer cells than the least, no time is worth it.
-MOST_WORK, OF_CELL, OF_PERIOD, OF_PAIR = 250_000, 50, 42, 5
+MOST_WORK = 250_000
+OF_CELL = 50
+OF_PERIOD = 42
+OF_PAIR = 5
 LEAST_ROOM = 512
 LONG_LEAD = 12  # periods: beyond, a law's own best policy is not looked for if there are several lead times
 GAPS = (12, 6, 6)  # that the search for a law's own best policy looks at in each round
@@ -70,7 +73,8 @@ def under_laws(scenario: Scenario, laws: Iterable[tuple[Law, Law]]) -> Iterator[
     """Yields the scenario under each law of demand and of lead times, with its shape: None if there is nothing to order
     in the long run."""
     for demand, lead in laws:
-        own, shape = dataclasses.replace(scenario, demand=demand, lead=lead), None
+        own = dataclasses.replace(scenario, demand=demand, lead=lead)
+        shape = None
         with contextlib.suppress(NoTheory):
             shape = shape_of(own)
         yield own, shape
@@ -80,19 +84,25 @@ def run_of(scenario: Scenario, shape: Shape, widest: int, feasible: Feasible = A
            ) -> LongRun | None:
     """Returns the long run of a scenario on the finest lattice that is computed in time for gaps up to so many items;
     None if its numbers are too far apart for that. It is the one `made` with other costs if that has this lattice."""
-    periods, last = shape.lead + 1, shape.lead * (shape.leads > 1)
-    of_cell = OF_CELL + OF_PERIOD * last + OF_PAIR * last * (last + 1) / 2
+    periods = shape.lead + 1
+    last = shape.lead if shape.leads > 1 else 0
+    of_cell = OF_CELL + OF_PERIOD * last + OF_PAIR * last * periods / 2
     allowed = max(LEAST_ROOM, int(MOST_WORK / of_cell))
 
     def excess(step: int) -> float:
         """Returns how many times too large the laws of the stock are, but for what is all but impossible."""
         exact = step == shape.base
-        walk = made if made and (made.step, made.exact) == (step, exact) else Walk(scenario, step, exact)
-        above, net = -walk.above_low.low + shape.lead * max(0, -walk.net.low) + walk.back.high, walk.net
+        is_made = made is not None and (made.step, made.exact) == (step, exact)
+        walk = made if made and is_made else Walk(scenario, step, exact)
+        net = walk.net
+        above = -walk.above_low.low + shape.lead * max(0, -net.low) + walk.back.high
         likely = periods * net.mean + DEVIATIONS * math.sqrt(periods * net.variance) + net.high
-        return room_for(above - (-widest // step) + int(min(periods * net.high, likely)) + 3) / allowed
+        gap = -(-widest // step)
+        return room_for(above + gap + int(min(periods * net.high, likely)) + 3) / allowed
     step = finest(shape.base, max(shape.high, shape.order), excess, lambda size: 0.8 * size)
-    return None if step is None else theory_on(scenario, shape, step, step == shape.base, feasible, made)
+    if step is None:
+        return None
+    return theory_on(scenario, shape, step, step == shape.base, feasible, made)
 
 
 def compute_shortfalls(asked: Iterable[tuple[LongRun, Iterable[int]]]) -> None:
@@ -101,24 +111,28 @@ def compute_shortfalls(asked: Iterable[tuple[LongRun, Iterable[int]]]) -> None:
     alike = defaultdict[int, list[tuple[LongRun, list[int]]]](list)
     for theory, gaps in asked:
         new = sorted({*gaps} - theory.shorts.keys())
-        if new and len(theory.late) and theory.net.low >= 0:
+        if new and not theory.has_one_lead and theory.net.low >= 0:
             alike[len(theory.late)].append((theory, new))
     for pairs in alike.values():
         for first in range(0, len(pairs), TOGETHER):
-            keep_shortfalls(*zip(*pairs[first:first + TOGETHER]))
+            keep_shortfalls(pairs[first:first + TOGETHER])
 
 
-def keep_shortfalls(theories: Sequence[LongRun], gaps: Sequence[list[int]]) -> None:
+def keep_shortfalls(pairs: Sequence[tuple[LongRun, list[int]]]) -> None:
     """Computes the shortfalls of rising gaps under each of some laws whose orders are late for equally long at most."""
-    room = room_for(max(some[-1] + theory.beside for theory, some in zip(theories, gaps)) + 1)
-    lows, ends = np.zeros((len(theories), room)), np.cumsum([*map(len, gaps)]).tolist()
-    for row, theory, some in zip(lows, theories, gaps):
-        row[:some[-1] + 1] = theory.span * theory.lows_of(some[-1])
-    rows = falling_under(lows, transforms_of([theory.net for theory in theories], room),
-                         np.transpose([theory.late for theory in theories]),
-                         np.repeat(np.arange(len(theories)), np.diff(ends, prepend=0)), np.concatenate(gaps))
-    for theory, some, end in zip(theories, gaps, ends):
-        theory.keep(np.array(some), rows[end - len(some):end])
+    theories, gaps = zip(*pairs)
+    room = room_for(1 + max(own[-1] + theory.beside for theory, own in pairs))
+    cycles = np.zeros((len(pairs), room))
+    for row, (theory, own) in zip(cycles, pairs):
+        row[:own[-1] + 1] = theory.span * theory.lows_of(own[-1])
+    moves = transforms_of([theory.net for theory in theories], room)
+    late = np.transpose([theory.late for theory in theories])
+    laws = np.repeat(np.arange(len(pairs)), [*map(len, gaps)])
+    rows = falling_under(cycles, moves, late, laws, np.concatenate(gaps))
+    start = 0
+    for theory, own in pairs:
+        theory.keep(np.array(own), rows[start:start + len(own)])
+        start += len(own)
 
 
 class Narrowing:
@@ -126,14 +140,19 @@ class Narrowing:
     `least` is nan if the lattice has no such policy."""
 
     def __init__(self, theory: LongRun, most: int) -> None:
-        self.theory, self.allowed, self.least, self.places = theory, theory.gaps(0, most), math.nan, list[int]()
-        self.low, self.high = 0, len(self.allowed) - 1
+        self.theory = theory
+        self.allowed = theory.gaps(0, most)
+        self.least = math.nan
+        self.places = list[int]()
+        self.low = 0
+        self.high = len(self.allowed) - 1
 
     def gaps(self, count: int) -> list[int]:
         """Returns the gaps that are looked at next, about so many; none if no gap is allowed."""
         if self.allowed:
-            shares = np.linspace(0, 1, count)**(2 if self.high == len(self.allowed) - 1 else 1)
-            self.places = np.unique(np.rint(self.low + (self.high - self.low) * shares).astype(int)).tolist()
+            power = 2 if self.high == len(self.allowed) - 1 else 1
+            places = self.low + (self.high - self.low) * np.linspace(0, 1, count)**power
+            self.places = np.unique(np.rint(places).astype(int)).tolist()
         return [self.allowed[place] for place in self.places]
 
     def look(self, gaps: Sequence[int]) -> None:
@@ -144,7 +163,8 @@ class Narrowing:
         best = place_of_least(costs)
         if costs[best] < math.inf:
             self.least = float(np.fmin(self.least, costs[best]))
-        self.low, self.high = self.places[max(best - 1, 0)], self.places[min(best + 1, len(gaps) - 1)]
+        self.low = self.places[max(best - 1, 0)]
+        self.high = self.places[min(best + 1, len(gaps) - 1)]
 
 
 def least_costs(asked: Iterable[tuple[LongRun, int]]) -> list[float]:
@@ -152,11 +172,11 @@ def least_costs(asked: Iterable[tuple[LongRun, int]]) -> list[float]:
     """
     searches = [Narrowing(theory, most) for theory, most in asked]
     for count in GAPS:
-        gaps = [it.gaps(count) for it in searches]
-        compute_shortfalls((it.theory, its) for it, its in zip(searches, gaps))
-        for it, its in zip(searches, gaps):
-            it.look(its)
-    return [it.least for it in searches]
+        rounds = [(search, search.gaps(count)) for search in searches]
+        compute_shortfalls((search.theory, gaps) for search, gaps in rounds)
+        for search, gaps in rounds:
+            search.look(gaps)
+    return [search.least for search in searches]
 
 
 class OwnRun(NamedTuple):
@@ -174,16 +194,27 @@ class OwnRun(NamedTuple):
         is_long = self.shape.leads > 1 and self.shape.lead > LONG_LEAD
         return -1 if is_long else -(-self.widest // self.theory.step) + 1
 
+    def figures(self, policies: Sequence[Policy]) -> list[Figures]:
+        """Returns the figures of policies."""
+        return [self.theory.figures(policy.s, policy.S) for policy in policies]
+
+    def error(self, policies: Sequence[Policy], figures: Sequence[Figures]) -> float:
+        """Returns how far the costs of policies are at most from those on a lattice twice as coarse, as a share."""
+        coarse = theory_on(self.scenario, self.shape, 2 * self.theory.step, False)
+        costs = [coarse.figures(policy.s, policy.S).cost for policy in policies]
+        return max(abs(cost / known.cost - 1) for cost, known in zip(costs, figures))
+
 
 def own_runs(scenario: Scenario, laws: Sequence[tuple[Law, Law]], given: int, feasible: Feasible,
              made: Mapping[int, LongRun]) -> Iterator[OwnRun]:
     """Yields the long run of each law that has one on a lattice, for gaps up to the given one and to wide ones."""
     for place, (own, shape) in enumerate(under_laws(scenario, laws)):
-        if shape is not None:
-            widest = max(given, math.ceil(2 * shape.order))
-            theory = run_of(own, shape, widest, feasible, made.get(place))
-            if theory is not None:
-                yield OwnRun(place, own, shape, widest, theory)
+        if shape is None:
+            continue
+        widest = max(given, math.ceil(2 * shape.order))
+        theory = run_of(own, shape, widest, feasible, made.get(place))
+        if theory is not None:
+            yield OwnRun(place, own, shape, widest, theory)
 
 
 def figures_of_laws(scenario: Scenario, laws: Sequence[tuple[Law, Law]], policies: Sequence[Policy],
@@ -197,28 +228,25 @@ def figures_of_laws(scenario: Scenario, laws: Sequence[tuple[Law, Law]], policie
     runs = [*own_runs(scenario, laws, max(policy.S - policy.s for policy in policies), feasible, made)]
     if not runs:
         raise NoTheory("no law of demand has a long run: as much comes back as is asked for", "demand")
-    asked = [{(gap, policy.S) for policy in policies for gap, _ in its.theory.gaps_of(policy.s, policy.S)}
-             for its in runs]
-    compute_shortfalls((its.theory, (gap for gap, _ in pairs)) for its, pairs in zip(runs, asked))
-    for its, pairs in zip(runs, asked):
-        its.theory.figure(pairs)
-    figures = [[its.theory.figures(policy.s, policy.S) for policy in policies] for its in runs]
-    coarse = list[float]()
-    for its, found in [(its, found) for its, found in zip(runs, figures) if not its.theory.exact][:CHECKED]:
-        twice = theory_on(its.scenario, its.shape, 2 * its.theory.step, False)
-        coarse.append(max(abs(twice.figures(policy.s, policy.S).cost / known.cost - 1)
-                          for policy, known in zip(policies, found)))
-    costs, fills = (np.array([[own[column] for own in found] for found in figures]) for column in (0, 1))
-    return LawFigures(tuple(its.place for its in runs), costs, fills,
-                      np.array(least_costs((its.theory, its.most) for its in runs)),
-                      max(its.theory.step for its in runs), max(coarse, default=None))
+    asked = [(run.theory, run.theory.pairs_of(policies)) for run in runs]
+    compute_shortfalls((theory, (gap for gap, _ in pairs)) for theory, pairs in asked)
+    for theory, pairs in asked:
+        theory.figure(pairs)
+    figures = [run.figures(policies) for run in runs]
+    coarse = [(run, own) for run, own in zip(runs, figures) if not run.theory.exact]
+    errors = [run.error(policies, own) for run, own in coarse[:CHECKED]]
+    table = np.array(figures)
+    least = least_costs((run.theory, run.most) for run in runs)
+    step = max(run.theory.step for run in runs)
+    return LawFigures(tuple(run.place for run in runs), table[..., 0], table[..., 1], np.array(least), step,
+                      max(errors, default=None))
 
 
 class Promises:
     """Policies of a scenario that meet shares of demand at once under enough of some laws, and by its own.
 
-    `made` has the long runs of laws, by their places; `lacking` laws have none, and so keep no promise. Fill rates are counted in steps of `step` items, exact but
-    for rounding if `exact` says so.
+    `made` has the long runs of laws, by their places; `lacking` laws have none, and so keep no promise. Fill rates are
+    counted in steps of `step` items, exact but for rounding if `exact` says so.
     """
 
     def __init__(self, scenario: Scenario, theory: LongRun, gap: int, laws: Sequence[Law], leads: Sequence[Law],
@@ -232,30 +260,40 @@ class Promises:
             raise Refused(f"there are {len(laws)} laws of demand and {len(leads)} of lead times; give as many of both")
         if not 0 < confidence <= 1:
             raise Refused(f"the confidence is {confidence:g}; it is above 0, and at most 1")
-        self.theory, self.shares, self.confidence = theory, shares, confidence
+        self.theory = theory
+        self.shares = shares
+        self.confidence = confidence
         scenarios = [*under_laws(scenario, zip(laws, leads or [scenario.lead] * len(laws)))]
-        shapes = [shape for _, shape in scenarios if shape]
+        self.step = self.step_for([shape for _, shape in scenarios if shape], gap * theory.step)
+        self.exact = theory.exact and self.step == theory.step
+        self.made = dict[int, LongRun]()
+        for place, (own, shape) in enumerate(scenarios):
+            if shape and shape.has_room(self.step):
+                self.made[place] = theory_on(own, shape, self.step, self.exact)
+        self.theories = [*self.made.values()]
+        self.lacking = len(laws) - len(self.theories)
+        self.levels = dict[tuple[int, int], dict[float, int]]()
+
+    def step_for(self, shapes: Sequence[Shape], span: int) -> int:
+        """Returns the finest step on which levels for S - s of a span of items are found in time."""
+        def time_of(shape: Shape, step: int) -> float:
+            if shape.leads == 1:
+                return shape.level / step / MOST_LEVELS
+            return shape.late_work(step, span / step) / MOST_LATE_WORK
 
         def excess(step: int) -> float:
             """Returns by how many times it takes too long to find levels, in the mean of the laws."""
-            times = [shape.level / step / MOST_LEVELS if shape.leads == 1 else
-                     shape.late_work(step, gap * theory.step / step) / MOST_LATE_WORK for shape in shapes]
-            return sum(times) / max(len(shapes), 1)
-        self.step = finest(theory.step, math.inf, excess, lambda excess: 1) or theory.step
-        self.exact = theory.exact and self.step == theory.step
-        self.made = {place: theory_on(own, shape, self.step, self.exact) for place, (own, shape) in enumerate(scenarios)
-                     if shape and shape.has_room(self.step)}
-        self.theories = [*self.made.values()]
-        self.lacking = len(laws) - len(self.theories)
-        self.levels: dict[tuple[int, int], dict[float, int]] = {}
+            return sum(time_of(shape, step) for shape in shapes) / max(len(shapes), 1)
+        return finest(self.theory.step, math.inf, excess, lambda excess: 1) or self.theory.step
 
     def prepare(self, laws: Sequence[int], gaps: Sequence[int]) -> None:
         """Computes the levels of rising gaps under some laws at once, which is faster than one by one."""
-        asked = {law: new for law in laws if (new := [gap for gap in gaps if (law, gap) not in self.levels])}
-        compute_shortfalls((self.theories[law], new) for law, new in asked.items())
-        for law, new in asked.items():
-            self.levels.update(((law, gap), dict(zip(self.shares, levels)))
-                               for gap, levels in self.theories[law].levels_with_fill(new, self.shares))
+        asked = [(law, [gap for gap in gaps if (law, gap) not in self.levels]) for law in laws]
+        asked = [(law, new) for law, new in asked if new]
+        compute_shortfalls((self.theories[law], new) for law, new in asked)
+        for law, new in asked:
+            for gap, levels in self.theories[law].levels_with_fill(new, self.shares):
+                self.levels[law, gap] = dict(zip(self.shares, levels))
 
     def level_at(self, place: int, laws: Sequence[int], gap: int, share: float) -> float:
         """Returns the level at a place in the order of the least S of a gap under some laws, by their numbers. It is
@@ -272,7 +310,9 @@ class Promises:
         least = self.theory.cheapest_of_gaps([own], share)
         if max(level, least.cost) == math.inf:
             return NO_POLICY
-        return self.theory.policy(own, feasible.up(int(level))) if level > least.level else least
+        if level <= least.level:
+            return least
+        return self.theory.policy(own, feasible.up(int(level)))
 
     @property
     def place(self) -> int:
@@ -289,13 +329,23 @@ class Promises:
         own law."""
         if plain.cost == math.inf:
             return NO_POLICY
-        laws, place, feasible = range(len(self.theories)), self.place, self.theory.feasible
-        first, low = (plain.level - plain.point) // self.step, max(0, place - BESIDE)
+        laws = range(len(self.theories))
+        place = self.place
+        first = (plain.level - plain.point) // self.step
+        low = max(0, place - BESIDE)
         self.prepare(laws, [first])
         near = sorted(laws, key=lambda law: self.levels[law, first][share])[low:place + BESIDE + 1]
-        factors = FACTORS if feasible.has_all_levels else (*FEWER, *FACTORS)
-        others = sorted({feasible.gap(round(first * factor) * self.step) // self.step for factor in factors} - {first})
+        others = self.others(first)
         self.prepare(near, others)
-        best = min(others, key=lambda gap: self.policy(gap, self.level_at(place - low, near, gap, share), share),
-                   default=first)
+
+        def near_policy(gap: int) -> Candidate:
+            return self.policy(gap, self.level_at(place - low, near, gap, share), share)
+        best = min(others, key=near_policy, default=first)
         return min(self.policy(gap, self.level_at(place, laws, gap, share), share) for gap in (first, best))
+
+    def others(self, first: int) -> list[int]:
+        """Returns the gaps around one that are looked at too."""
+        feasible = self.theory.feasible
+        factors = FACTORS if feasible.has_all_levels else (*FEWER, *FACTORS)
+        spans = [feasible.gap(round(first * factor) * self.step) for factor in factors]
+        return sorted({span // self.step for span in spans} - {first})

@@ -52,7 +52,8 @@ MOST_BIAS_GAPS = 17_000  # with one lead time: the reviews of a run take longer 
 MOST_SUMS = 2_000_000  # cells of the laws of all reviews at once: more would take too much memory
 LEAST_MASS = 1e-14  # Laws are left out whose chance to be within the width is less.
 # A chain whose law is as close to that of the long run stays there. It is compared once in so many reviews.
-SETTLED, LOOK_EVERY = 1e-12, 8
+SETTLED = 1e-12
+LOOK_EVERY = 8
 MOST_SINGLE = 4_000_000  # products, up to which laws of reviews one by one take less time than by transforms
 MOST_DENSE = 100  # cells, up to which a matrix of the moves takes all reviews at once
 
@@ -77,7 +78,9 @@ class Reviews(NamedTuple):
 def quotient(series: Floats, divisor: Floats) -> Floats:
     """Returns as many coefficients of series / divisor as the series has. The divisor begins with 1, and all its other
     coefficients are at most 0 and at least -1 together: those of the quotient are means of so many before them."""
-    found, reach, end = series.copy(), len(divisor) - 1, np.flatnonzero(series)[-1]
+    found = series.copy()
+    reach = len(divisor) - 1
+    end = np.flatnonzero(series)[-1]
     for place in range(len(found) - 1):
         if place % LOOK_EVERY == 0 and place > max(reach, end):
             last = found[place - reach:place]
@@ -85,7 +88,9 @@ def quotient(series: Floats, divisor: Floats) -> Floats:
             if is_near and last.max() - last.min() <= EQUAL * last.max():  # So are all others.
                 found[place:] = found[place - 1]
                 break
-        more, most, value = 1, min(reach, len(found) - 1 - place), found[place]
+        more = 1
+        most = min(reach, len(found) - 1 - place)
+        value = found[place]
         while more <= most:  # Numba makes fast code of `while`, and slow code of `for`.
             found[place + more] -= value * divisor[more]
             more += 1
@@ -97,25 +102,34 @@ def sums_by_doubling(law: Floats, count: int) -> Floats:
     than `count`, or of as many as are within the width with some chance. `law` has the chances of a number up to the
     width."""
     size = len(law)
-    room, rows = room_for(2 * size - 1), np.eye(1, size)
+    room = room_for(2 * size - 1)
+    rows = np.eye(1, size)
     while len(rows) < count and law.sum() > LEAST_MASS:  # of as many numbers as there are rows
         transforms = fft.rfft(np.vstack([rows, law]), room)
         sums = fft.irfft(transforms * transforms[-1], room)[:, :size]
         sums[sums < LEAST_CHANCE] = 0.0
-        rows, law = np.vstack([rows, sums[:-1]]), sums[-1]
+        rows = np.vstack([rows, sums[:-1]])
+        law = sums[-1]
     return rows[:count]
 
 
 @compiled
 def sums_one_by_one(law: Floats, count: int) -> Floats:
     """Returns what `sums_by_doubling` does, sum by sum."""
-    size, rows, used, first, numbers = len(law), np.zeros((count, len(law))), 1, 0, np.flatnonzero(law)
+    size = len(law)
+    rows = np.zeros((count, len(law)))
+    used = 1
+    first = 0
+    numbers = np.flatnonzero(law)
     rows[0, 0] = 1.0
     while used < count:
-        before, row = rows[used - 1, first:], rows[used]
+        before = rows[used - 1, first:]
+        row = rows[used]
         for number in numbers[numbers < size - first]:
             # Numba makes fast code of slices that are run through from 0 on.
-            chance, sums, cell = law[number], row[first + number:], 0
+            chance = law[number]
+            sums = row[first + number:]
+            cell = 0
             while cell < len(sums):
                 sums[cell] += chance * before[cell]
                 cell += 1
@@ -133,10 +147,13 @@ def counts_of(chance: float, reviews: int, most: int) -> Floats:
     """Returns the chances of 0, 1, .. of less than `most` events in 0, 1, .. trials, of which each has an event with a
     chance: binomial laws, a row each, of less than so many reviews, or of as many as have so few events with some
     chance."""
-    rows, used = np.zeros((reviews, most)), 1
+    rows = np.zeros((reviews, most))
+    used = 1
     rows[0, 0] = 1.0
     while used < reviews and rows[used - 1].sum() > LEAST_MASS:
-        before, row, count = rows[used - 1], rows[used], 1
+        before = rows[used - 1]
+        row = rows[used]
+        count = 1
         row[0] = (1 - chance) * before[0]
         while count < most:
             row[count] = (1 - chance) * before[count] + chance * before[count - 1]
@@ -158,7 +175,8 @@ class Sums(NamedTuple):
     def of(cls, net: LatticeLaw, width: int, reviews: int) -> Sums:
         """Returns the laws of less than so many reviews, up to a width in cells. Net demands are not always 0."""
         law = net.between(0, max(net.high, width))[:width + 1]
-        never, law[0] = law[0], 0.0
+        never = law[0]
+        law[0] = 0.0
         count = min(reviews, most_sums(net, width))
         is_short = min(net.high, width) * width * count <= MOST_SINGLE
         laws = (sums_one_by_one if is_short else sums_by_doubling)(law / (1 - never), reviews)
@@ -174,19 +192,28 @@ def renewals(counts: Floats, laws: Floats, begun: Floats, low: int, gap: int, pe
              counted: int) -> tuple[float, Floats, float]:
     """Returns what `falling` does. `begun` has the chances of the cells from `low` on after the first review, if that
     places no order."""
-    used, early, places = len(counts), min(counted, len(counts)), np.flatnonzero(begun)
-    first, cycle, within, weights = np.zeros(periods), np.zeros(periods), np.zeros(periods), np.zeros((4, used))
+    used = len(counts)
+    early = min(counted, len(counts))
+    places = np.flatnonzero(begun)
+    first = np.zeros(periods)
+    cycle = np.zeros(periods)
+    within = np.zeros(periods)
+    weights = np.zeros((4, used))
     first[0] = 1 - begun.sum()
     for place in places:
         within[:used] = counts @ laws[:, :max(gap - low - place + 1, 0)].sum(axis=1)
         first[1:] -= begun[place] * np.diff(within)
     within[:used] = counts @ laws[:, :gap + 1].sum(axis=1)
-    cycle[0], cycle[1:] = within[0], np.diff(within)
+    cycle[0] = within[0]
+    cycle[1:] = np.diff(within)
     placing = quotient(first, cycle[:np.flatnonzero(cycle)[-1] + 1])
     # How often the first laws and the last one have 0, 1, .. reviews since the start, and since an order.
-    weights[0, :early], weights[1, :early] = 1.0, np.cumsum(placing[:counted])[::-1][:early]
-    weights[2, -1], weights[3] = used == periods, placing[::-1][:used]
-    after, depths = weights @ counts @ laws, np.zeros((2, len(begun)))
+    weights[0, :early] = 1.0
+    weights[1, :early] = np.cumsum(placing[:counted])[::-1][:early]
+    weights[2, -1] = used == periods
+    weights[3] = placing[::-1][:used]
+    after = weights @ counts @ laws
+    depths = np.zeros((2, len(begun)))
     for row in range(2):
         depths[row, -low:] = after[2 * row + 1, :gap + 1]
         for place in places:
@@ -198,7 +225,8 @@ def renewals(counts: Floats, laws: Floats, begun: Floats, low: int, gap: int, pe
 def falling(sums: Sums, start: Start, gap: int, periods: int, counted: int) -> Reviews:
     """Returns the reviews of so many periods if nothing comes back, of which the first `counted` matter for the stock.
     `sums` go up to the most that can be asked for between the start and an order."""
-    law, low = start.law, min(start.law.low, 0)
+    law = start.law
+    low = min(start.law.low, 0)
     begun = law.between(low, gap) * (not start.ordered)
     orders, first, last = renewals(sums.counts, sums.laws, begun, low, gap, periods, counted)
     return Reviews(orders, LatticeLaw(low, first), last)
@@ -210,16 +238,20 @@ def moving(net: LatticeLaw, start: Start, settled: LatticeLaw, orders: float, pe
     Takes the net demand of a period, and the law and the orders of a review in the long run. What would rise above the
     first cell stays there. For few cells a matrix takes all reviews at once.
     """
-    low, count = start.law.low, len(start.law.chances)
-    usual, ends = settled.between(low, low + count - 1), np.concatenate([[0], np.cumsum(net.chances)])
+    low = start.law.low
+    count = len(start.law.chances)
+    usual = settled.between(low, low + count - 1)
+    ends = np.concatenate([[0], np.cumsum(net.chances)])
     # The chance that a review places an order, by the place after the review before.
     placing = 1 - ends[np.clip(count - np.arange(count) - net.low, 0, len(net.chances))]
 
     def after(law: Floats) -> Floats:
         """Returns a law after the next review."""
-        sums, rise = convolved(law, net.chances), max(0, -net.low)
+        sums = convolved(law, net.chances)
+        rise = max(0, -net.low)
         sums[rise] += sums[:rise].sum()
-        chances, first = np.zeros(count), min(max(net.low, 0), count)
+        chances = np.zeros(count)
+        first = min(max(net.low, 0), count)
         chances[first:] = sums[rise:rise + count - first]
         chances[-low] += law @ placing
         return chances
@@ -249,7 +281,8 @@ def theory_of(scenario: Scenario, most_gaps: int = MOST_GAPS) -> LongRun:
 
     Raises NoTheory if there is no long run, or if the numbers of the scenario are too far apart.
     """
-    costs, gaps = scenario.costs, [policy.S - policy.s for policy in scenario.policies]
+    costs = scenario.costs
+    gaps = [policy.S - policy.s for policy in scenario.policies]
     positive = dataclasses.replace(costs, holding=max(1, costs.holding), backlog=max(1, costs.backlog))
     # A search needs wider tables, and more passes over late orders: here the gaps are known.
     shape = dataclasses.replace(shape_of(dataclasses.replace(scenario, costs=positive)), order=max(gaps) / 3)
@@ -266,7 +299,8 @@ def start_of(theory: LongRun, initial: int, policy: Policy, gap: int) -> Start:
         return Start(LatticeLaw(highs, NOTHING.between(highs, gap)), True)
     cell, rest = divmod(policy.S - initial, theory.step)
     low = min(cell, 0) + highs
-    chances, shares = np.zeros(gap - low + 1), np.array([theory.step - rest, rest]) / theory.step
+    chances = np.zeros(gap - low + 1)
+    shares = np.array([theory.step - rest, rest]) / theory.step
     np.add.at(chances, np.minimum([cell, cell + 1], gap) - low, shares)
     return Start(LatticeLaw(low, chances), False)
 
@@ -277,17 +311,24 @@ class Runs:
 
     def __init__(self, theory: LongRun, scenario: Scenario) -> None:
         """Computes what the policies share, as the costs of the periods before the shortest lead time has passed."""
-        self.theory, self.scenario, self.periods = theory, scenario, scenario.periods
+        self.theory = theory
+        self.scenario = scenario
+        self.periods = scenario.periods
         leads = scenario.lead.chances
-        least, self.late = min(leads), theory.late
+        least = min(leads)
+        self.late = theory.late
         self.counted = max(self.periods - max(leads), 0)
         # Periods before the shortest lead time has passed, and what they cost; then those before the longest one has.
-        self.before, self.first, amount = min(least, self.periods), 0.0, theory.net
+        self.before = min(least, self.periods)
+        self.first = 0.0
+        amount = theory.net
         for _ in range(self.before):
             left = float(amount.chances @ np.maximum(scenario.initial - theory.step * amount.cells, 0))
             owed = left - scenario.initial + theory.step * amount.mean
-            self.first, amount = self.first + theory.holding * left + theory.backlog * owed, sum_of(amount, theory.net)
-        self.between, self.amount = self.periods - self.counted - self.before, Surplus(amount, theory.step)
+            self.first = self.first + theory.holding * left + theory.backlog * owed
+            amount = sum_of(amount, theory.net)
+        self.between = self.periods - self.counted - self.before
+        self.amount = Surplus(amount, theory.step)
         self.starts = {(policy, gap): start_of(theory, scenario.initial, policy, gap)
                        for policy in scenario.policies for gap, _ in theory.gaps_of(policy.s, policy.S)}
         widest = max(gap - min(start.law.low, 0) for (_, gap), start in self.starts.items())
@@ -304,8 +345,11 @@ class Runs:
 
     def bias(self, policy: Policy, gap: int) -> float:
         """Returns the bias of the start of a policy, counted with this gap."""
-        theory, start, unit = self.theory, self.starts[policy, gap], self.scenario.costs.unit
-        reviews, orders = self.reviews(start, gap), 1 / theory.periods(gap)
+        theory = self.theory
+        start = self.starts[policy, gap]
+        unit = self.scenario.costs.unit
+        reviews = self.reviews(start, gap)
+        orders = 1 / theory.periods(gap)
         usual = theory.figures_of_gap(gap, policy.S).cost - theory.setup * orders
         bias = theory.setup * (reviews.orders - self.periods * orders)
         bias += self._stock_bias(policy, gap, start, reviews, usual)
@@ -323,7 +367,8 @@ class Runs:
             left = self.amount.left(levels)
             costs: Floats = self.theory.holding * left + self.theory.backlog * (left - levels + self.amount.mean)
             return costs - usual
-        late, costs = self.late[:self.between] * start.ordered, laws @ excess(policy.S)
+        late = self.late[:self.between] * start.ordered
+        costs = laws @ excess(policy.S)
         total = self.first - self.before * usual + costs[-1] + (1 - late) @ costs[:len(late)]
         if late.any():
             total += late @ (laws[:len(late)] @ excess(self.scenario.initial))
@@ -333,12 +378,14 @@ class Runs:
         """Returns laws of how far the stock is below S when all but late orders have arrived, a row each, and their
         first cell: 0, 1, .. reviews after the start, and at last what a law of the position makes of it, after as many
         as orders may be late."""
-        net, last = self.theory.net, len(self.late)
+        net = self.theory.net
+        last = len(self.late)
         if not last:
             return first.low, first.chances[None]
         above = max(0, -start.low, -first.low) + last * max(0, -net.low)
         room = room_for(above + gap + self.theory.beside - self.theory.above + 1)
-        begun, (move,) = transforms_of([NOTHING, start, first], room)[:, None], transforms_of([net], room)
+        begun = transforms_of([NOTHING, start, first], room)[:, None]
+        move, = transforms_of([net], room)
         kept = waiting(begun, np.array([gap]), move, last, room, above)
         transforms = [laws[-1, 0] for laws in renewed(kept, move, self.late)]
         rows = np.roll(fft.irfft(transforms, room), above, axis=1)
@@ -371,7 +418,8 @@ def start_bias(scenario: Scenario, known: LongRun | None = None) -> StartBias:
     Costs of the long run leave `unit` out, which adds unit times the mean net demand to each; the biases have it.
     Raises NoTheory if there is no long run, or if the numbers of the scenario are too far apart.
     """
-    costs, policies = scenario.costs, scenario.policies
+    costs = scenario.costs
+    policies = scenario.policies
     theory = known if known and is_fine(known, scenario) else theory_of(scenario, MOST_BIAS_GAPS)
     if (theory.setup, theory.holding, theory.backlog) != (costs.setup, costs.holding, costs.backlog):
         theory = theory.priced(costs, theory.most, ALL)

@@ -71,7 +71,8 @@ def waiting(begun: Transforms, gaps: Whole, move: Transforms, reviews: int, room
     transform of the net demand. In the room, `above` cells below 0 stand at the end.
     """
     depths = np.arange(room)
-    is_waiting, state = (depths <= gaps[:, None]) | (depths >= room - above), begun
+    is_waiting = (depths <= gaps[:, None]) | (depths >= room - above)
+    state = begun
     states = [state]
     for _ in range(reviews):
         state = fft.rfft(fft.irfft(state * move, room) * is_waiting)
@@ -86,7 +87,9 @@ def renewed(kept: Transforms, move: Transforms, late: Floats) -> list[Transforms
     The last law alone is followed to the end, after as many reviews as an order may be late, all others to the review
     before.
     """
-    placed, solved, shortfalls = list[Transforms](), [kept[0, 0]], list[Transforms]()
+    placed = list[Transforms]()
+    solved = [kept[0, 0]]
+    shortfalls = list[Transforms]()
     for time in range(1, len(late) + 1):
         placed.append(kept[:, time - 1] * move - kept[:, time])
         tables = slice(0, -1) if time < len(late) else slice(-1, None)
@@ -114,16 +117,23 @@ def lasting(kept: Transforms, move: Transforms, late: Floats) -> Transforms:
 @compiled
 def grow(kept: Floats, free: Floats, roots: Transforms, cells: Sequence[int]) -> bool:
     """Adds to `kept` what `free` has in some cells, and returns whether that is more than a part of C."""
-    root, width, is_more = np.empty_like(kept[0]), kept.shape[2], False
+    root = np.empty_like(kept[0])
+    width = kept.shape[2]
+    is_more = False
     for cell in cells:
-        turn, k = 0, 0
+        turn = 0
+        k = 0
         while k < width:
-            root[0, k], root[1, k] = roots[turn].real, roots[turn].imag
-            turn, k = turn + cell, k + 1
+            root[0, k] = roots[turn].real
+            root[1, k] = roots[turn].imag
+            turn = turn + cell
+            k = k + 1
             if turn >= len(roots):
                 turn -= len(roots)
         for row in np.flatnonzero(free[:, cell]):
-            its, share, k = kept[row], free[row, cell], 0
+            its = kept[row]
+            share = free[row, cell]
+            k = 0
             while k < width:
                 its[0, k] += share * root[0, k]
                 its[1, k] += share * root[1, k]
@@ -136,10 +146,17 @@ def grow(kept: Floats, free: Floats, roots: Transforms, cells: Sequence[int]) ->
 def solved_for(kept: Floats, moves: Floats, late: Floats) -> Floats:
     """Returns R(1), R(2), .. of a gap, from row 1 on: numbers as rows with their real and imaginary parts. `kept` has
     rows with C, K(1), K(2), .., and `moves` is z. Numba makes fast code of `while` and of few arrays in a loop."""
-    placed, solved, start, width = np.empty_like(kept), np.empty_like(kept), np.zeros_like(moves), moves.shape[1]
+    placed = np.empty_like(kept)
+    solved = np.empty_like(kept)
+    start = np.zeros_like(moves)
+    width = moves.shape[1]
     start[0] = 1.0
     for time in range(1, len(late)):
-        before, here, orders, law, k = kept[time - 1] if time > 1 else start, kept[time], placed[time], solved[time], 0
+        before = kept[time - 1] if time > 1 else start
+        here = kept[time]
+        orders = placed[time]
+        law = solved[time]
+        k = 0
         while k < width:
             orders[0, k] = before[0, k] * moves[0, k] - before[1, k] * moves[1, k] - here[0, k]
             k += 1
@@ -147,13 +164,17 @@ def solved_for(kept: Floats, moves: Floats, late: Floats) -> Floats:
         while k < width:
             orders[1, k] = before[0, k] * moves[1, k] + before[1, k] * moves[0, k] - here[1, k]
             k += 1
-        k, sure = 0, (1 - late[0]) * orders[0, 0]
+        k = 0
+        sure = (1 - late[0]) * orders[0, 0]
         while k < width:
             law[0, k] = here[0, k] + late[0] * orders[0, k] + sure
             law[1, k] = here[1, k] + late[0] * orders[1, k]
             k += 1
         for ago in range(1, time):
-            first, rest, share, k = placed[ago], solved[time - ago], late[time - ago], 0
+            first = placed[ago]
+            rest = solved[time - ago]
+            share = late[time - ago]
+            k = 0
             if first[0, 0] <= LEAST_CHANCE:
                 continue
             sure = (1 - share) * first[0, 0]
@@ -170,10 +191,13 @@ def solved_for(kept: Floats, moves: Floats, late: Floats) -> Floats:
 @compiled
 def left_by(solved: Floats, moves: Floats, late: Floats) -> Floats:
     """Returns by what C is multiplied in the module's last equation, from what `solved_for` returns."""
-    under_way, left, width = np.zeros_like(moves), np.empty_like(moves), moves.shape[1]
+    under_way = np.zeros_like(moves)
+    left = np.empty_like(moves)
+    width = moves.shape[1]
     under_way[0] = late[0]
     for time in range(1, len(late)):
-        law, k = solved[time], 0
+        law = solved[time]
+        k = 0
         while k < width:
             under_way[0, k] += late[time] * law[0, k]
             under_way[1, k] += late[time] * law[1, k]
@@ -195,15 +219,21 @@ def last_shortfalls(cycles: Transforms, waits: Transforms, is_far: Truths, free:
     of `waits` is that of all further gaps. For other gaps these are the transforms, by some roots of unity, of `free`
     up to the gap.
     """
-    reviews, width, far, last = len(late), len(move), 0, 0
-    kept, moves = np.empty((reviews, 2, width)), np.stack((move.real, move.imag))
-    found, left = np.empty((len(gaps), width), np.complex128), moves
+    reviews = len(late)
+    width = len(move)
+    far = 0
+    last = 0
+    kept = np.empty((reviews, 2, width))
+    moves = np.stack((move.real, move.imag))
+    found = np.empty((len(gaps), width), np.complex128)
+    left = moves
 
     def split(row: Floats, numbers: Transforms) -> None:
         """Sets the real and the imaginary parts."""
         k = 0
         while k < width:
-            row[0, k], row[1, k] = numbers[k].real, numbers[k].imag
+            row[0, k] = numbers[k].real
+            row[1, k] = numbers[k].imag
             k += 1
     for place, gap in enumerate(gaps):
         is_same = place > 0 and (not is_far[place] or far >= len(waits))
@@ -211,9 +241,12 @@ def last_shortfalls(cycles: Transforms, waits: Transforms, is_far: Truths, free:
             split(kept[0], cycles[far])
             for row in range(1, 1 if is_same else reviews):
                 split(kept[row], waits[far, row - 1])
-            far, last = far + 1, gap
+            far = far + 1
+            last = gap
         is_same = not grow(kept, free, roots, range(last + 1, gap + 1)) and is_same
-        last, whole, k = gap, kept[0], 0
+        last = gap
+        whole = kept[0]
+        k = 0
         left = left if is_same else left_by(solved_for(kept, moves, late), moves, late)
         while k < width:
             found[place, k] = complex(whole[0, k] * left[0, k] - whole[1, k] * left[1, k],
@@ -242,8 +275,11 @@ def demands_of(move: Transforms, reviews: int, room: int) -> Floats:
 def falling(cycle: Floats, demands: Floats, gaps: Whole, move: Transforms, late: Floats) -> Transforms:
     """Returns what `lasting` returns for each of some rising gaps, if nothing comes back: then what waits is all that is
     within the gap. `cycle` has C up to the widest gap, by depth, and `demands` is that of `demands_of`."""
-    is_far, free = np.append(True, gaps[1:] - gaps[:-1] >= FAR), np.empty((len(late), len(cycle)))
-    free[0], free[1:], room = cycle, demands[:, :len(cycle)], demands.shape[1]
+    is_far = np.append(True, gaps[1:] - gaps[:-1] >= FAR)
+    free = np.empty((len(late), len(cycle)))
+    free[0] = cycle
+    free[1:] = demands[:, :len(cycle)]
+    room = demands.shape[1]
     up_to = np.arange(len(cycle)) <= gaps[is_far, None]
     # All demand is within a gap that is wide enough, and all further ones.
     most = int(np.flatnonzero(np.append(True, free[1:].any(axis=0)))[-1]) - 1
@@ -256,7 +292,8 @@ def falling_under(cycles: Floats, moves: Transforms, late: Floats, laws: Whole, 
     """Returns the chances of the shortfalls of some gaps, a row each, under some laws without returns. `laws` has the
     place of each gap's law. Each law has a row in `cycles` with C and room for a transform, one in `moves` with the
     transform of its net demand, and a column in `late`."""
-    room, most = cycles.shape[1], int(gaps.max())
+    room = cycles.shape[1]
+    most = int(gaps.max())
     free = np.stack([cycles, *demands_of(moves, len(late), room)], axis=1)[..., :most + 1]
     kept = fft.rfft(np.where(np.arange(most + 1) <= gaps[:, None, None], free[laws], 0.0), room)
     return chances_of(lasting(kept.swapaxes(0, 1), moves[laws], late[:, laws, None]), room)
@@ -265,7 +302,8 @@ def falling_under(cycles: Floats, moves: Transforms, late: Floats, laws: Whole, 
 def moving(cycle: Transforms, gaps: Whole, move: Transforms, late: Floats, room: int, above: int) -> Transforms:
     """Returns what `lasting` returns for each of some gaps, if items come back: see `waiting`. `cycle` has C."""
     waits = waiting(np.ones((1, *cycle.shape), complex), gaps, move, len(late) - 1, room, above)[0, 1:]
-    is_far, free = np.ones(len(gaps), bool), np.empty((len(late), 0))
+    is_far = np.ones(len(gaps), bool)
+    free = np.empty((len(late), 0))
     return last_shortfalls(cycle, np.ascontiguousarray(waits.swapaxes(0, 1)), is_far, free, gaps,
                            np.empty(room, complex), move, late)
 
@@ -276,7 +314,11 @@ class Shortfalls:
     def __init__(self, walk: Walk, late: Floats, above: int, beside: int, taken: Sequence[LatticeLaw]) -> None:
         """Takes how many cells a shortfall has above S, and beside those of its gap; and the laws of what is taken from
         the stock before a period's demand, and with it."""
-        self.walk, self.late, self.above, self.beside, self.taken = walk, late, above, beside, taken
+        self.walk = walk
+        self.late = late
+        self.above = above
+        self.beside = beside
+        self.taken = taken
         self.rooms = dict[int, tuple[Transforms, Floats]]()
 
     def in_room(self, room: int) -> tuple[Transforms, Floats]:

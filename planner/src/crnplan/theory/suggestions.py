@@ -64,7 +64,9 @@ class Depths:
             return gap - gap % self.divisor
         depths, all_up_to = 1, (1 << gap + 1) - 1  # a bit for each depth
         for fall in self.falls:
-            shift = gap + 1 if depths >> fall & 1 else fall
+            shift = fall
+            if depths >> fall & 1:
+                shift = gap + 1
             while shift <= gap:
                 depths |= depths << shift & all_up_to
                 shift *= 2
@@ -152,7 +154,9 @@ class Suggestion:
     @property
     def text(self) -> str:
         """Returns the policy as TOML, with its reasons and figures as a comment."""
-        policy, cost, fill = self.policy, self.figures.cost, self.figures.fill
+        policy = self.policy
+        cost = self.figures.cost
+        fill = self.figures.fill
         return (f"\n# {'; '.join(self.reasons)} (by theory {cost:.2f} a period, fill {fill:.2%})\n[[policy]]\n"
                 f'name = "{policy.name}"\ns = {policy.s}\nS = {policy.S}\n')
 
@@ -200,7 +204,8 @@ class Suggestions(Result):
     @property
     def notes(self) -> str:
         """Returns the lines below the table: what its columns mean, and what is known of the error and of a run."""
-        unit, error = self.scenario.costs.unit, Remark("exact figures")
+        unit = self.scenario.costs.unit
+        error = Remark("exact figures")
         if self.error is not None:
             facts = {"step": self.step, "error": max(self.error, 1e-4), "twice": 2 * self.step}
             error = Remark("rough figures" if self.error > ROUGH else "rounded figures", facts)

@@ -32,9 +32,11 @@ LOOK_EVERY = 64
 @lru_cache(maxsize=16)
 def chances_in(table: Law) -> tuple[Whole, Floats]:
     """Returns the values of a table that have a chance, and their chances."""
-    values, weights = np.fromiter(table.values, int), np.fromiter(table.weights, float)
+    values = np.fromiter(table.values, int)
+    weights = np.fromiter(table.weights, float)
     if 0 in table.weights:
-        values, weights = values[weights > 0], weights[weights > 0]
+        values = values[weights > 0]
+        weights = weights[weights > 0]
     return values, weights / table.size
 
 
@@ -42,7 +44,9 @@ def chances_in(table: Law) -> tuple[Whole, Floats]:
 def cut(chances: Floats) -> tuple[int, Floats]:
     """Returns the first place that is not all but impossible, and the chances from there on, scaled to a sum of 1. So
     is their end cut."""
-    first, last, total = 0, len(chances) - 1, 0.0
+    first = 0
+    last = len(chances) - 1
+    total = 0.0
     for chance in chances:
         total += max(chance, 0.0)
     least = LEAST_CHANCE * total
@@ -50,7 +54,8 @@ def cut(chances: Floats) -> tuple[int, Floats]:
         first += 1
     while chances[last] <= least:
         last -= 1
-    kept, total = np.maximum(chances[first:last + 1], 0.0), 0.0
+    kept = np.maximum(chances[first:last + 1], 0.0)
+    total = 0.0
     for chance in kept:
         total += chance
     return first, kept / total
@@ -167,11 +172,12 @@ def power_of(law: LatticeLaw, count: int) -> LatticeLaw:
 
 
 class Surplus:
-    """What is expected to be left of a level, and to be lacking, if a random amount is taken from it."""
+    """What is expected to be left of a level if a random amount is taken from it."""
 
     def __init__(self, law: LatticeLaw, step: int) -> None:
         """Sums up the law of the amount, so that each level takes one look."""
-        self.law, self.step = law, step
+        self.law = law
+        self.step = step
         self.below, self.taken = summed(law.chances, law.low, step)
         self.mean = float(self.taken[-1])
 
@@ -184,10 +190,6 @@ class Surplus:
         place = self.place(level)
         surplus: Floats = level * self.below[place] - self.taken[place]
         return surplus
-
-    def lacking(self, level: Whole) -> Floats:
-        """Returns the expected surplus of the amount over a level, in items."""
-        return self.left(level) - level + self.mean
 
 
 @compiled
@@ -202,8 +204,10 @@ def figures_at(levels: Whole, step: int, low: int, below: Floats, taken: Floats,
         stock = level * below[place] - taken[place]
         owed = stock - level + taken[-1]
         lacking = level * below_before[placed] - taken_before[placed] - level + taken_before[-1]
-        figures[0, each], figures[1, each] = holding * stock + backlog * owed, owed - lacking
-        figures[2, each], figures[3, each] = below[place], stock
+        figures[0, each] = holding * stock + backlog * owed
+        figures[1, each] = owed - lacking
+        figures[2, each] = below[place]
+        figures[3, each] = stock
     return figures
 
 
@@ -237,7 +241,8 @@ def factors_of(net: LatticeLaw) -> tuple[Floats, Floats]:
     """
     if net.low >= 0:
         falls = net.between(0, net.high)
-        stay, falls[0] = float(falls[0]), 0.0
+        stay = float(falls[0])
+        falls[0] = 0.0
         return np.array([1 / (1 - stay)]), falls / (1 - stay)
     decay = decay_of(net)
     tilt = min(decay / 2, 10 / net.high)
@@ -245,8 +250,11 @@ def factors_of(net: LatticeLaw) -> tuple[Floats, Floats]:
     tilted = np.zeros(room)
     tilted[net.cells % room] = net.chances * np.exp(-tilt * net.cells)
     logarithm = np.fft.ifft(np.log(1 - np.fft.fft(tilted))).real
-    down, up = logarithm.copy(), logarithm
-    down[0], down[room // 2:], up[1:room // 2] = 0, 0, 0
+    down = logarithm.copy()
+    up = logarithm
+    down[0] = 0
+    down[room // 2:] = 0
+    up[1:room // 2] = 0
     falls = -np.fft.ifft(np.exp(np.fft.fft(down))).real[:net.high + 1] * np.exp(tilt * np.arange(net.high + 1))
     falls[0] = 0.0
     visits = np.fft.ifft(np.exp(-np.fft.fft(up))).real[-np.arange(room // 2) % room]
@@ -260,7 +268,8 @@ def factors_of(net: LatticeLaw) -> tuple[Floats, Floats]:
 def renewal_sequence(lows: Floats, falls: Floats, count: int) -> Floats:
     """Returns the chances that each of the first `count` places is a low of the walk. `lows` are the first of them.
     Each is a mean of as many chances before it as a fall has cells. So once these are equal, all others are."""
-    longer, reach = np.zeros(count), len(falls) - 1
+    longer = np.zeros(count)
+    reach = len(falls) - 1
     longer[:len(lows)] = lows
     turned = falls[:0:-1].copy()
     for place in range(len(lows), count):
@@ -279,7 +288,8 @@ class Walk:
 
     def __init__(self, scenario: Scenario, step: int, exact: bool) -> None:
         """Makes the laws of the position. `exact` says that all demands and returns lie on the lattice."""
-        self.step, self.exact = step, exact
+        self.step = step
+        self.exact = exact
         self.demand = LatticeLaw.of(scenario.demand, step)
         self.back = LatticeLaw.of(scenario.returns, step) if scenario.returns else NOTHING
         self.net = sum_of(self.demand, self.back.reflected)
