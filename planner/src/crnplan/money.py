@@ -87,8 +87,11 @@ def whole(value: Any, name: str) -> int:
 
 def _beyond(amounts: Mapping[str, Fraction], scale: Fraction) -> str:
     """Returns the name of the first amount that a scale leaves in parts or above the program's range; empty if none."""
-    return next((name for name, amount in amounts.items()
-                 if (own := amount * scale).denominator > 1 or own > formats.limits("costs", name)[1]), "")
+    for name, amount in amounts.items():
+        scaled = amount * scale
+        if scaled.denominator > 1 or scaled > formats.limits("costs", name)[1]:
+            return name
+    return ""
 
 
 def rounded_costs(costs: Mapping[str, Fraction], exact_one: str) -> tuple[dict[str, int], Fraction, float]:
@@ -119,9 +122,12 @@ def scaled_costs(costs: Mapping[str, Amount]) -> tuple[dict[str, int], Fraction]
     Each cost is an int, float, Decimal, Fraction or text, such as "12.50". The scale is 1 if that can be, or if all are
     whole. Raises Refused if no scale makes all costs whole and keeps them within their ranges.
     """
-    if len(its := {name: cost for name, cost in costs.items()
-                   if type(cost) is int and cost <= formats.limits("costs", name)[1]}) == len(costs):
-        return its, Fraction(1)
+    whole_costs = dict[str, int]()
+    for name, cost in costs.items():
+        if type(cost) is int and cost <= formats.limits("costs", name)[1]:
+            whole_costs[name] = cost
+    if len(whole_costs) == len(costs):
+        return whole_costs, Fraction(1)
     amounts = dict[str, Fraction]()
     for name, cost in costs.items():
         amount = exact(cost)

@@ -9,7 +9,7 @@ import dataclasses
 import io
 import re
 from collections import Counter
-from collections.abc import Iterable, Mapping, Sequence
+from collections.abc import Iterable, Iterator, Mapping, Sequence
 from dataclasses import dataclass, field
 from fractions import Fraction
 from pathlib import Path
@@ -145,8 +145,9 @@ class Scenario:
                 initial: int, periods: int, replications: int, key: str | Sequence[str]) -> Scenario:
         """Makes a scenario without a check. Without levels of today it has no policy."""
         version = formats.version_with(["returns"] if returns else [])
+        policies = (Policy("today", *today),) if today else ()
         return cls(version, tuple(key_words(key)), periods, replications, initial, formats.RING_SIZES[-1], costs,
-                   demand.table, lead.table, (Policy("today", *today),) if today else (), returns and returns.table)
+                   demand.table, lead.table, policies, returns and returns.table)
 
     def changed(self, **changes: object) -> Scenario:
         """Returns the scenario with changed fields, checked. Raises Refused, and ScenarioError with all faults.
@@ -162,14 +163,17 @@ class Scenario:
             if name == "policies":
                 tree["policy"] = [dataclasses.asdict(policy) for policy in policies_of(value)]
             elif name == "costs":
-                costs = dataclasses.asdict(value) if isinstance(value, Costs) else value
-                tree["costs"] |= {cost: whole(costs[cost], f"costs: {cost}") for cost in costs}
-            elif name in formats.DRAWS and value is not None:
-                tree[name] = _table(value, name).tree
-            elif name in formats.DRAWS:
+                costs = vars(value) if isinstance(value, Costs) else value
+                for cost, amount in costs.items():
+                    tree["costs"][cost] = whole(amount, f"costs: {cost}")
+            elif name in formats.DRAWS and value is None:
                 tree.pop(name, None)
+            elif name in formats.DRAWS:
+                tree[name] = _table(value, name).tree
+            elif name == "key":
+                tree[name] = key_words(value)
             else:
-                tree[name] = key_words(value) if name == "key" else whole(value, name)
+                tree[name] = whole(value, name)
         if "returns" in changes and "version" not in changes:
             tree["version"] = formats.version_with(tree)
         return dataclasses.replace(Scenario.of_tree(checked_tree(tree), self.source), scale=self.scale)
@@ -255,15 +259,22 @@ def policies_of(given: Policies) -> list[Policy]:
     """Returns policies, from those, pairs (s, S), a mapping of names to pairs, or a table with the columns s and S."""
     policies: Any = given.frame if isinstance(given, Result) else given
     if hasattr(policies, "columns"):
-        if not {"s", "S"} <= {*policies.columns}:
-            raise Refused("policies: the table lacks the column s or S; name them policy, s and S")
-        table = policies.set_index("policy") if "policy" in policies else policies
-        has_names = table.index.name == "policy" or table.index.dtype == object
-        pairs = zip(map(str, table.index) if has_names else [""] * len(table), zip(table["s"], table["S"]))
-        return [Policy.of_levels(*_levels(pair, "policies"), name) for name, pair in pairs]
+        return _policies_of_table(policies)
     if isinstance(policies, Mapping):
         return [Policy.of_levels(*_levels(pair, f"policies: {name}"), name) for name, pair in policies.items()]
     return [one if isinstance(one, Policy) else Policy.of_levels(*_levels(one, "policies")) for one in policies]
+
+
+def _policies_of_table(policies: Any) -> list[Policy]:
+    """Returns the policies of a DataFrame. Their names are its column `policy`, or an index of that name or of texts."""
+    if not {"s", "S"} <= {*policies.columns}:
+        raise Refused("policies: the table lacks the column s or S; name them policy, s and S")
+    table = policies.set_index("policy") if "policy" in policies else policies
+    names = [""] * len(table)
+    if table.index.name == "policy" or table.index.dtype == object:
+        names = [str(name) for name in table.index]
+    pairs = zip(table["s"], table["S"])
+    return [Policy.of_levels(*_levels(pair, "policies"), name) for name, pair in zip(names, pairs)]
 
 
 def read_policies(word: str) -> list[Policy]:
@@ -276,18 +287,23 @@ def read_policies(word: str) -> list[Policy]:
         return [Policy.of_levels(int(pair[1]), int(pair[2]))]
     if word.endswith(".toml"):
         return list(Scenario.read(word).policies)
-    data, policies = read_bytes(word), list[Policy]()
+    data = read_bytes(word)
     try:
-        rows = csv.DictReader(io.StringIO(data.decode("utf-8-sig"), newline=""))
-        missing = [name for name in "sS" if name not in (rows.fieldnames or [])]
-        if missing:
-            raise Refused(f"{word}:1: there is no column {' and no column '.join(missing)}; name them policy, s and S")
-        for row in rows:
-            for name in "sS":
-                if not re.fullmatch("[0-9]{1,9}", row[name] or ""):
-                    raise Refused(f"{word}:{rows.line_num}: column {name}: {shown(row[name] or '')} is not a whole "
-                                  "number; write the level in items")
-            policies.append(Policy.of_levels(int(row["s"]), int(row["S"]), row.get("policy") or ""))
+        return [*_policies_of_rows(data.decode("utf-8-sig"), word)]
     except (UnicodeDecodeError, csv.Error) as fault:
         raise Refused(f"{word}: this is no table of policies: {fault}; save it as CSV in UTF-8") from fault
-    return policies
+
+
+def _policies_of_rows(text: str, place: str) -> Iterator[Policy]:
+    """Yields the policies of a CSV table."""
+    rows = csv.DictReader(io.StringIO(text, newline=""))
+    missing = [name for name in "sS" if name not in (rows.fieldnames or [])]
+    if missing:
+        raise Refused(f"{place}:1: there is no column {' and no column '.join(missing)}; name them policy, s and S")
+    for row in rows:
+        for name in "sS":
+            level = row[name] or ""
+            if not re.fullmatch("[0-9]{1,9}", level):
+                raise Refused(f"{place}:{rows.line_num}: column {name}: {shown(level)} is not a whole number; write the "
+                              "level in items")
+        yield Policy.of_levels(int(row["s"]), int(row["S"]), row.get("policy") or "")

@@ -127,7 +127,7 @@ def test_effects_of_the_start(program: Path, monkeypatch: pytest.MonkeyPatch) ->
     assert not start_warning(rows, replace(PART, replications=1))
     bias = long_run.start_bias(PART)
     bias.theory.exact = False
-    monkeypatch.setattr(long_run, "start_bias", lambda scenario: bias)
+    monkeypatch.setattr(long_run, "start_bias", lambda scenario, known: bias)
     assert not start_warning(rows, PART)
     monkeypatch.setattr(long_run, "start_bias", refuse)
     assert not start_warning(rows, PART)
@@ -188,7 +188,7 @@ def test_disagreement_with_theory_is_said(report: LongRunReport) -> None:
         replace(PART, version=2, returns=PART.demand).long_run()
 
 
-def refuse(scenario: Scenario) -> None:
+def refuse(*words: object) -> None:
     raise NoTheory("too far apart")
 
 

@@ -29,7 +29,7 @@ from .. import formats
 from ..toml.documents import shown
 from ..toml.scenarios import checked_tree, name_faults, plain_text
 from ..errors import Fault, ProgramError, Refused, argument
-from ..scenario import Costs, Scenario
+from ..scenario import Costs, Policy, Scenario
 from ..table import DataTable, Json, Result, fraction, name, whole
 from .program import find_program, run_all
 
@@ -124,7 +124,8 @@ def rows_of(scenario: Scenario, text: str, program: str | Path) -> list[Row]:
         rows = read_rows(text, str(program))
     except Refused:
         rows = []
-    if [(row.policy, row.s, row.S) for row in rows] != [(own.name, own.s, own.S) for own in scenario.policies]:
+    policies = [Policy(row.policy, row.s, row.S) for row in rows]
+    if policies != [*scenario.policies]:
         raise ProgramError(f"{program}: what it writes is no report of the scenario; name crnsim with "
                            f"{argument('program')}")
     return rows
@@ -132,7 +133,8 @@ def rows_of(scenario: Scenario, text: str, program: str | Path) -> list[Row]:
 
 def pooled(reports: Sequence[Sequence[Row]], replications: int, periods: int) -> list[Row]:
     """Returns the rows of all replications. Each of the reports has the same policies and so many replications."""
-    rows, count, own = list[Row](), replications * len(reports), replications
+    rows, own = list[Row](), replications
+    count = own * len(reports)
     base = sum(report[0].total for report in reports)
     for column in zip(*reports, strict=True):
         squares = products = Fraction(0)

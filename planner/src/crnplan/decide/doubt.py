@@ -89,14 +89,16 @@ class Doubt(Result):
     def columns(self) -> dict[str, Floats]:
         """Returns the columns of the table with a figure for each policy."""
         import numpy as np
-        columns, fill = {"cost": self.figures.cost.mean(axis=0)}, self.figures.fill
+        columns = {"cost": self.figures.cost.mean(axis=0)}
         for name, regrets in (("", self.regrets), ("own_", self.own_regrets)):
             if not np.isnan(regrets).any():
-                columns |= {f"{name}regret": regrets.mean(axis=0),
-                            f"{name}regret_90": np.quantile(regrets, MOST, axis=0),
-                            f"{name}within": (regrets <= self.within).mean(axis=0)}
+                columns[f"{name}regret"] = regrets.mean(axis=0)
+                columns[f"{name}regret_90"] = np.quantile(regrets, MOST, axis=0)
+                columns[f"{name}within"] = (regrets <= self.within).mean(axis=0)
         columns["is_best"] = (1 + self.regrets <= TIE).mean(axis=0)
-        return columns | {"fill": fill.mean(axis=0), "fill_10": np.quantile(fill, 1 - MOST, axis=0), **self.spreads}
+        columns["fill"] = self.figures.fill.mean(axis=0)
+        columns["fill_10"] = np.quantile(self.figures.fill, 1 - MOST, axis=0)
+        return columns | self.spreads
 
     @cached_property
     def order(self) -> list[int]:
@@ -112,10 +114,11 @@ class Doubt(Result):
     def table(self) -> DataTable:
         """Returns the figures indexed by `policy`, the cheapest first."""
         columns = [column for column in COLUMNS[len(POLICY):] if column.name in self.columns]
-        figures = [self.columns[column.name] for column in columns]
-        rows: list[list[Cell]] = [
-            [*dataclasses.astuple(self.policies[place]), *(float(column[place]) for column in figures)]
-            for place in self.order]
+        rows = list[list[Cell]]()
+        for place in self.order:
+            policy = self.policies[place]
+            figures = (float(self.columns[column.name][place]) for column in columns)
+            rows.append([policy.name, policy.s, policy.S, *figures])
         return DataTable([*POLICY, *columns], rows, index="policy")
 
     @property
@@ -149,11 +152,11 @@ class Doubt(Result):
     def remarks(self) -> list[str]:
         """Returns lines on the laws, on the lattice, and on what does not fit."""
         drawn, figures, scenario = len(self.demand.laws), self.figures, self.scenario
-        families, lead_families = (", ".join(f"{count} {name}" for name, count in laws.families.items()) if laws else ""
-                                   for laws in (self.demand, self.lead))
-        lines = [f"laws of demand: {families} (history: its periods with random weights)",
-                 f"laws of lead times: {lead_families}" if self.lead else
-                 "lead times: those of the scenario under each law"]
+        lines = [f"laws of demand: {families_of(self.demand)} (history: its periods with random weights)"]
+        if self.lead:
+            lines.append(f"laws of lead times: {families_of(self.lead)}")
+        else:
+            lines.append("lead times: those of the scenario under each law")
         if len(figures.laws) < drawn:
             lines.append(f"{drawn - len(figures.laws)} laws of {drawn} are left out: under them as much comes back as "
                          "is asked for")
@@ -161,28 +164,35 @@ class Doubt(Result):
         if figures.error is not None:
             lines.append(f"counted in steps of up to {figures.step} items: costs are right to about "
                          f"{max(figures.error, 1e-4):.2%}, by which steps twice as large change them at most")
-        for name, own, allowed in (("demand", scenario.demand, self.demand), ("lead time", scenario.lead, self.lead)):
-            means = [float(law.mean) for law in allowed.laws] if allowed else []
-            if means and not min(means) <= float(own.mean) <= max(means):
-                lines.append(f"the mean {name} of the scenario is {float(own.mean):.4g}, but {min(means):.4g} to "
-                             f"{max(means):.4g} under the laws of the history; is it this item's history, in the same "
-                             "periods and boxes?")
+        for name, law, allowed in (("demand", scenario.demand, self.demand), ("lead time", scenario.lead, self.lead)):
+            if allowed is None:
+                continue
+            own, means = float(law.mean), [float(drawn_law.mean) for drawn_law in allowed.laws]
+            if not min(means) <= own <= max(means):
+                lines.append(f"the mean {name} of the scenario is {own:.4g}, but {min(means):.4g} to {max(means):.4g} "
+                             "under the laws of the history; is it this item's history, in the same periods and boxes?")
         return lines
 
     @property
     def notes(self) -> str:
         """Returns the sentences and the remarks."""
-        spreads = "" if not self.spreads else (
-            f"\nrun_cost, law_spread, luck_spread: a period of the {sentence(horizon_of(self.scenario))}, by crnsim, "
-            "all laws with one key: mean cost, its standard deviation over the laws, and that of one replication under "
-            "a law\n")
-        return f"{spreads}\n{self.sentence} {self.bounds}\n\n" + "".join(f"{line}\n" for line in self.remarks)
+        lines = ["", f"{self.sentence} {self.bounds}", "", *self.remarks, ""]
+        if self.spreads:
+            lines = ["", f"run_cost, law_spread, luck_spread: a period of the {sentence(horizon_of(self.scenario))}, by "
+                     "crnsim, all laws with one key: mean cost, its standard deviation over the laws, and that of one "
+                     "replication under a law", *lines]
+        return "\n".join(lines)
 
     @property
     def text(self) -> str:
         """Returns the table with its heading, and the notes."""
         return (f"The long run under {len(self.figures.laws)} laws that the history allows\n\n{self.table.text}"
                 f"{self.notes}")
+
+
+def families_of(allowed: AllowedLaws) -> str:
+    """Returns how many laws of each family there are."""
+    return ", ".join(f"{count} {name}" for name, count in allowed.families.items())
 
 
 def _spreads_of(scenario: Scenario, laws: Iterable[tuple[Law, Law]], program: str | Path | None) -> dict[str, Floats]:
@@ -194,7 +204,9 @@ def _spreads_of(scenario: Scenario, laws: Iterable[tuple[Law, Law]], program: st
         costs.append([float(row.per_period) for row in rows])
         if scenario.replications > 1:
             variances.append([float(own_variance(row, rows[0], scenario.replications)) for row in rows])
-    luck = np.sqrt(np.mean(variances, axis=0)) / scenario.periods if variances else np.full(len(costs[0]), np.nan)
+    luck = np.full(len(costs[0]), np.nan)
+    if variances:
+        luck = np.sqrt(np.mean(variances, axis=0)) / scenario.periods
     return {"run_cost": np.mean(costs, axis=0), "law_spread": np.std(costs, axis=0, ddof=1), "luck_spread": luck}
 
 

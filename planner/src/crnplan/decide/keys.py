@@ -23,6 +23,7 @@ from ..toml.scenarios import plain_text
 from .verdicts import MOST_KEYS, Decision, check_replications, checked_level, horizon_of, with_intervals, with_verdict
 
 Key = tuple[str, ...]
+VERDICTS = "better", "undecided", "worse"
 LEAST_REPLICATIONS = 2
 POOLED = "pooled.csv"
 KEPT = (POOLED, *(f"key_{number}.{end}" for number in range(1, MOST_KEYS + 1) for end in ("toml", "csv")))
@@ -30,9 +31,9 @@ KEPT = (POOLED, *(f"key_{number}.{end}" for number in range(1, MOST_KEYS + 1) fo
 
 def key_of(words: Sequence[str], own: Key) -> Key:
     """Returns the key that words name: four words, or one that replaces the first of the scenario's own."""
-    wrong = next((word for word in words if not formats.WORD.fullmatch(word)), None)
-    if wrong is not None:
-        raise Refused(f"{argument('keys')}: {wrong!r} is not {formats.DIGITS_OF_WORD} digits of 0-9a-f (in lower case)")
+    for word in words:
+        if not formats.WORD.fullmatch(word):
+            raise Refused(f"{argument('keys')}: {word!r} is not {formats.DIGITS_OF_WORD} digits of 0-9a-f (in lower case)")
     if len(words) not in (1, formats.WORDS_OF_KEY):
         raise Refused(f"{argument('keys')}: there are {len(words)} words; give four, or one that replaces the first of "
                       "the scenario")
@@ -84,13 +85,14 @@ class Check(Result):
     def sentence(self) -> str:
         """Returns one sentence on what the verdicts say of the best policy."""
         clauses = ["no policy is better"] if self.holds else []
-        alike = f"can't be told apart from {self.best}"
-        for verdict, one, many in (("better", "is better", "are better"), ("undecided", alike, alike),
-                                   ("worse", "is worse", "are worse")):
+        for verdict in VERDICTS:
             names = with_verdict(self.decision.rows, verdict)
-            clauses += [f"{', '.join(names)} {one if len(names) == 1 else many}"] if names else []
-        return (f"On these new histories {self.best} {'holds' if self.holds else 'does not hold'}: "
-                f"{'; '.join(clauses)}.\n")
+            if names:
+                verb = "is" if len(names) == 1 else "are"
+                said = f"can't be told apart from {self.best}" if verdict == "undecided" else f"{verb} {verdict}"
+                clauses.append(f"{', '.join(names)} {said}")
+        holds = "holds" if self.holds else "does not hold"
+        return f"On these new histories {self.best} {holds}: {'; '.join(clauses)}.\n"
 
     @property
     def notes(self) -> str:

@@ -65,42 +65,49 @@ class Sensitivity(Result):
         """Returns the regrets of each policy against the cheapest one of each case, the least greatest regret first."""
         losses = list[Loss]()
         for place, policy in enumerate(self.policies):
-            above = [(costs[place] - min(costs), min(costs)) for costs in self.costs.values()]
-            regrets = [(more, 100 * more / least if least else None) for more, least in above]
-            greatest, worst = max(zip(regrets, self.costs), key=lambda pair: pair[0][0])
-            losses.append(Loss(policy, (*regrets, greatest), worst))
+            regrets = {case: regret_of(costs[place], min(costs)) for case, costs in self.costs.items()}
+            worst = max(regrets, key=lambda case: regrets[case][0])
+            losses.append(Loss(policy, (*regrets.values(), regrets[worst]), worst))
         return sorted(losses, key=lambda loss: loss.regrets[-1][0])
 
     @property
     def cheapest(self) -> list[tuple[str, str, Fraction]]:
         """Returns the name of each case, its cheapest policy, of several the first by rank, and that policy's cost."""
-        return [(case, next(loss.policy.name for loss in self.losses if loss.regrets[place][0] == 0), min(costs))
-                for place, (case, costs) in enumerate(self.costs.items())]
+        cheapest = list[tuple[str, str, Fraction]]()
+        for place, (case, costs) in enumerate(self.costs.items()):
+            names = (loss.policy.name for loss in self.losses if loss.regrets[place][0] == 0)
+            cheapest.append((case, next(names), min(costs)))
+        return cheapest
 
     @property
     def table(self) -> DataTable:
         """Returns the regret of each policy in each case, indexed by `policy`, the least greatest regret first."""
-        rows: list[list[Cell]] = [
-            [*dataclasses.astuple(loss.policy), *(None if figure is None else float(figure) for regret in loss.regrets
-                                                  for figure in regret), loss.worst] for loss in self.losses]
+        rows = list[list[Cell]]()
+        for loss in self.losses:
+            row: list[Cell] = [loss.policy.name, loss.policy.s, loss.policy.S]
+            for money, percent in loss.regrets:
+                row += [float(money), None if percent is None else float(percent)]
+            rows.append([*row, loss.worst])
         return DataTable(columns_of([*self.costs]), rows, index="policy")
 
     @property
     def text(self) -> str:
         """Returns the table, the cheapest policy of each case, and the notes. The first line is the horizon."""
-        heading = ["policy", "s", "S", *self.costs, "greatest", "in"]
-        cells = [[*map(str, dataclasses.astuple(loss.policy)),
-                  *(f"{float(money):.3f}" + ("" if percent is None else f" ({float(percent):.2f}%)")
-                    for money, percent in loss.regrets), loss.worst] for loss in self.losses]
-        table = [[case, name, f"{float(cost):.3f}"] for case, name, cost in self.cheapest]
-        return (f"The {sentence(self.horizon)}\n\n" + aligned([heading, *cells], (0, len(heading) - 1))
-                + "\nregret: cost per period above the cheapest policy of the case\n\n"
-                + aligned([["case", "cheapest", "cost_a_period"], *table], (0, 1)) + self.notes)
+        regrets = [["policy", "s", "S", *self.costs, "greatest", "in"]]
+        for loss in self.losses:
+            policy = loss.policy
+            regrets.append([policy.name, str(policy.s), str(policy.S), *map(regret_text, loss.regrets), loss.worst])
+        cheapest = [["case", "cheapest", "cost_a_period"]]
+        for case, name, cost in self.cheapest:
+            cheapest.append([case, name, f"{float(cost):.3f}"])
+        return (f"The {sentence(self.horizon)}\n\n{aligned(regrets, (0, len(regrets[0]) - 1))}\n"
+                "regret: cost per period above the cheapest policy of the case\n\n"
+                f"{aligned(cheapest, (0, 1))}{self.notes}")
 
     @property
     def notes(self) -> str:
         """Returns lines on cases that are not exact or left out."""
-        return "".join(f"\n{line}" for line in map(sentence, self.remarks)) + "\n" * bool(self.remarks)
+        return "\n".join(["", *map(sentence, self.remarks), ""]) if self.remarks else ""
 
     @property
     def tree(self) -> dict[str, Json]:
@@ -111,11 +118,25 @@ class Sensitivity(Result):
 
 def columns_of(cases: Sequence[str]) -> list[Column]:
     """Returns the columns of the table for cases with these names."""
-    regrets = (number(f"{name}{end}", unit, "cost above the cheapest policy " + (
-        "of this case" if name != "greatest" else "in the case where that is greatest"), ".6f")
-               for name in (*cases, "greatest")
-               for end, unit in (("", "money a period"), ("_percent", "percent of the cheapest cost")))
+    regrets = list[Column]()
+    for name in (*cases, "greatest"):
+        where = "in the case where that is greatest" if name == "greatest" else "of this case"
+        meaning = f"cost above the cheapest policy {where}"
+        regrets += [number(name, "money a period", meaning, ".6f"),
+                    number(f"{name}_percent", "percent of the cheapest cost", meaning, ".6f")]
     return [*POLICY, *regrets, text("greatest_case", "the case with the greatest regret")]
+
+
+def regret_of(cost: Fraction, least: Fraction) -> Regret:
+    """Returns the regret of a cost beside the least one."""
+    more = cost - least
+    return more, 100 * more / least if least else None
+
+
+def regret_text(regret: Regret) -> str:
+    """Returns a regret for a reader."""
+    money, percent = regret
+    return f"{float(money):.3f}" + ("" if percent is None else f" ({float(percent):.2f}%)")
 
 
 def changed_demand(demand: Law, tenths: int) -> Law:

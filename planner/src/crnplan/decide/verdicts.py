@@ -161,11 +161,13 @@ def estimates_of(rows: Sequence[Row], replications: int, periods: int, shifts: S
     """Returns an estimate of each policy of a report. `shifts` are taken from the costs of a period."""
     estimates = list[Estimate]()
     for row, shift, count in zip(rows, shifts, orders, strict=True):
-        own = math.sqrt(own_variance(row, rows[0], replications) / replications) / periods
-        error = math.sqrt(row.diff_var or 0) / periods
-        estimates.append(Estimate(row.policy, float(row.per_period) - shift, own if count >= FEWEST_ORDERS else None,
-                                  float(row.diff_mean) / periods - shift + shifts[0],
-                                  error if min(count, orders[0]) >= FEWEST_ORDERS and error > 0 else None, count))
+        own = error = None
+        if count >= FEWEST_ORDERS:
+            own = math.sqrt(own_variance(row, rows[0], replications) / replications) / periods
+        if min(count, orders[0]) >= FEWEST_ORDERS and row.diff_var:
+            error = math.sqrt(row.diff_var) / periods
+        difference = float(row.diff_mean) / periods - shift + shifts[0]
+        estimates.append(Estimate(row.policy, float(row.per_period) - shift, own, difference, error, count))
     return estimates
 
 
@@ -184,7 +186,8 @@ def ends_of(middle: float, error: float | None, errors: float) -> Ends:
 def ranked(rows: Sequence[Row], estimates: Sequence[Estimate], percents: Sequence[float | None], level: float,
            replications: int, more: Sequence[Sequence[float | None]] = ()) -> tuple[Compared, ...]:
     """Returns compared policies, the cheapest first; `more` has the last fields of each. Raises Refused for a level."""
-    tails, joint, single, policies = 1 - checked_level(level), 0.0, 0.0, list[Compared]()
+    tails, joint, single = 1 - checked_level(level), 0.0, 0.0
+    policies = list[Compared]()
     if replications > 1:
         joint = t_quantile(tails / max(1, len(rows) - 1), replications - 1)
         single = t_quantile(tails, replications - 1)
@@ -200,14 +203,14 @@ def ranked(rows: Sequence[Row], estimates: Sequence[Estimate], percents: Sequenc
 
 def with_intervals(rows: Sequence[Row], replications: int, level: float) -> tuple[Compared, ...]:
     """Compares the policies of a report over its periods, the cheapest first. Raises Refused for a level."""
-    base, estimates = rows[0], list[Estimate]()
+    base, estimates, percents = rows[0], list[Estimate](), list[float | None]()
     for row in rows:
         own = error = None
         if replications > 1:
-            own = math.sqrt(own_variance(row, base, replications) / replications)
-            own, error = own / float(_periods_of(row, replications) or 1), math.sqrt(row.diff_var or 0)
+            of_replication = math.sqrt(own_variance(row, base, replications) / replications)
+            own, error = of_replication / float(_periods_of(row, replications) or 1), math.sqrt(row.diff_var or 0)
         estimates.append(Estimate(row.policy, float(row.per_period), own, float(row.diff_mean), error, math.inf))
-    percents = [float(100 * Fraction(row.diff_total, base.total)) if base.total else None for row in rows]
+        percents.append(float(100 * Fraction(row.diff_total, base.total)) if base.total else None)
     return ranked(rows, estimates, percents, level, replications)
 
 

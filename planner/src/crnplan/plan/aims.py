@@ -38,8 +38,8 @@ class Tried:
     def of(cls, trials: Sequence[Trial]) -> Tried:
         """Adds up trials, of which there is at least one."""
         periods = sum(trial.periods for trial in trials)
-        sums = map(math.fsum, zip(*(trial.unmet for trial in trials)))
-        return cls(len(trials), periods, tuple(unmet / periods for unmet in sums))
+        shares = [math.fsum(column) / periods for column in zip(*(trial.unmet for trial in trials))]
+        return cls(len(trials), periods, tuple(shares))
 
     def aim(self, wanted: float) -> float:
         """Returns the fill rate whose policies met the wanted one: between those of `FILLS` by the logarithm of what it
@@ -65,16 +65,20 @@ class Aims:
     def of(cls, trials: Sequence[Trial]) -> Aims:
         """Learns from trials. A class of fewer than 15 items has those of all."""
         speed = float(np.median([trial.mean for trial in trials]))
-        classes = [[trial for trial in trials if (trial.mean > speed) == is_fast] for is_fast in (False, True)]
-        return cls(speed, tuple(Tried.of(own if len(own) >= LEAST_CLASS else trials) for own in classes))
+        slow = [trial for trial in trials if trial.mean <= speed]
+        fast = [trial for trial in trials if trial.mean > speed]
+        classes = [Tried.of(own if len(own) >= LEAST_CLASS else trials) for own in (slow, fast)]
+        return cls(speed, tuple(classes))
 
     @classmethod
     def parse(cls, tree: Mapping[str, Any]) -> Aims:
         """Returns that of which `dataclasses.asdict` has made a tree. Raises LookupError or TypeError for another one.
         """
-        return cls(tree["speed"], tuple(Tried(tried["items"], tried["periods"], tuple(tried["unmet"]))
-                                        for tried in tree["classes"]))
+        classes = [Tried(tried["items"], tried["periods"], tuple(tried["unmet"])) for tried in tree["classes"]]
+        return cls(tree["speed"], tuple(classes))
 
     def aim(self, counts: Sequence[float], wanted: float) -> float:
         """Returns the fill rate at which an item aims that wants one."""
-        return self.classes[float(np.mean(counts)) > self.speed].aim(wanted)
+        slow, fast = self.classes
+        is_fast = float(np.mean(counts)) > self.speed
+        return (fast if is_fast else slow).aim(wanted)

@@ -63,10 +63,13 @@ class Draws:
             taken.append(name)
             left -= size
         certain, count = frozenset(taken), MOST - len(taken)
-        others = [(name, size) for _, name, size in sorted(self._first, reverse=True) if name not in certain][:count]
-        if len(others) < count:  # All of the others are there.
-            return Drawn(certain | {name for name, _ in others}, {})
-        return Drawn(certain, {name: min(1.0, count * size / left) for name, size in others})
+        chances = dict[str, float]()
+        for _, name, size in sorted(self._first, reverse=True):
+            if name not in certain and len(chances) < count:
+                chances[name] = min(1.0, count * size / left) if left > 0 else 1.0
+        if len(chances) < count:  # All of the others are there.
+            return Drawn(certain.union(chances), {})
+        return Drawn(certain, chances)
 
 
 def _keep(heap: list[Entry], entry: Entry, most: int) -> None:

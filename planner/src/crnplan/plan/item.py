@@ -96,10 +96,13 @@ class Depth:
     @cached_property
     def levels(self) -> dict[str, Levels]:
         """Returns s and S of the answer's policies in boxes, the base first."""
-        item, today = self.question.item, self.question.levels
-        figures = {TODAY: self.answer.today, CHOSEN: self.answer.chosen, ALONE: self.answer.alone}
-        return {name: today if today and policy.levels == item.levels else (
-            policy.point // item.box, policy.level // item.box) for name, policy in figures.items() if policy}
+        item, today, answer = self.question.item, self.question.levels, self.answer
+        levels = dict[str, Levels]()
+        for name, policy in ((TODAY, answer.today), (CHOSEN, answer.chosen), (ALONE, answer.alone)):
+            if policy:
+                in_boxes = policy.point // item.box, policy.level // item.box
+                levels[name] = today if today and policy.levels == item.levels else in_boxes
+        return levels
 
     @property
     def base(self) -> str:
@@ -179,7 +182,8 @@ class Depth:
     @cached_property
     def compared(self) -> list[Shown]:
         """Returns all policies, the cheapest first."""
-        settings, base = self.question.settings, self.answer.today or self.answer.chosen
+        settings = self.question.settings
+        base = self.answer.today or self.answer.chosen
         errors = t_quantile(1 - settings.level, settings.replications - 1)
         rows = list[Shown]()
         for (policy, reasons), run in zip(self.policies.items(), map(self._sampled, self.sample.policies)):

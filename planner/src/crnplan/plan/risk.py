@@ -107,11 +107,14 @@ class Risk:
     @property
     def reasons(self) -> list[Remark]:
         """Returns why the item is late or at risk; nothing if it is not."""
-        late = Remark("overdue", {"orders": len(self.standing.overdue), "items": float(self.overdue),
-                                  "days": self.days_late})
-        code = "nothing is due" if self.receipt is None else "stock ends"
-        ends = Remark(code, {"weeks": self.standing.weeks or 0.0, "days": self.days})
-        return [late] * bool(self.standing.overdue) + [ends] * self.ends_before
+        reasons = list[Remark]()
+        orders = len(self.standing.overdue)
+        if orders:
+            reasons.append(Remark("overdue", {"orders": orders, "items": float(self.overdue), "days": self.days_late}))
+        if self.ends_before:
+            code = "nothing is due" if self.receipt is None else "stock ends"
+            reasons.append(Remark(code, {"weeks": self.standing.weeks or 0.0, "days": self.days}))
+        return reasons
 
     @property
     def order(self) -> tuple[bool, float, float, str]:

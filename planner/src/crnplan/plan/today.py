@@ -365,14 +365,14 @@ class Today:
 
     def _groups(self, role: str) -> list[Group]:
         """Returns the items by what their masters say, if any of them says it."""
-        standings, dead = defaultdict[str, list[Standing]](list), defaultdict[str, list[Lying]](list)
+        standings = defaultdict[str, list[Standing]](list)
+        dead = defaultdict[str, list[Lying]](list)
         for standing in self.standings:
             standings[getattr(standing.item, role)].append(standing)
         for lying in self.dead:
             dead[getattr(lying.item, role)].append(lying)
-        names = sorted({*standings, *dead})
         minimums = self.minimums if role == "supplier" else {}
-        return [Group(name, standings[name], dead[name], minimums.get(name)) for name in names]
+        return [Group(name, standings[name], dead[name], minimums.get(name)) for name in sorted({*standings, *dead})]
 
     @property
     def overdue(self) -> int:
@@ -427,18 +427,19 @@ def minimums_of(items: Iterable[Item], stated: Mapping[str, Fraction]) -> dict[s
     suppliers = set[str]()
     for item in items:
         suppliers.add(item.supplier)
-        if item.supplier and item.supplier_min is not None:
-            known = minimums.setdefault(item.supplier, item.supplier_min)
-            place = places.setdefault(item.supplier, item.name)
-            if known != item.supplier_min:
-                raise Refused(message(Remark("two minimums", {
-                    "supplier": item.supplier, "first": float(known), "place": place,
-                    "second": float(item.supplier_min), "item": item.name})))
-    strange = next((name for name in stated if name not in suppliers), None)
-    if strange is not None:
-        close = get_close_matches(strange, suppliers, 1)
-        raise Refused(f"{argument('supplier_min', strange)}: no item has this supplier",
-                      f"did you mean {close[0]!r}?" if close else "the masters have the column supplier")
+        if not item.supplier or item.supplier_min is None:
+            continue
+        known = minimums.setdefault(item.supplier, item.supplier_min)
+        place = places.setdefault(item.supplier, item.name)
+        if known != item.supplier_min:
+            raise Refused(message(Remark("two minimums", {
+                "supplier": item.supplier, "first": float(known), "place": place, "second": float(item.supplier_min),
+                "item": item.name})))
+    for name in stated:
+        if name not in suppliers:
+            close = get_close_matches(name, suppliers, 1)
+            raise Refused(f"{argument('supplier_min', name)}: no item has this supplier",
+                          f"did you mean {close[0]!r}?" if close else "the masters have the column supplier")
     return minimums
 
 
@@ -462,21 +463,36 @@ def today_of(folder: PlannedFolder, answers: Iterable[Decided], tables: Mapping[
     if holdings.on_hand is None and all(hand is None for _, _, hand in known):
         raise Refused(f"{folder.path}: no item has a stock in its masters", f"name a table by {argument('stock')}")
     for item, answer, hand in known:
-        quiet, is_set = is_dead(item.counts, folder.every), bool(item.override and item.override.levels)
-        standing = hand and Standing(item, answer if isinstance(answer, Answer) else None, hand,
-                                     holdings.arrivals.get(item.name, ()), day, folder.every)
+        is_quiet, is_set = is_dead(item.counts, folder.every), bool(item.override and item.override.levels)
+        on_order, standing = NONE, None
+        if hand is not None:
+            planned = answer if isinstance(answer, Answer) else None
+            standing = Standing(item, planned, hand, holdings.arrivals.get(item.name, ()), day, folder.every)
+            on_order = standing.on_order
         if item.past in ENDED and not is_set:
-            ended.append(Ended(item, hand, standing.on_order if standing else NONE))
+            ended.append(Ended(item, hand, on_order))
         elif hand is None:
             unknown.append((item, Remark("unread stock" if item.name in holdings.unread else "no stock")))
-        elif isinstance(answer, Remark) and not is_set and (item.past != NO_DEMAND or hand.owed or not quiet):
+        elif isinstance(answer, Remark) and not is_set and (item.past != NO_DEMAND or hand.owed or not is_quiet):
             unknown.append((item, answer))
         if standing and (standing.answer or is_set or item.past == PHASE_OUT and standing.is_due):
             standings.append(standing)
-        if quiet and hand and hand.stock:
+        if is_quiet and hand and hand.stock:
             dead.append(Lying(item, hand.stock, quiet_periods(item.counts)))
     end = first_day(folder.read.fact("periods")[1], folder.every) - datetime.timedelta(1)
     minimums = minimums_of((item for item, _, _ in known), stated)
     sellers = sorted({item.supplier for item, _, _ in known})
-    return Today(day, end, [*by_urgency(standings)], unknown, dead, minimums, tables.get(ON_ORDER) is not None, holdings.counts,
-                 holdings.rejects, sellers, ended, holdings.remarks, holdings.controls)
+    return Today(
+        day=day,
+        end=end,
+        standings=[*by_urgency(standings)],
+        unknown=unknown,
+        dead=dead,
+        minimums=minimums,
+        has_orders=tables.get(ON_ORDER) is not None,
+        counts=holdings.counts,
+        rejects=holdings.rejects,
+        sellers=sellers,
+        ended=ended,
+        said=holdings.remarks,
+        controls=holdings.controls)

@@ -28,16 +28,15 @@ def asked_value(item: Item, answer: Answer) -> float:
 def policy_sums(name: str, item: Item, answer: Answer, figures: Figures, cost: float) -> dict[str, float]:
     """Returns what a policy of an item adds to the sums of its name."""
     parts = CostParts.of(item, figures, cost)
-    return {f"cost_{name}": cost, f"ordering_{name}": parts.orders, f"holding_{name}": parts.stock,
-            f"late_{name}": parts.late, f"value_{name}": float(item.price or 0) * figures.stock,
-            f"met_{name}": asked_value(item, answer) * figures.fill, f"fill_{name}": figures.fill,
-            f"orders_{name}": figures.orders}
-
-
-def uncompared_sums(item: Item, answer: Answer) -> dict[str, float]:
-    """Returns what an item adds to sums whose policy is compared with none."""
-    sums = policy_sums(UNCOMPARED, item, answer, answer.chosen, answer.cost_chosen)
-    return {f"demand_{UNCOMPARED}": asked_value(item, answer), **sums}
+    return {
+        f"cost_{name}": cost,
+        f"ordering_{name}": parts.orders,
+        f"holding_{name}": parts.stock,
+        f"late_{name}": parts.late,
+        f"value_{name}": float(item.price or 0) * figures.stock,
+        f"met_{name}": asked_value(item, answer) * figures.fill,
+        f"fill_{name}": figures.fill,
+        f"orders_{name}": figures.orders}
 
 
 @dataclass
@@ -141,17 +140,23 @@ class Totals:
 
     def add(self, item: Item, answer: Answer) -> None:
         self.verdicts[answer.verdict] += 1
-        self.promised += answer.confidence_cost is not None
         self.letters.update((item.abc, xyz_of(item.counts)))
+        self.promised += answer.confidence_cost is not None
         self.covered += answer.coverage_cost is not None
         self.overridden += answer.override is not None
-        values = {"confidence_cost": answer.confidence_cost or 0.0, "coverage_cost": answer.coverage_cost or 0.0,
-                  "override_cost": answer.override_cost or 0.0}
+        values = {
+            "confidence_cost": answer.confidence_cost or 0.0,
+            "coverage_cost": answer.coverage_cost or 0.0,
+            "override_cost": answer.override_cost or 0.0}
         if answer.correction and item.fill is not None:
             self.corrected[float(item.fill)] += 1
-            values |= {"held": float(item.holding) * answer.chosen.stock,
-                       "held_plain": float(item.holding) * answer.correction.plain_stock}
-        values |= self._compared(item, answer) if answer.is_compared else uncompared_sums(item, answer)
+            values["held"] = float(item.holding) * answer.chosen.stock
+            values["held_plain"] = float(item.holding) * answer.correction.plain_stock
+        if answer.is_compared:
+            values |= self._compared(item, answer)
+        else:
+            values |= policy_sums(UNCOMPARED, item, answer, answer.chosen, answer.cost_chosen)
+            values[f"demand_{UNCOMPARED}"] = asked_value(item, answer)
         for name, value in values.items():
             self.parts.add(name, value)
 

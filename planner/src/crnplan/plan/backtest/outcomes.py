@@ -62,13 +62,18 @@ class Happened:
         record, levels = self.record, [*levels]
         s, S = levels[0]
         periods = periods_of(self.past, levels, s + round(self.start * (S - s)))[record:]
-        asked, unmet = sum(self.past.demands[record:]), [period.unmet for period in periods]
+        unmet = [period.unmet for period in periods]
         costs = [float(period.cost(self.rates)) for period in periods]
-        cost, fill = (statistics.fmean(promise) for promise in zip(*promises)) if promises else (None, None)
-        return Outcome(*levels[record], cost, fill, statistics.fmean(costs), 1 - sum(unmet) / asked if asked else None,
-                       statistics.fmean(max(period.stock, 0) for period in periods),
-                       statistics.fmean(period.ordered > 0 for period in periods),
-                       sum(old != new for old, new in itertools.pairwise(levels[record:])), tuple(costs), tuple(unmet))
+        promised: tuple[float | None, float | None] = None, None
+        if promises:
+            promised = statistics.fmean(cost for cost, _ in promises), statistics.fmean(fill for _, fill in promises)
+        asked = sum(self.past.demands[record:])
+        fill = 1 - sum(unmet) / asked if asked else None
+        stock = statistics.fmean(max(period.stock, 0) for period in periods)
+        orders = statistics.fmean(period.ordered > 0 for period in periods)
+        changes = sum(old != new for old, new in itertools.pairwise(levels[record:]))
+        return Outcome(*levels[record], *promised, statistics.fmean(costs), fill, stock, orders, changes, tuple(costs),
+                       tuple(unmet))
 
     def of_figures(self, figures: Sequence[Figures]) -> Outcome:
         """Returns what the policies of the later periods come to, the first of them also in the record."""
