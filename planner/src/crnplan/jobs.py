@@ -32,7 +32,7 @@ if TYPE_CHECKING:
 
 # Items of a batch. So much of each worker is lost at most if all ends by force. A cluster takes some milliseconds for a
 # batch, so if there are many items, they are sent in larger ones.
-BATCH, LARGE_BATCH = 8, 32
+BATCH, LARGE_BATCH = 8, 64
 # A batch of items takes seconds. After so many it is given to a further worker, and after so many workers all ends.
 LIMIT_SECONDS, MOST_TRIES = 900.0, 3
 LOOKS = 8  # for late batches, in that time

@@ -23,7 +23,6 @@ Cell = int | float | str | bytes | None
 Row = TypeVar("Row")
 Question = tuple[str, str]  # a name, and the digest of all that its answer depends on
 LARGEST = 2**63  # SQLite's whole numbers are below
-PAGE_BYTES = 16_384  # of a new file: answers have some thousand bytes, and arrays many more
 WAIT_SECONDS = 60.0  # for another process that writes the same file
 
 
@@ -225,10 +224,13 @@ class Sealed(typing.NamedTuple):
 
 def seal_of(name: str, digest: str, cells: Iterable[Cell]) -> str:
     """Returns a digest of an answer as it is kept."""
-    parts = list[str | bytes]()
-    for cell in (name, digest, *cells):
-        parts += (cell if isinstance(cell, bytes) else repr(cell), "\n")
-    return sha256(*parts)[:DIGITS]
+    plain, data = list[Cell](), list[bytes]()
+    for cell in cells:
+        if isinstance(cell, bytes):
+            data.append(cell)
+            cell = len(cell)
+        plain.append(cell)
+    return sha256(repr((name, digest, plain)), *data)[:DIGITS]
 
 
 def sealed(kind: type[Row], name: str, digest: str, answer: Row | Remark) -> Sealed:
@@ -261,7 +263,7 @@ class Store(Generic[Row]):
             check_whole(self.base, self.named)
         with reading(self.named):
             if not is_read and not is_known:
-                self.base.executescript(f"PRAGMA page_size = {PAGE_BYTES}; PRAGMA journal_mode = WAL;" + self._tables())
+                self.base.executescript("PRAGMA journal_mode = WAL;" + self._tables())
             self.base.execute("PRAGMA synchronous = NORMAL")
             names = [column[1] for column in self.base.execute("PRAGMA table_info(answers)")]
         self.is_ours = names == self._names()

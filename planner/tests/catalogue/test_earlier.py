@@ -127,3 +127,13 @@ def test_plans_of_others(earlier: Path, tmp_path: Path, program: Path) -> None:
         marker.write_text((earlier / MARKER).read_text("utf-8").replace(old, new, 1), "utf-8")
         with pytest.raises(Refused, match="this is no folder of crnplan catalogue"):
             plan(after=tmp_path / "copy", program=program)
+
+
+def test_a_folder_of_an_older_version(tmp_path: Path, program: Path) -> None:
+    """A folder with the files of a version that kept them beside the tables is to be planned anew."""
+    (tmp_path / "answers.sqlite").touch()
+    said = "an older version of crnplan has planned it; run crnplan catalogue again"
+    with pytest.raises(Refused, match=said):
+        plan(after=tmp_path, program=program)
+    with pytest.raises(Refused, match=said):
+        crn.open_plan(tmp_path)

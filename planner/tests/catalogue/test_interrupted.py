@@ -329,7 +329,7 @@ def test_no_room_to_read(folder: Path, crnplan: Command, holding: Path, start: S
     _, errors = process.communicate(timeout=60)
     lines = [it for it in errors.decode().splitlines() if it.startswith("crnplan:")]
     assert process.returncode == 3 and len(lines) == 1 and "make room" in lines[0], errors
-    assert [it.name for it in (folder / "plan").iterdir()] == [MARKER]
+    assert {path.name for path in (folder / "plan").rglob("*")} == {MARKER, "kept"}
 
 
 @pytest.mark.timeout(2 * SECONDS)

@@ -134,7 +134,7 @@ def test_ranges_and_order_change_nothing(files: Path, catalogue: Catalogue, tmp_
     again = Catalogue(read_alone(tmp_path, paths, Words(today=TODAY), 2, Sizes(10_000, 20_000, plain=0)))
     assert again.counts == catalogue.counts and items_of(again) == items_of(catalogue)
     pd.testing.assert_frame_equal(again.rejects, catalogue.rejects)
-    assert {it.name for it in again.path.parent.iterdir()} == {again.path.name, MARKER}
+    assert {*tmp_path.rglob("*")} == {tmp_path / MARKER, again.path.parent, again.path}
     again.path.unlink()
     with pytest.raises(Refused, match="no catalogue was read"):
         again.opened()

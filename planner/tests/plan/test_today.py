@@ -258,7 +258,7 @@ def test_command(folder: Path, stock: pd.DataFrame, tmp_path: Path, monkeypatch:
     monkeypatch.chdir(tmp_path)
     before = {path: path.read_bytes() for path in folder.rglob("*") if path.is_file()}
     names = [*crn.open_plan(folder).decisions.item]
-    before_times = {path: path.stat().st_mtime_ns for path in folder.rglob("*")}
+    before_times = {path: path.stat().st_mtime_ns for path in before}
     rows = [f"{names[0]};1,5", f"{names[0]};2", f"{names[1]};viel", f"{names[2]};0", ";3", f"{names[3]};-2", "X-1;4",
             f"{names[4]};0"]
     Path("stock.csv").write_text("\n".join(["Material;frei verwendbar", *rows, ""]), "utf-8")
@@ -283,7 +283,7 @@ def test_command(folder: Path, stock: pd.DataFrame, tmp_path: Path, monkeypatch:
     table = Path("today/today_orders.csv").read_text("utf-8")
     assert crnplan("today", folder, *words, "--csv", "orders").output == table
     assert {path: path.read_bytes() for path in folder.rglob("*") if path.is_file()} == before
-    assert {path: path.stat().st_mtime_ns for path in folder.rglob("*")} == before_times
+    assert {path: path.stat().st_mtime_ns for path in before} == before_times
     answer = crnplan("today", folder, *words, "--out", folder)
     assert answer.status == 2 and MARKER in answer.errors
     answer = crnplan("today", folder)

@@ -8,7 +8,7 @@ import contextlib
 import itertools
 import json
 import math
-from collections.abc import Iterable, Iterator, Mapping
+from collections.abc import Iterable, Iterator, Mapping, Sequence
 from dataclasses import dataclass, replace
 from pathlib import Path
 from typing import TYPE_CHECKING, NamedTuple
@@ -116,34 +116,49 @@ def stocks_by_run(question: Question, asked: Iterable[Levels], program: str | Pa
     return dict(zip(levels, stocks, strict=True))
 
 
-def confirmed(gathered: Gathered, choices: Mapping[str, Choice], said: Mapping[str, str], count: int,
-              program: str | Path | None) -> list[str]:
-    """Returns a line on each named point, of which `said` says what it is for a reader: the value of the mean stock of
-    a sample of items by theory, and by crnsim with its standard error. Raises Refused and ProgramError."""
-    items, sample = gathered.items, gathered.items.drawn(gathered.folder.settings.seed, count)
-    policies = {name: items.policies(choice, [place for place, _ in sample]) for name, choice in choices.items()}
-    sums = {name: np.zeros(3) for name in said}  # by theory, by runs, and the variance of these
+def sampled_sums(gathered: Gathered, choices: Mapping[str, Choice], sample: Sequence[tuple[int, str]],
+                 program: str | Path | None) -> dict[str, Floats]:
+    """Returns for today's policies, the chosen ones and each choice the value of the mean stock of some items: by
+    theory, by runs, and the variance of the latter. Raises Refused and ProgramError."""
+    places = [place for place, _ in sample]
+    policies = {name: gathered.items.policies(choice, places) for name, choice in choices.items()}
+    sums = {name: np.zeros(3) for name in (TODAY, CHOSEN, *choices)}
     for _, drawn in sample:
         item, answer = gathered.folder.item(drawn)
         price = float(item.price or 0)
-        stocks = {name: (figures.levels, price * figures.stock)
-                  for name, figures in ((TODAY, answer.today or answer.chosen), (CHOSEN, answer.chosen))}
+        stocks = dict[str, tuple[Levels, float]]()
+        for name, figures in ((TODAY, answer.today or answer.chosen), (CHOSEN, answer.chosen)):
+            stocks[name] = figures.levels, price * figures.stock
         for name, chosen in policies.items():
-            its = next(chosen)
-            stocks[name] = (its.point, its.level), its.value
+            policy = next(chosen)
+            stocks[name] = (policy.point, policy.level), policy.value
         counted = stocks_by_run(gathered.folder.question(item), (levels for levels, _ in stocks.values()), program)
         for name, (levels, value) in stocks.items():
             stock, error = counted[levels]
             sums[name] += value, price * stock, (price * error)**2
+    return sums
+
+
+def confirmed(gathered: Gathered, choices: Mapping[str, Choice], said: Mapping[str, str], count: int,
+              program: str | Path | None) -> list[str]:
+    """Returns a line on each named point, of which `said` says what it is for a reader: the value of the mean stock of
+    a sample of items by theory, and by crnsim with its standard error. Raises Refused and ProgramError."""
+    sample = gathered.items.drawn(gathered.folder.settings.seed, count)
+    sums = sampled_sums(gathered, choices, sample, program)
     money = gathered.folder.currency.text
-    lines = [f"crnsim: the stock of {len(sample):,} of {items.count:,} items, taken at random, is worth"]
-    wide, shares = max(map(len, said.values())), dict[str, float]()
-    for name, (theory, run, variance) in sums.items():
-        shares[said[name]] = share = run / theory - 1 if theory else 0.0
-        lines.append(f"{said[name].ljust(wide)}  {money(run)} by runs (standard error {money(math.sqrt(variance))}), "
+    wide = max(map(len, said.values()))
+    lines = [f"crnsim: the stock of {len(sample):,} of {gathered.items.count:,} items, taken at random, is worth"]
+    far = list[str]()
+    for name, words in said.items():
+        theory, run, variance = sums[name]
+        share = run / theory - 1 if theory else 0.0
+        lines.append(f"{words.ljust(wide)}  {money(run)} by runs (standard error {money(math.sqrt(variance))}), "
                      f"{money(theory)} by theory ({share:+.2%})")
-    far = ", ".join(words for words, share in shares.items() if abs(share) > CLOSE)
-    return [*lines, f"More than {CLOSE:.0%} apart, so look at these items: {far}."] if far else lines
+        if abs(share) > CLOSE:
+            far.append(words)
+    if far:
+        lines.append(f"More than {CLOSE:.0%} apart, so look at these items: {', '.join(far)}.")
+    return lines
 
 
 @dataclass(frozen=True)
@@ -176,22 +191,31 @@ class Drawn(Result):
     def text(self) -> str:
         """Returns the named points as a table, and what they mean."""
         folder, parts = self.gathered.folder, self.gathered.parts
+        first = f"{self.gathered.items.count:,} items are on the curve"
+        for name, remark in itertools.islice(parts.left_out(), 1):
+            first += f"; {parts.out:,} are left out, as {name}: {sentence(remark)} ({LEFT_OUT} names all)"
+        lines = [first, "", aligned(self._rows())]
+        if parts.without_today:
+            lines.append(f"Today counts the chosen policy of {parts.without_today:,} items that have none today.")
+        for name, why in self.missing.items():
+            lines.append(f"{SAID[name]}: there is no such point: {why}")
+        policies = SAID.get(self.written, "the least stock")
+        lines += [*NOTES, f'{CURVE} has the curve; {POLICIES} has the policies of "{policies}", in {folder.path}.']
+        if self.confirmed:
+            lines += ["", *self.confirmed]
+        return "\n".join(lines) + "\n"
+
+    def _rows(self) -> list[list[str]]:
+        """Returns the named points as rows of texts, behind their heading."""
+        folder = self.gathered.folder
         money, every = folder.currency.places, folder.every
         unit = f", {folder.currency.code}" if folder.currency.code else ""
         rows = [["", f"stock value{unit}", "met at once", f"orders a {every}", f"setup and holding a {every}{unit}",
-                 "above the best"],
-                *([self.said[name], f"{point.value:,.{money}f}", f"{point.fill:.2%}", f"{point.orders:,.4g}",
-                   f"{point.cost:,.{money}f}", gap_text(gap)] for name, (point, gap) in self.points.items())]
-        lines = [f"{self.gathered.items.count:,} items are on the curve"]
-        for name, remark in itertools.islice(parts.left_out(), 1):
-            lines[0] += f"; {parts.out:,} are left out, as {name}: {sentence(remark)} ({LEFT_OUT} names all)"
-        lines += ["", aligned(rows)]
-        lines += [f"Today counts the chosen policy of {parts.without_today:,} items that have none today."
-                  ] * bool(parts.without_today)
-        lines += [f"{SAID[name]}: there is no such point: {why}" for name, why in self.missing.items()]
-        policies = SAID.get(self.written, "the least stock")
-        lines += [*NOTES, f'{CURVE} has the curve; {POLICIES} has the policies of "{policies}", in {folder.path}.']
-        return "\n".join([*lines, *([""] if self.confirmed else []), *self.confirmed]) + "\n"
+                 "above the best"]]
+        for name, (point, gap) in self.points.items():
+            rows.append([self.said[name], f"{point.value:,.{money}f}", f"{point.fill:.2%}", f"{point.orders:,.4g}",
+                         f"{point.cost:,.{money}f}", gap_text(gap)])
+        return rows
 
     @property
     def notes(self) -> str:
@@ -216,12 +240,12 @@ class Drawn(Result):
 def policy_rows(gathered: Gathered, choice: Choice) -> Iterator[PolicyOf]:
     """Yields the policy of each item in a choice with its figures, behind the description and today's s and S."""
     policies = gathered.items.policies(choice)
-    its = next(policies, None)
+    policy = next(policies, None)
     with contextlib.closing(Catalogued(gathered.folder.read.path, is_known=True)) as read:
         for name, description, levels in read.cells("name", "description", "levels"):
-            if its and its.name == name:
-                yield PolicyOf(description, json.loads(levels) if levels else None, its)
-                its = next(policies, None)
+            if policy and policy.name == name:
+                yield PolicyOf(description, json.loads(levels) if levels else None, policy)
+                policy = next(policies, None)
 
 
 def points_of(gathered: Gathered, budget: Budget) -> tuple[dict[str, Choice], dict[str, str]]:
@@ -274,14 +298,18 @@ def draw(gathered: Gathered, budget: Budget, confirm: int, program: str | Path |
     """Returns the curve with its points, and perhaps what crnsim counts."""
     choices, missing = points_of(gathered, budget)
     items = gathered.items
-    points = {name: (point, gap_of(items, point)) for name, point in gathered.points.items()}
-    points |= {name: (choice.point, gap_of(items, choice.point, choice.dearer)) for name, choice in choices.items()}
+    points, said = dict[str, tuple[Point, float]](), dict[str, str]()
+    for name, point in gathered.points.items():
+        points[name], said[name] = (point, gap_of(items, point)), SAID[name]
+    for name, choice in choices.items():
+        points[name], said[name] = (choice.point, gap_of(items, choice.point, choice.dearer)), SAID[name]
+        if choice.dearer.stock:
+            said[name] += " (more orders)"
+        if choice.dearer.orders:
+            said[name] += " (fewer orders)"
     written = next((name for name in (BUDGET, SAME_SERVICE, SAME_STOCK) if name in choices), ON_CURVE)
     # If neither of today's figures is on the curve, the policies are those of its beginning.
     choice = choices[written] if choices else items.ladder().with_price(0)
-    said = {name: SAID[name] for name in points}
-    for name, choice in choices.items():
-        said[name] += " (more orders)" * bool(choice.dearer.stock) + " (fewer orders)" * bool(choice.dearer.orders)
     sample = confirmed(gathered, choices, said, confirm, program) if confirm else []
     return Drawn(gathered, curve_points(items), points, said, missing, written, choice, sample)
 

@@ -45,6 +45,11 @@ def check_records(earlier: PlannedFolder, read: Catalogued) -> None:
                       "name the later files as DEMAND.csv, and the folder of the earlier plan behind --after")
 
 
+def taken(answer: Answer | Remark) -> Answer | Remark:
+    """Returns the answer of an earlier plan to a question that has not changed. The policy before is its own."""
+    return answer if isinstance(answer, Remark) else dataclasses.replace(answer, before=answer.chosen)
+
+
 def asked_after(read: Catalogued, planned: Planned, earlier: PlannedFolder | None,
                 name: str) -> tuple[Item, Levels | None] | Known:
     """Returns what is asked of an item that was read: its facts, with its s and S in an earlier plan, if it has any
@@ -54,13 +59,13 @@ def asked_after(read: Catalogued, planned: Planned, earlier: PlannedFolder | Non
     answer = earlier.store.answer(name) if earlier else None
     if earlier is None or answer is None:
         return item, None
+    before = None if isinstance(answer, Remark) else answer
     is_same = read.digest(name, planned.base) == earlier.read.digest(name, earlier.planned.base)
-    if isinstance(answer, Remark):
-        return Known(answer) if is_same else (item, None)
-    if is_same and not (answer.undamped and planned.settings.least_gain != earlier.settings.least_gain):
-        # The policy before is its own.
-        return Known(dataclasses.replace(answer, before=answer.chosen))
-    return item, answer.chosen.levels
+    if before and before.undamped:
+        is_same &= planned.settings.least_gain == earlier.settings.least_gain
+    if is_same:
+        return Known(taken(answer))
+    return item, before.chosen.levels if before else None
 
 
 def common_changes(earlier: Planned, planned: Planned) -> Iterator[Remark]:

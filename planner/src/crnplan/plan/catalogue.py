@@ -171,6 +171,8 @@ def check_earlier(after: Path | None, out: Path | None, settings: Settings) -> N
     elif out is not None and after.resolve() == out.resolve():
         raise Refused(f"{after}: the earlier plan and this one need folders of their own",
                       "name another folder for this one")
+    elif (after / OLDER).is_file() and not (after / ANSWERS).is_file():
+        raise no_plan(after)
     elif not (after / ANSWERS).is_file():
         raise Refused(f"{after}: no plan is in it", "name the folder of an earlier crnplan catalogue")
 

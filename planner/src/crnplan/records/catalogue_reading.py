@@ -4,6 +4,7 @@ from __future__ import annotations
 
 import contextlib
 import heapq
+import itertools
 import json
 import sqlite3
 from collections import Counter
@@ -245,18 +246,36 @@ def read_into(folder: Folder, tables: Mapping[str, Table | None], words: Words, 
             raise RefusedFaults(repeated)
         writer.add_parts(read)
         writer.succeed(words)
-        currency = next(iter(distinct(whole.currencies)), "")
-        periods = whole.record.periods
-        return writer.finish({"counts": counts_of(filed, read, writer.pasts()), "every": words.every,
-                              "decimals": max(Currency(currency, 0).places, *(its.decimals for its in read)),
-                              "currency": currency, "abc": words.defaults.abc, "sources": sources_by_role(read),
-                              "periods": [periods.start, periods.stop], "found": found_of(filed, whole, words),
-                              "told": told_of(words), "controls": tree_of(together(
-                                  [*(no_rows(kind, sheet) for kind, sheet in sheets.items()),
-                                   *(part.controls for part in read)])), "remarks": [
-                                  [remark.code, remark.facts] for remark in remarks_of(filed, read)],
-                              "said": [*(f"{sheets['items'].file_name}: {message(remark)}" for remark in settled),
-                                       *said_of_leads(sheets, read), *said_of_dates(filed, whole), *said_of(sheets, words.every)]})
+        facts = facts_of(sheets, filed, whole, read, words)
+        facts["counts"] = counts_of(filed, read, writer.pasts())
+        facts["said"] = [*said_of_times(sheets, settled), *said_of_leads(sheets, read), *said_of_dates(filed, whole),
+                         *said_of(sheets, words.every)]
+        return writer.finish(facts)
+
+
+def facts_of(sheets: Mapping[str, Sheet], tables: Mapping[str, FiledTable], whole: Whole, parts: Sequence[PartRead],
+             words: Words) -> dict[str, Any]:
+    """Returns what is kept of a catalogue beside its items, but for counts and what is said."""
+    currency = next(iter(distinct(whole.currencies)), "")
+    periods = whole.record.periods
+    controls = [*itertools.starmap(no_rows, sheets.items()), *(part.controls for part in parts)]
+    return {
+        "every": words.every,
+        "decimals": max(Currency(currency, 0).places, *(part.decimals for part in parts)),
+        "currency": currency,
+        "abc": words.defaults.abc,
+        "sources": sources_by_role(parts),
+        "periods": [periods.start, periods.stop],
+        "found": found_of(tables, whole, words),
+        "told": told_of(words),
+        "controls": tree_of(together(controls)),
+        "remarks": [[remark.code, remark.facts] for remark in remarks_of(tables, parts)]}
+
+
+def said_of_times(sheets: Mapping[str, Sheet], settled: Iterable[Remark]) -> Iterator[str]:
+    """Yields how lead times of masters were read."""
+    for remark in settled:
+        yield f"{sheets['items'].file_name}: {message(remark)}"
 
 
 def said_of_leads(sheets: Mapping[str, Sheet], parts: Iterable[PartRead]) -> Iterator[str]:
@@ -291,17 +310,18 @@ def said_of_dates(tables: Mapping[str, FiledTable], whole: Whole) -> Iterator[st
 def counts_of(tables: Mapping[str, FiledTable], parts: Iterable[PartRead], pasts: Mapping[str, int]) -> Counts:
     """Returns what became of all rows and items, by what became of those of each part, and how many items have each
     past."""
-    files: dict[str, FileCounts] = {kind: {"name": its.sheet.file_name, "read": its.rows, "blank": its.blank, "used": 0,
-                                           "rejected": 0, "with_item": 0, "other": 0} for kind, its in tables.items()}
-    items = Counter[str]()
+    files, items = dict[str, FileCounts](), Counter[str]()
+    for kind, table in tables.items():
+        files[kind] = {"name": table.sheet.file_name, "read": table.rows, "blank": table.blank, "used": 0,
+                       "rejected": 0, "with_item": 0, "other": 0}
     for part in parts:
         items.update(part.counts["items"])
-        for kind, its in part.counts["files"].items():
-            mine = files[kind]
-            mine["used"] += its["used"]
-            mine["rejected"] += its["rejected"]
-            mine["with_item"] += its["with_item"]
-            mine["other"] += its["other"]
+        for kind, counts in part.counts["files"].items():
+            file = files[kind]
+            file["used"] += counts["used"]
+            file["rejected"] += counts["rejected"]
+            file["with_item"] += counts["with_item"]
+            file["other"] += counts["other"]
     kinds = {past.replace(" ", "_"): pasts.get(past, 0) for past in (NEW, NO_DEMAND, STOPPED, PHASE_OUT)}
     return {"files": files, "items": {**items, **kinds}}
 
