@@ -308,16 +308,19 @@ class Store(Generic[Row]):
 
     def keep(self, answers: Iterable[Sealed]) -> None:
         """Keeps answers: all of them or none."""
+        with self.base:
+            self._add(answers)
+
+    def _add(self, answers: Iterable[Sealed]) -> None:
         slots = ", ".join("?" * len(self._names()))
         rows = [(*answer[:3], *answer.cells) for answer in answers]
-        with self.base:
-            self.base.executemany(f"INSERT OR REPLACE INTO answers VALUES ({slots})", rows)
+        self.base.executemany(f"INSERT OR REPLACE INTO answers VALUES ({slots})", rows)
 
     def replace(self, name: str, digest: str, answer: Row | Remark) -> None:
         """Keeps an answer in place of all others of its name."""
         with self.base:
             self.base.execute("DELETE FROM answers WHERE item = ?", [name])
-        self.keep([sealed(self.kind, name, digest, answer)])
+            self._add([sealed(self.kind, name, digest, answer)])
 
     def finish(self, questions: Iterable[Question], facts: Mapping[str, str]) -> None:
         """Makes questions those that were asked last, with facts, and removes the answers to all others."""

@@ -213,21 +213,22 @@ class Gathered:
 def gather(own: Folder, folder: PlannedFolder, jobs: int | None, address: Scheduler | None, shown: bool) -> Iterator[Gathered]:
     """Computes the candidates of a planned folder that are not kept yet, and gives all. Raises Refused if no item can
     be on the curve."""
-    with contextlib.closing(Store(own.store(CANDIDATES), OnCurve)) as kept:
+    with (contextlib.closing(Store(own.store(CANDIDATES), OnCurve)) as kept,
+          contextlib.closing(Store(own.store(HULLS), Held)) as hulls):
         work = Work(kept, lambda: questions_of(folder), lambda name: asked_of(folder, name), on_curve_batch,
                     (folder.settings,))
         work.finish(workers_of(jobs, address), shown=shown)
         parts = Parts(folder.path.resolve(), kept)
-    if not parts.parts:
-        raise no_item(folder, parts)
-    with contextlib.closing(Store(own.store(HULLS), Held)) as hulls:
+        if not parts.parts:
+            raise no_item(folder, parts)
         hulls.renew()
         hulls.finish(map(held_as, parts.parts), {})
-    with workers_of(jobs if len(parts.parts) > MOST_PARTS else 1, None) as workers:
-        parts.workers = workers
-        items = Items(parts)
-        yield Gathered(folder, parts, items, dict(zip((TODAY, CHOSEN), items.now)), work.now)
-        parts.workers = Workers()
+        # Both stay open: whoever closes a file of SQLite last tidies it up, which takes as long as many questions.
+        with workers_of(jobs if len(parts.parts) > MOST_PARTS else 1, None) as workers:
+            parts.workers = workers
+            items = Items(parts)
+            yield Gathered(folder, parts, items, dict(zip((TODAY, CHOSEN), items.now)), work.now)
+            parts.workers = Workers()
 
 
 def no_item(folder: PlannedFolder, parts: Parts) -> Refused:
