@@ -12,7 +12,7 @@ from crnplan.theory import feasible as bounds, levels, long_run
 from crnplan.theory.feasible import ALL, Feasible
 from crnplan.theory.grid import search
 from crnplan.theory.lattice import shape_of, theory_on
-from crnplan.theory.long_run import NO_POLICY, Candidate
+from crnplan.theory.long_run import NO_POLICY, Candidate, Sought
 from crnplan.theory.many_laws import Promises
 from crnplan.theory.suggestions import MOST_EXCESS
 from planner.tests.conftest import leave_as_written
@@ -173,7 +173,7 @@ def test_each_gap_beside_all_its_levels(
         leave_as_written(monkeypatch, levels)
         monkeypatch.setattr(long_run, "walked", levels.walked)
     monkeypatch.setattr(long_run, "MOST_WALKED", most_walked)
-    found = [theory.levels_of(gaps, share), theory.levels_of(gaps, share, known=min(expected, key=lambda it: it[1])[1])]
+    found = [theory.levels_of(gaps, Sought(share), known) for known in (math.inf, min(cost for _, cost in expected))]
     for looked in found:
         for pair, wanted in zip(zip(*looked), expected):
             assert pair[1] == math.inf or pair == (wanted[0], pytest.approx(wanted[1], rel=1e-9))

@@ -69,8 +69,10 @@ def test_a_lattice_keeps_mean_and_sum(table: Law, step: int) -> None:
 def test_surpluses_equal_direct_sums(law: LatticeLaw, step: int, level: int) -> None:
     surplus, amounts = Surplus(law, step), {cell * step: chance for cell, chance in as_dict(law).items()}
     levels = np.array([level, level + 1])
-    left = [sum(max(it - amount, 0) * chance for amount, chance in amounts.items()) for it in levels]
-    assert surplus.left(levels) == pytest.approx(left, abs=1e-9)
+    left, lacking = ([sum(max(sign * (it - amount), 0) * p for amount, p in amounts.items()) for it in levels]
+                     for sign in (1, -1))
+    assert surplus.costs(levels, 1, 0) == pytest.approx(left, abs=1e-9)
+    assert surplus.costs(levels, 0, 1) == pytest.approx(lacking, abs=1e-9)
 
 
 @given(st.integers(1, 1 << 20))

@@ -330,7 +330,7 @@ class Cases:
         self.lows = theory.lows_of(int(self.gaps[-1]))
         if feasible.has_narrow_gaps:
             self.gaps = self.gaps[self.lows[self.gaps] > 0]
-        self.orders = 1 / (theory.span * np.cumsum(self.lows))
+        self.orders = 1 / theory.cycles(int(self.gaps[-1]))
         # Levels are looked at up to so many cells above the widest gap.
         high = theory.beside + theory.after.high
         if theory.has_one_lead:

@@ -84,6 +84,17 @@ Levels = tuple[Whole, Floats]
 Fixed = Callable[[Whole], tuple[Whole, Whole]]
 
 
+class Sought(NamedTuple):
+    """What is sought of some gaps: the cheapest feasible levels that meet a share of demand at once, or fixed ones. But
+    for the first gap, s is at least `lowest`. Policies with the greatest S of all are only looked at `to_the_top`, if
+    their gap would rather have a higher one."""
+
+    share: float = 0.0
+    lowest: int = 0
+    fixed: Fixed | None = None
+    to_the_top: bool = False
+
+
 def place_of_least(costs: Floats, ratio: float = 1 + NEAR) -> int:
     """Returns the place of the least cost, the first one if others are equal but for rounding: up to a ratio."""
     return int((costs <= costs.min() * ratio).argmax())
@@ -117,7 +128,8 @@ class LongRun(Walk):
         self.late, self.longest, under_way = lateness(leads), max(leads), power_of(self.net, min(leads))
         self.above = len(self.late) * max(0, -self.net.low) - self.above_low.low
         self.beside = self.above + max(self.net.high, power_of(self.net, len(self.late)).high)
-        if len(leads) == 1:
+        self.has_one_lead = len(leads) == 1
+        if self.has_one_lead:
             under_way = sum_of(under_way, self.above_low)
             self.above = 0
             self.beside = under_way.high
@@ -166,15 +178,7 @@ class LongRun(Walk):
     def figures_from(self, levels: Whole) -> Floats:
         """Returns rows with stock costs, unmet demand, the chance of no backlog and the stock at the end of a period
         that starts from lows at these levels, in items."""
-        after = self.one_period
-        before = self.one_before
-        return figures_at(levels, self.step, after.law.low, after.below, after.taken, before.law.low, before.below,
-                          before.taken, self.holding, self.backlog)
-
-    @property
-    def has_one_lead(self) -> bool:
-        """Returns whether all orders take equally long."""
-        return not len(self.late)
+        return figures_at(levels, self.step, *self.one_period.sums, *self.one_before.sums, self.holding, self.backlog)
 
     def lows_below(self, gaps: Sequence[int]) -> list[Floats]:
         """Returns for each gap the chances of how far a low of `figures_from` is below S, from the cell -above on."""
@@ -208,14 +212,10 @@ class LongRun(Walk):
         lows, = self.lows_below([gap])
         return sum_of(LatticeLaw.scaled(-self.above, lows), self.after)
 
-    def reach(self, cost: float) -> float:
-        """Returns how high the lows of a policy are at most on average, in items, if it costs no more."""
-        return CLOSE * cost / self.holding + self.offset
-
     def widest(self, cost: float, lowest: int) -> int:
         """Returns the greatest gap of a policy with s of at least `lowest` that costs no more: see the module."""
-        most = self.feasible.widest // self.step
-        return int(min(most, max(0, 2 * (self.reach(cost) - lowest) // self.step)))
+        reach = CLOSE * cost / self.holding + self.offset  # of lows on average, at most
+        return int(min(self.feasible.widest // self.step, max(0, 2 * (reach - lowest) // self.step)))
 
     def items(self, gap: Places) -> Places:
         """Returns S - s of a gap: see `Feasible.gap_in`."""
@@ -358,7 +358,7 @@ class LongRun(Walk):
 
     def first_gap(self, cost: float, most: int) -> int:
         """Returns the first gap up to the most whose orders alone cost no more."""
-        return int(np.argmax(np.cumsum(self.lows_of(most)) * self.span * cost * CLOSE >= self.setup))
+        return int(np.argmax(self.cycles(most) * cost * CLOSE >= self.setup))
 
     def lowest_point(self, cost: float) -> int:
         """Returns the least s, but for the least feasible gap, of a policy that costs no more: see the module."""
@@ -368,80 +368,77 @@ class LongRun(Walk):
         cheap = int((self.figures_from(levels)[0] <= CLOSE * cost).argmax())
         return max(self.feasible.least, self.step * (cheap - 1) + 1)
 
-    def levels_of(self, gaps: Whole, share: float = 0.0, fixed: Fixed | None = None, known: float = math.inf,
-                  lowest: int = 0, cut: int | None = None) -> Levels:
-        """Returns for each of some rising gaps the cheapest feasible level that meets a share of demand at once, or the
-        fixed one, with its cost. Gaps that cost more than a known policy are left out. But for the first gap, s is at
-        least `lowest`. A gap has none if the best of all is above the `cut`: by default, above the greatest S of all.
-        """
+    def levels_of(self, gaps: Whole, sought: Sought, known: float = math.inf) -> Levels:
+        """Returns for each of some rising gaps the level that is sought, with its cost. Gaps that cost more than a known
+        policy are left out."""
         levels = np.full(len(gaps), -1)
         costs = np.full(len(gaps), math.inf)
         looked = np.arange(len(gaps))
-        of_gaps = NONE
-        if fixed:
-            points, of_gaps = fixed(gaps)
-            looked = np.flatnonzero(self.fits(gaps, points, of_gaps))
+        fixed = NONE
+        if sought.fixed:
+            points, fixed = sought.fixed(gaps)
+            looked = np.flatnonzero(self.fits(gaps, points, fixed))
         if not self.has_one_lead and len(looked) > FEW and known < math.inf:
-            looked = looked[self.floors(0.0 if fixed else share, gaps[looked]) <= CLOSE * known]
-        if cut is None:
-            cut = self.feasible.top if self.feasible.has_all_levels else MOST_LEVEL
+            looked = looked[self.floors(sought.share, gaps[looked]) <= CLOSE * known]
+        # A gap has no level if the best of all is above the greatest S of all.
+        is_cut = self.feasible.has_all_levels and not sought.to_the_top
+        cut = self.feasible.top if is_cut else MOST_LEVEL
+        base = self.holding * (sought.lowest - self.offset)
         start = 0
         for some in self.parts(gaps[looked]):
             here = looked[start:start + len(some)]
             start += len(some)
             levels[here], costs[here] = self.walk(
-                some, self.items(some) + self.feasible.least, of_gaps[here] if fixed else NONE,
-                allowed=self.allowed(share), ratio=self.ratio, is_nested=self.has_one_lead, feasible=self.feasible,
-                cut=cut, base=self.holding * (lowest - self.offset), known=known)
+                some, self.items(some) + self.feasible.least, fixed[here] if len(fixed) else NONE,
+                allowed=self.allowed(sought.share), ratio=self.ratio, is_nested=self.has_one_lead,
+                feasible=self.feasible, cut=cut, base=base, known=known)
         return levels, costs
 
-    def least_of(self, gaps: Whole, share: float = 0.0, fixed: Fixed | None = None, known: float = math.inf,
-                 lowest: int = 0, cut: int | None = None) -> Candidate:
+    def least_of(self, gaps: Whole, sought: Sought, known: float = math.inf) -> Candidate:
         """Returns the cheapest of `levels_of`, with its gap in place of the reorder point."""
         if not len(gaps):
             return NO_POLICY
-        levels, costs = self.levels_of(gaps, share, fixed, known, lowest, cut)
+        levels, costs = self.levels_of(gaps, sought, known)
         # With several lead times, transforms have rounded the costs.
         best = place_of_least(costs, 1 + NEAR if self.has_one_lead else CLOSE)
         return Candidate(float(costs[best]), int(gaps[best]), int(levels[best]))
 
-    def cheapest(self, lowest: int, share: float = 0.0, fixed: Fixed | None = None) -> Candidate:
-        """Returns the cheapest policy of all gaps that may cost least, if s is at least `lowest` and a share of demand
-        is met at once, or with fixed levels; or what a search finds if these take too long. Its gap stands in place of
-        the reorder point."""
+    def cheapest(self, sought: Sought) -> Candidate:
+        """Returns the cheapest policy of all gaps that may cost least, or what a search finds if these take too long.
+        Its gap stands in place of the reorder point."""
         grid = self.grid()
         usual = min(self.most, round(self.usual_gap))
-        known = NO_POLICY
         most = self.most
+        known = NO_POLICY
         for some in (self.gaps(usual, usual) or grid[-1:], grid):
             if known.cost == math.inf or not self.has_one_lead:
                 gaps = np.array([gap for gap in some if gap <= most], int)
-                known = min(known, self.least_of(gaps, share, fixed, known.cost, lowest))
-                most = self.widest(known.cost, lowest) if known.cost < math.inf else most
+                known = min(known, self.least_of(gaps, sought, known.cost))
+                if known.cost < math.inf:
+                    most = self.widest(known.cost, sought.lowest)
         if known.cost == math.inf:
             return NO_POLICY
-        if not fixed:
-            lowest = max(lowest, self.lowest_point(known.cost))
-        most = self.widest(known.cost, lowest)
+        if not sought.fixed:
+            sought = sought._replace(lowest=max(sought.lowest, self.lowest_point(known.cost)))
+        most = self.widest(known.cost, sought.lowest)
         work = (most + 1) * work_of(power_of(self.net, self.longest).high + most, self.longest)
         if work > MOST_WORK and not self.has_one_lead:
             self.is_searched = True
-            return self.searched(share, fixed, known.cost, most)
+            return self.searched(sought, known.cost, most)
         gaps = self.every_gap(self.first_gap(known.cost, most), most)
-        found = self.least_of(gaps, share, fixed, known.cost, lowest, MOST_LEVEL if self.has_one_lead else None)
+        found = self.least_of(gaps, sought._replace(to_the_top=self.has_one_lead), known.cost)
         return found if found.cost <= CLOSE * known.cost else known
 
-    def searched(self, share: float, fixed: Fixed | None, known: float, most: int) -> Candidate:
+    def searched(self, sought: Sought, known: float, most: int) -> Candidate:
         """Returns the cheapest policy of a grid of gaps that gets finer beside the best: see `grid.search`."""
         every = self.every_gap(0, self.most)
 
         def policies_of(places: Sequence[int]) -> list[Candidate]:
             """Returns policies of gaps, with infinite costs if they cost more than one that is known."""
             gaps = every[[*places]]
-            levels, costs = self.levels_of(gaps[gaps <= most], share, fixed, known)
-            policies = {gap: Candidate(*row) for gap, *row in zip(gaps.tolist(), costs.tolist(), gaps.tolist(),
-                                                                  levels.tolist())}
-            return [policies.get(gap, NO_POLICY) for gap in gaps.tolist()]
+            levels, costs = self.levels_of(gaps[gaps <= most], sought, known)
+            policies = [*map(Candidate, costs.tolist(), gaps.tolist(), levels.tolist())]
+            return policies + [NO_POLICY] * (len(gaps) - len(policies))
         return search(policies_of, len(every) - 1)
 
     def best(self, share: float = 0.0) -> Candidate:
@@ -453,7 +450,7 @@ class LongRun(Walk):
                 point = free.level - self.items(self.gap_of(free.point, free.level))
                 self.found[share] = free._replace(point=point)
             else:
-                self.found[share] = self.at_gap(self.cheapest(self.feasible.least, share))
+                self.found[share] = self.at_gap(self.cheapest(Sought(share, lowest=self.feasible.least)))
         return self.found[share]
 
     def at_gap(self, found: Candidate, point: int | None = None) -> Candidate:
@@ -462,7 +459,7 @@ class LongRun(Walk):
 
     def cheapest_of_gaps(self, gaps: Sequence[int], share: float) -> Candidate:
         """Returns the cheapest feasible policy of rising gaps that meets a share of demand at once."""
-        return self.at_gap(self.least_of(np.array(gaps), share))
+        return self.at_gap(self.least_of(np.array(gaps), Sought(share)))
 
     def fullest(self) -> Candidate:
         """Returns the feasible policy that meets most demand at once: that of the greatest S and the least gap."""
@@ -491,8 +488,10 @@ class LongRun(Walk):
             if self.exact:
                 spans = np.maximum(spans, self.feasible.gap(gaps * self.step + rest - less))
             return np.full(len(gaps), point), point + spans
-        return self.at_gap(self.cheapest(point, fixed=fixed), point)
+        return self.at_gap(self.cheapest(Sought(lowest=point, fixed=fixed)), point)
 
     def best_with_level(self, level: int) -> Candidate:
         """Returns the cheapest feasible policy with an order-up-to level."""
-        return self.at_gap(self.cheapest(0, fixed=lambda gaps: (level - self.items(gaps), np.full(len(gaps), level))))
+        def fixed(gaps: Whole) -> tuple[Whole, Whole]:
+            return level - self.items(gaps), np.full(len(gaps), level)
+        return self.at_gap(self.cheapest(Sought(fixed=fixed)))

@@ -26,7 +26,7 @@ from ..law import Law
 from ..scenario import Policy, Scenario
 from .feasible import ALL, Feasible
 from .lattice import NoTheory, Shape, finest, shape_of, theory_on
-from .long_run import NO_POLICY, Candidate, Figures, LongRun, place_of_least
+from .long_run import NO_POLICY, Candidate, Figures, LongRun, Sought, place_of_least
 from .shortfalls import falling_under, transforms_of
 from .walk import Walk, room_for
 
@@ -159,7 +159,7 @@ class Narrowing:
         """Looks at these gaps, and goes on between those beside the best."""
         if not gaps:
             return
-        _, costs = self.theory.levels_of(np.array(gaps))
+        _, costs = self.theory.levels_of(np.array(gaps), Sought())
         best = place_of_least(costs)
         if costs[best] < math.inf:
             self.least = float(np.fmin(self.least, costs[best]))

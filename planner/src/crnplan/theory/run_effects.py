@@ -323,9 +323,8 @@ class Runs:
         self.first = 0.0
         amount = theory.net
         for _ in range(self.before):
-            left = float(amount.chances @ np.maximum(scenario.initial - theory.step * amount.cells, 0))
-            owed = left - scenario.initial + theory.step * amount.mean
-            self.first = self.first + theory.holding * left + theory.backlog * owed
+            level = np.array([scenario.initial])
+            self.first += float(Surplus(amount, theory.step).costs(level, theory.holding, theory.backlog)[0])
             amount = sum_of(amount, theory.net)
         self.between = self.periods - self.counted - self.before
         self.amount = Surplus(amount, theory.step)
@@ -364,9 +363,7 @@ class Runs:
             """Returns what a period costs more than usual if the stock a shortest lead time before is so far below a
             level as each cell of these laws."""
             levels = level - self.theory.step * (low + np.arange(laws.shape[1]))
-            left = self.amount.left(levels)
-            costs: Floats = self.theory.holding * left + self.theory.backlog * (left - levels + self.amount.mean)
-            return costs - usual
+            return self.amount.costs(levels, self.theory.holding, self.theory.backlog) - usual
         late = self.late[:self.between] * start.ordered
         costs = laws @ excess(policy.S)
         total = self.first - self.before * usual + costs[-1] + (1 - late) @ costs[:len(late)]

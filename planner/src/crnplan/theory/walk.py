@@ -171,32 +171,11 @@ def power_of(law: LatticeLaw, count: int) -> LatticeLaw:
     return total
 
 
-class Surplus:
-    """What is expected to be left of a level if a random amount is taken from it."""
-
-    def __init__(self, law: LatticeLaw, step: int) -> None:
-        """Sums up the law of the amount, so that each level takes one look."""
-        self.law = law
-        self.step = step
-        self.below, self.taken = summed(law.chances, law.low, step)
-        self.mean = float(self.taken[-1])
-
-    def place(self, level: Whole) -> Whole:
-        """Returns how many cells of the law are at most a level."""
-        return np.minimum(np.maximum(level // self.step - self.law.low + 1, 0), len(self.law.chances))
-
-    def left(self, level: Whole) -> Floats:
-        """Returns the expected surplus of a level over the amount, in items."""
-        place = self.place(level)
-        surplus: Floats = level * self.below[place] - self.taken[place]
-        return surplus
-
-
 @compiled
 def figures_at(levels: Whole, step: int, low: int, below: Floats, taken: Floats, before: int, below_before: Floats,
                taken_before: Floats, holding: int, backlog: int) -> Floats:
-    """Returns what `LongRun.figures_from` does, by the sums of the law of what is taken from a level up to the end of a
-    period, and of that up to the period's demand: see `Surplus`."""
+    """Returns rows with stock costs, unmet demand, the chance of no backlog and the stock at the end of a period, by the
+    sums of the law of what is taken from a level up to then, and of that up to the period's demand: see `Surplus`."""
     figures = np.empty((4, len(levels)))
     for each, level in enumerate(levels):
         place = min(max(level // step - low + 1, 0), len(below) - 1)
@@ -209,6 +188,21 @@ def figures_at(levels: Whole, step: int, low: int, below: Floats, taken: Floats,
         figures[2, each] = below[place]
         figures[3, each] = stock
     return figures
+
+
+class Surplus:
+    """What is expected to be left of a level, and to be lacking, if a random amount is taken from it. `sums` has the
+    first cell of its law, and the sums from there on, so that each level takes one look: see `summed`."""
+
+    def __init__(self, law: LatticeLaw, step: int) -> None:
+        self.law = law
+        self.step = step
+        self.sums = (law.low, *summed(law.chances, law.low, step))
+
+    def costs(self, levels: Whole, holding: int, backlog: int) -> Floats:
+        """Returns what is expected to be paid for the items that are left of levels, and for those that are lacking."""
+        costs: Floats = figures_at(levels, self.step, *self.sums, *self.sums, holding, backlog)[0]
+        return costs
 
 
 def net_tables(scenario: Scenario) -> list[Law]:
@@ -308,6 +302,10 @@ class Walk:
         if gap >= len(self.lows):
             self.lows = renewal_sequence(self.lows, self.falls, gap + 1)
         return self.lows[:gap + 1]
+
+    def cycles(self, most: int) -> Floats:
+        """Returns the mean number of periods from one order to the next, of the gaps up to the most."""
+        return np.asarray(self.span * np.cumsum(self.lows_of(most)))
 
     def periods(self, gap: int) -> float:
         """Returns the mean number of periods from one order to the next."""
