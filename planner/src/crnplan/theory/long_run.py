@@ -307,17 +307,15 @@ class LongRun(Walk):
             yield left[:count]
             left = left[count:]
 
-    def evened(self, lows: Floats, table: Floats) -> tuple[Floats, int]:
-        """Returns the sums of `walked` from where on lows have the same chance, and that place."""
+    def evened(self, lows: Floats, table: Floats, needed: Sequence[int]) -> tuple[Floats, int]:
+        """Returns the needed rows of sums of `walked`, and the place from which on lows have the same chance."""
         if len(lows) < MOST_WALKED:
             return table, len(lows)
-        low = lows[-1]
-        rows = table[:3]
-        is_other = abs(lows - low) > EVEN * low
-        even = int(np.flatnonzero(np.append(True, is_other))[-1])
-        added = 0 * rows
-        if even:
-            added = np.array([convolved(lows[:even] - low, row)[:rows.shape[1]] for row in rows])
+        low, rows = lows[-1], table[:3]
+        even = int(np.flatnonzero(np.append(True, abs(lows - low) > EVEN * low))[-1])
+        added = np.zeros_like(rows)
+        for row in needed if even else ():
+            added[row] = convolved(lows[:even] - low, rows[row])[:rows.shape[1]]
         return np.concatenate([added, np.cumsum(rows, axis=1)]), even
 
     def walk(self, gaps: Whole, leasts: Whole, fixed: Whole = NONE, *, allowed: float = math.inf, ratio: float = 0.0,
@@ -337,7 +335,10 @@ class LongRun(Walk):
         origin = 2 if is_nested and feasible else width
         top = max(int(self.floor(gaps[-1])), width - above + self.after.high) + 1  # With less, nothing is ever owed.
         table = self.figures_from(self.step * np.arange(above - origin, above + top + 1))
-        evened, even = self.evened(lows, table) if is_nested else (table, MOST_LEVEL)
+        evened, even = table, MOST_LEVEL
+        if is_nested:
+            needed = [0] if len(fixed) else [0, 2] if allowed == math.inf else [0, 1, 2]
+            evened, even = self.evened(lows, table, needed)
         multiple, highest = (feasible.multiple, feasible.top) if feasible else (1, MOST_LEVEL)
         return walked(gaps, leasts, fixed, lows, turned, table, evened, even, origin, self.step, multiple, highest,
                       cut, self.setup / self.span, base, self.holding * self.step / 2, allowed, ratio,
