@@ -136,14 +136,22 @@ def scaled_costs(costs: Mapping[str, Amount]) -> tuple[dict[str, int], Fraction]
         if 10**MOST_DECIMALS % amount.denominator:
             raise Refused(f"costs: {name}: {shown(cost)} has more than {MOST_DECIMALS} decimals; round it")
         amounts[name] = amount
-    scale = next((scale for scale in SCALES if not _beyond(amounts, scale)), None)
-    if scale is None:
-        finest = max(amounts, key=lambda name: amounts[name].denominator)
-        scale = next(scale for scale in SCALES
-                     if scale >= 1 and all((amount * scale).denominator == 1 for amount in amounts.values()))
-        name = _beyond(amounts, scale)
-        if scale > 1:
-            most = formats.limits("costs", name)[1]
-            raise Refused(f"costs: {finest} = {costs[finest]} is whole only if all costs count {int(scale):,} times; "
-                          f"then {name} is {int(amounts[name] * scale):,}, above {most:,}; round {finest}")
+    scale = _scale_of(amounts, costs)
     return {name: int(amount * scale) for name, amount in amounts.items()}, scale
+
+
+def _scale_of(amounts: Mapping[str, Fraction], costs: Mapping[str, Amount]) -> Fraction:
+    """Returns the scale of amounts that stand for costs; 1 if all are whole, but out of range. Raises Refused if a scale
+    above 1 makes all whole and one too large."""
+    for scale in SCALES:
+        if not _beyond(amounts, scale):
+            return scale
+    finest = max(amounts, key=lambda name: amounts[name].denominator)
+    scale = next(scale for scale in SCALES
+                 if scale >= 1 and all((amount * scale).denominator == 1 for amount in amounts.values()))
+    if scale > 1:
+        name = _beyond(amounts, scale)
+        most = formats.limits("costs", name)[1]
+        raise Refused(f"costs: {finest} = {costs[finest]} is whole only if all costs count {int(scale):,} times; "
+                      f"then {name} is {int(amounts[name] * scale):,}, above {most:,}; round {finest}")
+    return scale

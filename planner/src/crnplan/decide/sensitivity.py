@@ -151,14 +151,16 @@ def changed_demand(demand: Law, tenths: int) -> Law:
         counts[low] += weight * (10 - rest)
         counts[low + 1] += weight * rest
     common = math.gcd(*counts.values())
-    weights = {value: weight // common for value, weight in counts.items()}
-    total = sum(weights.values())
-    if total <= formats.MOST_WEIGHT:
-        return Law.of(weights)
-    shares = {value: divmod(weight * formats.MOST_WEIGHT, total) for value, weight in weights.items()}
-    missing = formats.MOST_WEIGHT - sum(share for share, _ in shares.values())
-    rounded_up = set(sorted(shares, key=lambda value: -shares[value][1])[:missing])
-    return Law.of({value: share + (value in rounded_up) for value, (share, _) in shares.items()})
+    total, most = counts.total() // common, formats.MOST_WEIGHT
+    if total <= most:
+        return Law.of({value: weight // common for value, weight in counts.items()})
+    weights, rests = dict[int, int](), dict[int, int]()
+    for value, weight in counts.items():
+        weights[value], rests[value] = divmod(weight // common * most, total)
+    missing = most - sum(weights.values())
+    for value in sorted(rests, key=lambda value: -rests[value])[:missing]:
+        weights[value] += 1
+    return Law.of(weights)
 
 
 def law_cases(demand: Law, lead: Law, notes: list[Remark]) -> Iterator[tuple[Change, dict[str, Law]]]:

@@ -31,10 +31,12 @@ def feasible_of(bounds: Bounds, box: int, demand: Law) -> Feasible:
 
     S is never held below what the least s and the smallest order need, nor S - s below what a pack and that order need.
     """
-    feasible = Feasible(max(0, -(-(bounds.order_min or 0) // box) - 1), -(-(bounds.s_min or 0) // box),
-                        multiple=bounds.pack // math.gcd(bounds.pack, box))
+    least_order = -(-(bounds.order_min or 0) // box)
+    least_point = -(-(bounds.s_min or 0) // box)
+    pack = bounds.pack // math.gcd(bounds.pack, box)
+    feasible = Feasible(max(0, least_order - 1), least_point, multiple=pack)
     if bounds.order_coverage is not None:
-        most = max(math.floor(bounds.order_coverage * demand.mean), feasible.gap(feasible.multiple - 1))
+        most = max(math.floor(bounds.order_coverage * demand.mean), feasible.gap(pack - 1))
         feasible = replace(feasible, most_gap=min(most, MOST_ITEMS))
     spans = [span for span in (bounds.coverage, bounds.shelf_life) if span is not None]
     if not spans:

@@ -151,19 +151,22 @@ def change_of(pair: Pair, settings: Settings, stop: int, common: Sequence[Remark
     """Returns what has changed of an item. `settings` are those of the earlier plan, whose record ends before period
     `stop`, and `common` is what has changed for all items."""
     old, new, left = pair
-    earlier, law = (old[1].chosen, old[1].law) if old else (None, None)
     if new is None:
         assert old
-        item, _ = old
-        return Change(item.name, item.description, item.category, GONE, earlier, None, None, None, law, None,
-                      (left or Remark("not in the files"),), None)
+        item, earlier = old
+        return Change(item.name, item.description, item.category, GONE, earlier.chosen, None, None, None, earlier.law,
+                      None, (left or Remark("not in the files"),), None)
     item, answer = new
     if old is None:
+        reason = Remark("new item", {"periods": len(item.counts)})
         return Change(item.name, item.description, item.category, NEW, None, None, answer.chosen, None, None,
-                      answer.law, (Remark("new item", {"periods": len(item.counts)}),), None)
-    kind = DAMPED if answer.undamped else SAME if answer.chosen.levels == old[1].chosen.levels else MOVED
-    return Change(item.name, item.description, item.category, kind, earlier, answer.before, answer.chosen,
-                  answer.undamped, law, answer.law, tuple(reasons_of(old, new, stop, common)),
+                      answer.law, (reason,), None)
+    _, earlier = old
+    kind = SAME if answer.chosen.levels == earlier.chosen.levels else MOVED
+    if answer.undamped:
+        kind = DAMPED
+    return Change(item.name, item.description, item.category, kind, earlier.chosen, answer.before, answer.chosen,
+                  answer.undamped, earlier.law, answer.law, tuple(reasons_of(old, new, stop, common)),
                   since_of(old, item, settings, stop))
 
 

@@ -73,15 +73,18 @@ def trial_of(item: Item, settings: Settings, prior: Prior) -> Trial:
     """Returns what policies leave unmet in each block of an item's record, planned from all others. The record comes
     twice, and its second time counts, so that a stock and orders are there as in the long run. Raises Refused if the
     item can't be planned."""
-    periods, mean, unmet = len(item.counts), float(np.mean(item.counts)), np.zeros(len(FILLS))
+    periods, mean = len(item.counts), float(np.mean(item.counts))
     if not mean:
         raise Refused("it has no demand")
+    returns = item.returns or (0,) * periods
+    unmet = np.zeros(len(FILLS))
     for first, end in blocks_of(periods):
         question = question_of(item.without(range(first, end)), settings, prior)
         box, random = question.item.box, np.random.default_rng(question.seed("trial"))
-        past = Past(2 * item.counts, 2 * (item.returns or (0,) * periods), question.lead.draws(random, 2 * periods))
+        past = Past(2 * item.counts, 2 * returns, question.lead.draws(random, 2 * periods))
         policies = [(s * box, S * box) for s, S in levels_of(question.theory().free)]
-        unmet += unmet_by(policies, past, float(random.random()))[periods + first:periods + end].sum(axis=0)
+        by_period = unmet_by(policies, past, float(random.random()))
+        unmet += by_period[periods + first:periods + end].sum(axis=0)
     return Trial(mean, periods, tuple((unmet / mean).tolist()))
 
 

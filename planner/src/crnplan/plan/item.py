@@ -148,10 +148,11 @@ class Depth:
         for name, levels in self.levels.items():
             names.setdefault(levels, name)
         for policy, remarks in self.suggested.policies.values():
-            names.setdefault((policy.s, policy.S), policy.name)
-            reasons[policy.s, policy.S] = tuple(map(sentence, remarks))
-        shown = [*names.items()][:POLICIES[1]]
-        return {Policy(name, *levels): reasons.get(levels, ()) for levels, name in shown}
+            levels = policy.s, policy.S
+            names.setdefault(levels, policy.name)
+            reasons[levels] = tuple(map(sentence, remarks))
+        most = POLICIES[1]
+        return {Policy(name, *levels): reasons.get(levels, ()) for levels, name in [*names.items()][:most]}
 
     @cached_property
     def sample(self) -> Sample:
@@ -282,7 +283,8 @@ def read_item(history: str | Path, settings: str | Path) -> Facts:
     """Reads the facts of an item. Its name, from which its key follows, is that of the settings, else the text that its
     rows have, else the name of the file without its ending. Raises RefusedFaults with all faults of the settings or of
     the history."""
-    path, tables = Path(history), read_settings(settings)
+    path = Path(history)
+    tables = read_settings(settings)
     asked, lead, costs, today, run = (tables[name] for name in ("history", "lead", "costs", "today", "run"))
     dates = {"every": asked["every"], "start": asked["from"], "end": asked["to"]} if asked["date"] else {}
     rules: dict[str, Any] = {"date_formats": tuple(asked["date_formats"]), **{name: asked[name] for name in RULES}}

@@ -100,12 +100,18 @@ class Settings:
     def bounds_of(self, item: Item) -> Bounds:
         """Returns the bounds of an item: those of its masters, else those of the settings."""
         own = item.bounds
-        s_min = int(item.fill is not None) if self.s_min is None else self.s_min
-        stated = None if self.max_coverage is None else Fraction(self.max_coverage)
-        coverage, usual = own.coverage or stated, MOST_COVERAGE.get(self.every or "")
-        return dataclasses.replace(
-            own, order_min=own.order_min or self.order_min, s_min=s_min if own.s_min is None else own.s_min,
-            coverage=coverage, order_coverage=Fraction(usual) if usual and coverage is None else None)
+        s_min, coverage, order_coverage = own.s_min, own.coverage or None, None
+        if s_min is None:
+            s_min = self.s_min
+        if s_min is None:
+            s_min = int(item.fill is not None)
+        if coverage is None and self.max_coverage is not None:
+            coverage = Fraction(self.max_coverage)
+        usual = MOST_COVERAGE.get(self.every or "")
+        if usual and coverage is None:
+            order_coverage = Fraction(usual)
+        return dataclasses.replace(own, order_min=own.order_min or self.order_min, s_min=s_min, coverage=coverage,
+                                   order_coverage=order_coverage)
 
     def seed_of(self, purpose: str, name: str) -> int:
         """Returns the seed of random numbers for a purpose, which follows from an item's name and the seed."""
