@@ -75,9 +75,11 @@ class Column:
         """Returns the cell of a row: a text or a figure, of a column of rounded numbers a rounded one."""
         assert self.fact, f"it is not declared how a cell of {self.name} is made"
         fact = self.fact(thing)
-        if self.is_text:
-            return None if fact is None else str(fact)
-        cell: Cell = float(fact) if self.kind == "number" and isinstance(fact, Fraction) else fact
+        cell: Cell = fact
+        if fact is not None and self.is_text:
+            cell = str(fact)
+        elif self.kind == "number" and isinstance(fact, Fraction):
+            cell = float(fact)
         return cell
 
     @property
@@ -91,17 +93,30 @@ class Column:
     def speller(self, decimals: int, missing: str, is_shown: bool = False) -> Callable[[Cell], str]:
         """Returns the function that spells a cell. Money has so many decimals; `missing` stands for no figure."""
         style = self.shown if is_shown and self.shown else self.written
-        style = f".{decimals}f" if style == MONEY else style
+        if style == MONEY:
+            style = f".{decimals}f"
         if style.endswith(("f", "%")):  # no zero has a sign
             style = f"+z{style[1:]}" if style.startswith("+") else f"z{style}"
+
+        def spell_number(value: Any) -> str:
+            return missing if value is None or value != value else format(float(value), style)
+
+        def spell_fraction(value: Cell) -> str:
+            return missing if value is None else str(plain(value))
+
+        def spell_unrun(value: Cell) -> str:
+            return missing if value is None else unrun(str(value))
+
+        def spell_text(value: Cell) -> str:
+            return missing if value is None else str(value)
+
+        def spell_other(value: Cell) -> str:
+            return missing if is_missing(value) else str(value)
         if self.is_text:
-            is_safe = is_shown or self.kind == "name"
-            return lambda value: missing if value is None else str(value) if is_safe else unrun(str(value))
+            return spell_text if is_shown or self.kind == "name" else spell_unrun
         if self.kind == "fraction" and not is_shown:
-            return lambda value: missing if value is None else str(plain(value))
-        if self.kind == "number" and style:
-            return lambda value: missing if value is None or value != value else format(float(value), style)
-        return lambda value: missing if is_missing(value) else str(value)
+            return spell_fraction
+        return spell_number if self.kind == "number" and style else spell_other
 
 
 # Columns of rounded numbers, of whole ones, of whole numbers and fractions; of fractions and of names as crnsim writes
@@ -181,8 +196,11 @@ class DataTable:
 
     def without_empty(self, names: Collection[str]) -> DataTable:
         """Returns the table without those of the named columns in which no row has a figure."""
-        return self.with_columns(name for place, name in enumerate(self.names) if name not in names
-                                 or not all(is_missing(row[place]) for row in self.rows))
+        kept = []
+        for place, name in enumerate(self.names):
+            if name not in names or not all(is_missing(row[place]) for row in self.rows):
+                kept.append(name)
+        return self.with_columns(kept)
 
     def spelt(self, is_shown: bool = False) -> Iterator[list[str]]:
         """Yields the heading and the rows as texts: as a file has them, or as they are shown to a reader."""
@@ -201,13 +219,19 @@ class DataTable:
         """Yields the lines of the table as CSV, by default with commas: see `csv_style`. Rows may be many: they are not
         kept."""
         delimiter, decimal, mark = STYLES[_style.get()]
-        for place, row in enumerate(self.spelt()):
-            if place:
-                row = [cell if it.is_text else cell.replace(".", decimal) for it, cell in zip(self.columns, row)]
+
+        def line_of(row: Sequence[str]) -> str:
             line = io.StringIO(newline="")
             # It quotes a lone carriage return if it ends lines by one.
             csv.writer(line, delimiter=delimiter).writerow(row)
-            yield mark * (not place) + line.getvalue().removesuffix("\r\n") + "\n"
+            return line.getvalue().removesuffix("\r\n") + "\n"
+        rows = self.spelt()
+        yield mark + line_of(next(rows))
+        figures = [place for place, column in enumerate(self.columns) if not column.is_text]
+        for row in rows:
+            for place in figures:
+                row[place] = row[place].replace(".", decimal)
+            yield line_of(row)
 
     @property
     def csv(self) -> str:
@@ -221,7 +245,7 @@ class DataTable:
     @property
     def units(self) -> dict[str, str]:
         """Returns the unit of each column that has one."""
-        return {it.name: it.unit_in(self.currency, self.every) for it in self.columns if it.unit}
+        return {column.name: column.unit_in(self.currency, self.every) for column in self.columns if column.unit}
 
     @property
     def frame(self) -> pd.DataFrame:
@@ -229,8 +253,9 @@ class DataTable:
         the units of columns."""
         import pandas as pd
         rows = list(self.rows)
-        cells = {column.name: pd.Series([row[place] for row in rows], dtype=TYPES.get(column.kind, object))
-                 for place, column in enumerate(self.columns)}
+        cells = {}
+        for place, column in enumerate(self.columns):
+            cells[column.name] = pd.Series([row[place] for row in rows], dtype=TYPES.get(column.kind, object))
         frame = pd.DataFrame(cells)
         frame.attrs["units"] = self.units
         return frame.set_index(self.index) if self.index else frame
@@ -238,19 +263,28 @@ class DataTable:
     @property
     def text(self) -> str:
         """Returns the table for a reader, with its columns in line."""
-        return aligned(list(self.spelt(True)), [at for at, column in enumerate(self.columns) if column.is_text])
+        texts = [place for place, column in enumerate(self.columns) if column.is_text]
+        return aligned(list(self.spelt(True)), texts)
 
     @property
     def html(self) -> str:
         """Returns the table as HTML. Each heading has the meaning of its column, and its unit, as its title."""
         heading, *rows = self.spelt(True)
-        titles = [f"{self.units[it.name]}: {it.meaning}" if it.unit else it.meaning for it in self.columns]
+        units = self.units
         styles = ["left" if column.is_text else "right" for column in self.columns]
-        head = "".join(f'<th scope="col" style="text-align: {style}" title="{html.escape(title)}">'
-                       f"{html.escape(name)}</th>" for name, style, title in zip(heading, styles, titles))
-        body = "".join("<tr>" + "".join(f'<td style="text-align: {style}">{html.escape(cell)}</td>'
-                                        for cell, style in zip(row, styles)) + "</tr>\n" for row in rows)
-        return f"<table>\n<thead><tr>{head}</tr></thead>\n<tbody>\n{body}</tbody>\n</table>\n"
+        parts = ["<table>\n<thead><tr>"]
+        for name, style, column in zip(heading, styles, self.columns):
+            title = f"{units[column.name]}: {column.meaning}" if column.unit else column.meaning
+            parts.append(f'<th scope="col" style="text-align: {style}" title="{html.escape(title)}">'
+                         f"{html.escape(name)}</th>")
+        parts.append("</tr></thead>\n<tbody>\n")
+        for row in rows:
+            parts.append("<tr>")
+            for cell, style in zip(row, styles):
+                parts.append(f'<td style="text-align: {style}">{html.escape(cell)}</td>')
+            parts.append("</tr>\n")
+        parts.append("</tbody>\n</table>\n")
+        return "".join(parts)
 
 
 class Result(ABC):
@@ -283,7 +317,8 @@ class Result(ABC):
 
     def _repr_html_(self) -> str:
         """Shows the table and the notes in a notebook."""
-        return self.table.html + "".join(f"<p>{html.escape(line)}</p>\n" for line in self.notes.splitlines() if line)
+        notes = [f"<p>{html.escape(line)}</p>\n" for line in self.notes.splitlines() if line]
+        return self.table.html + "".join(notes)
 
 
 class TextResult(Result):
@@ -297,12 +332,17 @@ class TextResult(Result):
 def aligned(rows: Sequence[Sequence[str]], left: Collection[int] = (0,)) -> str:
     """Returns the rows as lines. Columns in `left`, counted from 0, are set to the left, all others to the right."""
     widths = [max(map(len, column)) for column in zip(*rows)]
-    lines = [[cell.ljust(width) if place in left else cell.rjust(width)
-              for place, (cell, width) in enumerate(zip(row, widths))] for row in rows]
-    return "".join("  ".join(line).rstrip() + "\n" for line in lines)
+    lines = []
+    for row in rows:
+        cells = [cell.ljust(width) if place in left else cell.rjust(width)
+                 for place, (cell, width) in enumerate(zip(row, widths))]
+        lines.append("  ".join(cells).rstrip() + "\n")
+    return "".join(lines)
 
 
 def names_of(names: Sequence[str], most: int) -> str:
     """Returns the first `most` names as one text, with the number of those that are left out."""
-    rest = len(names) - most
-    return ", ".join(names[:most]) + (f" and {rest} more" if rest > 0 else "") if names else "none"
+    if not names:
+        return "none"
+    text = ", ".join(names[:most])
+    return f"{text} and {len(names) - most} more" if len(names) > most else text

@@ -41,14 +41,37 @@ def shown(value: Any) -> str:
     """Returns a value as text, cut if it is long."""
     if type(value) is int and value.bit_length() >= 1000:
         return "with some hundreds of digits"
-    text = ascii(value) if type(value) in (str, list, dict) else getattr(value, "spelt", str(value).lower())
+    if type(value) in (str, list, dict):
+        text = ascii(value)
+    else:
+        text = getattr(value, "spelt", str(value).lower())
     return text if len(text) <= 40 else f"{text[:40]}..."
 
 
+def _older_escape(sign: re.Match[str]) -> str:
+    """Returns an escape as TOML 1.0 spells it."""
+    if sign[2]:
+        return r"\u001b"
+    return rf"\u00{sign[1]}" if sign[1] else sign[0]
+
+
+def _is_newer(text: str, match: re.Match[str], last: str) -> bool:
+    """Returns whether a token of an inline table is one that TOML 1.0 has not there: a comment, an end of line, or a comma
+    at the end. `last` is the token before."""
+    token = match[0]
+    if token[0] == "#":
+        return True
+    following = NEXT.match(text, match.end())
+    after = following[1] if following else ""
+    if token == ",":
+        return after == "}" and last != "{"
+    return not {last, after} & {"=", "."}
+
+
 def older_text(text: str) -> str:
-    """Returns the text as TOML 1.0 spells it. Raises RecursionError if more is within each
-    other than crnsim takes."""
-    older, brackets = list[str](), list[str]()
+    """Returns the text as TOML 1.0 spells it. Raises RecursionError if more is within each other than crnsim takes."""
+    older: list[str] = []
+    brackets: list[str] = []
     last, dots = "", 0
     for match in TOKEN.finditer(text):
         token = spelt = match[0]
@@ -56,20 +79,20 @@ def older_text(text: str) -> str:
             # A text that does not end: nothing after it is known, and no reader takes it.
             return "".join(older) + text[match.start():]
         if brackets and brackets[-1] == "{" and token[0] in "\n#,":
-            following = NEXT.match(text, match.end())
-            after = following[1] if following else ""
-            is_inner_end = token == "\n" and not {last, after} & {"=", "."}
-            if token[0] == "#" or is_inner_end or token == "," and after == "}" and last != "{":
+            if _is_newer(text, match, last):
                 spelt = " " * len(token)
         elif token in "[{":
             brackets.append(token)
         elif token in "]}" and brackets:
             brackets.pop()
         elif token[0] == '"':
-            spelt = ESCAPE.sub(lambda sign: f"\\u00{sign[1] or '1b'}" if sign[1] or sign[2] else sign[0], token)
+            spelt = ESCAPE.sub(_older_escape, token)
         elif SHORT_TIME.fullmatch(token):
             spelt = f"{token}:00"
-        dots = 0 if token in "=,[]{}\n" else dots + (token == ".")
+        if token in "=,[]{}\n":
+            dots = 0
+        elif token == ".":
+            dots += 1
         if max(len(brackets), dots + 1) > MOST_LEVELS:
             raise RecursionError
         if not token.isspace() and not token.startswith("#"):
@@ -83,24 +106,34 @@ def odd_advice(text: str) -> str:
     odd = NOT_ASCII.search(text)
     if odd is None:
         return ""
-    character, digit = odd[0], unicodedata.digit(odd[0], None)
+    character = odd[0]
+    digit = unicodedata.digit(character, None)
     name = ADVICE["names"].get(character) or unicodedata.name(character, "unnamed character").lower()
     if ord(character) in FULL_WIDTH:
         advice = f"write {chr(ord(character) - 0xfee0)}"
+    elif character in INSTEAD:
+        advice = INSTEAD[character]
     else:
-        advice = INSTEAD.get(character) or ("write ASCII characters here" if digit is None else f"write {digit}")
+        advice = "write ASCII characters here" if digit is None else f"write {digit}"
     return f"it has U+{ord(character):04X} ({name}): {advice}"
+
+
+def code_of(line: str) -> str:
+    """Returns a line with blanks in place of its texts and comments: each character keeps its place."""
+    parts = []
+    for token in TOKEN.findall(line):
+        is_text = token[0] in "\"'" and len(token) > 1
+        parts.append(" " * len(token) if is_text or token[0] == "#" else token)
+    return "".join(parts)
 
 
 def usual_cause(text: str, offset: int, message: str) -> str:
     """Returns what a text usually comes from that is no document at an offset, by the message of Python's reader."""
     start, end = text.rfind("\n", 0, offset) + 1, text.find("\n", offset)
-    line = text[start:end if end >= 0 else len(text)]
+    line = text[start:] if end < 0 else text[start:end]
     if "\0" in line:
         return "there are NUL characters: this may be UTF-16; save the file as UTF-8"
-    # The line with blanks in place of its texts and comments: each character keeps its place.
-    code = "".join(" " * len(token) if token[0] == "#" or token[0] in "\"'" and len(token) > 1 else token
-                   for token in TOKEN.findall(line))
+    code = code_of(line)
     odd = NOT_ASCII.search(code)
     if odd:
         return f"column {odd.start() + 1}: {odd_advice(code)}"
@@ -146,7 +179,8 @@ class TreeFault(NamedTuple):
 
     @property
     def reason(self) -> str:
-        return f"{self.what} ({self.advice})" + f"; {self.more} more in this list" * (self.more > 0)
+        more = f"; {self.more} more in this list" if self.more else ""
+        return f"{self.what} ({self.advice}){more}"
 
     @property
     def text(self) -> str:
@@ -188,11 +222,15 @@ def _unread(text: str, older: str, fault: tomllib.TOMLDecodeError) -> TreeFault:
     """Returns fault 1 of a text that is no TOML document, as Python's reader reports it of the older spelling."""
     message, _, at = str(fault).rpartition(" (at ")
     place = re.match(r"line ([0-9]+), column ([0-9]+)", at)
-    offset = len(text)
+    offset, end = len(text), ", the end"
     if place:
-        line_starts = [0, *(match.end() for match in re.finditer("\n", older))]
-        offset = line_starts[int(place[1]) - 1] + int(place[2]) - 1
-    return _no_document(message, usual_cause(text, offset, message), text, offset, "" if place else ", the end")
+        offset, end = line_starts(older)[int(place[1]) - 1] + int(place[2]) - 1, ""
+    return _no_document(message, usual_cause(text, offset, message), text, offset, end)
+
+
+def line_starts(text: str) -> list[int]:
+    """Returns the offset of each line."""
+    return [0, *(match.end() for match in re.finditer("\n", text))]
 
 
 def _huge_fault(text: str, huge: int) -> TreeFault:
@@ -235,8 +273,6 @@ def read_document(data: bytes) -> tuple[Tree, list[TreeFault]]:
         text = text_of_document(data)
         older = older_text(text)
         tree = tomllib.loads(older, parse_float=SpeltFloat)
-        return tree, [_huge_fault(text, value) for _, value in parts_of(tree)
-                      if type(value) is int and not -2**63 <= value < 2**63]
     except UnicodeDecodeError as fault:
         if data[:2] in BYTE_ORDER_MARKS:
             advice = "a spreadsheet or an editor has saved it so; save it as UTF-8"
@@ -253,20 +289,30 @@ def read_document(data: bytes) -> tuple[Tree, list[TreeFault]]:
                                  "a scenario needs three")]
     except ValueError:
         return {}, [_no_document("an integer is beyond 64 bits", "write a number within its range")]
+    faults = []
+    for _, value in parts_of(tree):
+        if type(value) is int and not -2**63 <= value < 2**63:
+            faults.append(_huge_fault(text, value))
+    return tree, faults
 
 
 def parts_of(value: Any, path: Path = ()) -> Iterator[tuple[Path, Any]]:
     """Yields each path of a tree with what stands there."""
     yield path, value
-    parts = value.items() if isinstance(value, dict) else enumerate(value, 1) if isinstance(value, list) else ()
-    for name, part in parts:
-        yield from parts_of(part, (*path, name))
+    if isinstance(value, dict):
+        for name, part in value.items():
+            yield from parts_of(part, (*path, name))
+    elif isinstance(value, list):
+        for number, part in enumerate(value, 1):
+            yield from parts_of(part, (*path, number))
 
 
 def marked_text(text: str) -> str:
     """Returns a document that tomllib has read with marks in place of its values: the offset of each entry of a list,
     and of the key of any other value. Lists end with their own mark, and tables have it at the key OWN, as texts."""
-    marked, opened, state, start = list[str](), list[str](), "line", 0
+    marked: list[str] = []
+    opened: list[str] = []
+    state, start = "line", 0
     for match in TOKEN.finditer(f"{text}\n"):
         token = match[0]
         if token[0] == "#" or token.isspace() and (opened or token != "\n"):
@@ -304,10 +350,15 @@ def places_of(text: str, tree: Any) -> dict[Path, Place]:
         marked = tomllib.loads(older_text(marked_text(text)))
     except tomllib.TOMLDecodeError:
         return {}
-    marks = sorted(((int(mark), path[:-1] if isinstance(mark, str) else path)
-                    for path, mark in parts_of(marked) if isinstance(mark, (int, str))), key=itemgetter(0))
-    starts, places = [0, *(match.end() for match in re.finditer("\n", text))], dict[Path, Place]()
-    for offset, path in marks:
+    marks: list[tuple[int, Path]] = []
+    for path, mark in parts_of(marked):
+        if isinstance(mark, int):
+            marks.append((mark, path))
+        elif isinstance(mark, str):
+            marks.append((int(mark), path[:-1]))
+    starts = line_starts(text)
+    places: dict[Path, Place] = {}
+    for offset, path in sorted(marks, key=itemgetter(0)):
         line = bisect_right(starts, offset)
         for length in range(1, len(path) + 1):
             places.setdefault(path[:length], (line, offset - starts[line - 1] + 1))
@@ -320,6 +371,11 @@ def read_judged(data: bytes, judge: Callable[[Tree], list[TreeFault]]) -> tuple[
     if faults:
         return tree, faults
     faults = judge(tree)
-    places = places_of(text_of_document(data), tree) if faults else {}
-    return tree, [fault._replace(line=line, column=column)
-                  for fault in faults for line, column in [places.get(fault.path, (0, 0))]]
+    if not faults:
+        return tree, []
+    places = places_of(text_of_document(data), tree)
+    placed = []
+    for fault in faults:
+        line, column = places.get(fault.path, (0, 0))
+        placed.append(fault._replace(line=line, column=column))
+    return tree, placed

@@ -150,7 +150,9 @@ def _rules(version: int) -> Table:
             tables.setdefault(key.table, {})[key.name] = Key(check, needed=key.name != "version")
     document = tables.pop("")
     for name, keys in tables.items():
-        joint: JointCheck = _draws_faults if name in formats.DRAWS else no_faults
+        joint: JointCheck = no_faults
+        if name in formats.DRAWS:
+            joint = _draws_faults
         document[name] = Table(keys, True, joint=joint)
     document["policy"] = Table(tables["policy"], True, is_list=True, joint=_levels_faults,
                                joint_of_list=_policies_faults)
