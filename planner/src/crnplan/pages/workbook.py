@@ -27,7 +27,7 @@ from .board import ALL_PARTS, NO_CLASS, PARTS
 from .catalogue_tables import DECISIONS, catalogue_summary, decisions_of, rejects_of
 from .change_tables import change_lines
 from .columns import columns_of
-from .curves import AXIS, LINE, MARKERS, SERVICE, TITLE, curve_ends
+from .curves import AXIS, BLUE, LINE, MARKERS, SERVICE, TITLE, curve_ends
 from .lateness import lateness_of
 from .today_tables import WITHOUT, OrdersToday, orders_by_masters
 
@@ -182,7 +182,7 @@ class Book:
         named = [point for name, point in curve if name]
         chart = self.book.add_chart({"type": "scatter", "subtype": "straight"})
         chart.add_series(series_of(len(named) + 1, count, name=LINE, marker={"type": "none"},
-                                   line={"color": MARKERS[0].colour, "width": 2}))
+                                   line={"color": BLUE, "width": 2}))
         for row in range(1, len(named) + 1):
             marker = MARKERS[(row - 1) % len(MARKERS)]
             chart.add_series(series_of(row, row, name=[CURVE, row, 0], line={"none": True}, marker=marker.of_sheet))
