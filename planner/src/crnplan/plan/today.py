@@ -51,8 +51,7 @@ def net_demand(laws: Laws) -> LatticeLaw:
 def demands_of(laws: Laws, horizons: Mapping[int, float]) -> Iterator[tuple[int, float, LatticeLaw]]:
     """Yields numbers of periods, which rise, each with its chance and with the law of the net demand of so many, in
     boxes."""
-    total, before = NOTHING, 0
-    net = net_demand(laws)
+    total, before, net = NOTHING, 0, net_demand(laws)
     for periods, chance in horizons.items():
         total, before = sum_of(total, power_of(net, periods - before)), periods
         yield periods, chance, total
@@ -452,6 +451,14 @@ def hand_of(item: Item, holdings: Holdings) -> OnHand | None:
     return None if item.stock is None else OnHand.of(item.stock)
 
 
+def standing_of(item: Item, answer: Answer | Remark, hand: OnHand | None, arrivals: Sequence[Arrival], day: Day,
+                every: str) -> Standing | None:
+    """Returns an item of a plan on a day; None if its stock is not known."""
+    if hand is None:
+        return None
+    return Standing(item, answer if isinstance(answer, Answer) else None, hand, arrivals, day, every)
+
+
 def today_of(folder: PlannedFolder, answers: Iterable[Decided], tables: Mapping[str, Table | None], words: Words,
              day: Day, stated: Mapping[str, Fraction]) -> Today:
     """Returns what a planned folder, whose items have answers, says on a day, with tables of stock and of what is on
@@ -464,13 +471,9 @@ def today_of(folder: PlannedFolder, answers: Iterable[Decided], tables: Mapping[
         raise Refused(f"{folder.path}: no item has a stock in its masters", f"name a table by {argument('stock')}")
     for item, answer, hand in known:
         is_quiet, is_set = is_dead(item.counts, folder.every), bool(item.override and item.override.levels)
-        on_order, standing = NONE, None
-        if hand is not None:
-            planned = answer if isinstance(answer, Answer) else None
-            standing = Standing(item, planned, hand, holdings.arrivals.get(item.name, ()), day, folder.every)
-            on_order = standing.on_order
+        standing = standing_of(item, answer, hand, holdings.arrivals.get(item.name, ()), day, folder.every)
         if item.past in ENDED and not is_set:
-            ended.append(Ended(item, hand, on_order))
+            ended.append(Ended(item, hand, standing.on_order if standing else NONE))
         elif hand is None:
             unknown.append((item, Remark("unread stock" if item.name in holdings.unread else "no stock")))
         elif isinstance(answer, Remark) and not is_set and (item.past != NO_DEMAND or hand.owed or not is_quiet):
@@ -479,12 +482,10 @@ def today_of(folder: PlannedFolder, answers: Iterable[Decided], tables: Mapping[
             standings.append(standing)
         if is_quiet and hand and hand.stock:
             dead.append(Lying(item, hand.stock, quiet_periods(item.counts)))
-    end = first_day(folder.read.fact("periods")[1], folder.every) - datetime.timedelta(1)
     minimums = minimums_of((item for item, _, _ in known), stated)
-    sellers = sorted({item.supplier for item, _, _ in known})
     return Today(
         day=day,
-        end=end,
+        end=first_day(folder.read.fact("periods")[1], folder.every) - datetime.timedelta(1),
         standings=[*by_urgency(standings)],
         unknown=unknown,
         dead=dead,
@@ -492,7 +493,7 @@ def today_of(folder: PlannedFolder, answers: Iterable[Decided], tables: Mapping[
         has_orders=tables.get(ON_ORDER) is not None,
         counts=holdings.counts,
         rejects=holdings.rejects,
-        sellers=sellers,
+        sellers=sorted({item.supplier for item, _, _ in known}),
         ended=ended,
         said=holdings.remarks,
         controls=holdings.controls)
