@@ -160,8 +160,13 @@ const rules = (() => {
     return named(pairs.map(([one, other]) => `${place(one.element)} overlaps ${place(other.element)}`));
   }
 
-  // A word in a card, such as a number, is on one line and within the card.
+  // A word in a card, such as a number, is on one line and within the card. A table that does not scroll stays within its
+  // section.
   function cards() {
+    const isInRegion = (element) => element.localName !== "section" && (isRegion(element) || isInRegion(element.parentElement));
+    const isWide = (table) => !isInRegion(table.parentElement)
+      && table.getBoundingClientRect().right > table.closest("section").getBoundingClientRect().right;
+    const wide = all("section table").filter(isWide).map((table) => `${place(table)}: the table runs over its section`);
     const isBroken = (boxes) => new Set([...boxes].map((box) => Math.round(box.top))).size > 1;
     const faults = all(".card b").flatMap((value) => {
       const card = value.closest(".card").getBoundingClientRect();
@@ -174,7 +179,7 @@ const rules = (() => {
         return range.getBoundingClientRect().right > card.right ? [`${place(value)}: a word runs over its card`] : [];
       });
     });
-    return named(faults);
+    return named([...faults, ...wide]);
   }
 
   // WCAG 1.3.1.

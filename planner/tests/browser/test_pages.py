@@ -32,7 +32,8 @@ def test_page_has_no_fault(browser: Browser, pages: Pages, name: str, form: Form
     assert faults_of(browser, *rules_of(form)) == []
 
 
-@pytest.mark.parametrize("form", [Form(1440), Form(768), Form(390), Form(PAPER, medium="print")], ids=str)
+@pytest.mark.parametrize("form", [Form(1440), Form(1280), Form(1200), Form(1100), Form(768), Form(390),
+                                  Form(PAPER, medium="print")], ids=str)
 @pytest.mark.parametrize("name", ["catalogue of large money", MARKUP], ids=["catalogue", "item"])
 def test_large_money_stays_in_its_card(browser: Browser, pages: Pages, name: str, form: Form) -> None:
     """However large an amount is, each word of it is on one line within its card, and no table widens the page."""
