@@ -197,7 +197,8 @@ class Surplus:
     def __init__(self, law: LatticeLaw, step: int) -> None:
         self.law = law
         self.step = step
-        self.sums = (law.low, *summed(law.chances, law.low, step))
+        below, taken = summed(law.chances, law.low, step)
+        self.sums = law.low, below, taken
 
     def costs(self, levels: Whole, holding: int, backlog: int) -> Floats:
         """Returns what is expected to be paid for the items that are left of levels, and for those that are lacking."""
