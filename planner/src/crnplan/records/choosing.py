@@ -11,7 +11,6 @@ import numpy as np
 
 from ..errors import Fault, Refused, argument
 from ..remarks import Remark
-from ..words import message
 from .cells import HEADINGS, Cell, Flags, Numbers, on_one_line, plain_name, some_of
 from .columns import ROLES, listed
 from .sources import Column, Mark, Sheet
@@ -108,11 +107,11 @@ def faults_of_where(sheets: Mapping[str, Sheet], words: Words) -> Iterator[Fault
         tables = [sheet for own, sheet in sheets.items() if kind in ("", own)]
         for sheet in tables:
             if sheet.heading.count(name) > 1:
-                yield Fault(message(Remark("same column of where", {"name": name})), sheet.name, sheet.line)
+                yield Fault(Remark("same column of where", {"name": name}), sheet.name, sheet.line)
         if not any(name in sheet.heading for sheet in tables):
             first = next(iter(tables or sheets.values()))
             facts = {"name": name, "columns": listed(first.heading)}
-            yield Fault(message(Remark("no column of where", facts)), first.name, first.line)
+            yield Fault(Remark("no column of where", facts), first.name, first.line)
 
 
 def is_other(mark: Mark, values: Collection[object]) -> Flags:

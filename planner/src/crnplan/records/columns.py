@@ -14,7 +14,6 @@ from typing import TYPE_CHECKING
 
 from ..errors import Fault, RefusedFaults
 from ..remarks import Remark, Value
-from ..words import message
 from .amounts import CODES, ITEM, SIGNS, UNITS
 from .cells import HEADINGS, plain_name
 from .sources import Column, Sheet
@@ -48,7 +47,7 @@ ROLE_UNITS = {role: kind for kind, its in COUNTED.items() for role in its["roles
 SHARES = COUNTED["share"]["units"]
 TIMES = ("length", "span")  # the kinds of roles that count times
 MOST_NAME = 100
-NO_ROW = "there is no row below the heading; export the file again, with its rows"
+NO_ROW = Remark("no row")
 
 
 def counts_items(role: str, column: Column | None) -> bool:
@@ -171,7 +170,7 @@ class Finder:
                                 *map(plain_name, more.get(role, ()))}
         self.role_of = {name: role for role, names in self.names.items() for name in names}
         self.columns: dict[str, Column] = {}
-        self.wrong: list[str] = []
+        self.wrong: list[Remark] = []
 
     def usual_role(self, cell: str) -> str | None:
         """Returns the role of which a cell has a usual name."""
@@ -188,7 +187,7 @@ class Finder:
         is_open = all(self.stated.get(role, name) == name for role, name in WIDE_ROLES.items())
         return self.kind == "demand" and is_open and "date" not in self.columns
 
-    def find(self, heading: Sequence[str]) -> tuple[dict[str, Column], list[str]]:
+    def find(self, heading: Sequence[str]) -> tuple[dict[str, Column], list[Remark]]:
         """Returns the column of each role that the heading has, and what is wrong. Names are compared whole first, for
         all roles, so that no column with the very name of one role goes to another one."""
         self.plain = [plain_name(cell) for cell in heading]
@@ -226,7 +225,7 @@ class Finder:
 
     def _refuse(self, code: str, role: str, **facts: Value) -> None:
         own = {"role": role, "place": f"{self.kind}.{role}", "every": self.every}
-        self.wrong.append(message(Remark(code, {**own, **facts})))
+        self.wrong.append(Remark(code, {**own, **facts}))
 
     def _places(self, role: str) -> tuple[list[int], dict[int, list[str]]]:
         """Returns the places of the columns that have a role, and those that may have it, each with what is not known
@@ -309,16 +308,16 @@ def listed(heading: Sequence[str]) -> str:
     return ", ".join(name[:MOST_NAME] for name in heading if name) or "none"
 
 
-def stated_columns(heading: Sequence[str], names: Mapping[str, str]) -> tuple[dict[str, Column], list[str]]:
+def stated_columns(heading: Sequence[str], names: Mapping[str, str]) -> tuple[dict[str, Column], list[Remark]]:
     """Returns the columns that are stated for roles, and what is wrong with those that a heading doesn't have once. A
     heading may name packs of so many items, and a time of lead times. Other units are the item's own, as kilograms."""
     columns = dict[str, Column]()
-    wrong = list[str]()
+    wrong = list[Remark]()
     for role, name in names.items():
         count = heading.count(name)
         if name and count != 1:
             facts = {"name": name, "role": role, "columns": listed(heading)}
-            wrong.append(message(Remark("same columns" if count else "no stated column", facts)))
+            wrong.append(Remark("same columns" if count else "no stated column", facts))
         elif name:
             _, unit = bare_name(plain_name(name))
             kind = ROLE_UNITS.get(role)

@@ -162,9 +162,9 @@ class Reading:
         texts = self.sheet.texts({line for _, line, column in said if line and column})
         rejects = list[Reject]()
         for what, line, column in said:
-            words = what if isinstance(what, str) else message(what)
+            words = what
             if column and column.name:
-                words = f"column {column.name!r}: {words}"
+                words = f"column {column.name!r}: {what if isinstance(what, str) else message(what)}"
             if column and line in texts:
                 place = self.sheet.place(texts[line], line, column.place)
                 rejects.append(Reject(words, self.sheet.name, *place, texts[line]))
@@ -181,7 +181,7 @@ class Reading:
         """Returns the places of numbers, each with how a message names it; None stays None."""
         placed = iter(self.placed([cell for cell in cells if cell]))
         faults = (next(placed) if cell else None for cell in cells)
-        return tuple(fault and Fault(fault.what, fault.file, fault.line, fault.column) for fault in faults)
+        return tuple(fault and Fault(fault.said, fault.file, fault.line, fault.column) for fault in faults)
 
     def history(self, counts: Mapping[str, Sequence[int]], cells: Mapping[str, Sequence[Said | None]],
                 every: str | None = None, first: int = 1) -> History:

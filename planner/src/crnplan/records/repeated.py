@@ -9,7 +9,6 @@ import numpy as np
 
 from ..errors import Fault
 from ..remarks import Remark
-from ..words import message
 from .cells import TOTAL, Cell, Flags, Numbers, shown
 from .sources import FILE_BITS, Sheet
 
@@ -56,7 +55,7 @@ def files_within(sheets: Mapping[str, Sheet], parts: Iterable[Mapping[str, Share
             if other not in found and file not in found:
                 found.add(file)
                 facts = {"rows": int(sizes[file]), "other": files[other].file_name}
-                yield Fault(message(Remark("file within another", facts)), files[file].file_name)
+                yield Fault(Remark("file within another", facts), files[file].file_name)
 
 
 def names_apart(tables: Mapping[str, Rows]) -> dict[bool, list[str]]:

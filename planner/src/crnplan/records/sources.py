@@ -20,7 +20,6 @@ from typing import Any, NamedTuple
 
 from ..errors import Fault, Refused, RefusedFaults, argument
 from ..remarks import Remark, Value
-from ..words import message
 from .amounts import DECIMALS
 from .cells import Cell, shown, text_of
 from .dates import check_format
@@ -123,13 +122,13 @@ def byte_fault(name: str, text: str, encoding: str, line: int = 1) -> Fault | No
     likely = likely_encodings(text.encode("utf-8", "surrogateescape")) if encoding[:5] == "utf-8" else {}
     for place, (its, cell) in enumerate(likely.items(), 1):
         facts |= {f"encoding {place}": its, f"cell {place}": shown(cell)}
-    what = message(Remark(f"likely encodings {len(likely)}" if likely else "no byte of the encoding", facts))
+    what = Remark(f"likely encodings {len(likely)}" if likely else "no byte of the encoding", facts)
     return Fault(what, name, *place_behind(text[:bad.start()], line))
 
 
 def refused(code: str, name: str, /, *place: int, **facts: Value) -> RefusedFaults:
     """Returns the error of a file with one fault, perhaps in a line and a column."""
-    return RefusedFaults([Fault(message(Remark(code, facts)), name, *place)])
+    return RefusedFaults([Fault(Remark(code, facts), name, *place)])
 
 
 def state_of(path: Path | None) -> tuple[int, int]:

@@ -17,7 +17,6 @@ from xml.etree.ElementTree import Element, iterparse
 
 from ..errors import Fault, RefusedFaults
 from ..remarks import Remark
-from ..words import message
 from .cells import Cell, some_of
 from .number_formats import Format, formats_of, number_of
 from .sources import Row, Rules, Sheet, readable, refused, state_of
@@ -188,7 +187,7 @@ class BookSheet(Sheet):
         self.uncomputed.append((line, place, f"={formula.text or '..'}"))
 
     def _uncomputed_fault(self, line: int, place: int, formula: str) -> Fault:
-        return Fault(message(Remark("no value of a formula", {"formula": formula})), self.name, line, place + 1)
+        return Fault(Remark("no value of a formula", {"formula": formula}), self.name, line, place + 1)
 
 
 def check_container(path: Path) -> None:
