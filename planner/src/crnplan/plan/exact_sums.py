@@ -21,6 +21,9 @@ class ExactSums:
         if len(parts) > MOST_PARTS:
             parts[:] = exact_parts(parts)
 
+    def __eq__(self, other: object) -> bool:
+        return isinstance(other, ExactSums) and self.tree == other.tree
+
     def __contains__(self, name: str) -> bool:
         return name in self._parts
 

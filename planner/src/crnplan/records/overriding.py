@@ -108,7 +108,7 @@ def put_overrides(folder: Folder, stated: Stated, unknown: Mapping[str, Reject],
     asked: dict[str, Override | None] = {**earlier, **stated}
     if not asked:
         return
-    part, faults = folder.room() / f"{READ}-overridden", list[Fault]()
+    part, faults = folder.room() / f"{Path(READ).name}-overridden", list[Fault]()
     shutil.copyfile(folder.path / READ, part)
     with contextlib.closing(sqlite3.connect(part)) as base:
         for name, override in asked.items():
