@@ -89,7 +89,7 @@ def test_lines_that_are_not_run(tmp_path: Path) -> None:
               "measured = measure(Path(sys.argv[1])); import crnplan.money; keep(measured)\n")
     subprocess.run([sys.executable, "-c", script, str(tmp_path)], check=True, cwd=SOURCE.parents[2])
     texts = {*missing(tmp_path)["money.py"].values()}
-    assert "return its, Fraction(1)" in texts and not any(it.startswith(("def ", "import ")) for it in texts)
+    assert "amounts[name] = amount" in texts and not any(it.startswith(("def ", "import ")) for it in texts)
 
 
 @pytest.mark.parametrize(("reasons", "count"), [

@@ -15,8 +15,10 @@ from collections.abc import Iterator
 from fractions import Fraction
 from typing import Any
 
+import click
 import pytest
 
+from crnplan import commands
 from tests.documents.markdown import blocks_of, pieces_of, prose_of, spans_of, text_of
 from tests.documents.page_folder import RUNNERS, Folder, commands_of
 from tests.runs import TOP
@@ -167,12 +169,19 @@ def test_exceptions_are_met() -> None:
     assert OTHER_KINDS.keys() <= {piece.kind for page in RUN for piece in pieces_of(page)}
 
 
+def options_of_crnplan() -> set[str]:
+    """Returns the options of all commands of crnplan."""
+    context = click.Context(commands.group)
+    taken = (commands.group.get_command(context, name) for name in commands.group.list_commands(context))
+    return {flag for command in taken if command for option in command.params for flag in option.opts}
+
+
 @pytest.mark.parametrize("page", [*FOR_PLANNERS, "examples/case/README.md"])
 def test_options(page: str) -> None:
     """An option that a page for planners names is one that a command takes."""
     patterns = ("planner/src/**/*.py", "tests/theory/*.py", "tools/*", "conftest.py")
     sources = "".join(it.read_text("utf-8") for pattern in patterns for it in TOP.glob(pattern) if it.is_file())
-    options = {"--help", *re.findall(r"""["'/ |(](--[A-Za-z][\w-]*)""", sources)}
+    options = {"--help", *re.findall(r"""["'/ |(](--[A-Za-z][\w-]*)""", sources), *options_of_crnplan()}
     named = re.findall(r"(?<![\w-])--[A-Za-z][\w-]*", " ".join(spans_of(prose_of(page))))
     assert sorted(set(named) - options) == []
 

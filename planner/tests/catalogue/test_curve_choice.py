@@ -3,17 +3,20 @@ from __future__ import annotations
 
 import dataclasses
 import itertools
+import math
 import tracemalloc
+import typing
 from collections.abc import Sequence
 from fractions import Fraction
 from pathlib import Path
+from types import SimpleNamespace
 from typing import Any
 
 import numpy as np
 import pytest
 from hypothesis import given, settings, strategies as st
 
-from crnplan.curve import exchange
+from crnplan.curve import exchange, exchange_curve
 from crnplan.curve.candidates import (DEARER, PRICES, VARIANTS, Candidates, candidates_of, lower_hull, rounded, slopes,
                                       variants_of)
 from crnplan.curve.exchange import AS_IS, Budget, Items, chosen_by, gap_of
@@ -254,3 +257,19 @@ def test_memory_of_many_parts(monkeypatch: pytest.MonkeyPatch) -> None:
         peaks.append(tracemalloc.get_traced_memory()[1])
         tracemalloc.stop()
     assert peaks[1] - peaks[0] < 270 * 2_000, peaks
+
+
+def test_no_share_is_above_a_best_that_costs_nothing(monkeypatch: pytest.MonkeyPatch) -> None:
+    monkeypatch.setattr(Items, "least_cost", lambda *_: 0.0)
+    assert gap_of(Items.__new__(Items), Point(value=1.0, fill=0.9, orders=1.0, cost=1.0)) == math.inf
+
+
+def test_stocks_far_from_theory_are_named(monkeypatch: pytest.MonkeyPatch) -> None:
+    """A point whose stock by runs is more than 5% from theory's is named."""
+    gathered = SimpleNamespace(items=SimpleNamespace(drawn=lambda seed, count: range(count), count=9), folder=SimpleNamespace(
+        settings=SimpleNamespace(seed="a"), currency=SimpleNamespace(text="{:.2f}".format)))
+    sums = {"near": (100.0, 101.0, 1.0), "far": (100.0, 120.0, 1.0)}
+    monkeypatch.setattr(exchange_curve, "sampled_sums", lambda *_: sums)
+    said = {"near": "today", "far": "your budget"}
+    *_, last = exchange_curve.confirmed(typing.cast(Any, gathered), {}, said, 2, None)
+    assert last.endswith("so look at these items: your budget.")

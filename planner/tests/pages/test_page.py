@@ -24,6 +24,7 @@ from crnplan.curve.parts import Point
 from crnplan.demand.fitting import fit_demand
 from crnplan.pages.curves import curve_ends
 from crnplan.pages.item_plots import history_plot
+from crnplan.pages.law_words import source_words
 from crnplan.pages.page import (UNITS, Money, Scale, number, percent, rendered, round_numbers, source,
                                 templates, tick)
 from crnplan.scenario import Policy
@@ -240,3 +241,16 @@ def test_texts_of_a_curve_stand_apart(value: float, axis: str) -> None:
     assert meeting(figure) == [("one", "other")]
     figure.text(0.99, 0.5, "beyond the edge")
     assert ("beyond the edge", "edge") in meeting(figure)
+
+
+def test_what_is_not_there_has_a_sign() -> None:
+    assert percent(None) == "-"
+    assert source_words("A") == "the items of class A"
+
+
+def test_scale_of_regrets_goes_both_ways() -> None:
+    """Squares undo square roots, also below 0, as matplotlib wants it of a scale."""
+    from crnplan.pages import pictures
+    values = np.array([-4.0, 0.0, 9.0])
+    assert pictures.root(values).tolist() == [-2, 0, 3]
+    assert pictures.square(pictures.root(values)).tolist() == values.tolist()

@@ -10,6 +10,8 @@ import pandas as pd
 import pytest
 
 import crnplan as crn
+from crnplan.items import decimals_of
+from crnplan.records.defaults import currency_of
 from crnplan.records.item import Item
 
 WEEKS = 26
@@ -166,3 +168,15 @@ def test_a_share_that_is_missing() -> None:
     cells = {name: cell for name, cell in MASTER.items() if name != "holding"}
     items, rejects = catalogue_of({**cells, "holding rate": "", "price": "8"})
     assert not items and "the cell is empty" in rejects[0]
+
+
+@pytest.mark.parametrize("sign", ["$", "kr"])
+def test_a_sign_of_several_currencies_stays_a_sign(sign: str) -> None:
+    assert currency_of(sign) == sign
+
+
+def test_decimals_of_costs_that_have_no_end() -> None:
+    """Costs have six decimals at most, and two at least."""
+    assert decimals_of([Fraction(1, 3), None]) == 6
+    assert decimals_of([Fraction(1, 8)]) == 3
+    assert decimals_of([Fraction(5)]) == 2

@@ -180,3 +180,26 @@ def test_each_gap_beside_all_its_levels(
         assert looked[1].min() == pytest.approx(min(cost for _, cost in expected), rel=1e-9)
     if feasible == ALL:
         assert np.isfinite(found[1][1]).sum() < 0.9 * len(gaps)
+
+
+def test_levels_that_no_multiple_allows() -> None:
+    """No level is chosen above the cut, nor if the greatest level lies below the least that is allowed."""
+    cheaper_of = levels.cheaper_of.py_func
+    lows = levels.Lows(np.zeros((3, 4)), np.zeros((3, 4)), False, np.ones(1))
+    assert cheaper_of(lows, 10, 0, 1, 1, 0, 60, 5, math.inf) == (-1, math.inf)
+    assert cheaper_of(lows, 3, 0, 1, 4, 10, 3, 60, math.inf) == (-1, math.inf)
+
+
+@pytest.mark.parametrize("is_compiled", [True, False])
+def test_fixed_levels_of_gaps(is_compiled: bool, monkeypatch: pytest.MonkeyPatch) -> None:
+    """The cost of a fixed level of a gap is that of the policy, as it is computed by itself."""
+    scenario = scenario_of(((1, 2, 3), (1, 2, 1)), ([2], [1]), None, Costs(900, 0, 1, 9))
+    theory = theory_on(scenario, shape_of(scenario), 1, True, ALL)
+    if not is_compiled:
+        leave_as_written(monkeypatch, levels)
+        monkeypatch.setattr(long_run, "walked", levels.walked)
+    gaps = np.array([5, 9])
+    tops, costs = theory.levels_of(gaps, Sought(fixed=lambda gaps: (np.full(len(gaps), 6), gaps + 6)))
+    assert tops.tolist() == [11, 15]
+    for gap, cost in zip(gaps.tolist(), costs):
+        assert cost == pytest.approx(costs_of(scenario, shortfall_of(scenario, gap), np.array([gap + 6]))[0], rel=1e-6)

@@ -136,9 +136,7 @@ class Board:
 
     @property
     def _cases(self) -> Sequence[CaseSum]:
-        if self.swings:
-            return self.swings.cases
-        return ()
+        return self.swings.cases if self.swings else ()
 
     @property
     def case_unit(self) -> Unit:

@@ -146,9 +146,7 @@ class ItemWords:
 
     def money(self, amount: float | None) -> str:
         """Returns an amount of money; - if there is none."""
-        if amount is None:
-            return "-"
-        return self.currency.named(number(amount, self.currency.digits))
+        return "-" if amount is None else self.currency.named(number(amount, self.currency.digits))
 
     def spoken(self, saving: float) -> str:
         return f"{self.money(abs(saving))} {'more' if saving < 0 else 'less'}"

@@ -110,9 +110,7 @@ def base_of(decision: Decision) -> Compared:
 
 
 def percent_of(row: Compared) -> str:
-    if row.percent is None:
-        return ""
-    return f"{row.percent:+.2f}%"
+    return "" if row.percent is None else f"{row.percent:+.2f}%"
 
 
 def draw_difference(axes: Axes, place: int, row: Compared) -> None:
@@ -343,11 +341,11 @@ def draw_policy(axes: Axes, policy: Policy, periods: Sequence[Period], initial: 
     axes.stairs(stocks, range(len(stocks) + 1), color=BLUE, linewidth=1.8, baseline=None,
                 label="stock at the end of the period")
     draw_position(axes, periods, initial)
+    levels = {policy.S: f"s = S = {policy.S}"}
     if policy.s < policy.S:
-        draw_level(axes, policy.s, f"s = {policy.s}")
-        draw_level(axes, policy.S, f"S = {policy.S}")
-    else:
-        draw_level(axes, policy.S, f"s = S = {policy.S}")
+        levels = {policy.s: f"s = {policy.s}", policy.S: f"S = {policy.S}"}
+    for level, words in levels.items():
+        draw_level(axes, level, words)
     axes.set_xlim(0, len(periods))
     axes.set_ylabel("items")
     axes.set_title(f"{policy.name} ({policy.s}, {policy.S})", fontsize=10)

@@ -157,8 +157,8 @@ def alone_of(question: Question, choice: Choice) -> Levels | None:
         return None
     if not question.learned:
         return choice.best
-    single = question.alone()
     try:
+        single = question.alone()
         return choice_of(single.theory(), single).best
     except Refused:
         return None

@@ -97,10 +97,10 @@ def allowed_of(question: Question, levels: Levels) -> Allowed | None:
     except NoTheory:
         return None
     low, high = np.quantile(figures.fill, TENTHS).tolist()
-    if not question.has_backlog:
-        return Allowed(low, high, None, None)
-    cheap, dear = np.quantile(figures.cost, TENTHS).tolist()
-    return Allowed(low, high, question.money(cheap), question.money(dear))
+    costs: list[float | None] = [None, None]
+    if question.has_backlog:
+        costs = [question.money(cost) for cost in np.quantile(figures.cost, TENTHS).tolist()]
+    return Allowed(low, high, *costs)
 
 
 def damping_of(figures: Mapping[str, Figures]) -> Iterator[Remark]:

@@ -192,8 +192,7 @@ def plain_cells(sheet: TextSheet, data: bytes, skip: int) -> Cells | None:
     signs = np.frombuffer(data, np.uint8)
     width = len(sheet.heading) - 1
     ends = np.flatnonzero(signs == ord("\n"))
-    if not data.endswith(b"\n"):
-        ends = np.append(ends, len(data))
+    ends = ends if data.endswith(b"\n") else np.append(ends, len(data))
     starts = np.append(0, ends[:-1] + 1)[skip:]
     ends = ends[skip:]
     if not len(ends) or data.startswith(codecs.BOM_UTF8, starts[0]) or (ends - starts).max() > csv.field_size_limit():

@@ -50,9 +50,8 @@ def shown(value: Any) -> str:
 
 def _older_escape(sign: re.Match[str]) -> str:
     """Returns an escape as TOML 1.0 spells it."""
-    if sign[2]:
-        return r"\u001b"
-    return rf"\u00{sign[1]}" if sign[1] else sign[0]
+    older = rf"\u00{sign[1]}" if sign[1] else sign[0]
+    return r"\u001b" if sign[2] else older
 
 
 def _is_newer(text: str, match: re.Match[str], last: str) -> bool:

@@ -265,9 +265,8 @@ class Judge:
         if odd:
             return odd
         close = meant(key, rules.keys)
-        for name in (*self.homes, *self.tables):
-            if not close and name.lower() == key.lower():
-                close = name
+        alike = [name for name in (*self.homes, *self.tables) if name.lower() == key.lower()]
+        close = close or next(iter(alike), "")
         if close:
             return f"write {close}"
         return "remove it" if self.says_both else f"remove it; the keys here are {', '.join(rules.keys)}"

@@ -201,8 +201,7 @@ def _policy_text(number: int, policy: Any) -> str:
     if not isinstance(name, str):
         return f"policy {number}"
     text = ascii(name)[1:-1]
-    if len(text) > LONGEST_NAME:
-        text = f"{text[:LONGEST_NAME]}..."
+    text = text if len(text) <= LONGEST_NAME else f"{text[:LONGEST_NAME]}..."
     return f'policy {number} ("{text}")'
 
 
