@@ -184,7 +184,7 @@ def test_each_gap_beside_all_its_levels(
 
 def test_levels_that_no_multiple_allows() -> None:
     """No level is chosen above the cut, nor if the greatest level lies below the least that is allowed."""
-    cheaper_of = levels.cheaper_of.py_func
+    cheaper_of = levels.cheaper_of.__wrapped__
     lows = levels.Lows(np.zeros((3, 4)), np.zeros((3, 4)), False, np.ones(1))
     assert cheaper_of(lows, 10, 0, 1, 1, 0, 60, 5, math.inf) == (-1, math.inf)
     assert cheaper_of(lows, 3, 0, 1, 4, 10, 3, 60, math.inf) == (-1, math.inf)
