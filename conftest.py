@@ -45,27 +45,52 @@ def pytest_addoption(parser: pytest.Parser) -> None:
     """Adds the options of the repository."""
     group = parser.getgroup("crnsim")
     default = PROGRAM.relative_to(TOP)
-    group.addoption("--program", metavar="PATH", type=Path, help=f"test this program (default: {default})")
-    group.addoption("--lines", metavar="FOLDER", type=Path, help="keep in FOLDER which lines of crnplan are run")
-    group.addoption("--by-test", action="store_true", help="with --lines, keep which test runs a line")
-    group.addoption("--free", action="store_true", help="draw new random examples on each run, not the same ones")
+    group.addoption(
+        "--program",
+        metavar="PATH",
+        type=Path,
+        help=f"test this program (default: {default})",
+    )
+    group.addoption(
+        "--lines",
+        metavar="FOLDER",
+        type=Path,
+        help="keep in FOLDER which lines of crnplan are run",
+    )
+    group.addoption(
+        "--by-test",
+        action="store_true",
+        help="with --lines, keep which test runs a line",
+    )
+    group.addoption(
+        "--free",
+        action="store_true",
+        help="draw new random examples on each run, not the same ones",
+    )
 
 
 def pytest_configure(config: pytest.Config) -> None:
     """Chooses the profile of hypothesis, makes the file whose lock the tests of a parallel run take, and measures which
     lines of crnplan are run."""
-    shared: dict[str, Any] = {"deadline": None, "database": None, "suppress_health_check": [HealthCheck.too_slow]}
+    shared: dict[str, Any] = {
+        "deadline": None,
+        "database": None,
+        "suppress_health_check": [HealthCheck.too_slow],
+    }
     settings.register_profile("gate", derandomize=True, **shared)
     settings.register_profile("free", print_blob=True, **shared)
     settings.load_profile("free" if config.getoption("--free") else "gate")
     if config.getoption("--lines"):
         from planner.lines import measure
+
         setattr(config, MEASURED, measure(config.getoption("--lines")))
         setattr(config, TRACER, sys.gettrace())
     named = config.getoption("--program")
     if named and not os.access(named, os.X_OK):
         raise pytest.UsageError(f"--program {named}: there is no such program")
-    if not hasattr(config, "workerinput") and getattr(config.option, "numprocesses", None):
+    if not hasattr(config, "workerinput") and getattr(
+        config.option, "numprocesses", None
+    ):
         handle, path = tempfile.mkstemp(prefix="crnsim-")
         os.close(handle)
         config.add_cleanup(lambda: os.unlink(path))
@@ -77,6 +102,7 @@ def pytest_sessionfinish(session: pytest.Session) -> None:
     """Keeps which lines were run. A worker that has said that it is done may be killed, so this comes before."""
     if hasattr(session.config, MEASURED):
         from planner.lines import keep
+
         keep(getattr(session.config, MEASURED))
 
 
@@ -157,30 +183,49 @@ def program(request: pytest.FixtureRequest) -> Path:
     """Returns the absolute path of the program that is tested. Without one the run ends."""
     path = Path(os.path.abspath(request.config.getoption("--program") or PROGRAM))
     if not os.access(path, os.X_OK):
-        request.session.shouldfail = f"there is no program {path}: run tools/build, or give --program=PATH"
+        request.session.shouldfail = (
+            f"there is no program {path}: run tools/build, or give --program=PATH"
+        )
         pytest.fail(request.session.shouldfail, pytrace=False)
     return path
 
 
 @pytest.fixture
-def check_all(record_property: Callable[[str, object], None]) -> Callable[[Cases], None]:
+def check_all(
+    record_property: Callable[[str, object], None]
+) -> Callable[[Cases], None]:
     """Returns a function that checks the cases of a test: pairs of a name and a verdict.
 
     True is a case that holds. Anything else is one that does not; a text says why. Those that fail are named, also if
     the test runs out of time, and the summary counts each case.
     """
+
     def check(cases: Cases) -> None:
         verdicts: list[tuple[str, object]] = []
         try:
             verdicts.extend(cases)
         except pytest.fail.Exception as fault:
-            verdicts.append((f"after {verdicts[-1][0]}" if verdicts else "at once", str(fault)))
+            verdicts.append(
+                (f"after {verdicts[-1][0]}" if verdicts else "at once", str(fault))
+            )
         record_property(CASES, len(verdicts))
         assert verdicts, "there are no cases"
-        failed = [f"{name}: {its}" if isinstance(its, str) else name for name, its in verdicts if its is not True]
+        failed = [
+            f"{name}: {its}" if isinstance(its, str) else name
+            for name, its in verdicts
+            if its is not True
+        ]
         if failed:
-            more = [f"and {len(failed) - MOST_NAMED} more"] if len(failed) > MOST_NAMED else []
-            lines = [f"{len(failed)} of {len(verdicts)} cases", *failed[:MOST_NAMED], *more]
+            more = (
+                [f"and {len(failed) - MOST_NAMED} more"]
+                if len(failed) > MOST_NAMED
+                else []
+            )
+            lines = [
+                f"{len(failed)} of {len(verdicts)} cases",
+                *failed[:MOST_NAMED],
+                *more,
+            ]
             pytest.fail("\n".join(lines), pytrace=False)
 
     return check

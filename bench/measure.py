@@ -37,7 +37,9 @@ def scenario(policies, ring):
     """The text of the largest run with so many of its policies on a ring of so many slots."""
     with open(f"{HERE}/largest.toml", encoding="ascii") as it:
         head, *rest = it.read().split("[[policy]]")
-    return "[[policy]]".join([head.replace("ring = 1024", f"ring = {ring}"), *rest[:policies]])
+    return "[[policy]]".join(
+        [head.replace("ring = 1024", f"ring = {ring}"), *rest[:policies]]
+    )
 
 
 def measured(program, text, processors, output=subprocess.DEVNULL):
@@ -45,17 +47,33 @@ def measured(program, text, processors, output=subprocess.DEVNULL):
     with tempfile.TemporaryFile() as data:
         data.write(text.encode())
         data.seek(0)
-        before, begun = resource.getrusage(resource.RUSAGE_CHILDREN), time.perf_counter()
-        subprocess.run([program], stdin=data, stdout=output, check=True,
-                       preexec_fn=lambda: os.sched_setaffinity(0, processors))
-        wall, after = time.perf_counter() - begun, resource.getrusage(resource.RUSAGE_CHILDREN)
+        before, begun = (
+            resource.getrusage(resource.RUSAGE_CHILDREN),
+            time.perf_counter(),
+        )
+        subprocess.run(
+            [program],
+            stdin=data,
+            stdout=output,
+            check=True,
+            preexec_fn=lambda: os.sched_setaffinity(0, processors),
+        )
+        wall, after = time.perf_counter() - begun, resource.getrusage(
+            resource.RUSAGE_CHILDREN
+        )
     spent = after.ru_utime + after.ru_stime - before.ru_utime - before.ru_stime
-    return wall, spent, after.ru_nvcsw + after.ru_nivcsw - before.ru_nvcsw - before.ru_nivcsw
+    return (
+        wall,
+        spent,
+        after.ru_nvcsw + after.ru_nivcsw - before.ru_nvcsw - before.ru_nivcsw,
+    )
 
 
 def report_of(program, text):
     """The report that a program writes."""
-    return subprocess.run([program], input=text.encode(), capture_output=True, check=True).stdout
+    return subprocess.run(
+        [program], input=text.encode(), capture_output=True, check=True
+    ).stdout
 
 
 def instructions_of(program, text):
@@ -63,7 +81,9 @@ def instructions_of(program, text):
     if shutil.which("valgrind") is None:
         return None
     words = ["valgrind", "--tool=callgrind", "--callgrind-out-file=/dev/null", program]
-    told = subprocess.run(words, input=text.encode(), capture_output=True, check=True).stderr.decode()
+    told = subprocess.run(
+        words, input=text.encode(), capture_output=True, check=True
+    ).stderr.decode()
     return int(re.search(r"Collected : (\d+)", told)[1])
 
 
@@ -76,7 +96,9 @@ def machine():
 def print_times(program, rounds):
     """Prints a row for each number of processors, ring and number of policies."""
     ours, counts = machine()
-    print(f"{TITLE} {'policies':>8} {'wall ms':>9} {'processor ms':>12} {'switches':>9}")
+    print(
+        f"{TITLE} {'policies':>8} {'wall ms':>9} {'processor ms':>12} {'switches':>9}"
+    )
     for count in counts:
         cases = {(ring, policies): [] for ring in RINGS for policies in POLICIES}
         for _ in range(rounds):
@@ -84,14 +106,18 @@ def print_times(program, rounds):
                 runs.append(measured(program, scenario(case[1], case[0]), ours[:count]))
         for (ring, policies), runs in cases.items():
             wall, spent, switches = (statistics.median(it) for it in zip(*runs))
-            print(f"{count:>10} {ring:>5} {policies:>8} {wall * 1000:>9.1f} {spent * 1000:>12.1f} {switches:>9.0f}",
-                  flush=True)
+            print(
+                f"{count:>10} {ring:>5} {policies:>8} {wall * 1000:>9.1f} {spent * 1000:>12.1f} {switches:>9.0f}",
+                flush=True,
+            )
 
 
 def print_comparison(programs, rounds):
     """Prints a row for each number of processors and ring: what each program takes, and the first one's share."""
     ours, counts = machine()
-    print(f"{TITLE} {'wall median':>20} {'wall least':>20} {'processor median':>20} {'switches':>16}")
+    print(
+        f"{TITLE} {'wall median':>20} {'wall least':>20} {'processor median':>20} {'switches':>16}"
+    )
     for count in counts:
         for ring in COMPARED_RINGS:
             text = scenario(POLICIES[-1], ring)
@@ -99,12 +125,20 @@ def print_comparison(programs, rounds):
             for _ in range(rounds):
                 for program, its in zip(programs, runs):
                     its.append(measured(program, text, ours[:count]))
-            walls, spent, switches = ([[run[k] for run in its] for its in runs] for k in range(3))
-            rows = [[statistics.median(it) * 1000 for it in walls], [min(it) * 1000 for it in walls],
-                    [statistics.median(it) * 1000 for it in spent]]
+            walls, spent, switches = (
+                [[run[k] for run in its] for its in runs] for k in range(3)
+            )
+            rows = [
+                [statistics.median(it) * 1000 for it in walls],
+                [min(it) * 1000 for it in walls],
+                [statistics.median(it) * 1000 for it in spent],
+            ]
             told = " ".join(f"{a:>6.1f} {b:>6.1f} {a / b:>6.3f}" for a, b in rows)
-            print(f"{count:>10} {ring:>5} {told} {statistics.median(switches[0]):>8.0f} "
-                  f"{statistics.median(switches[1]):>7.0f}", flush=True)
+            print(
+                f"{count:>10} {ring:>5} {told} {statistics.median(switches[0]):>8.0f} "
+                f"{statistics.median(switches[1]):>7.0f}",
+                flush=True,
+            )
 
 
 def compare(programs, rounds):
@@ -118,12 +152,16 @@ def compare(programs, rounds):
     if None in counts:
         print("instructions: not counted, since valgrind is missing")
     else:
-        print(f"instructions: {counts[0]:,} and {counts[1]:,}, {counts[0] / counts[1]:.4f}")
+        print(
+            f"instructions: {counts[0]:,} and {counts[1]:,}, {counts[0] / counts[1]:.4f}"
+        )
 
 
 def main():
     """Reads the command line."""
-    parser = argparse.ArgumentParser(description=__doc__, formatter_class=argparse.RawDescriptionHelpFormatter)
+    parser = argparse.ArgumentParser(
+        description=__doc__, formatter_class=argparse.RawDescriptionHelpFormatter
+    )
     parser.add_argument("program")
     parser.add_argument("rounds", nargs="?", type=int, default=9)
     parser.add_argument("--against", metavar="OTHER")
@@ -131,7 +169,10 @@ def main():
     if asked.against is None:
         print_times(os.path.abspath(asked.program), asked.rounds)
     else:
-        compare([os.path.abspath(asked.program), os.path.abspath(asked.against)], asked.rounds)
+        compare(
+            [os.path.abspath(asked.program), os.path.abspath(asked.against)],
+            asked.rounds,
+        )
 
 
 if __name__ == "__main__":

@@ -4,8 +4,9 @@
     .venv/bin/python -m planner.lines FOLDER
 
 With `--lines` each process of the tests, and each Python that they start, keeps in FOLDER which lines of crnplan it has
-run. A process that is killed keeps nothing. The status is 1 if a line was not run and has no reason, or if a reason
-stands for a line that was run or is not there.
+run. A process that is killed keeps nothing: its file is moved to FOLDER once it is whole. One that was killed while it
+wrote its file is named. The status is 1 if a line was not run and has no reason, or if a reason stands for a line that
+was run or is not there.
 """
 from __future__ import annotations
 
@@ -24,23 +25,40 @@ SOURCE, REASONS = TOP / "planner/src/crnplan", Path(__file__).with_name("lines.t
 # What is read by mypy alone, or never ends with a value.
 LEFT_OUT = (r"if TYPE_CHECKING:", r"^\s*\.\.\.$", r"@overload")
 SETTINGS = """[run]
-data_file = {folder}/data
+data_file = {folder}/writing/data
 parallel = true
 source = {source}
 disable_warnings = no-data-collected,module-not-imported,module-not-measured,already-imported
 """
-# Python runs this file as it starts, if its folder is in PYTHONPATH.
-STARTING = "import coverage\ncoverage.process_startup()\n"
+# Python runs this file as it starts, if its folder is in PYTHONPATH. What is registered first is done last.
+STARTING = """import atexit
+import os
+
+import coverage
+
+
+def keep():
+    path = measured.get_data().data_filename() if measured else ""
+    if os.path.exists(path):
+        folder, name = os.path.split(path)
+        os.replace(path, os.path.join(os.path.dirname(folder), name))
+
+
+atexit.register(keep)
+measured = coverage.process_startup()
+"""
 
 
 def measure(folder: Path) -> coverage.Coverage:
     """Measures which lines this process runs from now on, and those that it starts. `keep` ends that."""
     folder = folder.resolve()
-    folder.mkdir(parents=True, exist_ok=True)
-    (folder / "settings.ini").write_text(SETTINGS.format(folder=folder, source=SOURCE), "utf-8")
+    (folder / "writing").mkdir(parents=True, exist_ok=True)
+    settings = SETTINGS.format(folder=folder, source=SOURCE)
+    (folder / "settings.ini").write_text(settings, "utf-8")
     (folder / "sitecustomize.py").write_text(STARTING, "utf-8")
     os.environ["COVERAGE_PROCESS_START"] = str(folder / "settings.ini")
-    os.environ["PYTHONPATH"] = os.pathsep.join(filter(None, [str(folder), os.environ.get("PYTHONPATH", "")]))
+    paths = [str(folder), *filter(None, [os.environ.get("PYTHONPATH")])]
+    os.environ["PYTHONPATH"] = os.pathsep.join(paths)
     measured = coverage.Coverage(config_file=str(folder / "settings.ini"))
     measured.start()
     return measured
@@ -50,20 +68,35 @@ def keep(measured: coverage.Coverage) -> None:
     """Keeps which lines were run."""
     measured.stop()
     measured.save()
+    path = Path(measured.get_data().data_filename())
+    if path.exists():
+        path.replace(path.parents[1] / path.name)
+
+
+def read_from(folder: Path) -> coverage.Coverage:
+    """Returns what all processes have kept, which is not written."""
+    settings = str(folder.resolve() / "settings.ini")
+    read = coverage.Coverage(data_file=None, config_file=settings)
+    for pattern in LEFT_OUT:
+        read.exclude(pattern)
+    read.combine([str(folder)], keep=True)
+    return read
 
 
 def missing(folder: Path) -> dict[str, dict[int, str]]:
     """Returns the lines that no process has run, by file and number."""
-    read = coverage.Coverage(config_file=str(folder.resolve() / "settings.ini"))
-    for pattern in LEFT_OUT:
-        read.exclude(pattern)
-    read.combine([str(folder)], keep=True)
-    found: dict[str, dict[int, str]] = {}
+    read, found = read_from(folder), dict[str, dict[int, str]]()
     for path in sorted(SOURCE.rglob("*.py")):
         lines = path.read_text("utf-8").splitlines()
-        numbers = read.analysis2(str(path))[3]
-        found[str(path.relative_to(SOURCE))] = {number: lines[number - 1].strip() for number in numbers}
+        found[str(path.relative_to(SOURCE))] = {
+            number: lines[number - 1].strip() for number in read.analysis2(str(path))[3]
+        }
     return found
+
+
+def cut(folder: Path) -> list[str]:
+    """Returns the files of processes that were killed as they wrote which lines they had run."""
+    return sorted(path.name for path in (folder / "writing").glob("data.*"))
 
 
 def tests_of(folder: Path) -> dict[tuple[str, int], list[str]]:
@@ -71,19 +104,21 @@ def tests_of(folder: Path) -> dict[tuple[str, int], list[str]]:
 
     The tests were run with `--by-test`. Lines that run as a module is loaded are left out.
     """
-    read = coverage.Coverage(config_file=str(folder.resolve() / "settings.ini"))
-    read.combine([str(folder)], keep=True)
-    data, found, sizes = read.get_data(), dict[tuple[str, int], list[str]](), Counter[str]()
-    for path in (it for it in data.measured_files() if it.endswith(".py")):
+    data, found, sizes = read_from(folder).get_data(), {}, Counter[str]()
+    for path in data.measured_files():
         for line, names in data.contexts_by_lineno(path).items():
-            tests = [it for it in names if it]
+            tests = [*filter(None, names)]
             sizes.update(tests)
-            if tests:
+            if tests and path.endswith(".py"):
                 found[str(Path(path).relative_to(SOURCE)), line] = tests
-    return {place: sorted(tests, key=lambda it: (sizes[it], it)) for place, tests in found.items()}
+    for tests in found.values():
+        tests.sort(key=lambda name: (sizes[name], name))
+    return found
 
 
-def verdicts(found: Mapping[str, Mapping[int, str]], reasons: Mapping[str, Mapping[str, str]]) -> Iterator[str]:
+def verdicts(
+    found: Mapping[str, Mapping[int, str]], reasons: Mapping[str, Mapping[str, str]]
+) -> Iterator[str]:
     """Yields what is wrong: lines that are not run and have no reason, and reasons for other lines."""
     named: defaultdict[str, set[str]] = defaultdict(set)
     for file, lines in found.items():
@@ -103,7 +138,12 @@ def main(folder: Path) -> None:
     """List the lines of crnplan that no test has run, from the FOLDER of `pytest --lines`."""
     found = missing(folder)
     wrong = [*verdicts(found, tomllib.loads(REASONS.read_text("utf-8")))]
-    click.echo("".join(f"{it}\n" for it in wrong), nl=False)
+    for line in wrong:
+        click.echo(line)
+    for name in cut(folder):
+        click.echo(
+            f"{name}: a process was killed as it wrote the lines that it had run"
+        )
     count = sum(map(len, found.values()))
     click.echo(f"{count} lines of crnplan are not run by any test; {len(wrong)} faults")
     sys.exit(bool(wrong))

@@ -7,8 +7,15 @@ from pathlib import Path
 from crnplan.crnsim import report, trajectory
 from crnplan.curve import exchange_curve
 from crnplan.decide import doubt, long_run, sensitivity, verdicts
-from crnplan.pages import backtest_tables, catalogue_tables, change_tables, control_tables, item_page, lateness
-from crnplan.pages.today_tables import TABLES as ON_A_DAY
+from crnplan.show import (
+    backtest_tables,
+    catalogue_tables,
+    change_tables,
+    control_tables,
+    item_page,
+    lateness,
+)
+from crnplan.show.today_tables import TABLES as ON_A_DAY
 from crnplan.plan import what_ifs
 from crnplan.table import Column
 from crnplan.theory import suggestions
@@ -30,59 +37,136 @@ def more(columns: Sequence[Column]) -> list[Column]:
 
 
 TABLES: Mapping[str, tuple[str, Sequence[Column]]] = {
-    "decisions.csv": ("A planned catalogue: a row for each item, by name.", catalogue_tables.DECISION_COLUMNS),
-    "exact.csv": ("The run of each item, exactly: fractions stand as `3/4`.", catalogue_tables.EXACT_COLUMNS),
-    "controls, summary.txt, today_controls.csv": ("Control totals: what the files come to, by what became of their rows.",
-                              control_tables.CONTROL_COLUMNS),
-    "rejects.csv, today_left_out.csv": ("What was left out of tables, or only named.", catalogue_tables.REJECT_COLUMNS),
-    "changes.csv": ("What has changed since an earlier plan: a row for each item of either plan.",
-                    change_tables.CHANGE_COLUMNS),
-    "lateness.csv": ("How late suppliers are: a row for each with receipts, the latest first.", lateness.COLUMNS),
-    "backtest.csv": ("The test of a catalogue on its own past: a row for each item.",
-                     backtest_tables.BACKTEST_COLUMNS),
-    "backtest_sums.csv": ("What these add up to: all items, and each class.", backtest_tables.SUM_COLUMNS),
-    "curve.csv": ("The exchange curve: named points, then the curve by rising price.", exchange_curve.COLUMNS),
-    "curve_policies.csv": ("The policies of one point of the curve.", exchange_curve.POLICY_COLUMNS),
-    "curve_left_out.csv": ("Items that are not on the curve.", exchange_curve.LEFT_OUT_COLUMNS),
-    "today_orders.csv": ("What to order on a day, the most urgent first; then items of which nothing is known.",
-                         ON_A_DAY["orders"]),
+    "decisions.csv": (
+        "A planned catalogue: a row for each item, by name.",
+        catalogue_tables.DECISION_COLUMNS,
+    ),
+    "exact.csv": (
+        "The run of each item, exactly: fractions stand as `3/4`.",
+        catalogue_tables.EXACT_COLUMNS,
+    ),
+    "controls, summary.txt, today_controls.csv": (
+        "Control totals: what the files come to, by what became of their rows.",
+        control_tables.CONTROL_COLUMNS,
+    ),
+    "rejects.csv, today_left_out.csv": (
+        "What was left out of tables, or only named.",
+        catalogue_tables.REJECT_COLUMNS,
+    ),
+    "changes.csv": (
+        "What has changed since an earlier plan: a row for each item of either plan.",
+        change_tables.CHANGE_COLUMNS,
+    ),
+    "lateness.csv": (
+        "How late suppliers are: a row for each with receipts, the latest first.",
+        lateness.COLUMNS,
+    ),
+    "backtest.csv": (
+        "The test of a catalogue on its own past: a row for each item.",
+        backtest_tables.BACKTEST_COLUMNS,
+    ),
+    "backtest_sums.csv": (
+        "What these add up to: all items, and each class.",
+        backtest_tables.SUM_COLUMNS,
+    ),
+    "curve.csv": (
+        "The exchange curve: named points, then the curve by rising price.",
+        exchange_curve.COLUMNS,
+    ),
+    "curve_policies.csv": (
+        "The policies of one point of the curve.",
+        exchange_curve.POLICY_COLUMNS,
+    ),
+    "curve_left_out.csv": (
+        "Items that are not on the curve.",
+        exchange_curve.LEFT_OUT_COLUMNS,
+    ),
+    "today_orders.csv": (
+        "What to order on a day, the most urgent first; then items of which nothing is known.",
+        ON_A_DAY["orders"],
+    ),
     "today_above.csv": (f"Items above S. {AS_ORDERS}", more(ON_A_DAY["above"])),
-    "today_dead.csv": (f"Stock that nobody has asked for. {AS_ORDERS}", more(ON_A_DAY["dead"])),
-    "today_stopped.csv": (f"Items that are ordered no longer. {AS_ORDERS}", more(ON_A_DAY["stopped"])),
+    "today_dead.csv": (
+        f"Stock that nobody has asked for. {AS_ORDERS}",
+        more(ON_A_DAY["dead"]),
+    ),
+    "today_stopped.csv": (
+        f"Items that are ordered no longer. {AS_ORDERS}",
+        more(ON_A_DAY["stopped"]),
+    ),
     "today_owed.csv": (f"Items that are owed. {AS_ORDERS}", more(ON_A_DAY["owed"])),
-    "today_classes.csv, today_suppliers.csv": ("What these come to by class, and by supplier.",
-                                               ON_A_DAY["suppliers"]),
-    "today_added.csv": (f"What fills up orders of suppliers. {AS_ORDERS}", more(ON_A_DAY["added"])),
+    "today_classes.csv, today_suppliers.csv": (
+        "What these come to by class, and by supplier.",
+        ON_A_DAY["suppliers"],
+    ),
+    "today_added.csv": (
+        f"What fills up orders of suppliers. {AS_ORDERS}",
+        more(ON_A_DAY["added"]),
+    ),
     "today_lines.csv, today_supplier_001.csv": (
         "The orders of all suppliers line by line, and of each supplier alone; `today_suppliers.csv` says whose file is "
-        "which.", ON_A_DAY["lines"]),
-    "today_at_risk.csv": (f"Items with overdue orders, or with less stock than mean demand up to the next receipt. "
-                          f"{AS_ORDERS}", more(ON_A_DAY["at_risk"])),
-    "policies.csv": ("The policies of an item that is planned alone, the cheapest first.", item_page.POLICY_COLUMNS),
-    "coming.csv": ("The same over the coming periods, with `[run] horizon`.", item_page.COMING_COLUMNS),
-    "doubt.csv, crnplan doubt": ("Policies under the laws that a history allows. A column stands if there is a figure.",
-                                 doubt.COLUMNS),
+        "which.",
+        ON_A_DAY["lines"],
+    ),
+    "today_at_risk.csv": (
+        f"Items with overdue orders, or with less stock than mean demand up to the next receipt. "
+        f"{AS_ORDERS}",
+        more(ON_A_DAY["at_risk"]),
+    ),
+    "policies.csv": (
+        "The policies of an item that is planned alone, the cheapest first.",
+        item_page.POLICY_COLUMNS,
+    ),
+    "coming.csv": (
+        "The same over the coming periods, with `[run] horizon`.",
+        item_page.COMING_COLUMNS,
+    ),
+    "doubt.csv, crnplan doubt": (
+        "Policies under the laws that a history allows. A column stands if there is a figure.",
+        doubt.COLUMNS,
+    ),
     "sensitivity.csv": ("How the best policy of an item moves.", what_ifs.COLUMNS),
-    "trajectory.csv, crnplan trajectory": ("Policies period by period.", trajectory.COLUMNS),
+    "trajectory.csv, crnplan trajectory": (
+        "Policies period by period.",
+        trajectory.COLUMNS,
+    ),
     "laws.csv": ("The laws of an item.", item_page.LAW_COLUMNS),
-    "crnplan suggest": ("Suggested policies.", [*suggestions.COLUMNS, suggestions.REASONS]),
+    "crnplan suggest": (
+        "Suggested policies.",
+        suggestions.COLUMNS,
+    ),
     "crnplan run": ("A report of crnsim, exactly.", report.COLUMNS),
-    "crnplan decide, crnplan check": ("Policies beside the base, over the coming periods.", verdicts.COLUMNS),
-    "crnplan run --long-run": ("Policies beside the base, in the long run.", verdicts.LONG_RUN_COLUMNS),
+    "crnplan decide, crnplan check": (
+        "Policies beside the base, over the coming periods.",
+        verdicts.COLUMNS,
+    ),
+    "crnplan run --long-run": (
+        "Policies beside the base, in the long run.",
+        verdicts.LONG_RUN_COLUMNS,
+    ),
     "Scenario.long_run": ("Figures of the long run, in Python.", long_run.COLUMNS),
-    "crnplan sensitivity": ("What a policy costs too much, here in the cases `base` and `demand_up`.",
-                            sensitivity.columns_of(["base", "demand_up"]))}
+    "crnplan sensitivity": (
+        "What a policy costs too much, here in the cases `base` and `demand_up`.",
+        sensitivity.regret_columns(["base", "demand_up"]),
+    ),
+}
 
 
 def page_of(columns: Sequence[Column]) -> str:
     """Returns the columns as a table of a page in Markdown."""
-    rows = (f"| `{column.name}` | {column.unit or column.kind} | {column.meaning} |\n" for column in columns)
+    rows = (
+        f"| `{column.name}` | {column.unit or column.kind} | {column.meaning} |\n"
+        for column in columns
+    )
     return "| Column | Unit | Meaning |\n|---|---|---|\n" + "".join(rows)
 
 
 def page() -> str:
     """Returns the page."""
-    parts = (f"\n## {name}\n\n{words}\n\n{page_of(columns)}" for name, (words, columns) in TABLES.items())
+    parts = (
+        f"\n## {name}\n\n{words}\n\n{page_of(columns)}"
+        for name, (words, columns) in TABLES.items()
+    )
     return HEAD + "".join(parts)
 
 

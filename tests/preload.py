@@ -37,7 +37,10 @@ class Counts(NamedTuple):
         first = self.starts[0][0] - own if self.starts else 0
         begins = [first, *(after for _, after in self.starts)]
         windows = zip(begins, begins[1:])
-        return next((at for at, (begin, end) in enumerate(windows, 1) if begin < number <= end), None)
+        return next(
+            (at for at, (begin, end) in enumerate(windows, 1) if begin < number <= end),
+            None,
+        )
 
 
 def environment(built: Path | str, file: Path | str, **rules: object) -> dict[str, str]:
@@ -52,4 +55,6 @@ def counts_of(file: Path | str) -> Counts | None:
         return None
     lines = [line.split() for line in Path(file).read_text("ascii").splitlines()]
     starts = tuple((int(it[1]), int(it[2])) for it in lines if it[0] == "start")
-    return Counts(**{it[0]: int(it[1]) for it in lines if it[0] != "start"}, starts=starts)
+    return Counts(
+        **{it[0]: int(it[1]) for it in lines if it[0] != "start"}, starts=starts
+    )

@@ -40,10 +40,23 @@ def difference(shown: Shown, wanted: Shown) -> str:
     if shown.status is None:
         return "the run does not end"
     at = len(os.path.commonprefix([shown.output, wanted.output]))
-    parts = [f"status {shown.status}, not {wanted.status}"] if shown.status != wanted.status else []
-    parts += [f"standard error {shown.errors[:200]!r}, not {wanted.errors!r}"] if shown.errors != wanted.errors else []
-    parts += [f"from byte {at} on {shown.output[at:at + 60]!r}, not {wanted.output[at:at + 60]!r}"
-              ] if shown.output != wanted.output else []
+    parts = (
+        [f"status {shown.status}, not {wanted.status}"]
+        if shown.status != wanted.status
+        else []
+    )
+    parts += (
+        [f"standard error {shown.errors[:200]!r}, not {wanted.errors!r}"]
+        if shown.errors != wanted.errors
+        else []
+    )
+    parts += (
+        [
+            f"from byte {at} on {shown.output[at:at + 60]!r}, not {wanted.output[at:at + 60]!r}"
+        ]
+        if shown.output != wanted.output
+        else []
+    )
     return "; ".join(parts)
 
 
@@ -66,7 +79,9 @@ def silent() -> Iterator[int]:
 def library(source: Path, folder: Path) -> Path:
     """Builds the library of a C file in a folder, to be loaded before a program, and returns its path."""
     made = folder / f"{source.stem}.so"
-    subprocess.run(["cc", "-O1", "-shared", "-fPIC", "-o", made, source, "-ldl"], check=True)
+    subprocess.run(
+        ["cc", "-O1", "-shared", "-fPIC", "-o", made, source, "-ldl"], check=True
+    )
     return made
 
 
@@ -75,6 +90,7 @@ def prepared(closed: bool, kilobytes: int | None) -> Callable[[], None] | None:
 
     If there is nothing to do, a process starts without a copy of this one, which takes less time.
     """
+
     def prepare() -> None:
         if kilobytes:
             resource.setrlimit(resource.RLIMIT_AS, (1024 * kilobytes, 1024 * kilobytes))
@@ -84,9 +100,17 @@ def prepared(closed: bool, kilobytes: int | None) -> Callable[[], None] | None:
     return prepare if closed or kilobytes else None
 
 
-def run(program: Path | str, words: Words, data: bytes | int | IO[bytes] | None = None, *, to: str | None = None,
-        cwd: Path = TOP, kilobytes: int | None = None, environment: Mapping[str, str] | None = None,
-        seconds: float = SECONDS) -> Shown:
+def run(
+    program: Path | str,
+    words: Words,
+    data: bytes | int | IO[bytes] | None = None,
+    *,
+    to: str | None = None,
+    cwd: Path = TOP,
+    kilobytes: int | None = None,
+    environment: Mapping[str, str] | None = None,
+    seconds: float = SECONDS,
+) -> Shown:
     """Runs the program in a folder, and returns what it shows. A run that does not end in time is killed.
 
     Its input is a text, an open file, or one that is silent for ever (None). Its output goes to the file `to` if there
@@ -94,15 +118,29 @@ def run(program: Path | str, words: Words, data: bytes | int | IO[bytes] | None 
     """
     with contextlib.ExitStack() as stack:
         closed = to == "closed"
-        output = stack.enter_context(open(to, "wb")) if to and not closed else subprocess.PIPE
+        output = (
+            stack.enter_context(open(to, "wb"))
+            if to and not closed
+            else subprocess.PIPE
+        )
         if not isinstance(data, bytes):
-            given: dict[str, Any] = {"stdin": stack.enter_context(silent()) if data is None else data}
+            given: dict[str, Any] = {
+                "stdin": stack.enter_context(silent()) if data is None else data
+            }
         else:
             given = {"input": data}
         try:
-            ran = subprocess.run([program, *words], stdout=output, stderr=subprocess.PIPE, cwd=cwd, timeout=seconds,
-                                 check=False, env={**os.environ, **environment} if environment else None,
-                                 preexec_fn=prepared(closed, kilobytes), **given)
+            ran = subprocess.run(
+                [program, *words],
+                stdout=output,
+                stderr=subprocess.PIPE,
+                cwd=cwd,
+                timeout=seconds,
+                check=False,
+                env={**os.environ, **environment} if environment else None,
+                preexec_fn=prepared(closed, kilobytes),
+                **given,
+            )
         except subprocess.TimeoutExpired:
             return Shown(b"", b"", None)
     return Shown(ran.stdout or b"", ran.stderr, ran.returncode)

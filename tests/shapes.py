@@ -20,11 +20,22 @@ def shape_of(version: int) -> Shape:
     tables: dict[str, Shape] = {}
     for key in (key for key in formats.KEYS if key.since <= version):
         kind = "numbers" if key.table in formats.DRAWS else "number"
-        rule = (key.name,) if key.name in OWN_KINDS else (kind, *formats.limits(key.table, key.name))
+        rule = (
+            (key.name,)
+            if key.name in OWN_KINDS
+            else (kind, *formats.limits(key.table, key.name))
+        )
         tables.setdefault(key.table, {})[key.name] = rule
     document = tables.pop("")
     for name, shape in tables.items():
-        document[name] = ("policies" if name == "policy" else "draws" if name in formats.DRAWS else "table", shape)
+        document[name] = (
+            "policies"
+            if name == "policy"
+            else "draws"
+            if name in formats.DRAWS
+            else "table",
+            shape,
+        )
     return document
 
 
@@ -39,8 +50,12 @@ def least_value(kind: str, *more: Any) -> Any:
     if kind == "policies":
         return [least_value("table", more[0])]
     if kind in OWN_KINDS:
-        return {"version": formats.VERSIONS[-1], "key": ["0" * formats.DIGITS_OF_WORD] * formats.WORDS_OF_KEY,
-                "ring": 1, "name": "A"}[kind]
+        return {
+            "version": formats.VERSIONS[-1],
+            "key": ["0" * formats.DIGITS_OF_WORD] * formats.WORDS_OF_KEY,
+            "ring": 1,
+            "name": "A",
+        }[kind]
     return [more[0] + 1] if kind == "numbers" else more[0]
 
 

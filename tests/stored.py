@@ -8,8 +8,13 @@ from crnplan import formats
 from tests.runs import TOP
 
 # A checkpoint of one run in each version, the oldest first. The program of its time wrote each old one.
-CUTS = [*(f"tests/program/five_periods_cut_{it}.csv" for it in formats.CHECKPOINT_VERSIONS[:-1]),
-        "tests/program/five_periods_cut.csv"]
+CUTS = [
+    *(
+        f"tests/program/five_periods_cut_{it}.csv"
+        for it in formats.CHECKPOINT_VERSIONS[:-1]
+    ),
+    "tests/program/five_periods_cut.csv",
+]
 
 
 @functools.cache

@@ -47,7 +47,9 @@ FOLDERS = ("must-fail", "wrong", "tested")
 
 BY_HAND = "tools/by_hand.toml"
 
-Edit = collections.namedtuple("Edit", "crate folder name what refused_by arm measure seen_by fails by_hand pairs")
+Edit = collections.namedtuple(
+    "Edit", "crate folder name what refused_by arm measure seen_by fails by_hand pairs"
+)
 
 
 class BadEdit(Exception):
@@ -57,7 +59,11 @@ class BadEdit(Exception):
 def crates():
     """Returns the crates of crates.txt, in its order."""
     with open(f"{TOP}/crates.txt", encoding="utf-8") as file:
-        return [line.split(":")[0] for line in file if ":" in line and not line.startswith("#")]
+        return [
+            line.split(":")[0]
+            for line in file
+            if ":" in line and not line.startswith("#")
+        ]
 
 
 @functools.cache
@@ -71,7 +77,10 @@ def reasons():
 
 def edits_of(crate, folder="wrong"):
     """Reads the edits in a folder of a crate."""
-    return [read_edit(crate, folder, path) for path in sorted(glob.glob(f"{TOP}/crates/{crate}/{folder}/*.edit"))]
+    return [
+        read_edit(crate, folder, path)
+        for path in sorted(glob.glob(f"{TOP}/crates/{crate}/{folder}/*.edit"))
+    ]
 
 
 def read_edit(crate, folder, path):
@@ -94,8 +103,19 @@ def read_edit(crate, folder, path):
     function, _, part = head.get("refused by", "").partition(", ")
     arm = part.removeprefix("arm ") if part.startswith("arm ") else ""
     by_hand = "" if folder == "tested" else reasons().get(crate, {}).get(name, "")
-    return Edit(crate, folder, name, head.get("what", ""), function, arm, part == "measure", head.get("seen by", ""),
-                head.get("fails", ""), by_hand, pairs)
+    return Edit(
+        crate,
+        folder,
+        name,
+        head.get("what", ""),
+        function,
+        arm,
+        part == "measure",
+        head.get("seen by", ""),
+        head.get("fails", ""),
+        by_hand,
+        pairs,
+    )
 
 
 def text_of(crate, file):
@@ -109,13 +129,19 @@ def texts_of(edit):
     before, after = {}, {}
     places = ("src/", "proofs/") if edit.folder == "tested" else ("src/",)
     for file, old, new in edit.pairs:
-        if not file.startswith(places) or not os.path.isfile(f"{TOP}/crates/{edit.crate}/{file}"):
-            raise BadEdit(f"it changes '{file}', which is no file of {' or '.join(places)}")
+        if not file.startswith(places) or not os.path.isfile(
+            f"{TOP}/crates/{edit.crate}/{file}"
+        ):
+            raise BadEdit(
+                f"it changes '{file}', which is no file of {' or '.join(places)}"
+            )
         if file not in before:
             before[file] = after[file] = text_of(edit.crate, file)
         count = after[file].count(old) if old else 0
         if count != 1:
-            raise BadEdit(f"its text '{old.strip()}' stands {count} times in {file}, and not once")
+            raise BadEdit(
+                f"its text '{old.strip()}' stands {count} times in {file}, and not once"
+            )
         after[file] = after[file].replace(old, new)
     if after == before:
         raise BadEdit("it changes nothing")
@@ -142,7 +168,11 @@ def bodies_of(text):
         elif body is None and (found := FUNCTION.match(line)):
             head, indent = number, found[1]
         owners.append(body)
-        if body is None and head is not None and re.fullmatch(indent + r"(\S.*)?\{", line):
+        if (
+            body is None
+            and head is not None
+            and re.fullmatch(indent + r"(\S.*)?\{", line)
+        ):
             body = head
     return owners
 

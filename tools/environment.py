@@ -24,7 +24,9 @@ def requirements(texts):
 
 def is_less(version, least):
     """Returns whether a version is less than another."""
-    one, other = ([int(it) for it in re.findall(r"\d+", text)] for text in (version, least))
+    one, other = (
+        [int(it) for it in re.findall(r"\d+", text)] for text in (version, least)
+    )
     return one < other
 
 
@@ -41,7 +43,11 @@ def unmet(asked):
     for library, least in asked.items():
         version = version_of(library)
         if version is None or is_less(version, least):
-            return f"{library} {version} is older than {least}" if version else f"{library} is missing"
+            return (
+                f"{library} {version} is older than {least}"
+                if version
+                else f"{library} is missing"
+            )
     return None
 
 
@@ -52,19 +58,36 @@ def is_of_here(script):
         return False
     with open(path, encoding="utf-8") as file:
         home = HOME.search(file.read())
-    return home is not None and os.path.realpath(home[1] or home[2]) == os.path.realpath(sys.prefix)
+    return home is not None and os.path.realpath(
+        home[1] or home[2]
+    ) == os.path.realpath(sys.prefix)
 
 
 def installed_otherwise(project, asked):
     """Returns why crnplan is not installed as its pyproject.toml says, or None."""
-    found = next(iter(importlib.metadata.distributions(name="crnplan", path=[sysconfig.get_path("purelib")])), None)
+    found = next(
+        iter(
+            importlib.metadata.distributions(
+                name="crnplan", path=[sysconfig.get_path("purelib")]
+            )
+        ),
+        None,
+    )
     spec = importlib.util.find_spec("crnplan")
     if found is None or spec is None or spec.origin is None:
         return "crnplan is missing"
-    if os.path.realpath(spec.origin) != os.path.realpath(f"{TOP}/planner/src/crnplan/__init__.py"):
+    if os.path.realpath(spec.origin) != os.path.realpath(
+        f"{TOP}/planner/src/crnplan/__init__.py"
+    ):
         return f"crnplan is that of {os.path.dirname(spec.origin)}"
-    scripts = {it.name: it.value for it in found.entry_points if it.group == "console_scripts"}
-    if (found.version, scripts, requirements(found.requires or [])) != (project["version"], project["scripts"], asked):
+    scripts = {
+        it.name: it.value for it in found.entry_points if it.group == "console_scripts"
+    }
+    if (found.version, scripts, requirements(found.requires or [])) != (
+        project["version"],
+        project["scripts"],
+        asked,
+    ):
         return "planner/pyproject.toml has changed"
     broken = [it for it in scripts if not is_of_here(it)]
     return f".venv/bin/{broken[0]} is missing or of another place" if broken else None
@@ -78,15 +101,22 @@ def wrong(prefix):
         return f"make its Python is {sys.version.split()[0]}, and crnplan requires 3.11"
     if prefix is not None and sys.base_prefix != prefix:
         return f"make it is made from the Python of {sys.base_prefix}"
-    if any(os.path.islink(f"{at}/{it}") for at, *inside in os.walk(sys.prefix) for it in sum(inside, [])):
+    if any(
+        os.path.islink(f"{at}/{it}")
+        for at, *inside in os.walk(sys.prefix)
+        for it in sum(inside, [])
+    ):
         return "make it has a link, for which rt refuses the repository"
     if not is_of_here("activate"):
         return "make it was made at another place"
     import tomllib
+
     with open(f"{TOP}/planner/pyproject.toml", "rb") as file:
         project = tomllib.load(file)["project"]
     extras = project["optional-dependencies"].values()
-    asked = requirements([*project["dependencies"], *(it for extra in extras for it in extra)])
+    asked = requirements(
+        [*project["dependencies"], *(it for extra in extras for it in extra)]
+    )
     if why := unmet(asked):
         return f"make {why}"
     why = installed_otherwise(project, asked)

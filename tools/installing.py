@@ -7,8 +7,11 @@ from manual import commands_of, help_of, pages_of
 
 TOP = Path(__file__).resolve().parent.parent
 # Where the completions of a command are, below PREFIX.
-COMPLETIONS = {"bash": "share/bash-completion/completions/{}", "zsh": "share/zsh/site-functions/_{}",
-               "fish": "share/fish/vendor_completions.d/{}.fish"}
+COMPLETIONS = {
+    "bash": "share/bash-completion/completions/{}",
+    "zsh": "share/zsh/site-functions/_{}",
+    "fish": "share/fish/vendor_completions.d/{}.fish",
+}
 # The completions of the program: its commands, and names of files after them.
 BASH = """_crnsim() {{
     if ((COMP_CWORD == 1)) || [[ $COMP_CWORD == 2 && ${{COMP_WORDS[1]}} == help ]]; then
@@ -37,7 +40,9 @@ def run(*words, **how):
     streams = {"stdin": subprocess.DEVNULL, "stdout": subprocess.PIPE, "text": True}
     ran = subprocess.run(list(map(str, words)), check=False, **streams, **how)
     if ran.returncode != 0:
-        raise Refused(f"this failed, with status {ran.returncode}: {' '.join(map(str, words))}")
+        raise Refused(
+            f"this failed, with status {ran.returncode}: {' '.join(map(str, words))}"
+        )
     return ran.stdout
 
 
@@ -58,9 +63,13 @@ def quoted(text):
 
 def program_completions(commands):
     """Returns the completions of the program for each shell, from the lines on its commands."""
-    zsh = "\n".join(f"    {quoted(f'{name}:{line}')}" for name, line in commands.items())
-    fish = "\n".join(f"complete -c crnsim -n __fish_use_subcommand -f -a {name} -d {quoted(line)}"
-                     for name, line in commands.items())
+    zsh = "\n".join(
+        f"    {quoted(f'{name}:{line}')}" for name, line in commands.items()
+    )
+    fish = "\n".join(
+        f"complete -c crnsim -n __fish_use_subcommand -f -a {name} -d {quoted(line)}"
+        for name, line in commands.items()
+    )
     bash = BASH.format(words=" ".join(commands))
     return {"bash": bash, "zsh": ZSH.format(lines=zsh), "fish": FISH.format(lines=fish)}
 
@@ -69,10 +78,14 @@ def texts_of(program, crnplan):
     """Returns the texts that are installed, by their paths below PREFIX."""
     pages = pages_of(program, "crnsim") | pages_of(crnplan, "crnplan")
     texts = {f"share/man/man1/{name}": text for name, text in pages.items()}
-    ours = program_completions({**commands_of(help_of(program)), "help": "Prints the help of a command"})
+    ours = program_completions(
+        {**commands_of(help_of(program)), "help": "Prints the help of a command"}
+    )
     for shell, path in COMPLETIONS.items():
         texts[path.format("crnsim")] = ours[shell]
-        texts[path.format("crnplan")] = run(crnplan, env={**os.environ, "_CRNPLAN_COMPLETE": f"{shell}_source"})
+        texts[path.format("crnplan")] = run(
+            crnplan, env={**os.environ, "_CRNPLAN_COMPLETE": f"{shell}_source"}
+        )
     zsh = COMPLETIONS["zsh"].format("crnplan")
     if "loadautofunc" not in texts[zsh]:
         # The first time, zsh calls the file itself. Older versions of click only define their function there.

@@ -30,10 +30,17 @@ class NoHelp(Exception):
 def help_of(program, *words):
     """Returns the help text of a program or of one of its commands."""
     wide = {**os.environ, "COLUMNS": "100", "NO_COLOR": "1"}
-    how = {"stdin": subprocess.DEVNULL, "capture_output": True, "text": True, "timeout": SECONDS}
+    how = {
+        "stdin": subprocess.DEVNULL,
+        "capture_output": True,
+        "text": True,
+        "timeout": SECONDS,
+    }
     ran = subprocess.run([program, *words, "--help"], env=wide, check=False, **how)
     if ran.returncode != 0:
-        raise NoHelp(f"{' '.join([program, *words, '--help'])} failed: {ran.stderr or ran.stdout}")
+        raise NoHelp(
+            f"{' '.join([program, *words, '--help'])} failed: {ran.stderr or ran.stdout}"
+        )
     return ran.stdout
 
 
@@ -56,9 +63,13 @@ def blocks_of(text):
     """Yields the blocks of a help text: a section, a kind (`usage`, `text`, `list` or `code`) and what it says."""
     for block in re.split(r"\n\s*\n", text.strip("\n")):
         lines = textwrap.dedent(block).splitlines()
-        heading, example = HEADING.fullmatch(lines[0]), EXAMPLE.fullmatch("\n".join(lines))
+        heading, example = HEADING.fullmatch(lines[0]), EXAMPLE.fullmatch(
+            "\n".join(lines)
+        )
         if lines[0].startswith("Usage:"):
-            yield "SYNOPSIS", "usage", " ".join(it.strip() for it in lines).removeprefix("Usage:").strip()
+            yield "SYNOPSIS", "usage", " ".join(
+                it.strip() for it in lines
+            ).removeprefix("Usage:").strip()
         elif example:
             yield example[1].upper(), "code", [example[2].replace("\n", " ")]
         elif heading and lines[1:]:
@@ -66,7 +77,9 @@ def blocks_of(text):
             if heading[2]:
                 yield section, "text", f"{heading[2][2].upper()}{heading[2][3:]}:"
             if section.startswith("EXAMPLE"):
-                yield section, "code", textwrap.dedent("\n".join(lines[1:])).splitlines()
+                yield section, "code", textwrap.dedent(
+                    "\n".join(lines[1:])
+                ).splitlines()
             else:
                 yield section, "list", entries_of(lines[1:])
         elif any(it.startswith(" ") for it in lines):
@@ -77,8 +90,13 @@ def blocks_of(text):
 
 def commands_of(text):
     """Returns the commands that a help text lists, each with its line, but for `help` itself."""
-    return {name: said for section, kind, entries in blocks_of(text) if section == "COMMANDS" and kind == "list"
-            for name, said in entries if name != "help"}
+    return {
+        name: said
+        for section, kind, entries in blocks_of(text)
+        if section == "COMMANDS" and kind == "list"
+        for name, said in entries
+        if name != "help"
+    }
 
 
 def escaped(text):
@@ -114,34 +132,61 @@ def page(name, about, text, others, day):
     for section, kind, said in blocks_of(text):
         sections.setdefault(section, []).extend(lines_of(kind, said))
     if others:
-        sections["SEE ALSO"] = [f".BR {escaped(it)} (1){',' if it != others[-1] else ''}" for it in others]
-    lines = [f".TH {escaped(name.upper())} 1 {day} {name.partition('-')[0]} \"User Commands\""]
+        sections["SEE ALSO"] = [
+            f".BR {escaped(it)} (1){',' if it != others[-1] else ''}" for it in others
+        ]
+    lines = [
+        f".TH {escaped(name.upper())} 1 {day} {name.partition('-')[0]} \"User Commands\""
+    ]
     for section, within in sections.items():
         # A paragraph needs no mark below a heading.
-        lines += [f".SH {section}" if " " not in section else f'.SH "{section}"', *within[within[:1] == [".PP"]:]]
+        lines += [
+            f".SH {section}" if " " not in section else f'.SH "{section}"',
+            *within[within[:1] == [".PP"] :],
+        ]
     return "\n".join(lines) + "\n"
 
 
 def today():
     """Returns the date in UTC, or that of SOURCE_DATE_EPOCH if it is set, in seconds since 1970."""
     seconds = int(os.environ.get("SOURCE_DATE_EPOCH", time.time()))
-    return datetime.datetime.fromtimestamp(seconds, datetime.timezone.utc).date().isoformat()
+    return (
+        datetime.datetime.fromtimestamp(seconds, datetime.timezone.utc)
+        .date()
+        .isoformat()
+    )
 
 
 def pages_of(program, name):
     """Returns the manual pages of a program with a name, by the names of their files."""
     text, day = help_of(program), today()
-    about = next(said for section, kind, said in blocks_of(text) if (section, kind) == ("DESCRIPTION", "text"))
+    about = next(
+        said
+        for section, kind, said in blocks_of(text)
+        if (section, kind) == ("DESCRIPTION", "text")
+    )
     commands = commands_of(text)
-    pages = {f"{name}.1": page(name, re.split(r"[.:] ", about)[0], text, [f"{name}-{it}" for it in commands], day)}
+    pages = {
+        f"{name}.1": page(
+            name,
+            re.split(r"[.:] ", about)[0],
+            text,
+            [f"{name}-{it}" for it in commands],
+            day,
+        )
+    }
     for command, line in commands.items():
-        pages[f"{name}-{command}.1"] = page(f"{name}-{command}", line, help_of(program, command), [name], day)
+        pages[f"{name}-{command}.1"] = page(
+            f"{name}-{command}", line, help_of(program, command), [name], day
+        )
     return pages
 
 
 def main():
     """Writes the pages; the exit status."""
-    words = argparse.ArgumentParser(description=__doc__, formatter_class=argparse.RawDescriptionHelpFormatter)
+    words = argparse.ArgumentParser(
+        description=__doc__, formatter_class=argparse.RawDescriptionHelpFormatter
+    )
     words.add_argument("program", metavar="PROGRAM")
     words.add_argument("folder", metavar="FOLDER")
     asked = words.parse_args()

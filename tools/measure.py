@@ -22,8 +22,12 @@ SLOWEST = 20
 def crates(names=()):
     """The crates, each after those that it stands on; where some are named, up to the last of these."""
     with open(f"{TOP}/crates.txt", encoding="utf-8") as file:
-        listed = [line.split(":")[0] for line in file if ":" in line and not line.startswith("#")]
-    return listed[:max(map(listed.index, names)) + 1] if names else listed
+        listed = [
+            line.split(":")[0]
+            for line in file
+            if ":" in line and not line.startswith("#")
+        ]
+    return listed[: max(map(listed.index, names)) + 1] if names else listed
 
 
 def seconds_of(session):
@@ -42,8 +46,16 @@ def seconds_of(session):
 
 def lines_of(command, folder):
     """Each line that a command prints, with the processor time of the command until then; last its status."""
-    ran = subprocess.Popen(command, cwd=folder, text=True, errors="replace", start_new_session=True,
-                           stdin=subprocess.DEVNULL, stdout=subprocess.PIPE, stderr=subprocess.STDOUT)
+    ran = subprocess.Popen(
+        command,
+        cwd=folder,
+        text=True,
+        errors="replace",
+        start_new_session=True,
+        stdin=subprocess.DEVNULL,
+        stdout=subprocess.PIPE,
+        stderr=subprocess.STDOUT,
+    )
     spent = 0
     for line in ran.stdout:
         spent = max(spent, seconds_of(ran.pid))
@@ -54,7 +66,9 @@ def lines_of(command, folder):
 def check(folder, *flags):
     """One check: its lines, the processor time of each function's proof by name, the time of all, and the status."""
     lines, functions, before, spent, status = [], [], 0, 0, 1
-    for line, spent in lines_of(["rt", "check", "--jobs", "1", "--progress", *flags], folder):
+    for line, spent in lines_of(
+        ["rt", "check", "--jobs", "1", "--progress", *flags], folder
+    ):
         if isinstance(line, int):
             status = line
         elif done := re.match(r"checked (\S+), \d+ of \d+$", line):
@@ -75,7 +89,9 @@ def checks(names, copy):
             continue
         shutil.rmtree(f"{copy}/crates/{name}/out/incremental", ignore_errors=True)
         _, of_tests, tests, with_tests = check(f"{copy}/crates/{name}", "--test")
-        slowest += functions + [it for it in of_tests if it[1] not in dict(map(reversed, functions))]
+        slowest += functions + [
+            it for it in of_tests if it[1] not in dict(map(reversed, functions))
+        ]
         sums = [sums[0] + proofs, sums[1] + tests]
         verdict = "" if status == with_tests == 0 else "  NOT PROVED"
         print(f"{name:16} {proofs:8.0f} {tests:11.0f}{verdict}", flush=True)

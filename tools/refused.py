@@ -45,7 +45,13 @@ def sum_of_file(path):
 
 def sum_of_files(folder, paths):
     """Returns the SHA-256 of files with their paths below a folder."""
-    return sum_of(*[part for path in paths for part in (os.path.relpath(path, folder), sum_of_file(path))])
+    return sum_of(
+        *[
+            part
+            for path in paths
+            for part in (os.path.relpath(path, folder), sum_of_file(path))
+        ]
+    )
 
 
 def files_below(folder):
@@ -69,7 +75,9 @@ def cache_folder():
 def commit_of(top):
     """Returns the commit that is checked out, or "" outside of one."""
     words = ["git", "-C", top, "rev-parse", "--verify", "HEAD"]
-    ran = subprocess.run(words, stdin=subprocess.DEVNULL, capture_output=True, text=True, check=False)
+    ran = subprocess.run(
+        words, stdin=subprocess.DEVNULL, capture_output=True, text=True, check=False
+    )
     return ran.stdout.strip() if ran.returncode == 0 else ""
 
 
@@ -79,17 +87,31 @@ class Refused:
     def __init__(self, kit, prover, is_anew):
         self.kit, self.folder, self.is_anew = kit, cache_folder(), is_anew
         self.commit, self.fault = commit_of(TOP), ""
-        version = subprocess.run(["rt", "version"], stdin=subprocess.DEVNULL, capture_output=True, check=True).stdout
-        self.judges = sum_of(version, sum_of_file(prover), *[sum_of_file(f"{TOP}/tools/{it}") for it in JUDGES])
+        version = subprocess.run(
+            ["rt", "version"], stdin=subprocess.DEVNULL, capture_output=True, check=True
+        ).stdout
+        self.judges = sum_of(
+            version,
+            sum_of_file(prover),
+            *[sum_of_file(f"{TOP}/tools/{it}") for it in JUDGES],
+        )
 
     def digest(self, crate):
         """Returns the sum of all that the verdicts on a crate's edits depend on, but for the edits."""
-        below = [part for it in crate.below() for part in (self.sources(it), sum_of_library(it.rlib))]
+        below = [
+            part
+            for it in crate.below()
+            for part in (self.sources(it), sum_of_library(it.rlib))
+        ]
         return sum_of(self.judges, self.sources(crate), *below)
 
     def sources(self, crate):
         """Returns the sum of a crate's files that a check reads, and of its line in crates.txt."""
-        return sum_of(crate.name, repr(crate.said), sum_of_files(crate.folder, self.kit.files_of(crate.folder)))
+        return sum_of(
+            crate.name,
+            repr(crate.said),
+            sum_of_files(crate.folder, self.kit.files_of(crate.folder)),
+        )
 
     def is_drawn(self, label):
         """Returns whether an edit is judged anew in this commit even if its verdict is kept."""
@@ -108,7 +130,9 @@ class Refused:
                 return kept["goal"]
         except (OSError, ValueError, KeyError, TypeError, AttributeError):
             pass
-        print(f"{label}: its kept verdict is damaged, and is removed: {path}", flush=True)
+        print(
+            f"{label}: its kept verdict is damaged, and is removed: {path}", flush=True
+        )
         self.drop(key)
         return None
 

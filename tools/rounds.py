@@ -52,7 +52,18 @@ import time
 # Compiled text is not to stand in the repository.
 sys.dont_write_bytecode = True
 import tested
-from edits import BY_HAND, FOLDERS, TOP, BadEdit, changes_of, crates, edits_of, functions_of, reasons, text_of
+from edits import (
+    BY_HAND,
+    FOLDERS,
+    TOP,
+    BadEdit,
+    changes_of,
+    crates,
+    edits_of,
+    functions_of,
+    reasons,
+    text_of,
+)
 from refused import Refused, sum_of
 
 MEMORY_OF_A_CHECK = 3_000_000_000
@@ -64,8 +75,12 @@ UNDECIDED = re.compile(r"could not tell")
 MEASURE = re.compile(r"expected a measure in")
 # An error in a file of a function's proof, and what it says if the file only names what the edit took away, itself or
 # in a declaration that others of it cite.
-ERROR = re.compile(r"(?:note: )?(?:\./)?proofs/(\S+)/[^/\s]+\.antt:\d+:\d+: error: (.*)")
-STALE = re.compile(r"has no field|is not in scope|has no `|was not admitted|that depends? on .*rejected")
+ERROR = re.compile(
+    r"(?:note: )?(?:\./)?proofs/(\S+)/[^/\s]+\.antt:\d+:\d+: error: (.*)"
+)
+STALE = re.compile(
+    r"has no field|is not in scope|has no `|was not admitted|that depends? on .*rejected"
+)
 # What such an error says if a tactic of an answer has not proved its goal. If it says neither, the answer does not fit the
 # goal that the edit has changed, and whether that goal is true is open.
 UNPROVED = re.compile(r"`[^`]+`: `(?:search|omega|grind|cc|assumption|first_of)`")
@@ -105,18 +120,36 @@ class Prover:
     """Checks copies of one crate, over kept work that all checks of the crate share."""
 
     def __init__(self, kit, crate, room, options):
-        self.crate, self.name, self.folder, self.work = crate, crate.name, crate.folder, f"{room}/{crate.name}"
+        self.crate, self.name, self.folder, self.work = (
+            crate,
+            crate.name,
+            crate.folder,
+            f"{room}/{crate.name}",
+        )
         for below in crate.below():
             stamp = kit.text_of(f"{below.folder}/out/rlib/stamp")
-            if not os.path.isfile(f"{below.rlib}/format") or stamp not in (None, below.stamp()):
-                sys.exit(f"tools/rounds.py: {self.name} needs the library {below.name}, which is not built of its "
-                         f"files as they are: run `rt check` in crates/{self.name} first")
-        self.words = [options.prover or kit.RATTLE, "check", *crate.words(["--jobs", "1"], keeps=False)]
-        self.parts, self.limit = [it for it in kit.PARTS if os.path.isdir(f"{self.folder}/{it}")], options.limit
+            if not os.path.isfile(f"{below.rlib}/format") or stamp not in (
+                None,
+                below.stamp(),
+            ):
+                sys.exit(
+                    f"tools/rounds.py: {self.name} needs the library {below.name}, which is not built of its "
+                    f"files as they are: run `rt check` in crates/{self.name} first"
+                )
+        self.words = [
+            options.prover or kit.RATTLE,
+            "check",
+            *crate.words(["--jobs", "1"], keeps=False),
+        ]
+        self.parts, self.limit = [
+            it for it in kit.PARTS if os.path.isdir(f"{self.folder}/{it}")
+        ], options.limit
 
     def check(self, tries, functions):
         """Checks a copy of the crate with these edits, and asks for these functions."""
-        if os.path.isdir(f"{self.folder}/out/incremental") and not os.path.isdir(self.work):
+        if os.path.isdir(f"{self.folder}/out/incremental") and not os.path.isdir(
+            self.work
+        ):
             link(f"{self.folder}/out/incremental", self.work)
         with tempfile.TemporaryDirectory(prefix="round-") as room:
             for part in self.parts:
@@ -132,14 +165,22 @@ class Prover:
         lines = {}
         for each in tries:
             for (file, number), new in each.changes.items():
-                lines.setdefault(file, text_of(self.name, file).split("\n"))[number] = new
+                lines.setdefault(file, text_of(self.name, file).split("\n"))[
+                    number
+                ] = new
         return {file: "\n".join(text) for file, text in lines.items()}
 
     def run(self, words, room):
         """Runs a check: its lines, what it says of each function, the errors in proof files, what was wrong with the
         check itself, and the seconds that it took."""
         with open(f"{room}/said", "w+", encoding="utf-8", errors="replace") as said:
-            process = subprocess.Popen(words, cwd=room, stdin=subprocess.DEVNULL, stdout=said, stderr=subprocess.STDOUT)
+            process = subprocess.Popen(
+                words,
+                cwd=room,
+                stdin=subprocess.DEVNULL,
+                stdout=said,
+                stderr=subprocess.STDOUT,
+            )
             timer = threading.Timer(self.limit, process.kill)
             timer.start()
             _, status, used = os.wait4(process.pid, 0)
@@ -147,7 +188,12 @@ class Prover:
             process.returncode = os.waitstatus_to_exitcode(status)
             said.seek(0)
             lines = said.read().rstrip("\n").split("\n")
-        return Ran(lines, *read(lines), fault_of(lines, process.returncode), used.ru_utime + used.ru_stime)
+        return Ran(
+            lines,
+            *read(lines),
+            fault_of(lines, process.returncode),
+            used.ru_utime + used.ru_stime,
+        )
 
 
 def label_of(edit):
@@ -184,7 +230,11 @@ def fault_of(lines, status):
 
 def unknown_of(ran, functions):
     """The function among these that a check was asked for and that is not there, or None."""
-    found = {it for line in ran.lines for it in UNKNOWN.findall(line)} if ran.fault else set()
+    found = (
+        {it for line in ran.lines for it in UNKNOWN.findall(line)}
+        if ran.fault
+        else set()
+    )
     return next(iter(found.intersection(functions)), None)
 
 
@@ -193,7 +243,11 @@ def goal_of(ran, edit):
     verdict = ran.verdicts[edit.refused_by]
     if edit.measure:
         return verdict if MEASURE.search(verdict) else None
-    told = [error for error in ran.errors[edit.refused_by] if UNPROVED.match(error) and not STALE.search(error)]
+    told = [
+        error
+        for error in ran.errors[edit.refused_by]
+        if UNPROVED.match(error) and not STALE.search(error)
+    ]
     told += [verdict] if "did not prove" in verdict else []
     return first_of_arm(told, edit)
 
@@ -201,7 +255,11 @@ def goal_of(ran, edit):
 def misfit_of(ran, edit):
     """The first error of an answer, of the function or of the arm that an edit names, that does not fit its goal, or
     None."""
-    told = [error for error in ran.errors[edit.refused_by] if not UNPROVED.match(error) and not STALE.search(error)]
+    told = [
+        error
+        for error in ran.errors[edit.refused_by]
+        if not UNPROVED.match(error) and not STALE.search(error)
+    ]
     return first_of_arm(told, edit)
 
 
@@ -222,7 +280,11 @@ def judged(each, ran, is_alone):
     if PROVED.match(verdict):
         return f"it is not refused: {function} is still proved"
     if goal := goal_of(ran, edit):
-        return f"a goal of {function} is open, so {BY_HAND} must not list it: {goal[:200]}" if edit.by_hand else ""
+        return (
+            f"a goal of {function} is open, so {BY_HAND} must not list it: {goal[:200]}"
+            if edit.by_hand
+            else ""
+        )
     misfit = misfit_of(ran, edit)
     if misfit and edit.by_hand:
         return ""
@@ -243,7 +305,9 @@ def judged(each, ran, is_alone):
 
 def tries_of(crate, options):
     """The edits of a crate that are to be tried, and those that cannot be, with the reason."""
-    edits = edits_of(crate) + (edits_of(crate, "must-fail") if options.must_fail else [])
+    edits = edits_of(crate) + (
+        edits_of(crate, "must-fail") if options.must_fail else []
+    )
     tries, failed = [], []
     for edit in edits:
         if options.names and edit.name not in options.names:
@@ -256,13 +320,18 @@ def tries_of(crate, options):
         except BadEdit as fault:
             failed.append((edit.name, str(fault)))
     if not options.names:
-        failed += [(name, f"{BY_HAND} lists it, and there is no such edit") for name in without_edit(crate)]
+        failed += [
+            (name, f"{BY_HAND} lists it, and there is no such edit")
+            for name in without_edit(crate)
+        ]
     return tries, failed
 
 
 def without_edit(crate):
     """The names of a crate's edits in the list of those that are judged by hand that no file has."""
-    there = {it.name for folder in ("wrong", "must-fail") for it in edits_of(crate, folder)}
+    there = {
+        it.name for folder in ("wrong", "must-fail") for it in edits_of(crate, folder)
+    }
     return [it for it in reasons().get(crate, {}) if it not in there]
 
 
@@ -273,7 +342,11 @@ def packed(left, is_alone):
     for each in left:
         is_wide, arm = None in each.places, each.edit.arm
         owns = [taken[it] for it in (each.edit.refused_by, *each.places)]
-        if chosen and (is_alone or is_wide) or any(arms and (not arm or arms & {arm, ""}) for arms in owns):
+        if (
+            chosen
+            and (is_alone or is_wide)
+            or any(arms and (not arm or arms & {arm, ""}) for arms in owns)
+        ):
             continue
         chosen.append(each)
         if is_alone or is_wide:
@@ -287,7 +360,12 @@ class Rounds:
     """All rounds of one crate. The verdicts "refused" are kept, under the digest of the crate and of the edit."""
 
     def __init__(self, prover, refused, digest, options):
-        self.prover, self.refused, self.digest, self.options = prover, refused, digest, options
+        self.prover, self.refused, self.digest, self.options = (
+            prover,
+            refused,
+            digest,
+            options,
+        )
         self.passed, self.kept, self.by_hand, self.failed = 0, 0, 0, []
 
     def control(self, tries):
@@ -300,16 +378,27 @@ class Rounds:
                 break
             lost[unknown] = f"there is no function {unknown}"
             functions.remove(unknown)
-        open_ones = [it for it in functions if not PROVED.match(ran.verdicts.get(it, ""))]
-        lost |= {it: ran.fault or f"{it} is not proved without the edit" for it in open_ones}
-        self.tell(f"control, {len(functions)} functions", ran, f", {len(lost)} not proved" if lost else "")
+        open_ones = [
+            it for it in functions if not PROVED.match(ran.verdicts.get(it, ""))
+        ]
+        lost |= {
+            it: ran.fault or f"{it} is not proved without the edit" for it in open_ones
+        }
+        self.tell(
+            f"control, {len(functions)} functions",
+            ran,
+            f", {len(lost)} not proved" if lost else "",
+        )
         return lost
 
     def judge(self, tries):
         """Judges all edits but those that a kept verdict passes."""
         left = [it for it in tries if not self.is_kept(it.edit)]
         if self.kept:
-            print(f"{self.prover.name}: {self.kept} edits refused as before, {len(left)} to judge", flush=True)
+            print(
+                f"{self.prover.name}: {self.kept} edits refused as before, {len(left)} to judge",
+                flush=True,
+            )
         if left:
             self.run(left)
 
@@ -355,20 +444,29 @@ class Rounds:
             if outcome is HIDDEN:
                 hidden.append(each)
             elif outcome:
-                self.fail(each, outcome if ran.fault else self.contradicted(each.edit, outcome))
+                self.fail(
+                    each,
+                    outcome if ran.fault else self.contradicted(each.edit, outcome),
+                )
             else:
                 goal = goal_of(ran, each.edit) or misfit_of(ran, each.edit)
                 if can_keep:
                     self.refused.keep(self.key(each.edit), label_of(each.edit), goal)
                 self.succeed(each.edit, goal)
-        self.tell(f"{len(chosen)} edits", ran, f", again: {' '.join(it.edit.name for it in hidden)}" if hidden else "")
+        self.tell(
+            f"{len(chosen)} edits",
+            ran,
+            f", again: {' '.join(it.edit.name for it in hidden)}" if hidden else "",
+        )
         return hidden
 
     def contradicted(self, edit, why):
         """Why an edit fails. If a verdict that it is refused was kept, that is removed, and this says so."""
         if self.refused.drop(self.key(edit)):
-            why += (". But A KEPT VERDICT SAID THAT IT IS REFUSED: the digest of tools/refused.py lacks something. "
-                    "Judge all by tools/rounds.py --anew")
+            why += (
+                ". But A KEPT VERDICT SAID THAT IT IS REFUSED: the digest of tools/refused.py lacks something. "
+                "Judge all by tools/rounds.py --anew"
+            )
         return why
 
     def succeed(self, edit, goal):
@@ -393,7 +491,11 @@ class Rounds:
 def free_memory():
     """The bytes of memory that are free."""
     with open("/proc/meminfo", encoding="ascii") as file:
-        return next(int(line.split()[1]) * 1024 for line in file if line.startswith("MemAvailable:"))
+        return next(
+            int(line.split()[1]) * 1024
+            for line in file
+            if line.startswith("MemAvailable:")
+        )
 
 
 def try_all(names, options):
@@ -401,7 +503,9 @@ def try_all(names, options):
     verdict."""
     kit, failed, jobs = load_kit(), 0, []
     refused = Refused(kit, options.prover or kit.RATTLE, options.anew or options.alone)
-    lanes = options.lanes or max(1, min(len(os.sched_getaffinity(0)), free_memory() // MEMORY_OF_A_CHECK))
+    lanes = options.lanes or max(
+        1, min(len(os.sched_getaffinity(0)), free_memory() // MEMORY_OF_A_CHECK)
+    )
     with tempfile.TemporaryDirectory(prefix="rounds-") as room:
         for name in names:
             crate = kit.Crate(f"{TOP}/crates/{name}", TOP, {})
@@ -411,7 +515,14 @@ def try_all(names, options):
                 print(f"FAILED {name}/{edit}: {why}")
             failed += len(bad)
             if tries:
-                jobs.append((Rounds(Prover(kit, crate, room, options), refused, digest, options), tries))
+                jobs.append(
+                    (
+                        Rounds(
+                            Prover(kit, crate, room, options), refused, digest, options
+                        ),
+                        tries,
+                    )
+                )
         jobs.sort(key=lambda it: -len(it[1]) * len(it[0].prover.words))
         with concurrent.futures.ThreadPoolExecutor(lanes) as pool:
             for future in [pool.submit(rounds.judge, tries) for rounds, tries in jobs]:
@@ -427,11 +538,27 @@ def try_all(names, options):
 
 def table(names):
     """Prints the edits of these crates."""
-    print("| Crate | Folder | File | What goes wrong | Refused by, or seen by |\n|---|---|---|---|---|")
-    for edit in [it for name in names for folder in FOLDERS for it in edits_of(name, folder)]:
-        by = f"`{edit.refused_by}`" + (f", arm `{edit.arm}`" if edit.arm else ", its measure" if edit.measure else "")
-        by = f"`{edit.seen_by}`" + (f": {edit.fails}" if edit.fails else "") if edit.folder == "tested" else by
-        print(f"| `{edit.crate}` | `{edit.folder}` | `{edit.name}` | {edit.what} | {by} |")
+    print(
+        "| Crate | Folder | File | What goes wrong | Refused by, or seen by |\n|---|---|---|---|---|"
+    )
+    for edit in [
+        it for name in names for folder in FOLDERS for it in edits_of(name, folder)
+    ]:
+        by = f"`{edit.refused_by}`" + (
+            f", arm `{edit.arm}`"
+            if edit.arm
+            else ", its measure"
+            if edit.measure
+            else ""
+        )
+        by = (
+            f"`{edit.seen_by}`" + (f": {edit.fails}" if edit.fails else "")
+            if edit.folder == "tested"
+            else by
+        )
+        print(
+            f"| `{edit.crate}` | `{edit.folder}` | `{edit.name}` | {edit.what} | {by} |"
+        )
 
 
 def options_of(words):
@@ -443,7 +570,15 @@ def options_of(words):
     parser.add_argument("--limit", type=float, default=1200)
     parser.add_argument("--prover")
     parser.add_argument("--builder")
-    for flag in ("--must-fail", "--tested", "--anew", "--alone", "--goals", "--list", "--proved"):
+    for flag in (
+        "--must-fail",
+        "--tested",
+        "--anew",
+        "--alone",
+        "--goals",
+        "--list",
+        "--proved",
+    ):
         parser.add_argument(flag, action="store_true")
     return parser.parse_args(words)
 
@@ -459,7 +594,11 @@ def main(words):
         table(names)
         return 0
     began = time.monotonic()
-    tried = tested.try_tested(names, options, link, load_kit()) if options.tested else try_all(names, options)
+    tried = (
+        tested.try_tested(names, options, link, load_kit())
+        if options.tested
+        else try_all(names, options)
+    )
     passed, failed, kept = tried
     judged_now = passed + failed - kept
     if not passed and not failed:

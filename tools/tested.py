@@ -46,10 +46,18 @@ def test_of(edit):
         if len(words) != 2:
             raise BadEdit(f"'{edit.seen_by}' names no test of {words[0]}")
         return Test(words[0], tuple(words[1:]), edit.fails)
-    is_test = words[0] == "pytest" and len(words) > 1 and os.path.exists(f"{TOP}/{words[1].partition('::')[0]}")
-    if not is_test and (not os.path.isfile(f"{TOP}/{words[0]}") or "PROGRAM" not in words):
-        raise BadEdit(f"'{edit.seen_by}' is neither a test of a crate nor a command of the repository for PROGRAM, nor "
-                      f"tests by pytest")
+    is_test = (
+        words[0] == "pytest"
+        and len(words) > 1
+        and os.path.exists(f"{TOP}/{words[1].partition('::')[0]}")
+    )
+    if not is_test and (
+        not os.path.isfile(f"{TOP}/{words[0]}") or "PROGRAM" not in words
+    ):
+        raise BadEdit(
+            f"'{edit.seen_by}' is neither a test of a crate nor a command of the repository for PROGRAM, nor "
+            f"tests by pytest"
+        )
     if not edit.fails:
         raise BadEdit("it lacks the head line 'fails:'")
     return Test("", tuple(words), edit.fails)
@@ -73,8 +81,11 @@ def are_left_by_ci(libraries, kit):
     their files may have changed since."""
     if any(os.path.exists(f"{it.folder}/out/rlib/stamp") for it in libraries):
         return False
-    return all(os.stat(file).st_ctime < os.stat(f"{it.rlib}/format").st_ctime
-               for it in libraries for file in kit.files_of(it.folder))
+    return all(
+        os.stat(file).st_ctime < os.stat(f"{it.rlib}/format").st_ctime
+        for it in libraries
+        for file in kit.files_of(it.folder)
+    )
 
 
 def copied(room, link, kit):
@@ -83,24 +94,41 @@ def copied(room, link, kit):
     every = [kit.Crate(f"{TOP}/crates/{name}", TOP, {}) for name in crates()]
     libraries = [it for it in every if os.path.isfile(f"{it.rlib}/format")]
     stamped = libraries if are_left_by_ci(libraries, kit) else []
-    shutil.copytree(TOP, room, ignore=shutil.ignore_patterns(".*", "out", "__pycache__"), dirs_exist_ok=True)
+    shutil.copytree(
+        TOP,
+        room,
+        ignore=shutil.ignore_patterns(".*", "out", "__pycache__"),
+        dirs_exist_ok=True,
+    )
     os.makedirs(f"{room}/.git")
     for crate in every:
         for part in ("rlib", "incremental"):
             if os.path.isdir(f"{crate.folder}/out/{part}"):
-                link(f"{crate.folder}/out/{part}", f"{room}/crates/{crate.name}/out/{part}")
+                link(
+                    f"{crate.folder}/out/{part}",
+                    f"{room}/crates/{crate.name}/out/{part}",
+                )
     for crate in stamped:
-        with open(f"{room}/crates/{crate.name}/out/rlib/stamp", "w", encoding="utf-8") as file:
+        with open(
+            f"{room}/crates/{crate.name}/out/rlib/stamp", "w", encoding="utf-8"
+        ) as file:
             file.write(crate.stamp())
 
 
 def shown_of(words, folder, limit, ends_at=lambda line: False):
     """Runs a command until it ends, until a line that is waited for, or until its time is over."""
     lines, is_late, stopped = [], threading.Event(), False
-    process = subprocess.Popen(words, cwd=folder, stdin=subprocess.DEVNULL, stdout=subprocess.PIPE,
-                               stderr=subprocess.STDOUT,
-                               text=True, errors="replace", env={**os.environ, "PYTHONUNBUFFERED": "1"},
-                               start_new_session=True)
+    process = subprocess.Popen(
+        words,
+        cwd=folder,
+        stdin=subprocess.DEVNULL,
+        stdout=subprocess.PIPE,
+        stderr=subprocess.STDOUT,
+        text=True,
+        errors="replace",
+        env={**os.environ, "PYTHONUNBUFFERED": "1"},
+        start_new_session=True,
+    )
 
     def stop():
         """Stops the command and all that it has started."""
@@ -121,7 +149,9 @@ def shown_of(words, folder, limit, ends_at=lambda line: False):
             break
     status = process.wait()
     timer.cancel()
-    return Shown(lines, None if stopped or is_late.is_set() else status, is_late.is_set())
+    return Shown(
+        lines, None if stopped or is_late.is_set() else status, is_late.is_set()
+    )
 
 
 def has_failed_so(test, line):
@@ -134,11 +164,17 @@ def fault_of(test, shown):
     if shown.is_late:
         return "it has not ended"
     if test.crate:
-        is_good = shown.status == 0 and any(line.startswith(PASSED) for line in shown.lines)
+        is_good = shown.status == 0 and any(
+            line.startswith(PASSED) for line in shown.lines
+        )
         return "" if is_good else f"it fails: {' | '.join(shown.lines[-3:])[:300]}"
     if so := [line for line in shown.lines if has_failed_so(test, line)]:
         return f"it fails: {so[0][:300]}"
-    return "" if shown.lines and " passed" in shown.lines[-1] else f"it breaks off: {(shown.lines or [''])[-1][:300]}"
+    return (
+        ""
+        if shown.lines and " passed" in shown.lines[-1]
+        else f"it breaks off: {(shown.lines or [''])[-1][:300]}"
+    )
 
 
 def unseen(test, shown):
@@ -147,7 +183,11 @@ def unseen(test, shown):
         if shown.status == 0:
             return "its test passes"
         is_right = test.fails in "\n".join(shown.lines)
-        return "" if is_right else f"its test fails for another reason: {' | '.join(shown.lines[-3:])[:300]}"
+        return (
+            ""
+            if is_right
+            else f"its test fails for another reason: {' | '.join(shown.lines[-3:])[:300]}"
+        )
     if any(has_failed_so(test, line) for line in shown.lines):
         return ""
     if shown.is_late:
@@ -155,7 +195,11 @@ def unseen(test, shown):
     others = [line for line in shown.lines if line.startswith("FAILED ")]
     if others:
         return f"its test fails for another reason: {others[0][:300]}"
-    return "its test passes" if shown.status == 0 else f"its test breaks off: {(shown.lines or [''])[-1][:300]}"
+    return (
+        "its test passes"
+        if shown.status == 0
+        else f"its test breaks off: {(shown.lines or [''])[-1][:300]}"
+    )
 
 
 class Copy:
@@ -168,7 +212,9 @@ class Copy:
     def plant(self, each, which):
         """Writes the files of an edit, as they are before it (0) or after it (1)."""
         for file, text in each.texts[which].items():
-            with open(f"{self.room}/crates/{each.edit.crate}/{file}", "w", encoding="utf-8") as written:
+            with open(
+                f"{self.room}/crates/{each.edit.crate}/{file}", "w", encoding="utf-8"
+            ) as written:
                 written.write(text)
 
     def built(self, test):
@@ -177,8 +223,14 @@ class Copy:
         jobs = str(self.options.lanes or len(os.sched_getaffinity(0)))
         # The crate's tests are built and none is run, since no test has that name; of the program, the help is asked
         # for.
-        words = [self.options.builder or "rt", *words, "--jobs", jobs, "--", "no_test_has_this_name" if test.crate
-                 else "help"]
+        words = [
+            self.options.builder or "rt",
+            *words,
+            "--jobs",
+            jobs,
+            "--",
+            "no_test_has_this_name" if test.crate else "help",
+        ]
         made = self.target(test)
         if os.path.exists(made):
             os.remove(made)
@@ -187,7 +239,11 @@ class Copy:
             return ""
         if shown.is_late:
             return f"{LATE} after {self.options.limit} seconds"
-        told = [line for line in shown.lines if "NOT" in line or "not proved" in line or "error" in line]
+        told = [
+            line
+            for line in shown.lines
+            if "NOT" in line or "not proved" in line or "error" in line
+        ]
         return " | ".join((told or shown.lines)[:3])[:400] or "nothing was said"
 
     def target(self, test):
@@ -199,15 +255,25 @@ class Copy:
     def run(self, test, is_control):
         """Runs a test. With an edit, a command is stopped once it has failed as it must."""
         if test.crate:
-            return shown_of([self.target(test), *test.words], self.room, min(self.options.limit, SECONDS_OF_A_TEST))
-        ends_at = (lambda line: False) if is_control else lambda line: has_failed_so(test, line)
+            return shown_of(
+                [self.target(test), *test.words],
+                self.room,
+                min(self.options.limit, SECONDS_OF_A_TEST),
+            )
+        ends_at = (
+            (lambda line: False)
+            if is_control
+            else lambda line: has_failed_so(test, line)
+        )
         return shown_of(self.words(test), self.room, self.options.limit, ends_at)
 
     def words(self, test):
         """Returns the command line of a test that is no crate's."""
         if test.words[0] == "pytest":
             return [*PYTEST, f"--program={self.target(test)}", *test.words[1:]]
-        first, *others = (self.target(test) if it == "PROGRAM" else it for it in test.words)
+        first, *others = (
+            self.target(test) if it == "PROGRAM" else it for it in test.words
+        )
         return [f"{self.room}/{first}", *others]
 
 
@@ -226,10 +292,17 @@ class Tested:
         said = self.built[test.crate]
         if key not in self.shown:
             self.shown[key] = None if said else self.copy.run(test, True)
-            print(f"control, {test.crate or ''} {' '.join(test.words)}: {time.monotonic() - began:.0f} s".replace(",  ",
-                                                                                                                  ", "),
-                  flush=True)
-        return f"it is not built without an edit: {said}" if said else fault_of(test, self.shown[key])
+            print(
+                f"control, {test.crate or ''} {' '.join(test.words)}: {time.monotonic() - began:.0f} s".replace(
+                    ",  ", ", "
+                ),
+                flush=True,
+            )
+        return (
+            f"it is not built without an edit: {said}"
+            if said
+            else fault_of(test, self.shown[key])
+        )
 
     def outcome(self, each):
         """Why an edit is not seen, or ""."""
@@ -247,10 +320,19 @@ class Tested:
         lost = [self.control(each.test) for each in self.tries]
         for each, why in zip(self.tries, lost):
             began = time.monotonic()
-            why = f"its test does not pass without an edit: {why}" if why else self.outcome(each)
+            why = (
+                f"its test does not pass without an edit: {why}"
+                if why
+                else self.outcome(each)
+            )
             label = f"{each.edit.crate}/{each.edit.name}"
             self.passed, self.failed = self.passed + (not why), self.failed + bool(why)
-            print(f"FAILED {label}: {why}" if why else f"{label}: seen, {time.monotonic() - began:.0f} s", flush=True)
+            print(
+                f"FAILED {label}: {why}"
+                if why
+                else f"{label}: seen, {time.monotonic() - began:.0f} s",
+                flush=True,
+            )
 
 
 def try_tested(names, options, link, kit):

@@ -15,8 +15,16 @@ from planner.bench.stored import circumstances, keep
 
 
 @click.command()
-@click.option("--items", type=click.IntRange(100), default=400, show_default=True, help="Items of the catalogue.")
-@click.option("--jobs", type=click.IntRange(1), default=1, show_default=True, help="Processes.")
+@click.option(
+    "--items",
+    type=click.IntRange(100),
+    default=400,
+    show_default=True,
+    help="Items of the catalogue.",
+)
+@click.option(
+    "--jobs", type=click.IntRange(1), default=1, show_default=True, help="Processes."
+)
 @click.option("--store", is_flag=True, help="Store the figures in figures.json.")
 def main(items: int, jobs: int, store: bool) -> None:
     """Plan the items of a made catalogue by crnplan and by the published algorithm, and print a table."""

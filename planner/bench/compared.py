@@ -19,14 +19,14 @@ import pandas as pd
 from crnplan.plan.catalogue import ANSWERS
 from crnplan.plan.learned import learned_of
 from crnplan.plan.question import ALL, Question, Settings, question_of
-from crnplan.records.items import Words
-from crnplan.records.catalogue_reading import CATALOGUE, Catalogued, read_alone
-from crnplan.records.item import Item
+from crnplan.read.items import Words
+from crnplan.read.catalogue_reading import CATALOGUE, Catalogued, read_alone
+from crnplan.read.item import Item
 from crnplan.plan.answer import Answer
-from crnplan.stored import Store
-from crnplan.jobs import processes
+from crnplan.store.stored import Store
+from crnplan.store.jobs import processes
 from crnplan.demand.learning import Prior
-from crnplan.files import own_folder
+from crnplan.store.files import own_folder
 from crnplan.law import Law
 from planner.bench.made import make
 from planner.bench.zheng_federgruen import Floats, Search
@@ -40,7 +40,8 @@ Result = TypeVar("Result")
 
 class Compared(NamedTuple):
     """An item that both have planned: its kind, the step in which demand is counted, milliseconds of processor time,
-    by which share crnplan's policy is dearer, whether the published s is below 0, and whether the policies differ."""
+    by which share crnplan's policy is dearer, whether the published s is below 0, and whether the policies differ.
+    """
 
     kind: str
     step: int
@@ -72,24 +73,39 @@ def compared(question: Question, kind: str) -> Compared:
 
     def search() -> tuple[Search, tuple[int, int]]:
         """Returns the published search and its best policy, with crnsim's s."""
-        its = Search(chances_of(question.demand.table), lead, rates["setup"], rates["holding"], rates["backlog"])
+        its = Search(
+            chances_of(question.demand.table),
+            lead,
+            rates["setup"],
+            rates["holding"],
+            rates["backlog"],
+        )
         best = its.best()
         return its, (best.reorder + 1, best.level)
 
     def plan() -> tuple[int, tuple[int, int]]:
         """Returns the step of crnplan's theory, and its best policy."""
-        theory = question.theory()
+        theory = question.theory
         best = theory.best()
         return theory.step, (best.point, best.level)
+
     ours, (step, policy) = timed(plan)
     theirs, (published, other) = timed(search)
     costs = [published.cost(point - 1, level) for point, level in (policy, other)]
-    return Compared(kind, step, ours, theirs, costs[0] / costs[1] - 1, other[0] < 0, policy != other)
+    return Compared(
+        kind, step, ours, theirs, costs[0] / costs[1] - 1, other[0] < 0, policy != other
+    )
 
 
 def is_comparable(question: Question) -> bool:
     """Returns whether the published algorithm can plan an item."""
-    leads = [value for value, weight in zip(question.lead.table.values, question.lead.table.weights) if weight]
+    leads = [
+        value
+        for value, weight in zip(
+            question.lead.table.values, question.lead.table.weights
+        )
+        if weight
+    ]
     return question.has_backlog and question.returns is None and len(leads) == 1
 
 
@@ -104,38 +120,63 @@ def compared_batch(batch: Sequence[Item], prior: Prior) -> list[Compared]:
     return [compared(question, question.item.group) for question in asked]
 
 
-def batches_of(read: Catalogued, prior: Prior) -> Iterator[tuple[int, tuple[list[Item], Prior]]]:
+def batches_of(
+    read: Catalogued, prior: Prior
+) -> Iterator[tuple[int, tuple[list[Item], Prior]]]:
     """Yields items, some at a time, with the place of the first."""
     items = [*read.items()]
     for start in range(0, len(items), BATCH):
-        yield start, (items[start:start + BATCH], prior)
+        yield start, (items[start : start + BATCH], prior)
 
 
 def compare(folder: Path, items: int, jobs: int) -> list[Compared]:
     """Makes a catalogue in a folder, and compares both on all items that can be compared."""
     made, plan = make(folder / "files", items), folder / "plan"
     path = read_alone(plan, made.paths, Words(), jobs)
-    with (own_folder(plan, CATALOGUE) as own, contextlib.closing(Catalogued(path)) as read,
-          contextlib.closing(Store(own.store(ANSWERS), Answer)) as answers, processes(jobs) as workers):
+    with (
+        own_folder(plan, CATALOGUE) as own,
+        contextlib.closing(Catalogued(path)) as read,
+        contextlib.closing(Store(own.store(ANSWERS), Answer)) as answers,
+        processes(jobs) as workers,
+    ):
         prior = learned_of(answers, read, SETTINGS, False).prior
-        return [it for _, its in workers.answers(compared_batch, batches_of(read, prior)) for it in its]
+        return [
+            it
+            for _, its in workers.answers(compared_batch, batches_of(read, prior))
+            for it in its
+        ]
 
 
 def figures_of(name: str, its: pd.DataFrame) -> dict[str, Any]:
     """Returns the figures of some items. Costs are compared if both may choose any s, which crnplan's is at least 0."""
     inside = its[~its["is_below"]]
-    figures = {"which": name, "items": len(its), "below": int(its["is_below"].sum()),
-               "other": int(inside["is_other"].sum()), "most_dearer": float(inside["dearer"].abs().max())}
+    figures = {
+        "which": name,
+        "items": len(its),
+        "below": int(its["is_below"].sum()),
+        "other": int(inside["is_other"].sum()),
+        "most_dearer": float(inside["dearer"].abs().max()),
+    }
     for search in SEARCHES:
         times = its[search]
-        figures |= {f"{search}_mean": float(times.mean()), f"{search}_50": float(times.quantile(0.5)),
-                    f"{search}_99": float(times.quantile(0.99))}
-    return {key: float(f"{value:.4g}") if isinstance(value, float) else value for key, value in figures.items()}
+        figures |= {
+            f"{search}_mean": float(times.mean()),
+            f"{search}_50": float(times.quantile(0.5)),
+            f"{search}_99": float(times.quantile(0.99)),
+        }
+    return {
+        key: float(f"{value:.4g}") if isinstance(value, float) else value
+        for key, value in figures.items()
+    }
 
 
 def all_figures(rows: Sequence[Compared]) -> list[dict[str, Any]]:
     """Returns the figures of all items: by kind, by how demand is counted, and of all."""
     its = pd.DataFrame(rows)
-    parts = {**{f"{kind}": part for kind, part in its.groupby("kind")}, "counted one by one": its[its["step"] == 1],
-             "counted in steps": its[its["step"] > 1], "all": its}
+    parts = {
+        **{f"{kind}": part for kind, part in its.groupby("kind")},
+        "counted one by one": its[its["step"] == 1],
+        "counted in steps": its[its["step"] > 1],
+        "all": its,
+    }
     return [figures_of(name, part) for name, part in parts.items() if len(part)]

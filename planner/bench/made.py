@@ -23,16 +23,36 @@ Random = np.random.Generator
 START, WEEKS, WORKDAYS = datetime.date(2023, 11, 20), 156, 5  # a Monday; three years
 DEMAND, ITEMS, ORDERS = "demand.csv", "items.csv", "orders.csv"
 # How often each kind of item is. The first three are asked for in most weeks.
-KINDS = {"very fast": 0.01, "fast": 0.09, "smooth": 0.36, "intermittent": 0.43, "lumpy": 0.11}
+KINDS = {
+    "very fast": 0.01,
+    "fast": 0.09,
+    "smooth": 0.36,
+    "intermittent": 0.43,
+    "lumpy": 0.11,
+}
 LEADS = {1: 0.2, 2: 0.25, 3: 0.2, 4: 0.15, 6: 0.1, 8: 0.07, 12: 0.03}
 # Rows that are written at a time.
 AT_ONCE = 200_000
 # Faults of a row: its column and its text. One row of so many has one, and one of so many stands twice.
-BAD_ROWS = [("quantity", "n/a"), ("quantity", ""), ("quantity", "-2"), ("quantity", "3.5"), ("date", ""),
-            ("date", "2025-02-30"), ("date", "2062-03-04"), ("date", "soon")]
+BAD_ROWS = [
+    ("quantity", "n/a"),
+    ("quantity", ""),
+    ("quantity", "-2"),
+    ("quantity", "3.5"),
+    ("date", ""),
+    ("date", "2025-02-30"),
+    ("date", "2062-03-04"),
+    ("date", "soon"),
+]
 ROWS_A_FAULT, ROWS_A_TWIN = 2_000, 1_500
 # Changes of a master for which its item is left out. One item of so many has one.
-BAD_MASTERS = [{"setup": ""}, {"holding": "0"}, {"lead (weeks)": "n/a"}, {"backlog": "", "fill": ""}, {"fill": "120%"}]
+BAD_MASTERS = [
+    {"setup": ""},
+    {"holding": "0"},
+    {"lead (weeks)": "n/a"},
+    {"backlog": "", "fill": ""},
+    {"fill": "120%"},
+]
 ITEMS_A_FAULT = 60
 
 
@@ -50,7 +70,11 @@ class Made:
     @property
     def paths(self) -> dict[str, str | Path | None]:
         """Returns the files by what they are."""
-        return {"demand": self.folder / DEMAND, "items": self.folder / ITEMS, "orders": self.folder / ORDERS}
+        return {
+            "demand": self.folder / DEMAND,
+            "items": self.folder / ITEMS,
+            "orders": self.folder / ORDERS,
+        }
 
 
 def between(random: Random, low: float, high: float) -> float:
@@ -73,7 +97,8 @@ DRAWN: dict[str, Callable[[Random], Whole]] = {
     "fast": lambda it: frequent(it, between(it, 20, 600), it.uniform(2, 20)),
     "smooth": lambda it: frequent(it, between(it, 1, 20), 3.0),
     "intermittent": lambda it: rare(it, it.uniform(0.05, 0.35), between(it, 1, 20)),
-    "lumpy": lambda it: rare(it, it.uniform(0.01, 0.06), between(it, 2, 120))}
+    "lumpy": lambda it: rare(it, it.uniform(0.01, 0.06), between(it, 2, 120)),
+}
 
 
 def name_of(number: int) -> str:
@@ -92,25 +117,62 @@ def rows_of(random: Random, kind: str, weeks: Whole) -> tuple[Whole, Whole]:
     return 7 * week + day, amounts[week, day]
 
 
-def master_of(random: Random, name: str, kind: str, weeks: Whole) -> tuple[dict[str, Any], list[tuple[str, str, str]]]:
+def master_of(
+    random: Random, name: str, kind: str, weeks: Whole
+) -> tuple[dict[str, Any], list[tuple[str, str, str]]]:
     """Returns the master of an item, and its orders if its lead times are not in the master."""
     price = round(min(between(random, 1, 150), between(random, 1, 150)) + 0.5, 2)
-    holding, setup = max(round(price * 0.22 / 52, 4), 0.0001), int(random.choice([12, 25, 45, 80, 150]))
+    holding, setup = max(round(price * 0.22 / 52, 4), 0.0001), int(
+        random.choice([12, 25, 45, 80, 150])
+    )
     mean, spread = max(float(weeks.mean()), 0.001), float(weeks.std())
-    lead, several = int(random.choice([*LEADS], p=[*LEADS.values()])), random.random() < 1 / 3
-    point = round(mean * (lead + 1) + random.choice([0.3, 1.0, 2.5]) * spread * math.sqrt(lead + 1))
-    gap = max(1, round(min(math.sqrt(2 * setup * mean / holding), 40 * mean + 2) * random.choice([0.4, 1.0, 1.8])))
-    leads = [max(1, lead + int(it)) for it in random.integers(-1, 3, 6)] if several else [lead]
-    wanted = str(random.choice(["95%", "0.95", "98%", "99%"])) if random.random() < 0.25 else ""
+    lead, several = (
+        int(random.choice([*LEADS], p=[*LEADS.values()])),
+        random.random() < 1 / 3,
+    )
+    point = round(
+        mean * (lead + 1)
+        + random.choice([0.3, 1.0, 2.5]) * spread * math.sqrt(lead + 1)
+    )
+    gap = max(
+        1,
+        round(
+            min(math.sqrt(2 * setup * mean / holding), 40 * mean + 2)
+            * random.choice([0.4, 1.0, 1.8])
+        ),
+    )
+    leads = (
+        [max(1, lead + int(it)) for it in random.integers(-1, 3, 6)]
+        if several
+        else [lead]
+    )
+    wanted = (
+        str(random.choice(["95%", "0.95", "98%", "99%"]))
+        if random.random() < 0.25
+        else ""
+    )
     backlog = "" if wanted else f"{holding * float(random.choice([9, 19, 49, 99])):.4f}"
     by_orders = several and random.random() < 0.5
     orders = []
     for its in leads * 2 if by_orders else []:
-        placed = START + datetime.timedelta(int(random.integers(0, 7 * (WEEKS - its - 2))))
+        placed = START + datetime.timedelta(
+            int(random.integers(0, 7 * (WEEKS - its - 2)))
+        )
         orders.append((name, str(placed), str(placed + datetime.timedelta(7 * its))))
-    row = {"item": name, "description": f"{kind} part", "class": kind, "setup": str(setup), "holding": str(holding),
-           "backlog": backlog, "fill": wanted, "lead (weeks)": "" if by_orders else " ".join(map(str, sorted(leads))),
-           "s": str(point), "S": str(point + gap), "stock": str(point + gap // 2), "price": str(price)}
+    row = {
+        "item": name,
+        "description": f"{kind} part",
+        "class": kind,
+        "setup": str(setup),
+        "holding": str(holding),
+        "backlog": backlog,
+        "fill": wanted,
+        "lead (weeks)": "" if by_orders else " ".join(map(str, sorted(leads))),
+        "s": str(point),
+        "S": str(point + gap),
+        "stock": str(point + gap // 2),
+        "price": str(price),
+    }
     return row, orders
 
 
@@ -120,16 +182,25 @@ def spelt_days() -> list[list[str]]:
     return [[f"{it:{form}}" for it in days] for form in ("%Y-%m-%d", "%d.%m.%Y")]
 
 
-def demand_rows(random: Random, made: Made, items: Short, days: Short, amounts: Short) -> Iterator[str]:
+def demand_rows(
+    random: Random, made: Made, items: Short, days: Short, amounts: Short
+) -> Iterator[str]:
     """Yields the rows of demand in order of their days, some of them with a fault and some twice."""
-    order, names = np.argsort(days, kind="stable"), [name_of(it) for it in range(int(items.max()) + 1)]
+    order, names = np.argsort(days, kind="stable"), [
+        name_of(it) for it in range(int(items.max()) + 1)
+    ]
     faults = random.integers(0, ROWS_A_FAULT, len(order)) == 0
     twins, spelt = random.integers(0, ROWS_A_TWIN, len(order)) == 0, spelt_days()
     for start in range(0, len(order), AT_ONCE):
         part = slice(start, start + AT_ONCE)
         its = order[part]
-        for item, day, amount, is_faulty, is_twin in zip(items[its].tolist(), days[its].tolist(), amounts[its].tolist(),
-                                                         faults[part].tolist(), twins[part].tolist()):
+        for item, day, amount, is_faulty, is_twin in zip(
+            items[its].tolist(),
+            days[its].tolist(),
+            amounts[its].tolist(),
+            faults[part].tolist(),
+            twins[part].tolist(),
+        ):
             cells = {"date": spelt[item % 10 == 0][day], "quantity": str(amount)}
             if is_faulty:
                 column, text = BAD_ROWS[made.rows % len(BAD_ROWS)]
@@ -144,6 +215,7 @@ def demand_rows(random: Random, made: Made, items: Short, days: Short, amounts: 
 def make(folder: Path, items: int, seed: int = 1) -> Made:
     """Makes a catalogue of so many items in a folder, with some 133 rows of demand for each."""
     import pandas as pd  # Parts that are measured need the paths alone.
+
     random, made = np.random.default_rng([items, seed]), Made(folder)
     folder.mkdir(parents=True, exist_ok=True)
     kinds = random.choice([*KINDS], items, p=[*KINDS.values()])
@@ -162,10 +234,14 @@ def make(folder: Path, items: int, seed: int = 1) -> Made:
         masters.append(row)
         orders += placed
     days, amounts = (np.concatenate(its).astype(np.int32) for its in zip(*columns))
-    numbers = np.repeat(np.arange(items, dtype=np.int32), [len(its) for its, _ in columns])
+    numbers = np.repeat(
+        np.arange(items, dtype=np.int32), [len(its) for its, _ in columns]
+    )
     with (folder / DEMAND).open("w", encoding="utf-8") as file:
         file.write("item,date,quantity\n")
         file.writelines(demand_rows(random, made, numbers, days, amounts))
     pd.DataFrame(masters).to_csv(folder / ITEMS, index=False)
-    pd.DataFrame(orders, columns=["item", "ordered", "received"]).to_csv(folder / ORDERS, index=False)
+    pd.DataFrame(orders, columns=["item", "ordered", "received"]).to_csv(
+        folder / ORDERS, index=False
+    )
     return made

@@ -16,12 +16,13 @@ from typing import Any
 import click
 
 from crnplan.curve import gathered
-from crnplan.pages.catalogue_page import MOST_ROWS, PAGE
-from crnplan.pages.catalogue_tables import DECISIONS, EXACT
+from crnplan.show.catalogue_page import MOST_ROWS, PAGE
+from crnplan.show.catalogue_tables import DECISIONS, EXACT
 from crnplan.plan.catalogue import ANSWERS, PlannedFolder, planned_folder
 from crnplan.plan.survey import Survey
-from crnplan.records.catalogue_reading import CATALOGUE, READ
-from crnplan.files import own_folder
+from crnplan.read.catalogue_reading import CATALOGUE, READ
+from crnplan.store.files import own_folder
+from crnplan.store.means import Means
 from planner.bench.page import CANDIDATES, LOOK, SENT, million_table
 from planner.bench.part import PLAN
 from planner.bench.stored import circumstances, keep
@@ -33,7 +34,9 @@ def row_bytes(path: Path, table: str) -> float:
     """Returns the mean bytes of a row of a table, as texts."""
     with contextlib.closing(sqlite3.connect(path)) as base:
         names = [name for _, name, *_ in base.execute(f"PRAGMA table_info({table})")]
-        total = " + ".join(f'coalesce(length(CAST("{name}" AS BLOB)), 0)' for name in names)
+        total = " + ".join(
+            f'coalesce(length(CAST("{name}" AS BLOB)), 0)' for name in names
+        )
         (mean,) = base.execute(f"SELECT avg({total}) FROM {table}").fetchone()
     return float(mean)
 
@@ -41,11 +44,17 @@ def row_bytes(path: Path, table: str) -> float:
 def bytes_of(plan: PlannedFolder, items: int) -> Iterator[Measured]:
     """Yields what is sent and kept for an item."""
     folder = plan.path
-    for what, name, table in zip(SENT, (READ, ANSWERS, gathered.CANDIDATES), ("items", "answers", "answers")):
+    for what, name, table in zip(
+        SENT, (READ, ANSWERS, gathered.CANDIDATES), ("items", "answers", "answers")
+    ):
         yield what, row_bytes(folder / name, table), "bytes an item"
     for name in (READ, ANSWERS, gathered.CANDIDATES, gathered.HULLS, DECISIONS, EXACT):
-        yield f"{Path(name).name}, on disk", (folder / name).stat().st_size / items, "bytes an item"
-    yield f"{PAGE}, up to 5,000 items", (folder / PAGE).stat().st_size / items, "bytes an item"
+        yield f"{Path(name).name}, on disk", (
+            folder / name
+        ).stat().st_size / items, "bytes an item"
+    yield f"{PAGE}, up to 5,000 items", (
+        folder / PAGE
+    ).stat().st_size / items, "bytes an item"
 
 
 def looks_of(plan: PlannedFolder, items: int) -> Iterator[Measured]:
@@ -62,7 +71,9 @@ def measured_of(folder: Path) -> Iterator[Measured]:
         yield from bytes_of(plan, items)
         yield from looks_of(plan, items)
         start = time.process_time()
-        with own_folder(plan.path, CATALOGUE) as own, gathered.gather(own, plan, 1, None, False):
+        with own_folder(plan.path, CATALOGUE) as own, gathered.gather(
+            own, plan, Means(1)
+        ):
             yield CANDIDATES, 1e6 * (time.process_time() - start) / items, "µs an item"
 
 
@@ -77,8 +88,10 @@ def rounded(number: float) -> float | int:
 def main(folder: Path, store: bool) -> None:
     """Measure what grows with the items of a planned catalogue, and print a table."""
     measured = circumstances() | {"jobs": 1}
-    rows: list[dict[str, Any]] = [{"what": what, "figure": rounded(figure), "unit": unit}
-                                  for what, figure, unit in measured_of(folder)]
+    rows: list[dict[str, Any]] = [
+        {"what": what, "figure": rounded(figure), "unit": unit}
+        for what, figure, unit in measured_of(folder)
+    ]
     if store:
         keep("million", measured, rows)
     click.echo(million_table(rows), nl=False)

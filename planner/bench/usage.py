@@ -17,7 +17,8 @@ GONE = (psutil.NoSuchProcess, psutil.AccessDenied, psutil.ZombieProcess, OSError
 
 class Usage(NamedTuple):
     """What a command takes: seconds on the clock and of processors, and in MB the most memory of its own process and of
-    all its processes, where memory that several share counts once (the sum of their proportional set sizes)."""
+    all its processes, where memory that several share counts once (the sum of their proportional set sizes).
+    """
 
     wall: float
     processor: float
@@ -27,7 +28,10 @@ class Usage(NamedTuple):
 
 def own_memory(process: int) -> float:
     """Returns the most memory that a process has had so far, in MB."""
-    found = re.search(r"VmHWM:\s*(\d+) kB", Path(f"/proc/{process}/status").read_text(encoding="ascii"))
+    found = re.search(
+        r"VmHWM:\s*(\d+) kB",
+        Path(f"/proc/{process}/status").read_text(encoding="ascii"),
+    )
     return int(found[1]) / 1000 if found else 0.0
 
 
@@ -59,7 +63,9 @@ def usage_of(words: Sequence[str], folder: Path | None = None) -> Usage:
         ended, status, used = os.wait4(process.pid, os.WNOHANG)
         if ended:
             break
-        own, most = max(own, own_memory(process.pid)), max(most, with_children(process.pid))
+        own, most = max(own, own_memory(process.pid)), max(
+            most, with_children(process.pid)
+        )
         time.sleep(WATCH_SECONDS)
     process.returncode = os.waitstatus_to_exitcode(status)
     if process.returncode:

@@ -36,19 +36,39 @@ class House(NamedTuple):
 
     def words(self, part: str, jobs: int) -> list[str]:
         """Returns the command of a part."""
-        python = sys.executable if self.top == TOP else str(self.top / ".venv/bin/python")
+        python = (
+            sys.executable if self.top == TOP else str(self.top / ".venv/bin/python")
+        )
         if part == ITEM:
             case = self.top / "examples/case"
-            return [python, "-m", "crnplan", "item", *map(str, (case / "history.csv", case / "settings.toml")),
-                    "--out", str(self.folder / ITEM)]
-        return [python, "-m", "planner.bench.part", part, str(self.folder), "--jobs", str(jobs)]
+            return [
+                python,
+                "-m",
+                "crnplan",
+                "item",
+                *map(str, (case / "history.csv", case / "settings.toml")),
+                "--out",
+                str(self.folder / ITEM),
+            ]
+        return [
+            python,
+            "-m",
+            "planner.bench.part",
+            part,
+            str(self.folder),
+            "--jobs",
+            str(jobs),
+        ]
 
     def measured(self, part: str, jobs: int) -> Row:
         """Runs a part, and returns what it takes, and the load of the machine as it began."""
         before, load = bytes_of(self.folder / PLAN), os.getloadavg()[0]
         its = usage_of(self.words(part, jobs), self.top)
-        return {"bytes": bytes_of(self.folder / PLAN) - before, "load": round(load, 1),
-                **{name: float(f"{value:.4g}") for name, value in its._asdict().items()}}
+        return {
+            "bytes": bytes_of(self.folder / PLAN) - before,
+            "load": round(load, 1),
+            **{name: float(f"{value:.4g}") for name, value in its._asdict().items()},
+        }
 
 
 def bytes_of(folder: Path) -> int:
@@ -76,10 +96,17 @@ def houses_of(folder: Path, beside: Path | None) -> list[House]:
     return [House(TOP, folder), *([House(beside.resolve(), other)] if beside else [])]
 
 
-def measured_parts(folder: Path, items: int, jobs: int, parts: Sequence[str], beside: Path | None = None,
-                   rounds: int = 1) -> Iterator[Row]:
+def measured_parts(
+    folder: Path,
+    items: int,
+    jobs: int,
+    parts: Sequence[str],
+    beside: Path | None = None,
+    rounds: int = 1,
+) -> Iterator[Row]:
     """Makes a catalogue of so many items in a folder, and yields what each part takes: in that of several rounds which
-    takes least processor time; and as `before` what it takes in another checkout, measured in turn."""
+    takes least processor time; and as `before` what it takes in another checkout, measured in turn.
+    """
     made: Made = make(folder / FILES, items)
     known: defaultdict[tuple[str, House], list[Row]] = defaultdict(list)
     houses = houses_of(folder, beside)
@@ -90,28 +117,71 @@ def measured_parts(folder: Path, items: int, jobs: int, parts: Sequence[str], be
             for house in houses[::-1] if number % 2 else houses:
                 known[part, house].append(house.measured(part, jobs))
     for part in parts:
-        least = [min(known[part, house], key=lambda row: float(row["processor"])) for house in houses]
-        yield {"items": items, "rows": made.rows, "part": part, **least[0], **{"before": it for it in least[1:]}}
+        least = [
+            min(known[part, house], key=lambda row: float(row["processor"]))
+            for house in houses
+        ]
+        yield {
+            "items": items,
+            "rows": made.rows,
+            "part": part,
+            **least[0],
+            **{"before": it for it in least[1:]},
+        }
 
 
 @click.command()
-@click.option("--items", "sizes", type=click.IntRange(100), multiple=True, default=(300,), show_default=True,
-              help="Items of a catalogue. May be given several times.")
-@click.option("--jobs", type=click.IntRange(1), default=1, show_default=True, help="Processes.")
-@click.option("--only", type=click.Choice([*PARTS, ITEM]), multiple=True, help="Only these parts.")
-@click.option("--beside", type=click.Path(exists=True, file_okay=False, path_type=Path),
-              help="Another checkout, with its .venv, that is measured in turn.")
-@click.option("--rounds", type=click.IntRange(1), default=1, show_default=True,
-              help="So many rounds, of which the least counts for each part.")
-@click.option("--folder", type=click.Path(path_type=Path), help="Keep the catalogues in this folder.")
-@click.option("--store", metavar="NAME", help="Store the figures by this name in figures.json.")
-def main(sizes: Sequence[int], jobs: int, only: Sequence[str], beside: Path | None, rounds: int, folder: Path | None,
-         store: str | None) -> None:
+@click.option(
+    "--items",
+    "sizes",
+    type=click.IntRange(100),
+    multiple=True,
+    default=(300,),
+    show_default=True,
+    help="Items of a catalogue. May be given several times.",
+)
+@click.option(
+    "--jobs", type=click.IntRange(1), default=1, show_default=True, help="Processes."
+)
+@click.option(
+    "--only", type=click.Choice([*PARTS, ITEM]), multiple=True, help="Only these parts."
+)
+@click.option(
+    "--beside",
+    type=click.Path(exists=True, file_okay=False, path_type=Path),
+    help="Another checkout, with its .venv, that is measured in turn.",
+)
+@click.option(
+    "--rounds",
+    type=click.IntRange(1),
+    default=1,
+    show_default=True,
+    help="So many rounds, of which the least counts for each part.",
+)
+@click.option(
+    "--folder",
+    type=click.Path(path_type=Path),
+    help="Keep the catalogues in this folder.",
+)
+@click.option(
+    "--store", metavar="NAME", help="Store the figures by this name in figures.json."
+)
+def main(
+    sizes: Sequence[int],
+    jobs: int,
+    only: Sequence[str],
+    beside: Path | None,
+    rounds: int,
+    folder: Path | None,
+    store: str | None,
+) -> None:
     """Measure the whole way of made catalogues, part by part, and print a table. Each size is stored as it is done."""
     measured, rows = circumstances() | {"jobs": jobs}, list[Row]()
     with room(folder) as place:
         for size in sizes:
-            rows += measured_parts(place / str(size), size, jobs, only or [*PARTS, ITEM], beside, rounds)
+            rows += measured_parts(
+                place / str(size), size, jobs, only or [*PARTS, ITEM], beside, rounds
+            )
             if store:
                 keep(store, measured, rows)
     click.echo(whole_table(rows), nl=False)

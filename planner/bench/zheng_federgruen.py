@@ -21,8 +21,7 @@ Rates = tuple[float, float, float]
 
 
 class Optimum(NamedTuple):
-    """The best policy: its cost a period, the highest position at which an order is placed, and the order-up-to level.
-    """
+    """The best policy: its cost a period, the highest position at which an order is placed, and the order-up-to level."""
 
     cost: float
     reorder: int
@@ -32,7 +31,8 @@ class Optimum(NamedTuple):
 @compiled
 def stock_cost(table: Floats, rates: Rates, level: int) -> float:
     """Returns G(y), the mean cost of stock and backlog of a period, of a position y after a review. `table` has it from
-    0 on, up to all demand of a lead time and a period; `rates` are the mean of that, holding and backlog."""
+    0 on, up to all demand of a lead time and a period; `rates` are the mean of that, holding and backlog.
+    """
     mean, holding, backlog = rates
     if level < 0:
         return backlog * (mean - level)
@@ -40,21 +40,29 @@ def stock_cost(table: Floats, rates: Rates, level: int) -> float:
 
 
 @compiled
-def grown(visits: Floats, sums: Floats, known: int, count: int, turned: Floats) -> tuple[Floats, Floats, int]:
+def grown(
+    visits: Floats, sums: Floats, known: int, count: int, turned: Floats
+) -> tuple[Floats, Floats, int]:
     """Returns m(j), the mean number of visits to the place j below S in a cycle, for all j below a count, with M(n), the
-    sum of those with j < n, and how many are known. `turned` are the chances of demands above 0, the greatest first."""
+    sum of those with j < n, and how many are known. `turned` are the chances of demands above 0, the greatest first.
+    """
     if count > len(visits):
         more = np.zeros(max(count, 2 * len(visits)) - len(visits))
         visits, sums = np.append(visits, more), np.append(sums, more)
     for place in range(known, count):
         most = min(place, len(turned))
-        visits[place] = np.dot(turned[len(turned) - most:], visits[place - most:place]) * visits[0]
+        visits[place] = (
+            np.dot(turned[len(turned) - most :], visits[place - most : place])
+            * visits[0]
+        )
         sums[place + 1] = sums[place] + visits[place]
     return visits, sums, max(known, count)
 
 
 @compiled
-def cycle_cost(table: Floats, rates: Rates, setup: float, visits: Floats, reorder: int, level: int) -> float:
+def cycle_cost(
+    table: Floats, rates: Rates, setup: float, visits: Floats, reorder: int, level: int
+) -> float:
     """Returns k(s,S), the mean cost of a cycle: K plus the sum of m(j) G(S - j) over j < S - s."""
     cycle = setup
     for place in range(level - reorder):
@@ -63,7 +71,9 @@ def cycle_cost(table: Floats, rates: Rates, setup: float, visits: Floats, reorde
 
 
 @compiled
-def optimum(demand: Floats, table: Floats, rates: Rates, setup: float) -> tuple[float, int, int]:
+def optimum(
+    demand: Floats, table: Floats, rates: Rates, setup: float
+) -> tuple[float, int, int]:
     """Returns the best policy: its cost c(s,S) = k(s,S) / M(S - s), s and S. Step 0 takes S = y*, which minimizes G, and
     the greatest s below with c(s,S) <= G(s). In step 1 S rises while G(S) is at most the least cost so far, and s with
     it while c(s,S) <= G(s + 1)."""
@@ -96,7 +106,9 @@ def optimum(demand: Floats, table: Floats, rates: Rates, setup: float) -> tuple[
 class Search:
     """The costs of an item's policies, and the search for the best."""
 
-    def __init__(self, demand: Floats, lead: int, setup: float, holding: float, backlog: float) -> None:
+    def __init__(
+        self, demand: Floats, lead: int, setup: float, holding: float, backlog: float
+    ) -> None:
         """Takes the law of demand, a lead time and costs: see `best_policy`. Raises ValueError if nothing is ever asked
         for."""
         if not demand[1:].sum() > 0:
@@ -104,24 +116,34 @@ class Search:
         law = demand
         for _ in range(lead):
             law = convolve(law, demand)
-        above = np.append(np.cumsum(law[:0:-1])[::-1], 0.0)  # chances of a demand above 0, 1, 2, ..
+        above = np.append(
+            np.cumsum(law[:0:-1])[::-1], 0.0
+        )  # chances of a demand above 0, 1, 2, ..
         lacking = np.cumsum(above[::-1])[::-1]
         self.demand, self.setup = demand, float(setup)
         self.rates = float(lacking[0]), float(holding), float(backlog)
-        self.table = holding * (np.arange(len(law)) - lacking[0]) + (holding + backlog) * lacking
+        self.table = (
+            holding * (np.arange(len(law)) - lacking[0]) + (holding + backlog) * lacking
+        )
 
     def cost(self, reorder: int, level: int) -> float:
         """Returns c(s,S), the cost of a period."""
         first, count = 1 / (1 - self.demand[0]), level - reorder
-        visits, sums, _ = grown(np.array([first]), np.array([0, first]), 1, count, self.demand[:0:-1].copy())
-        return cycle_cost(self.table, self.rates, self.setup, visits, reorder, level) / float(sums[count])
+        visits, sums, _ = grown(
+            np.array([first]), np.array([0, first]), 1, count, self.demand[:0:-1].copy()
+        )
+        return cycle_cost(
+            self.table, self.rates, self.setup, visits, reorder, level
+        ) / float(sums[count])
 
     def best(self) -> Optimum:
         """Returns the best policy."""
         return Optimum(*optimum(self.demand, self.table, self.rates, self.setup))
 
 
-def best_policy(demand: Floats, lead: int, setup: float, holding: float, backlog: float) -> Optimum:
+def best_policy(
+    demand: Floats, lead: int, setup: float, holding: float, backlog: float
+) -> Optimum:
     """Returns the best policy of an item.
 
     `demand` has the chances of 0, 1, 2 and so on to be asked for in a period. An order that is placed at the beginning

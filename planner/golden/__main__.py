@@ -21,11 +21,26 @@ from planner.golden.parts import PARTS
 
 
 @click.command()
-@click.option("--part", "names", type=click.Choice([*PARTS]), multiple=True, help="Only these parts.")
-@click.option("--store", "is_stored", is_flag=True, help="Store the figures in place of those before.")
-@click.option("--jobs", type=click.IntRange(1), default=2, show_default=True, help="Processes.")
+@click.option(
+    "--part",
+    "names",
+    type=click.Choice([*PARTS]),
+    multiple=True,
+    help="Only these parts.",
+)
+@click.option(
+    "--store",
+    "is_stored",
+    is_flag=True,
+    help="Store the figures in place of those before.",
+)
+@click.option(
+    "--jobs", type=click.IntRange(1), default=2, show_default=True, help="Processes."
+)
 @click.option("--program", type=click.Path(path_type=Path), help="The program crnsim.")
-def main(names: Sequence[str], is_stored: bool, jobs: int, program: Path | None) -> None:
+def main(
+    names: Sequence[str], is_stored: bool, jobs: int, program: Path | None
+) -> None:
     """Compare what crnplan computes with the golden data, or store them."""
     path, total, moved, expected = str(find_program(program)), 0, 0, 0
     for name in names or PARTS:
@@ -38,9 +53,13 @@ def main(names: Sequence[str], is_stored: bool, jobs: int, program: Path | None)
             click.echo(line_of(it))
         total, moved = total + count, moved + len(differences)
         expected += sum(it.is_expected for it in differences)
-        click.echo(f"{name}: {len(differences):,} of {count:,} figures differ", err=True)
+        click.echo(
+            f"{name}: {len(differences):,} of {count:,} figures differ", err=True
+        )
     if not is_stored:
-        click.echo(f"{moved:,} of {total:,} figures differ, {expected:,} of them are expected to move")
+        click.echo(
+            f"{moved:,} of {total:,} figures differ, {expected:,} of them are expected to move"
+        )
         sys.exit(moved > 0)
 
 

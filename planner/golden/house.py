@@ -20,10 +20,10 @@ from crnplan.demand.checks import check_history
 from crnplan.plan.answer import CHOSEN, Answer
 from crnplan.plan.catalogue import planned_folder
 from crnplan.plan.item import Depth, planned, read_item
-from crnplan.records.catalogue_reading import READ, Catalogued
-from crnplan.records.item import Item
+from crnplan.read.catalogue_reading import READ, Catalogued
+from crnplan.read.item import Item
 from crnplan.remarks import Remark
-from crnplan.stored import Store
+from crnplan.store.stored import Store
 from crnplan.theory.suggestions import suggestions_of
 
 Figures = dict[str, Any]
@@ -31,7 +31,10 @@ Figures = dict[str, Any]
 
 def by_policy(rows: Iterable[Mapping[str, Any]]) -> Figures:
     """Returns rows as tables by their policy."""
-    return {row["policy"]: {name: value for name, value in row.items() if name != "policy"} for row in rows}
+    return {
+        row["policy"]: {name: value for name, value in row.items() if name != "policy"}
+        for row in rows
+    }
 
 
 def by_frame(result: Any) -> Figures:
@@ -42,22 +45,33 @@ def by_frame(result: Any) -> Figures:
 def records(frame: Any) -> list[Figures]:
     """Returns the rows of a DataFrame, with its index as columns if it has a name. None stands for nan."""
     frame = frame.reset_index() if frame.index.name else frame
-    return [{str(name): None if value != value else value for name, value in row.items()}
-            for row in frame.to_dict("records")]
+    return [
+        {str(name): None if value != value else value for name, value in row.items()}
+        for row in frame.to_dict("records")
+    ]
 
 
 def law_figures(law: Any) -> Figures:
     """Returns a fitted law: its family, values and weights."""
-    return {"family": law.family, "values": [*law.values], "weights": [*law.weights],
-            "share": law.diagnostics.share if law.diagnostics.families else None}
+    return {
+        "family": law.family,
+        "values": [*law.values],
+        "weights": [*law.weights],
+        "share": law.diagnostics.share if law.diagnostics.families else None,
+    }
 
 
 def fitted(counts: Any, leads: Any) -> Figures:
     """Returns the laws of a history by each method, and what its checks find."""
     checks = check_history(counts)
-    tests = {it.name: {"p": it.p, "size": it.size, "least_seen": it.least_seen} for it in checks.tests}
-    laws = {method: law_figures(crn.fit_demand(counts, method=method)) for method in ("auto", "empirical",
-                                                                                      "predictive")}
+    tests = {
+        it.name: {"p": it.p, "size": it.size, "least_seen": it.least_seen}
+        for it in checks.tests
+    }
+    laws = {
+        method: law_figures(crn.fit_demand(counts, method=method))
+        for method in ("auto", "empirical", "predictive")
+    }
     return {"demand": laws, "lead": law_figures(crn.fit_lead(leads)), "checks": tests}
 
 
@@ -71,21 +85,35 @@ def run_rows(scenario: crn.Scenario, program: str) -> Figures:
     return found
 
 
-def theory_rows(scenario: crn.Scenario, laws: Sequence[Any] = (), leads: Sequence[Any] = ()) -> Figures:
+def theory_rows(
+    scenario: crn.Scenario, laws: Sequence[Any] = (), leads: Sequence[Any] = ()
+) -> Figures:
     """Returns the suggested policies with theory's figures."""
     found = suggestions_of(scenario, laws, leads)
-    return {"step": found.step, "error": found.error, "position": found.position, "net": found.net,
-            "policies": {it.policy.name: {"s": it.policy.s, "S": it.policy.S, **it.figures._asdict()}
-                         for it in found.rows}}
+    return {
+        "step": found.step,
+        "error": found.error,
+        "position": found.position,
+        "net": found.net,
+        "policies": {
+            it.policy.name: {"s": it.policy.s, "S": it.policy.S, **it.figures._asdict()}
+            for it in found.rows
+        },
+    }
 
 
 def long_run_rows(scenario: crn.Scenario, program: str, keys: int) -> Figures:
     """Returns the long run by the program, and its check under new keys."""
     report = scenario.long_run(keys=keys, program=program)
     best = scenario.policies[-1].name
-    check = check_long_run(scenario, best, keys=[["2b7e151628aed2a7"]], runs=keys, program=program)
-    return {"rows": by_policy(map(asdict, report.rows)), "decision": by_frame(report.decide()),
-            "check": by_frame(check.decision)}
+    check = check_long_run(
+        scenario, best, keys=[["2b7e151628aed2a7"]], runs=keys, program=program
+    )
+    return {
+        "rows": by_policy(map(asdict, report.rows)),
+        "decision": by_frame(report.decide()),
+        "check": by_frame(check.decision),
+    }
 
 
 def sensitivity_rows(scenario: crn.Scenario, program: str) -> Figures:
@@ -107,56 +135,106 @@ def sweep_rows(scenario: crn.Scenario, program: str) -> Figures:
 def drawn_stocks(scenario: crn.Scenario, program: str, periods: int) -> Figures:
     """Returns all figures of each period of a replication, by policy."""
     found = crn.trajectories(scenario, min(periods, scenario.periods), program=program)
-    return {policy.name: [list(period[:4]) for period in its] for policy, its in zip(scenario.policies, found)}
+    return {
+        policy.name: [list(period[:4]) for period in its]
+        for policy, its in zip(scenario.policies, found)
+    }
 
 
-def plan_catalogue(files: Mapping[str, Any], folder: Path, program: str, jobs: int, **settings: Any) -> None:
+def plan_catalogue(
+    files: Mapping[str, Any], folder: Path, program: str, jobs: int, **settings: Any
+) -> None:
     """Reads a catalogue and plans it into a folder."""
-    crn.plan(crn.read_catalogue(files["demand"], files["items"], files["orders"]), out=folder, jobs=jobs,
-             program=program,
-             **settings)
+    crn.plan(
+        crn.read_catalogue(files["demand"], files["items"], files["orders"]),
+        out=folder,
+        jobs=jobs,
+        program=program,
+        **settings,
+    )
 
 
 def plan_rows(folder: Path) -> dict[str, Figures]:
     """Returns the answer to each item of a planned folder."""
     with planned_folder(folder) as its:
-        return {item.name: answer_figures(item, answer) for item, answer in its.answers()}
+        return {
+            item.name: answer_figures(item, answer) for item, answer in its.answers()
+        }
+
+
+def policy_figures(its: Any, scale: float = 1.0) -> Figures:
+    """Returns levels and figures of a policy; its cost times a scale."""
+    names = ("fill", "short", "stock", "orders")
+    levels = {"s": its.point, "S": its.level, "cost": its.cost * scale}
+    return levels | {name: getattr(its, name) for name in names}
+
+
+def run_figures(run: Any) -> Figures:
+    """Returns what a run says exactly, with all that it takes."""
+    names = ("setup", "holding", "backlog")
+    return {
+        "scale": str(run.scale),
+        "key": run.key,
+        "initial": run.initial,
+        "rates": {"unit": 0} | {name: getattr(run, name) for name in names},
+        "totals": [run.total_today, run.total_chosen],
+        "diff_mean": str(run.difference),
+        "diff_var": str(run.variance),
+    }
 
 
 def answer_figures(item: Item, answer: Answer | Remark) -> Figures:
     """Returns the figures of an item's answer: what belongs to a policy below its name, and codes of remarks."""
     if isinstance(answer, Remark):
         return {"fault": True}
-    run = answer.run
-    costs = {"today": run.cost_today, "chosen": run.cost_chosen}
-    policies = {name: {"s": its.point, "S": its.level, "cost": its.cost, "fill": its.fill, "short": its.short,
-                       "stock": its.stock, "orders": its.orders, **({"run_cost": costs[name]} if name in costs else {})}
-                for name, its in (("today", answer.today), ("chosen", answer.chosen), ("alone", answer.alone)) if its}
-    exact = {"scale": str(run.scale), "key": run.key, "initial": run.initial,
-             "rates": {"setup": run.setup, "unit": 0, "holding": run.holding, "backlog": run.backlog},
-             "totals": [run.total_today, run.total_chosen], "diff_mean": str(run.difference),
-             "diff_var": str(run.variance)}
-    law = answer.law
-    return {**policies, "verdict": answer.verdict, "saving": answer.saving, "error": run.error,
-            "low": run.low, "high": run.high, "confidence_cost": answer.confidence_cost, "law": law.family,
-            "share": law.share, "log10_bayes": law.log10_bayes, "mean": law.mean,
-            "demands": sum(count > 0 for count in item.counts), "periods": len(item.counts), "step": answer.step,
-            "warnings": [it.code for it in answer.remarks],
-            "exact": exact}
+    run, law, figures = answer.run, answer.law, Figures()
+    for name in ("today", "chosen", "alone"):
+        if its := getattr(answer, name):
+            figures[name] = policy_figures(its)
+            if name != "alone":
+                figures[name]["run_cost"] = getattr(run, f"cost_{name}")
+    return figures | {
+        "verdict": answer.verdict,
+        "saving": answer.saving,
+        "error": run.error,
+        "low": run.low,
+        "high": run.high,
+        "confidence_cost": answer.confidence_cost,
+        "law": law.family,
+        "share": law.share,
+        "log10_bayes": law.log10_bayes,
+        "mean": law.mean,
+        "demands": sum(count > 0 for count in item.counts),
+        "periods": len(item.counts),
+        "step": answer.step,
+        "warnings": [it.code for it in answer.remarks],
+        "exact": run_figures(run),
+    }
 
 
 def read_rows(folder: Path) -> Figures:
     """Returns what became of the rows of a catalogue: counts, and the places of what was left out."""
     with contextlib.closing(Catalogued(folder / READ)) as read:
-        files = {kind: {name: value for name, value in its.items() if name != "name"}
-                 for kind, its in read.fact("counts")["files"].items()}
-        rejects = [[it.kind, it.line, it.item, it.column, it.text, it.rows] for it in read.rejects()]
-        return {"files": files, "items": read.fact("counts")["items"], "rejects": rejects}
+        files = {
+            kind: {name: value for name, value in its.items() if name != "name"}
+            for kind, its in read.fact("counts")["files"].items()
+        }
+        rejects = [
+            [it.kind, it.line, it.item, it.column, it.text, it.rows]
+            for it in read.rejects()
+        ]
+        return {
+            "files": files,
+            "items": read.fact("counts")["items"],
+            "rejects": rejects,
+        }
 
 
 def curve_rows(folder: Path, program: str, jobs: int, **budget: float) -> list[Figures]:
     """Returns the points of the exchange curve under a budget, the named ones first."""
-    return records(crn.exchange_curve(folder, jobs=jobs, program=program, **budget).frame)
+    return records(
+        crn.exchange_curve(folder, jobs=jobs, program=program, **budget).frame
+    )
 
 
 def candidate_rows(folder: Path, names: Iterable[str]) -> dict[str, Figures]:
@@ -171,7 +249,11 @@ def candidate_rows(folder: Path, names: Iterable[str]) -> dict[str, Figures]:
             its, rows = answer.candidates, dict[int, list[list[float]]]()
             for variant, *row in its.rows.tolist():
                 rows.setdefault(int(variant), []).append(row)
-            sums = {str(variant): [len(some), *map(sum, zip(*some))] for variant, some in rows.items() if variant}
+            sums = {
+                str(variant): [len(some), *map(sum, zip(*some))]
+                for variant, some in rows.items()
+                if variant
+            }
             found[name] = {"demand": its.demand, "rows": rows[0], "sums": sums}
     return found
 
@@ -198,35 +280,72 @@ name = "{name}"
 def item_rows(name: str, item: Item, program: str) -> Figures:
     """Plans an item alone, and returns each figure: of theory, of the program, of doubt and the moves."""
     assert item.backlog is not None
-    holding = float(f"{float(item.holding):.1g}")  # so that all costs are whole numbers of one unit
-    text = SETTINGS.format(name=name, leads=[*item.leads], s=item.levels[0], S=item.levels[1], setup=item.setup,
-                           holding=f"{holding:.6f}", backlog=f"{round(item.backlog / item.holding) * holding:.6f}")
+    holding = float(
+        f"{float(item.holding):.1g}"
+    )  # so that all costs are whole numbers of one unit
+    text = SETTINGS.format(
+        name=name,
+        leads=[*item.leads],
+        s=item.levels[0],
+        S=item.levels[1],
+        setup=item.setup,
+        holding=f"{holding:.6f}",
+        backlog=f"{round(item.backlog / item.holding) * holding:.6f}",
+    )
     with tempfile.TemporaryDirectory() as room:
         folder = Path(room)
-        (folder / "history.csv").write_text("\n".join(["demand", *map(str, item.counts)]) + "\n", "utf-8")
+        (folder / "history.csv").write_text(
+            "\n".join(["demand", *map(str, item.counts)]) + "\n", "utf-8"
+        )
         (folder / "settings.toml").write_text(text, "utf-8")
-        return item_figures(planned(read_item(folder / "history.csv", folder / "settings.toml"), program))
+        return item_figures(
+            planned(
+                read_item(folder / "history.csv", folder / "settings.toml"), program
+            )
+        )
 
 
 def item_figures(depth: Depth) -> Figures:
     """Returns the figures of an item's plan, in the program's units as its scenario has them."""
-    scale = float(depth.question.scale)
-    scenario, doubt, names = depth.scenario, depth.doubt, {CHOSEN: "best"}
-    law = {name: {"mean": float(its.mean), "largest": its.values[-1], "values": len(its.values)}
-           for name, its in (("demand", scenario.demand), ("lead", scenario.lead))}
-    compared = {names.get(it.name, it.name): it for it in depth.compared}
-    theory = {name: {"s": it.figures.point, "S": it.figures.level, "cost": it.figures.cost * scale,
-                     "fill": it.figures.fill, "short": it.figures.short, "stock": it.figures.stock,
-                     "orders": it.figures.orders} for name, it in compared.items()}
-    decision = {name: {"cost": it.run.cost * scale, "diff": it.run.diff * scale, "verdict": it.verdict}
-                for name, it in compared.items()}
-    return {"laws": law, "theory": theory, "decision": decision,
-            "doubt": by_policy({**row, "policy": names.get(row["policy"], row["policy"])}
-                               for row in records(doubt.frame)) if doubt else {},
-            "sensitivity": {
-                it.words: {"case": it.words, "s": it.s, "S": it.S, "cost": it.cost * scale, "fill": it.fill,
-                           "kept_cost": it.kept_cost * scale, "kept_more": it.kept_more, "kept_fill": it.kept_fill}
-                for it in depth.moves.moves}}
+    scale, names = float(depth.question.scale), {CHOSEN: "best"}
+    figures: Figures = {name: {} for name in ("laws", "theory", "decision")}
+    for name in ("demand", "lead"):
+        law = getattr(depth.scenario, name)
+        figures["laws"][name] = {
+            "mean": float(law.mean),
+            "largest": law.values[-1],
+            "values": len(law.values),
+        }
+    for it in depth.compared:
+        name = names.get(it.name, it.name)
+        figures["theory"][name] = policy_figures(it.figures, scale)
+        figures["decision"][name] = {
+            "cost": it.run.cost * scale,
+            "diff": it.run.diff * scale,
+            "verdict": it.verdict,
+        }
+    rows = records(depth.doubt.frame) if depth.doubt else []
+    figures["doubt"] = by_policy(
+        {**row, "policy": names.get(row["policy"], row["policy"])} for row in rows
+    )
+    figures["sensitivity"] = {
+        it.words: move_figures(it, scale) for it in depth.moves.moves
+    }
+    return figures
+
+
+def move_figures(move: Any, scale: float) -> Figures:
+    """Returns the figures of an assumption that is moved."""
+    return {
+        "case": move.words,
+        "s": move.s,
+        "S": move.S,
+        "cost": move.cost * scale,
+        "fill": move.fill,
+        "kept_cost": move.kept_cost * scale,
+        "kept_more": move.kept_more,
+        "kept_fill": move.kept_fill,
+    }
 
 
 def items_of(files: Mapping[str, Any], folder: Path) -> dict[str, Item]:

@@ -12,7 +12,7 @@ from typing import Any
 import pandas as pd
 
 import crnplan as crn
-from crnplan.records.item import Item
+from crnplan.read.item import Item
 from planner.bench.made import make
 from planner.golden import house
 from planner.golden.house import Figures
@@ -21,7 +21,10 @@ TOP = Path(__file__).parents[2]
 EXAMPLES = TOP / "examples"
 SCENARIOS = ("two_policies", "spare_part", "mail_order")
 ITEMS, CANDIDATES, ALONE = 300, 60, 50
-FEW, PLANNED = 40, 15  # of a small catalogue: items that teach, and those of them that are planned
+FEW, PLANNED = (
+    40,
+    15,
+)  # of a small catalogue: items that teach, and those of them that are planned
 # Keys of a long run of a scenario.
 KEYS = 6
 
@@ -31,10 +34,13 @@ def scenarios(program: str, jobs: int) -> Figures:
     found: Figures = {}
     for name in SCENARIOS:
         scenario = crn.Scenario.read(EXAMPLES / f"{name}.toml")
-        found[name] = {"run": house.run_rows(scenario, program), "theory": house.theory_rows(scenario),
-                       "long_run": house.long_run_rows(scenario, program, KEYS),
-                       "sensitivity": house.sensitivity_rows(scenario, program),
-                       "trajectory": house.drawn_stocks(scenario, program, 8)}
+        found[name] = {
+            "run": house.run_rows(scenario, program),
+            "theory": house.theory_rows(scenario),
+            "long_run": house.long_run_rows(scenario, program, KEYS),
+            "sensitivity": house.sensitivity_rows(scenario, program),
+            "trajectory": house.drawn_stocks(scenario, program, 8),
+        }
     return found
 
 
@@ -43,36 +49,72 @@ def case(program: str, jobs: int) -> Figures:
     folder = EXAMPLES / "case"
     counts = crn.read_history(folder / "history.csv", demand="demand")
     leads = crn.read_lead_times(folder / "lead_times.csv", lead="weeks")
-    own, suggested = (crn.Scenario.read(folder / f"{name}.toml") for name in ("scenario", "suggested"))
-    planned = house.item_figures(house.planned(house.read_item(folder / "history.csv", folder / "settings.toml"),
-                                               program))
-    return {"fit": house.fitted(counts, leads), "run": house.run_rows(own, program),
-            "theory": house.theory_rows(own), "long_run": house.long_run_rows(suggested, program, 48),
-            "sensitivity": house.sensitivity_rows(suggested, program), "item": planned,
-            "doubt": house.doubt_rows(suggested, counts, leads), "sweep": house.sweep_rows(own, program)}
+    own, suggested = (
+        crn.Scenario.read(folder / f"{name}.toml") for name in ("scenario", "suggested")
+    )
+    planned = house.item_figures(
+        house.planned(
+            house.read_item(folder / "history.csv", folder / "settings.toml"), program
+        )
+    )
+    return {
+        "fit": house.fitted(counts, leads),
+        "run": house.run_rows(own, program),
+        "theory": house.theory_rows(own),
+        "long_run": house.long_run_rows(suggested, program, 48),
+        "sensitivity": house.sensitivity_rows(suggested, program),
+        "item": planned,
+        "doubt": house.doubt_rows(suggested, counts, leads),
+        "sweep": house.sweep_rows(own, program),
+    }
 
 
-def planned(files: dict[str, Any], program: str, jobs: int, candidates: int, **settings: Any) -> Figures:
+def planned(
+    files: dict[str, Any], program: str, jobs: int, candidates: int, **settings: Any
+) -> Figures:
     """Returns the figures of a catalogue: what was read, the plan, the curve and the candidates of some items."""
     with tempfile.TemporaryDirectory() as room:
         folder = Path(room) / "plan"
         house.plan_catalogue(files, folder, program, jobs, **settings)
-        items, curve = house.plan_rows(folder), house.curve_rows(folder, program, jobs, fill=0.97)
+        items, curve = house.plan_rows(folder), house.curve_rows(
+            folder, program, jobs, fill=0.97
+        )
         value = next(it["value"] for it in curve if it["point"] == "today")
         orders = next(it["orders"] for it in curve if it["point"] == "today")
-        budgets = {"value": {"stock_value": 0.8 * value}, "fill and orders": {"fill": 0.95, "orders": 0.8 * orders},
-                   "value and orders": {"stock_value": 1.1 * value, "orders": 0.8 * orders}}
-        points = {name: [it for it in house.curve_rows(folder, program, jobs, **its) if it["point"] == "budget"]
-                  for name, its in budgets.items()}
-        names = [name for name, its in items.items() if "fault" not in its][::max(1, len(items) // candidates)]
-        return {"read": house.read_rows(folder), "items": items, "curve": curve, "budgets": points,
-                "candidates": house.candidate_rows(folder, names)}
+        budgets = {
+            "value": {"stock_value": 0.8 * value},
+            "fill and orders": {"fill": 0.95, "orders": 0.8 * orders},
+            "value and orders": {"stock_value": 1.1 * value, "orders": 0.8 * orders},
+        }
+        points = {
+            name: [
+                it
+                for it in house.curve_rows(folder, program, jobs, **its)
+                if it["point"] == "budget"
+            ]
+            for name, its in budgets.items()
+        }
+        names = [name for name, its in items.items() if "fault" not in its][
+            :: max(1, len(items) // candidates)
+        ]
+        return {
+            "read": house.read_rows(folder),
+            "items": items,
+            "curve": curve,
+            "budgets": points,
+            "candidates": house.candidate_rows(folder, names),
+        }
 
 
 def example_catalogue(program: str, jobs: int) -> Figures:
     """Returns the figures of the catalogue of the examples."""
     folder = EXAMPLES / "catalogue"
-    return planned({it: folder / f"{it}.csv" for it in ("demand", "items", "orders")}, program, jobs, 6)
+    return planned(
+        {it: folder / f"{it}.csv" for it in ("demand", "items", "orders")},
+        program,
+        jobs,
+        6,
+    )
 
 
 def catalogue(program: str, jobs: int) -> Figures:
@@ -107,7 +149,11 @@ def with_boxes(folder: Path) -> None:
 def plan_first(folder: Path, count: int) -> None:
     """Changes a made catalogue: later items only teach others, since their costs are too far apart for a plan."""
     masters = pd.read_csv(folder / "items.csv", dtype=str, keep_default_na=False)
-    masters.loc[masters.index[count:], ["holding", "backlog", "fill"]] = "0.0001", "500", ""
+    masters.loc[masters.index[count:], ["holding", "backlog", "fill"]] = (
+        "0.0001",
+        "500",
+        "",
+    )
     masters.to_csv(folder / "items.csv", index=False)
 
 
@@ -117,7 +163,16 @@ def few(program: str, jobs: int) -> Figures:
         made = make(Path(room), FEW)
         with_boxes(made.folder)
         plan_first(made.folder, PLANNED)
-        return planned(made.paths, program, jobs, PLANNED, borrow="all", confidence=0.8, periods=64, replications=8)
+        return planned(
+            made.paths,
+            program,
+            jobs,
+            PLANNED,
+            borrow="all",
+            confidence=0.8,
+            periods=64,
+            replications=8,
+        )
 
 
 def alone_of(program: str, item: Item) -> tuple[str, Figures]:
@@ -137,20 +192,44 @@ def items(program: str, jobs: int) -> Figures:
 
 def study_of(name: str) -> tuple[str, list[Figures]]:
     """Runs the smallest part of a study."""
-    from planner.studies import borrowing, dependence, doubt, fills, laws, laws_leads, search, warnings
+    from planner.studies import (
+        borrowing,
+        dependence,
+        doubt,
+        fills,
+        laws,
+        laws_leads,
+        search,
+        warnings,
+    )
+
     parts: dict[str, Callable[[], pd.DataFrame]] = {
         "borrowing": lambda: borrowing.study(**borrowing.SMALL | {"most": 3}),
-        "borrowing_odd": lambda: borrowing.odd_study(**borrowing.SMALL_ODD | {"histories": 2}),
+        "borrowing_odd": lambda: borrowing.odd_study(
+            **borrowing.SMALL_ODD | {"histories": 2}
+        ),
         "dependence": lambda: dependence.study(dependence.SMALL, 4, 60),
         "doubt": lambda: doubt.study(**doubt.SMALL | {"histories": 2}),
         "fills": lambda: fills.study(**fills.SMALL | {"laws": ("INT",)}),
         "laws": lambda: laws.study(**laws.SMALL | {"histories": 3}),
-        "laws_leads": lambda: laws_leads.study(2, (5,)), "search": lambda: search.study(**search.SMALL),
-        "warnings": lambda: warnings.study(**warnings.SMALL)}
+        "laws_leads": lambda: laws_leads.study(2, (5,)),
+        "search": lambda: search.study(**search.SMALL),
+        "warnings": lambda: warnings.study(**warnings.SMALL),
+    }
     return name, house.records(parts[name]())
 
 
-STUDIES = ("borrowing", "borrowing_odd", "dependence", "doubt", "fills", "laws", "laws_leads", "search", "warnings")
+STUDIES = (
+    "borrowing",
+    "borrowing_odd",
+    "dependence",
+    "doubt",
+    "fills",
+    "laws",
+    "laws_leads",
+    "search",
+    "warnings",
+)
 
 
 def studies(program: str, jobs: int) -> Figures:
@@ -160,7 +239,14 @@ def studies(program: str, jobs: int) -> Figures:
 
 
 Part = Callable[[str, int], Figures]
-PARTS: dict[str, Part] = {"scenarios": scenarios, "few": few, "case": case, "example_catalogue": example_catalogue,
-                          "catalogue": catalogue, "items": items, "studies": studies}
+PARTS: dict[str, Part] = {
+    "scenarios": scenarios,
+    "few": few,
+    "case": case,
+    "example_catalogue": example_catalogue,
+    "catalogue": catalogue,
+    "items": items,
+    "studies": studies,
+}
 # The parts that the gate computes.
 FAST = ("scenarios", "few")

@@ -27,7 +27,12 @@ import click
 import numpy as np
 import pandas as pd
 
-from crnplan.demand.checks import largest_periods, largest_places, remarks_of, share_of_variance
+from crnplan.demand.checks import (
+    largest_periods,
+    largest_places,
+    remarks_of,
+    share_of_variance,
+)
 from crnplan.demand.learning import Prior
 from crnplan.errors import Refused
 from crnplan.plan.backtest.one import Walk, Walked
@@ -73,8 +78,12 @@ def broken(job: Job, fill: Fraction) -> bool:
 def codes_of(record: Sequence[int]) -> list[str]:
     """Returns the codes of a record."""
     codes = [remark.code for remark in remarks_of(record, "week", 0)]
-    return codes + [name for name, count in DECIDING.items() if largest_periods(record)
-                    and share_of_variance(record, largest_places(record, count)) > HALF]
+    return codes + [
+        name
+        for name, count in DECIDING.items()
+        if largest_periods(record)
+        and share_of_variance(record, largest_places(record, count)) > HALF
+    ]
 
 
 def row_of(job: Job) -> dict[str, Any] | None:
@@ -83,23 +92,39 @@ def row_of(job: Job) -> dict[str, Any] | None:
         missed = {fill: int(broken(job, share)) for fill, share in FILLS.items()}
     except Refused:
         return None
-    return {"set": job.kind, "cluster": cluster_of(job.kind, job.series.name), "item": job.number,
-            "codes": "; ".join(codes_of(job.series.counts[:job.walk[0]])), **missed}
+    return {
+        "set": job.kind,
+        "cluster": cluster_of(job.kind, job.series.name),
+        "item": job.number,
+        "codes": "; ".join(codes_of(job.series.counts[: job.walk[0]])),
+        **missed,
+    }
 
 
-def study(sets: Sequence[str] = SETS, kinds: Sequence[str] = ("shift",), items: int = ITEMS,
-          jobs: int = 1) -> pd.DataFrame:
+def study(
+    sets: Sequence[str] = SETS,
+    kinds: Sequence[str] = ("shift",),
+    items: int = ITEMS,
+    jobs: int = 1,
+) -> pd.DataFrame:
     """Returns a row for each series that can be planned."""
-    work = [Job(kind, number, series, WALKS.get(kind, WALK)) for kind, its in sets_of(sets, kinds, items)
-            for number, series in enumerate(its)]
+    work = [
+        Job(kind, number, series, WALKS.get(kind, WALK))
+        for kind, its in sets_of(sets, kinds, items)
+        for number, series in enumerate(its)
+    ]
     with ProcessPoolExecutor(jobs) as pool:
         return pd.DataFrame([row for row in pool.map(row_of, work) if row])
 
 
-def difference(rows: pd.DataFrame, has: pd.Series[bool], fill: str) -> tuple[float, float]:
+def difference(
+    rows: pd.DataFrame, has: pd.Series[bool], fill: str
+) -> tuple[float, float]:
     """Returns how much oftener promises are broken with a code than without it, within sets, and its error."""
     code, missed = has.astype(float), rows[fill].astype(float)
-    code, missed = (its - its.groupby(rows["set"]).transform("mean") for its in (code, missed))
+    code, missed = (
+        its - its.groupby(rows["set"]).transform("mean") for its in (code, missed)
+    )
     own = float((code * missed).sum() / (code**2).sum())
     influence = code * (missed - own * code) / (code**2).sum()
     clusters = pd.factorize(rows["cluster"])[0]
@@ -113,12 +138,18 @@ def lines_of(rows: pd.DataFrame) -> Iterator[dict[str, str]]:
     lines = list[tuple[float, dict[str, str]]]()
     for name in counts.index[(counts >= LEAST) & (counts.index != "")]:
         has = codes.map(lambda own, name=name: name in own)
-        line, own = {"code": name, "items": str(has.sum()), "sets": str(rows[has]["set"].nunique())}, 0.0
+        line, own = {
+            "code": name,
+            "items": str(has.sum()),
+            "sets": str(rows[has]["set"].nunique()),
+        }, 0.0
         for fill in FILLS:
             own, error = difference(rows, has, fill)
-            line |= {f"broke {fill}%: with it, %": f"{100 * rows[has][fill].mean():.0f}",
-                     f"{fill}%: without, %": f"{100 * rows[~has][fill].mean():.0f}",
-                     f"{fill}%: difference within sets, points": f"{100 * own:+.0f} ± {100 * error:.0f}"}
+            line |= {
+                f"broke {fill}%: with it, %": f"{100 * rows[has][fill].mean():.0f}",
+                f"{fill}%: without, %": f"{100 * rows[~has][fill].mean():.0f}",
+                f"{fill}%: difference within sets, points": f"{100 * own:+.0f} ± {100 * error:.0f}",
+            }
         lines.append((own, line))
     yield from (line for _, line in sorted(lines, key=lambda pair: -pair[0]))
 
@@ -126,9 +157,15 @@ def lines_of(rows: pd.DataFrame) -> Iterator[dict[str, str]]:
 def share_of(rows: pd.DataFrame, fill: str) -> str:
     """Returns the share of items that broke their promise, in percent, with the error of its clusters if they are
     several."""
-    mean, clusters = rows[fill].mean(), np.asarray(pd.factorize(rows["cluster"])[0], np.int64)
+    mean, clusters = rows[fill].mean(), np.asarray(
+        pd.factorize(rows["cluster"])[0], np.int64
+    )
     influence = (rows[fill] - mean).to_numpy(float) / len(rows)
-    error = f" ± {100 * math.sqrt(squares(influence, clusters)):.0f}" if len(np.unique(clusters)) > 1 else ""
+    error = (
+        f" ± {100 * math.sqrt(squares(influence, clusters)):.0f}"
+        if len(np.unique(clusters)) > 1
+        else ""
+    )
     return f"{100 * mean:.0f}{error}"
 
 
@@ -136,17 +173,36 @@ def tables() -> dict[str, str]:
     """Returns the stored figures for the page: of sets, and of codes."""
     stored = pd.read_csv(STORED, keep_default_na=False)
     rows = stored[stored["set"].isin(SETS)].reset_index(drop=True)
-    sets = [{"set": str(name), "items": str(len(own)), "clusters": str(own["cluster"].nunique()),
-             **{f"broke {fill}%, %": share_of(own, fill) for fill in FILLS}} for name, own in (
-                 *rows.groupby("set", sort=False), ("all", rows))]
-    return {"broken-sets": markdown(pd.DataFrame(sets)), "broken": markdown(pd.DataFrame(lines_of(rows)))}
+    sets = [
+        {
+            "set": str(name),
+            "items": str(len(own)),
+            "clusters": str(own["cluster"].nunique()),
+            **{f"broke {fill}%, %": share_of(own, fill) for fill in FILLS},
+        }
+        for name, own in (*rows.groupby("set", sort=False), ("all", rows))
+    ]
+    return {
+        "broken-sets": markdown(pd.DataFrame(sets)),
+        "broken": markdown(pd.DataFrame(lines_of(rows))),
+    }
 
 
 @click.command()
 @click.option("--small", is_flag=True, help="Run a small part, of made series.")
 @click.option("--jobs", type=click.IntRange(1), default=1, show_default=True)
-@click.option("--items", type=click.IntRange(2), default=ITEMS, show_default=True, help="Series of a set, at most.")
-@click.option("--out", type=click.Path(dir_okay=False, path_type=Path), help="Write the rows as CSV.")
+@click.option(
+    "--items",
+    type=click.IntRange(2),
+    default=ITEMS,
+    show_default=True,
+    help="Series of a set, at most.",
+)
+@click.option(
+    "--out",
+    type=click.Path(dir_okay=False, path_type=Path),
+    help="Write the rows as CSV.",
+)
 def main(small: bool, jobs: int, items: int, out: Path | None) -> None:
     """Measure what warnings say of the periods that come."""
     rows = study(**SMALL, jobs=jobs) if small else study(items=items, jobs=jobs)

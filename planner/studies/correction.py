@@ -45,7 +45,7 @@ from crnplan.crnsim.periods import Past, periods_of
 from crnplan.plan.backtest.sums import BLOCK, Ratio
 from crnplan.plan.correction import levels_of, trial_of
 from crnplan.plan.question import ALL, NONE, Levels, Settings, question_of
-from crnplan.records.item import Item
+from crnplan.read.item import Item
 from planner.studies.page import markdown
 from planner.studies.real_series import Series, real_series
 from planner.studies.walk_forward import COVER, HOLDING, LEAD, MADE, MANY, STRIDE
@@ -57,7 +57,9 @@ BLOCKS = "blocks"
 LEAST_ITEMS = 10
 GROUPS = {  # of sets: made ones and `cases`, on which the way was chosen, others that change, and epidemics
     "chosen on": ("steady", "promotions", "shifts", "cases"),
-    "unseen": ("juice", "cheese", "homes", "prescriptions", "rides"), "epidemics": ("outbreaks", "flu", "measles")}
+    "unseen": ("juice", "cheese", "homes", "prescriptions", "rides"),
+    "epidemics": ("outbreaks", "flu", "measles"),
+}
 TAKEN = "blocks class"
 SHOWN = ("none all", "half all", "blocks all", TAKEN, "walk class", "hindsight all")
 SMALL = "small"  # a set for a test, in no table
@@ -113,8 +115,12 @@ def walk(record: int) -> list[Pass]:
 
 def refitted(first: int, stop: int) -> Pass:
     """Returns plans that are refitted."""
-    return Pass(tuple(((max(0, origin - WINDOW), origin), origin, min(origin + EVERY, stop))
-                      for origin in range(first, stop, EVERY)))
+    return Pass(
+        tuple(
+            ((max(0, origin - WINDOW), origin), origin, min(origin + EVERY, stop))
+            for origin in range(first, stop, EVERY)
+        )
+    )
 
 
 WAYS: dict[str, Callable[[int], list[Pass]]] = {"half": half, "walk": walk}
@@ -123,31 +129,54 @@ WAYS: dict[str, Callable[[int], list[Pass]]] = {"half": half, "walk": walk}
 def judges(catalogue: Catalogue) -> dict[str, Pass]:
     """Returns the policies on which ways are judged."""
     record, stop = catalogue.record, catalogue.stop
-    return {"kept": Pass((((0, record), record, stop),)), "refitted": refitted(record, stop)}
+    return {
+        "kept": Pass((((0, record), record, stop),)),
+        "refitted": refitted(record, stop),
+    }
 
 
 def item_of(series: Series, record: int) -> Item:
     """Returns an item with the counts of a record."""
-    setup = Fraction(max(1, round(100 * HOLDING * np.mean(series.counts[:record]) * COVER**2 / 2)), 100)
-    return Item(series.name, series.counts[:record], (LEAD,), (0, 1), setup, Fraction(HOLDING), fill=Fraction(19, 20))
+    setup = Fraction(
+        max(1, round(100 * HOLDING * np.mean(series.counts[:record]) * COVER**2 / 2)),
+        100,
+    )
+    return Item(
+        series.name,
+        series.counts[:record],
+        (LEAD,),
+        (0, 1),
+        setup,
+        Fraction(HOLDING),
+        fill=Fraction(19, 20),
+    )
 
 
 def prior_of(histories: Iterable[Sequence[int]]) -> Prior:
     """Returns what items learn from one another, if there are 30."""
     try:
-        return learn([np.minimum(counts, 2**31).astype(np.uint32) for counts in histories], None, ALL,
-                     least=LEAST_ON_REQUEST)
+        return learn(
+            [np.minimum(counts, 2**31).astype(np.uint32) for counts in histories],
+            None,
+            ALL,
+            least=LEAST_ON_REQUEST,
+        )
     except Refused:
         return Prior(NONE)
 
 
 def policies_of(item: Item, prior: Prior) -> list[Levels]:
     """Returns the policies of an item for `FILLS`."""
-    levels = levels_of(question_of(item, Settings(borrow=prior.borrow), prior).theory())
+    levels = levels_of(question_of(item, Settings(borrow=prior.borrow), prior).theory)
     return [(point * item.box, level * item.box) for point, level in levels]
 
 
-def runs_of(counts: Sequence[int], through: Pass, plans: Mapping[Part, list[Levels]], start: float) -> Runs:
+def runs_of(
+    counts: Sequence[int],
+    through: Pass,
+    plans: Mapping[Part, list[Levels]],
+    start: float,
+) -> Runs:
     """Returns what policies come to on counts. They begin with nothing on order, and with a stock that is a share of
     the way from s to S."""
     (part, first, _), stop = through.stretches[0], through.stretches[-1][2]
@@ -163,13 +192,18 @@ def runs_of(counts: Sequence[int], through: Pass, plans: Mapping[Part, list[Leve
     return Runs(first, np.array(counts[first:stop], float), unmet, stock)
 
 
-def plans_of(item: Item, counts: Sequence[int], priors: Mapping[Part, Prior]) -> dict[Part, list[Levels]]:
+def plans_of(
+    item: Item, counts: Sequence[int], priors: Mapping[Part, Prior]
+) -> dict[Part, list[Levels]]:
     """Returns the policies of an item from parts of its counts, the record first. A part that has no plan has that of
     the record. Raises Refused if that has none."""
     plans, record = dict[Part, list[Levels]](), (0, len(item.counts))
     for part in (record, *priors):
         try:
-            plans[part] = policies_of(dataclasses.replace(item, counts=tuple(counts[slice(*part)])), priors[part])
+            plans[part] = policies_of(
+                dataclasses.replace(item, counts=tuple(counts[slice(*part)])),
+                priors[part],
+            )
         except Refused:
             plans[part] = plans[record] if part != record else []
     if not plans[record]:
@@ -177,9 +211,11 @@ def plans_of(item: Item, counts: Sequence[int], priors: Mapping[Part, Prior]) ->
     return plans
 
 
-def tested(series: Series, catalogue: Catalogue, priors: Mapping[Part, Prior]) -> Tested | None:
+def tested(
+    series: Series, catalogue: Catalogue, priors: Mapping[Part, Prior]
+) -> Tested | None:
     """Returns an item with its trials; None if it can't be planned from its record, or nothing is asked for later."""
-    record, counts = catalogue.record, series.counts[:catalogue.stop]
+    record, counts = catalogue.record, series.counts[: catalogue.stop]
     if not any(counts[:record]) or not any(counts[record:]):
         return None
     item, prior = item_of(series, record), priors[0, record]
@@ -188,20 +224,42 @@ def tested(series: Series, catalogue: Catalogue, priors: Mapping[Part, Prior]) -
         trials = {BLOCKS: trial_of(item, Settings(borrow=prior.borrow), prior)}
     except Refused:
         return None
-    start, mean = float(np.random.default_rng([*series.name.encode()]).random()), float(np.mean(item.counts))
+    start, mean = float(np.random.default_rng([*series.name.encode()]).random()), float(
+        np.mean(item.counts)
+    )
     for way, passes in WAYS.items():
         runs = [runs_of(counts, through, plans, start) for through in passes(record)]
-        asked, unmet = (sum(one) / mean for one in zip(*((run.asked.sum(), run.unmet.sum(axis=0)) for run in runs)))
+        asked, unmet = (
+            sum(one) / mean
+            for one in zip(*((run.asked.sum(), run.unmet.sum(axis=0)) for run in runs))
+        )
         trials[way] = Trial(mean, asked, tuple(unmet))
-    return Tested(item.counts, float(np.mean(counts)), trials, {
-        policy: runs_of(counts, through, plans, start) for policy, through in judges(catalogue).items()})
+    return Tested(
+        item.counts,
+        float(np.mean(counts)),
+        trials,
+        {
+            policy: runs_of(counts, through, plans, start)
+            for policy, through in judges(catalogue).items()
+        },
+    )
 
 
-def tests_of(catalogue: Catalogue, mapped: Callable[..., Iterable[Tested | None]] = map) -> list[Tested]:
+def tests_of(
+    catalogue: Catalogue, mapped: Callable[..., Iterable[Tested | None]] = map
+) -> list[Tested]:
     """Returns the items of a set. `mapped` calls a function for each series, as `map` does."""
-    passes = [*judges(catalogue).values(), *(through for way in WAYS.values() for through in way(catalogue.record))]
-    parts = dict.fromkeys(part for through in passes for part, _, _ in through.stretches)
-    priors = {part: prior_of(series.counts[slice(*part)] for series in catalogue.series) for part in parts}
+    passes = [
+        *judges(catalogue).values(),
+        *(through for way in WAYS.values() for through in way(catalogue.record)),
+    ]
+    parts = dict.fromkeys(
+        part for through in passes for part, _, _ in through.stretches
+    )
+    priors = {
+        part: prior_of(series.counts[slice(*part)] for series in catalogue.series)
+        for part in parts
+    }
     work = partial(tested, catalogue=catalogue._replace(series=()), priors=priors)
     return [test for test in mapped(work, catalogue.series) if test]
 
@@ -210,7 +268,9 @@ def at(values: Floats, aim: float) -> Floats:
     """Returns what stands between the columns of `FILLS` at a fill rate, by the logarithm of what it leaves unmet."""
     place = float(np.interp(-math.log1p(-aim), -LOGS, np.arange(len(FILLS))))
     low = min(int(place), len(FILLS) - 2)
-    mixed: Floats = values[:, low] * (1 - place + low) + values[:, low + 1] * (place - low)
+    mixed: Floats = values[:, low] * (1 - place + low) + values[:, low + 1] * (
+        place - low
+    )
     return mixed
 
 
@@ -225,16 +285,30 @@ class Judged(NamedTuple):
 def judged(tests: Sequence[Tested], policy: str, aims: Sequence[float]) -> Judged:
     """Returns what a policy comes to if items have these aims."""
     runs = [test.judged[policy] for test in tests]
-    weights = np.repeat([1 / test.mean for test in tests], [len(run.asked) for run in runs])
+    weights = np.repeat(
+        [1 / test.mean for test in tests], [len(run.asked) for run in runs]
+    )
     unmet = np.concatenate([at(run.unmet, aim) for run, aim in zip(runs, aims)])
     items = np.repeat(np.arange(len(tests)), [len(run.asked) for run in runs])
     blocks = np.concatenate([np.arange(len(run.asked)) for run in runs]) // BLOCK
-    ratio = Ratio(unmet * weights, np.concatenate([run.asked for run in runs]) * weights, items, blocks)
-    stock = np.mean([at(run.stock, aim).mean() / test.mean for test, run, aim in zip(tests, runs, aims)])
+    ratio = Ratio(
+        unmet * weights,
+        np.concatenate([run.asked for run in runs]) * weights,
+        items,
+        blocks,
+    )
+    stock = np.mean(
+        [
+            at(run.stock, aim).mean() / test.mean
+            for test, run, aim in zip(tests, runs, aims)
+        ]
+    )
     return Judged(1 - ratio.value, ratio.estimate.error, float(stock))
 
 
-def aims_of(tests: Sequence[Tested], wanted: float) -> Iterator[tuple[str, str, list[float]]]:
+def aims_of(
+    tests: Sequence[Tested], wanted: float
+) -> Iterator[tuple[str, str, list[float]]]:
     """Yields each way, for all and by class, with the aim of each item."""
     yield "none", "all", [wanted] * len(tests)
     for way in (BLOCKS, *WAYS):
@@ -252,51 +326,99 @@ def rows_of(catalogue: Catalogue, tests: Sequence[Tested]) -> Iterator[dict[str,
         for wanted in WANTED:
             plain = judged(tests, policy, [wanted] * len(tests))
             hindsight = -math.expm1(np.interp(wanted, fills, LOGS))
-            for way, by, aims in (*aims_of(tests, wanted), ("hindsight", "all", [hindsight] * len(tests))):
+            for way, by, aims in (
+                *aims_of(tests, wanted),
+                ("hindsight", "all", [hindsight] * len(tests)),
+            ):
                 done = judged(tests, policy, aims)
-                yield {"set": catalogue.name, "items": len(tests), "policy": policy, "wanted": wanted, "way": way,
-                       "by": by, "least": min(aims), "most": max(aims), "fill": done.fill, "error": done.error,
-                       "stock": done.stock / plain.stock,
-                       "by_hand": done.stock / np.interp(done.fill, fills, [one.stock for one in curve])}
+                yield {
+                    "set": catalogue.name,
+                    "items": len(tests),
+                    "policy": policy,
+                    "wanted": wanted,
+                    "way": way,
+                    "by": by,
+                    "least": min(aims),
+                    "most": max(aims),
+                    "fill": done.fill,
+                    "error": done.error,
+                    "stock": done.stock / plain.stock,
+                    "by_hand": done.stock
+                    / np.interp(done.fill, fills, [one.stock for one in curve]),
+                }
 
 
 def _shifts(random: np.random.Generator, periods: int) -> Floats:
     """Draws demand whose level changes by chance, once in 40 periods, by a factor whose logarithm deviates by 0.5."""
-    changes = np.where(random.random(periods) < 1 / 40, random.normal(0, 0.5, periods), 0.0)
+    changes = np.where(
+        random.random(periods) < 1 / 40, random.normal(0, 0.5, periods), 0.0
+    )
     mean = np.exp(random.uniform(np.log(1), np.log(30)) + np.cumsum(changes))
     return random.negative_binomial(3, 3 / (3 + mean))
 
 
 def _outbreaks(random: np.random.Generator, periods: int) -> Floats:
     """Draws demand with an outbreak once in 30 periods, which then falls by a quarter in each period."""
-    starts = np.where(random.random(periods) < 1 / 30, random.exponential(8, periods), 0.0)
+    starts = np.where(
+        random.random(periods) < 1 / 30, random.exponential(8, periods), 0.0
+    )
     level = lfilter([1], [1, -0.75], starts)
-    return random.negative_binomial(3, 3 / (3 + np.exp(random.uniform(np.log(0.5), np.log(15))) * (1 + level)))
+    return random.negative_binomial(
+        3, 3 / (3 + np.exp(random.uniform(np.log(0.5), np.log(15))) * (1 + level))
+    )
 
 
-KINDS = {"steady": MADE["steady"], "promotions": MADE["promotions"], "shifts": _shifts, "outbreaks": _outbreaks}
+KINDS = {
+    "steady": MADE["steady"],
+    "promotions": MADE["promotions"],
+    "shifts": _shifts,
+    "outbreaks": _outbreaks,
+}
 
 
-def made(kind: str, number: int, record: int, items: int = 40, later: int = 52) -> Catalogue:
+def made(
+    kind: str, number: int, record: int, items: int = 40, later: int = 52
+) -> Catalogue:
     """Returns a made set."""
     random = np.random.default_rng([[*KINDS].index(kind), number, record])
-    return Catalogue(f"{kind} {number}, {record}", [
-        Series(f"{kind} {place}", tuple(KINDS[kind](random, record + later).tolist())) for place in range(items)],
-        record, record + later)
+    return Catalogue(
+        f"{kind} {number}, {record}",
+        [
+            Series(
+                f"{kind} {place}", tuple(KINDS[kind](random, record + later).tolist())
+            )
+            for place in range(items)
+        ],
+        record,
+        record + later,
+    )
 
 
-def cut(name: str, series: Sequence[Series], record: int, later: int, step: int) -> Iterator[Catalogue]:
+def cut(
+    name: str, series: Sequence[Series], record: int, later: int, step: int
+) -> Iterator[Catalogue]:
     """Yields sets that begin after so many periods each, as long as ten series last."""
     lengths = sorted((len(one.counts) for one in series), reverse=True)
     last = lengths[min(LEAST_ITEMS, len(lengths)) - 1]
     for number, start in enumerate(range(0, last - record - later + 1, step), 1):
-        taken = [one._replace(counts=one.counts[start:]) for one in series if len(one.counts) >= start + record + later]
+        taken = [
+            one._replace(counts=one.counts[start:])
+            for one in series
+            if len(one.counts) >= start + record + later
+        ]
         yield Catalogue(f"{name} {number}, {record}", taken, record, record + later)
 
 
 # The record, the later periods, and after how many periods the next set of the same series begins.
-CUTS = {"cheese": [(39, 22, 99)], "juice": [(52, 44, 99)], "prescriptions": [(13, 10, 99)], "homes": [(52, 52, 60)],
-        **dict.fromkeys(("cases", "flu", "measles", "rides"), [(52, 52, 260), (104, 52, 260)])}
+CUTS = {
+    "cheese": [(39, 22, 99)],
+    "juice": [(52, 44, 99)],
+    "prescriptions": [(13, 10, 99)],
+    "homes": [(52, 52, 60)],
+    **dict.fromkeys(
+        ("cases", "flu", "measles", "rides"), [(52, 52, 260), (104, 52, 260)]
+    ),
+}
 
 
 def catalogues(is_small: bool = False) -> Iterator[Catalogue]:
@@ -305,7 +427,9 @@ def catalogues(is_small: bool = False) -> Iterator[Catalogue]:
     if is_small:
         return
     for number in (1, 2):
-        yield from (made(kind, number, record) for kind in KINDS for record in (52, 104))
+        yield from (
+            made(kind, number, record) for kind in KINDS for record in (52, 104)
+        )
     for name, series in real_series().items():
         taken = series[::STRIDE] if len(series) > MANY else series
         for record, later, step in CUTS.get(name, ()):
@@ -320,41 +444,55 @@ def kind_of(name: str) -> str:
 def merged(stored: pd.DataFrame) -> pd.DataFrame:
     """Returns rows in which the sets of one kind and record are one, each weighing alike: means, and their errors."""
     stored = stored[stored["set"] != SMALL]
-    named = stored.assign(kind=stored["set"].map(kind_of), method=stored["way"] + " " + stored["by"],
-                          record=stored["set"].str.extract(r"(\d+)$", expand=False), square=stored["error"]**2)
+    named = stored.assign(
+        kind=stored["set"].map(kind_of),
+        method=stored["way"] + " " + stored["by"],
+        record=stored["set"].str.extract(r"(\d+)$", expand=False),
+        square=stored["error"] ** 2,
+    )
     by = named.groupby(["kind", "record", "policy", "wanted", "method"], sort=False)
     means, count = by[["fill", "stock", "by_hand"]].mean(), by.size()
-    error = by["square"].sum()**0.5 / count
+    error = by["square"].sum() ** 0.5 / count
     return means.assign(error=error, sets=count, items=by["items"].sum()).reset_index()
 
 
 def sets_table(rows: pd.DataFrame) -> pd.DataFrame:
-    """Returns what the kept plan met, by set, wanted fill rate and way, and its stock beside that without a correction.
-    """
+    """Returns what the kept plan met, by set, wanted fill rate and way, and its stock beside that without a correction."""
     lines = []
-    for (kind, record, wanted), own in rows[rows["policy"] == "kept"].groupby(["kind", "record", "wanted"], sort=False):
+    for (kind, record, wanted), own in rows[rows["policy"] == "kept"].groupby(
+        ["kind", "record", "wanted"], sort=False
+    ):
         ways = own.set_index("method")
-        line = {"set": kind, "record": record, "items": ways["items"].iloc[0], "wanted": f"{100 * wanted:g}"}
+        line = {
+            "set": kind,
+            "record": record,
+            "items": ways["items"].iloc[0],
+            "wanted": f"{100 * wanted:g}",
+        }
         for way in SHOWN:
             fill, error, stock = ways.loc[way, ["fill", "error", "stock"]]
             line[way.removesuffix(" all")] = f"{100 * fill:.1f}" + (
-                f" ± {100 * error:.1f}" if way == SHOWN[0] else f" (x {stock:.2f})")
+                f" ± {100 * error:.1f}" if way == SHOWN[0] else f" (x {stock:.2f})"
+            )
         lines.append(line)
     return pd.DataFrame(lines)
 
 
 def ways_table(rows: pd.DataFrame) -> pd.DataFrame:
-    """Returns how far each way is from what is wanted, in the mean of the sets of a group: with its sign, and without.
-    """
+    """Returns how far each way is from what is wanted, in the mean of the sets of a group: with its sign, and without."""
     lines = []
     for group, kinds in GROUPS.items():
-        own = rows[rows["kind"].isin(kinds)].assign(miss=lambda of: 100 * (of["fill"] - of["wanted"]))
+        own = rows[rows["kind"].isin(kinds)].assign(
+            miss=lambda of: 100 * (of["fill"] - of["wanted"])
+        )
         for (policy, wanted), cases in own.groupby(["policy", "wanted"], sort=False):
             line = {"sets": group, "policy": policy, "wanted": f"{100 * wanted:g}"}
             ways = cases.set_index("method")
             for way in SHOWN[:-1]:
                 miss, stock = ways.loc[[way], "miss"], ways.loc[[way], "stock"].mean()
-                line[way.removesuffix(" all")] = f"{miss.mean():+.1f}, {miss.abs().mean():.1f} (x {stock:.2f})"
+                line[
+                    way.removesuffix(" all")
+                ] = f"{miss.mean():+.1f}, {miss.abs().mean():.1f} (x {stock:.2f})"
             taken = ways.loc[[TAKEN]]
             line["within 2"] = f"{(taken['miss'].abs() <= 2).sum()} of {len(taken)}"
             lines.append(line | {"by hand": f"{taken['by_hand'].mean():.2f}"})
@@ -364,14 +502,21 @@ def ways_table(rows: pd.DataFrame) -> pd.DataFrame:
 def tables() -> dict[str, str]:
     """Returns the stored figures for the page."""
     rows = merged(pd.read_csv(STORED))
-    return {"correction": markdown(ways_table(rows)), "correction-sets": markdown(sets_table(rows))}
+    return {
+        "correction": markdown(ways_table(rows)),
+        "correction-sets": markdown(sets_table(rows)),
+    }
 
 
 @click.command()
 @click.argument("sets", nargs=-1)
 @click.option("--small", is_flag=True, help="A small made set alone.")
 @click.option("--jobs", type=click.IntRange(1), default=1, show_default=True)
-@click.option("--out", type=click.Path(dir_okay=False, path_type=Path), help="Write the rows as CSV.")
+@click.option(
+    "--out",
+    type=click.Path(dir_okay=False, path_type=Path),
+    help="Write the rows as CSV.",
+)
 def main(sets: Sequence[str], small: bool, jobs: int, out: Path | None) -> None:
     """Compare ways to correct wanted fill rates."""
     rows = list[dict[str, Any]]()
@@ -380,7 +525,9 @@ def main(sets: Sequence[str], small: bool, jobs: int, out: Path | None) -> None:
             if not sets or catalogue.name.startswith(tuple(sets)):
                 tests = tests_of(catalogue, partial(pool.map, chunksize=4))
                 rows += rows_of(catalogue, tests) if len(tests) >= LEAST_ITEMS else ()
-                click.echo(f"{catalogue.name}: {len(tests)} of {len(catalogue.series)} items")
+                click.echo(
+                    f"{catalogue.name}: {len(tests)} of {len(catalogue.series)} items"
+                )
                 if out:
                     pd.DataFrame(rows).to_csv(out, index=False, float_format="%.4f")
 

@@ -41,7 +41,11 @@ METHODS = ("empirical", "predictive", "auto")
 FIGURES = ["regret", "promise", "gain"]
 STORED = Path(__file__).with_name("laws.csv")
 HISTORIES = 60
-SMALL: dict[str, Any] = {"laws": ("NB3_9", "INT"), "periods": (26, 52), "histories": 5}  # of `study`
+SMALL: dict[str, Any] = {
+    "laws": ("NB3_9", "INT"),
+    "periods": (26, 52),
+    "histories": 5,
+}  # of `study`
 
 
 class Choice(NamedTuple):
@@ -64,13 +68,17 @@ class LongRuns:
         law = LatticeLaw.scaled(0, chances)
         stay = chances[0] / chances.sum()
         falls = np.zeros(law.high + 1)
-        falls[law.low:] = law.chances / (1 - stay)
+        falls[law.low :] = law.chances / (1 - stay)
         falls[0] = 0.0
         self.span = 1 / (1 - stay)
         self.lows = renewal_sequence(np.ones(1), falls, gaps)
         self.visits = np.cumsum(self.lows)
-        self.costs = np.array([stock_costs(power_of(law, lead + 1), backlog, levels)
-                               for lead, backlog in itertools.product(LEADS, BACKLOGS)])
+        self.costs = np.array(
+            [
+                stock_costs(power_of(law, lead + 1), backlog, levels)
+                for lead, backlog in itertools.product(LEADS, BACKLOGS)
+            ]
+        )
 
     def best(self, orders: Floats) -> list[Choice]:
         """Returns the best policy of each setting. `orders` are the costs of an order, by cover."""
@@ -78,18 +86,22 @@ class LongRuns:
         least = np.empty((len(self.lows), len(sums)))
         places = np.empty(least.shape, np.int64)
         for gap, low in enumerate(self.lows):
-            sums[:, gap:] += low * self.costs[:, :levels - gap]
+            sums[:, gap:] += low * self.costs[:, : levels - gap]
             places[gap] = gap + np.argmin(sums[:, gap:], axis=1)
             least[gap] = sums[np.arange(len(sums)), places[gap]]
-        costs = ((least[:, :, None] + orders / self.span) / self.visits[:, None, None]).reshape(len(least), -1)
+        costs = (
+            (least[:, :, None] + orders / self.span) / self.visits[:, None, None]
+        ).reshape(len(least), -1)
         gaps = np.argmin(costs, axis=0)
-        return [Choice(int(gap), int(places[gap, at // len(COVERS)]), float(costs[gap, at]))
-                for at, gap in enumerate(gaps)]
+        return [
+            Choice(int(gap), int(places[gap, at // len(COVERS)]), float(costs[gap, at]))
+            for at, gap in enumerate(gaps)
+        ]
 
     def cost(self, setting: int, order: float, gap: int, level: int) -> float:
         """Returns the cost of a policy."""
         row = self.costs[setting // len(COVERS)]
-        stock = self.lows[:gap + 1] @ row[level - gap:level + 1][::-1]
+        stock = self.lows[: gap + 1] @ row[level - gap : level + 1][::-1]
         return float((stock + order / self.span) / self.visits[gap])
 
 
@@ -106,13 +118,17 @@ def mixture(*parts: tuple[float, Floats]) -> Floats:
     """Returns a mixture of laws with these shares."""
     law = np.zeros(max(len(it) for _, it in parts))
     for share, it in parts:
-        law[:len(it)] += share * it / it.sum()
+        law[: len(it)] += share * it / it.sum()
     return law
 
 
 def negative_binomial(mean: float, variance: float, cells: int = 2000) -> Floats:
     """Returns a negative binomial law."""
-    law: Floats = np.exp(stats.nbinom.logpmf(np.arange(cells), mean * mean / (variance - mean), mean / variance))
+    law: Floats = np.exp(
+        stats.nbinom.logpmf(
+            np.arange(cells), mean * mean / (variance - mean), mean / variance
+        )
+    )
     return law
 
 
@@ -125,7 +141,7 @@ def poisson(mean: float, cells: int = 200) -> Floats:
 def lognormal(mean: float, variation: float, cells: int = 4000) -> Floats:
     """Returns a rounded lognormal law with a coefficient of variation."""
     deviation = math.sqrt(math.log(1 + variation**2))
-    law = stats.lognorm(deviation, scale=mean * math.exp(-deviation**2 / 2))
+    law = stats.lognorm(deviation, scale=mean * math.exp(-(deviation**2) / 2))
     return np.diff(law.cdf(np.arange(cells) + 0.5), prepend=0.0)
 
 
@@ -136,12 +152,16 @@ def geometric(mean: float, most: int = 400) -> Floats:
 
 def even(low: int, high: int) -> Floats:
     """Returns the even law on a range."""
-    return np.concatenate([np.zeros(low), np.full(high - low + 1, 1 / (high - low + 1))])
+    return np.concatenate(
+        [np.zeros(low), np.full(high - low + 1, 1 / (high - low + 1))]
+    )
 
 
 def weibull(scale: float, shape: float, cells: int = 200) -> Floats:
     """Returns a rounded Weibull law."""
-    law: Floats = np.diff(stats.weibull_min(shape, scale=scale).cdf(np.arange(cells) + 0.5), prepend=0.0)
+    law: Floats = np.diff(
+        stats.weibull_min(shape, scale=scale).cdf(np.arange(cells) + 0.5), prepend=0.0
+    )
     return law
 
 
@@ -156,19 +176,27 @@ def orders_of(rate: float, sizes: Floats) -> Floats:
     """Returns the law of the demand of a Poisson number of customers."""
     customers, law, power = poisson(rate, 40), np.zeros(40 * len(sizes)), np.ones(1)
     for share in customers:
-        law[:len(power)] += share * power
+        law[: len(power)] += share * power
         power = np.convolve(power, sizes)
     return law
 
 
 NOTHING = np.ones(1)
-SPIKES = mixture((0.6, even(1, 1)), (0.25, even(5, 5)), (0.1, even(10, 10)), (0.05, even(50, 50)))
+SPIKES = mixture(
+    (0.6, even(1, 1)), (0.25, even(5, 5)), (0.1, even(10, 10)), (0.05, even(50, 50))
+)
 # The laws that the methods were designed on.
 DESIGNED = {
-    "P0.3": poisson(0.3), "P2": poisson(2), "P10": poisson(10), "NB3_9": negative_binomial(3, 9),
-    "NB10_60": negative_binomial(10, 60), "INT": mixture((0.9, NOTHING), (0.1, geometric(8))),
-    "LN100": lognormal(100, 0.6), "PACK6": packed(poisson(0.5, 30), 6),
-    "PROJ": np.convolve(poisson(3, 60), mixture((0.95, NOTHING), (0.05, even(30, 30))))}
+    "P0.3": poisson(0.3),
+    "P2": poisson(2),
+    "P10": poisson(10),
+    "NB3_9": negative_binomial(3, 9),
+    "NB10_60": negative_binomial(10, 60),
+    "INT": mixture((0.9, NOTHING), (0.1, geometric(8))),
+    "LN100": lognormal(100, 0.6),
+    "PACK6": packed(poisson(0.5, 30), 6),
+    "PROJ": np.convolve(poisson(3, 60), mixture((0.95, NOTHING), (0.05, even(30, 30)))),
+}
 # Laws that none was designed on; the methods were compared on them.
 OTHERS = {
     "bulk": mixture((0.97, poisson(8)), (0.03, even(60, 60))),
@@ -176,22 +204,38 @@ OTHERS = {
     "binomial": stats.binom.pmf(np.arange(13), 12, 0.75),
     "heavy": mixture((0.8, NOTHING), (0.2, lognormal(10, 3))),
     "boxes": orders_of(1.5, mixture((0.5, even(1, 1)), (0.5, even(6, 6)))),
-    "NB1_4": negative_binomial(1, 4), "two": mixture((0.5, poisson(2)), (0.5, poisson(12))),
-    "cut": mixture((0.4, NOTHING), (0.6, geometric(6, 12))), "prices": orders_of(0.4, SPIKES),
-    "LN20": lognormal(20, 1.2), "even": even(0, 12), "inflated": mixture((0.3, NOTHING), (0.7, poisson(6))),
+    "NB1_4": negative_binomial(1, 4),
+    "two": mixture((0.5, poisson(2)), (0.5, poisson(12))),
+    "cut": mixture((0.4, NOTHING), (0.6, geometric(6, 12))),
+    "prices": orders_of(0.4, SPIKES),
+    "LN20": lognormal(20, 1.2),
+    "even": even(0, 12),
+    "inflated": mixture((0.3, NOTHING), (0.7, poisson(6))),
     "gamma": np.diff(stats.gamma(4, scale=4).cdf(np.arange(200) + 0.5), prepend=0.0),
     "rare-bulk": mixture((0.95, poisson(0.5)), (0.05, even(10, 20))),
-    "dozens": mixture((0.7, poisson(2)), (0.3, packed(geometric(1.5, 20), 12)))}
+    "dozens": mixture((0.7, poisson(2)), (0.3, packed(geometric(1.5, 20), 12))),
+}
 # Laws that were looked at only once the methods stood.
 UNSEEN = {
-    "contracts": orders_of(0.5, even(4, 10)), "cut-NB": negative_binomial(4, 16)[:16],
-    "two-packs": mixture((0.5, NOTHING), (0.3, packed(geometric(1.5, 12), 4)), (0.2, packed(geometric(2, 10), 10))),
+    "contracts": orders_of(0.5, even(4, 10)),
+    "cut-NB": negative_binomial(4, 16)[:16],
+    "two-packs": mixture(
+        (0.5, NOTHING),
+        (0.3, packed(geometric(1.5, 12), 4)),
+        (0.2, packed(geometric(2, 10), 10)),
+    ),
     "weibull": mixture((0.4, NOTHING), (0.6, weibull(12, 1.8))),
-    "promotions": np.convolve(poisson(6, 60), mixture((0.96, NOTHING), (0.04, even(15, 25)))),
-    "inflated-LN": mixture((0.5, NOTHING), (0.5, lognormal(12, 0.8)))}
+    "promotions": np.convolve(
+        poisson(6, 60), mixture((0.96, NOTHING), (0.04, even(15, 25)))
+    ),
+    "inflated-LN": mixture((0.5, NOTHING), (0.5, lognormal(12, 0.8))),
+}
 LAWS = DESIGNED | OTHERS | UNSEEN
-GROUPS = {name: group for group, laws in (("designed", DESIGNED), ("others", OTHERS), ("unseen", UNSEEN))
-          for name in laws}
+GROUPS = {
+    name: group
+    for group, laws in (("designed", DESIGNED), ("others", OTHERS), ("unseen", UNSEEN))
+    for name in laws
+}
 
 
 class Truth:
@@ -201,17 +245,21 @@ class Truth:
         """Finds the best policies, and how large the tables of fitted laws must be."""
         self.place, self.law = [*LAWS].index(name), LAWS[name] / LAWS[name].sum()
         self.mean = float(self.law @ np.arange(len(self.law)))
-        self.orders = self.mean * np.array(COVERS)**2 / 2
+        self.orders = self.mean * np.array(COVERS) ** 2 / 2
         large = self.mean >= 50
         self.runs = LongRuns(self.law, *((1500, 6000) if large else (500, 2000)))
         self.best = self.runs.best(self.orders)
         gap, level = max(it.gap for it in self.best), max(it.level for it in self.best)
         most = self.runs.costs.shape[1]
-        self.size = min(2 * gap + 60, len(self.runs.lows)), min((2 if large else 3) * level + 120, most)
+        self.size = min(2 * gap + 60, len(self.runs.lows)), min(
+            (2 if large else 3) * level + 120, most
+        )
 
     def history(self, periods: int, number: int) -> list[int]:
         """Draws a history."""
-        random, below = np.random.default_rng([self.place, periods, number]), np.cumsum(self.law)
+        random, below = np.random.default_rng([self.place, periods, number]), np.cumsum(
+            self.law
+        )
         while True:
             drawn = np.searchsorted(below[:-1], random.random(periods), side="right")
             if np.count_nonzero(drawn) >= 2:
@@ -222,7 +270,9 @@ class Truth:
         chances = np.zeros(law.values[-1] + 1)
         chances[[*law.values]] = law.weights
         for at, choice in enumerate(LongRuns(chances, *self.size).best(self.orders)):
-            cost = self.runs.cost(at, self.orders[at % len(COVERS)], choice.gap, choice.level)
+            cost = self.runs.cost(
+                at, self.orders[at % len(COVERS)], choice.gap, choice.level
+            )
             yield cost / self.best[at].cost - 1, choice.cost / cost - 1
 
 
@@ -230,21 +280,46 @@ def cell(job: tuple[str, int, int, Sequence[str]]) -> list[dict[str, object]]:
     """Returns the figures of the methods for a law and a number of periods."""
     name, periods, histories, methods = job
     truth = Truth(name)
-    found = np.array([[[*truth.regrets(fit_demand(history, method=method))] for method in methods]
-                      for history in (truth.history(periods, it) for it in range(histories))])
+    found = np.array(
+        [
+            [[*truth.regrets(fit_demand(history, method=method))] for method in methods]
+            for history in (truth.history(periods, it) for it in range(histories))
+        ]
+    )
     means = 100 * found.mean(axis=2)  # histories, methods, figures
     gains = means[:, :1, 0] - means[:, :, 0]
     rows: list[dict[str, object]] = []
     for at, method in enumerate(methods):
-        figures = {"regret": means[:, at, 0], "promise": means[:, at, 1], "gain": gains[:, at]}
-        errors = {f"{it}_error": figures[it].std(ddof=1) / math.sqrt(histories) for it in figures}
-        rows.append({"law": name, "group": GROUPS[name], "periods": periods, "method": method, "histories": histories,
-                     **{it: figures[it].mean() for it in figures}, **errors})
+        figures = {
+            "regret": means[:, at, 0],
+            "promise": means[:, at, 1],
+            "gain": gains[:, at],
+        }
+        errors = {
+            f"{it}_error": figures[it].std(ddof=1) / math.sqrt(histories)
+            for it in figures
+        }
+        rows.append(
+            {
+                "law": name,
+                "group": GROUPS[name],
+                "periods": periods,
+                "method": method,
+                "histories": histories,
+                **{it: figures[it].mean() for it in figures},
+                **errors,
+            }
+        )
     return rows
 
 
-def study(laws: Iterable[str], periods: Iterable[int], histories: int, methods: Sequence[str] = METHODS,
-          jobs: int = 1) -> pd.DataFrame:
+def study(
+    laws: Iterable[str],
+    periods: Iterable[int],
+    histories: int,
+    methods: Sequence[str] = METHODS,
+    jobs: int = 1,
+) -> pd.DataFrame:
     """Returns the figures of all cells, in the order of laws and periods whatever the number of jobs."""
     work = [(name, count, histories, methods) for name in laws for count in periods]
     with ProcessPoolExecutor(jobs) as pool:
@@ -254,12 +329,27 @@ def study(laws: Iterable[str], periods: Iterable[int], histories: int, methods: 
 def summary(rows: pd.DataFrame) -> pd.DataFrame:
     """Returns the means over the laws of a group, and the law on which a method loses most against `empirical`."""
     lines = []
-    groups = rows.reset_index(drop=True).groupby(["group", "periods", "method"], sort=False)
+    groups = rows.reset_index(drop=True).groupby(
+        ["group", "periods", "method"], sort=False
+    )
     for (group, periods, method), its in groups:
         worst = its.loc[its["gain"].idxmin()]
-        errors = {f"{it}_error": math.sqrt((its[f"{it}_error"]**2).sum()) / len(its) for it in FIGURES}
-        lines.append({"group": group, "periods": periods, "method": method, **its[FIGURES].mean(), **errors,
-                      "worst": worst["law"], "worst_gain": worst["gain"], "worst_error": worst["gain_error"]})
+        errors = {
+            f"{it}_error": math.sqrt((its[f"{it}_error"] ** 2).sum()) / len(its)
+            for it in FIGURES
+        }
+        lines.append(
+            {
+                "group": group,
+                "periods": periods,
+                "method": method,
+                **its[FIGURES].mean(),
+                **errors,
+                "worst": worst["law"],
+                "worst_gain": worst["gain"],
+                "worst_error": worst["gain_error"],
+            }
+        )
     return pd.DataFrame(lines)
 
 
@@ -268,26 +358,61 @@ def tables() -> dict[str, str]:
     lines, stored = [], summary(pd.read_csv(STORED))
     for (group, periods), its in stored.groupby(["group", "periods"], sort=False):
         by_method = its.set_index("method")
-        cells = {f"{figure}, {method}": f"{by_method[figure][method]:.1f} ± {by_method[f'{figure}_error'][method]:.1f}"
-                 for figure in FIGURES[:2] for method in by_method.index}
+        cells = {
+            f"{figure}, {method}": f"{by_method[figure][method]:.1f} ± {by_method[f'{figure}_error'][method]:.1f}"
+            for figure in FIGURES[:2]
+            for method in by_method.index
+        }
         worst = by_method.loc["auto"]
-        lines.append({"laws": group, "periods": periods, **cells,
-                      "worst law of auto, points": f"{worst['worst_gain']:+.1f} ± {worst['worst_error']:.1f} "
-                      f"({worst['worst']})"})
+        lines.append(
+            {
+                "laws": group,
+                "periods": periods,
+                **cells,
+                "worst law of auto, points": f"{worst['worst_gain']:+.1f} ± {worst['worst_error']:.1f} "
+                f"({worst['worst']})",
+            }
+        )
     return {"laws": markdown(pd.DataFrame(lines))}
 
 
 @click.command()
 @click.option("--small", is_flag=True, help="Run a small part.")
 @click.option("--jobs", type=click.IntRange(1), default=1, show_default=True)
-@click.option("--histories", type=click.IntRange(2), default=HISTORIES, show_default=True, help="Histories of a cell.")
-@click.option("--law", "names", type=click.Choice([*LAWS]), multiple=True, help="A true law; without it all.")
+@click.option(
+    "--histories",
+    type=click.IntRange(2),
+    default=HISTORIES,
+    show_default=True,
+    help="Histories of a cell.",
+)
+@click.option(
+    "--law",
+    "names",
+    type=click.Choice([*LAWS]),
+    multiple=True,
+    help="A true law; without it all.",
+)
 @click.option("--method", "methods", multiple=True, default=METHODS, show_default=True)
-@click.option("--out", type=click.Path(dir_okay=False, path_type=Path), help="Write the rows as CSV.")
-def main(small: bool, jobs: int, histories: int, names: tuple[str, ...], methods: tuple[str, ...],
-         out: Path | None) -> None:
+@click.option(
+    "--out",
+    type=click.Path(dir_okay=False, path_type=Path),
+    help="Write the rows as CSV.",
+)
+def main(
+    small: bool,
+    jobs: int,
+    histories: int,
+    names: tuple[str, ...],
+    methods: tuple[str, ...],
+    out: Path | None,
+) -> None:
     """Measure the regret of fitted laws of demand under true laws."""
-    rows = study(**SMALL, jobs=jobs) if small else study(names or LAWS, PERIODS, histories, methods, jobs)
+    rows = (
+        study(**SMALL, jobs=jobs)
+        if small
+        else study(names or LAWS, PERIODS, histories, methods, jobs)
+    )
     if out:
         rows.to_csv(out, index=False, float_format="%.3f")
     for table in (rows, summary(rows)):

@@ -32,7 +32,10 @@ from planner.studies.laws import BACKLOGS, COVERS, DESIGNED
 from planner.studies.page import markdown
 
 DEMANDS = ("P2", "NB3_9")
-TRUE = {"rough": {1: 20, 2: 50, 4: 30}, "smooth": {1: 15, 2: 30, 3: 25, 4: 15, 5: 10, 6: 5}}
+TRUE = {
+    "rough": {1: 20, 2: 50, 4: 30},
+    "smooth": {1: 15, 2: 30, 3: 25, 4: 15, 5: 10, 6: 5},
+}
 CASES = [*itertools.product(DEMANDS, TRUE)]
 RECORDS = (5, 10, 20)
 METHODS = ("empirical", "auto")
@@ -43,8 +46,14 @@ STORED = Path(__file__).with_name("laws_leads.csv")
 def theory_of(demand: str, leads: Mapping[int, int]) -> LongRun:
     """Returns the theory of a demand with a law of lead times, for orders of the larger cover."""
     law = Law.of_chances(DESIGNED[demand])
-    scenario = Scenario.of(law, dict(leads), setup=order_of(demand, max(COVERS)), holding=1,
-                           backlog=BACKLOGS[0], today=(1, 2))
+    scenario = Scenario.of(
+        law,
+        dict(leads),
+        setup=order_of(demand, max(COVERS)),
+        holding=1,
+        backlog=BACKLOGS[0],
+        today=(1, 2),
+    )
     return theories_of(scenario)[0]
 
 
@@ -56,14 +65,20 @@ def order_of(demand: str, cover: int) -> int:
 
 def priced(theory: LongRun, demand: str, cover: int, backlog: int) -> LongRun:
     """Returns a theory with the costs of a setting."""
-    return theory.priced(Costs(order_of(demand, cover), 0, 1, backlog), theory.most, theory.feasible)
+    return theory.priced(
+        Costs(order_of(demand, cover), 0, 1, backlog), theory.most, theory.feasible
+    )
 
 
 @cache
-def policies_of(demand: str, leads: tuple[tuple[int, int], ...]) -> list[tuple[int, int]]:
+def policies_of(
+    demand: str, leads: tuple[tuple[int, int], ...]
+) -> list[tuple[int, int]]:
     """Returns the best policy of each setting."""
     theory = theory_of(demand, dict(leads))
-    found = (priced(theory, demand, cover, backlog).best() for cover, backlog in SETTINGS)
+    found = (
+        priced(theory, demand, cover, backlog).best() for cover, backlog in SETTINGS
+    )
     return [(policy.point, policy.level) for policy in found]
 
 
@@ -81,16 +96,31 @@ def cell(job: tuple[str, str, int, int]) -> list[dict[str, object]]:
             policies = policies_of(demand, tuple(zip(law.values, law.weights)))
             best = policies_of(demand, tuple(leads.items()))
             for place, setting in enumerate(SETTINGS):
-                costs = [priced(truth, demand, *setting).figures(*it[place]).cost for it in (policies, best)]
+                costs = [
+                    priced(truth, demand, *setting).figures(*it[place]).cost
+                    for it in (policies, best)
+                ]
                 regrets[record, at, place] = 100 * (costs[0] / costs[1] - 1)
     means = regrets.mean(axis=2)
     gains = means[:, :1] - means
-    return [{"demand": demand, "leads": name, "seen": count, "method": method, "regret": means[:, at].mean(),
-             "regret_error": means[:, at].std(ddof=1) / math.sqrt(records), "gain": gains[:, at].mean(),
-             "gain_error": gains[:, at].std(ddof=1) / math.sqrt(records)} for at, method in enumerate(METHODS)]
+    return [
+        {
+            "demand": demand,
+            "leads": name,
+            "seen": count,
+            "method": method,
+            "regret": means[:, at].mean(),
+            "regret_error": means[:, at].std(ddof=1) / math.sqrt(records),
+            "gain": gains[:, at].mean(),
+            "gain_error": gains[:, at].std(ddof=1) / math.sqrt(records),
+        }
+        for at, method in enumerate(METHODS)
+    ]
 
 
-def study(records: int, counts: tuple[int, ...] = RECORDS, jobs: int = 1) -> pd.DataFrame:
+def study(
+    records: int, counts: tuple[int, ...] = RECORDS, jobs: int = 1
+) -> pd.DataFrame:
     """Returns the figures of all cells, in order."""
     work = [(*case, count, records) for case in CASES for count in counts]
     with ProcessPoolExecutor(jobs) as pool:
@@ -100,18 +130,37 @@ def study(records: int, counts: tuple[int, ...] = RECORDS, jobs: int = 1) -> pd.
 def tables() -> dict[str, str]:
     """Returns the stored figures for the page: the regret after so many lead times."""
     cells = pd.read_csv(STORED).set_index(["demand", "leads", "seen", "method"])
-    lines = [{"demand": demand, "lead times": leads,
-              **{f"{method}, after {seen}": "{regret:.1f} ± "
-                 "{regret_error:.1f}".format(**cells.loc[demand, leads, seen, method])
-                 for seen in RECORDS for method in METHODS}} for demand, leads in CASES]
+    lines = [
+        {
+            "demand": demand,
+            "lead times": leads,
+            **{
+                f"{method}, after {seen}": "{regret:.1f} ± "
+                "{regret_error:.1f}".format(**cells.loc[demand, leads, seen, method])
+                for seen in RECORDS
+                for method in METHODS
+            },
+        }
+        for demand, leads in CASES
+    ]
     return {"lead-times": markdown(pd.DataFrame(lines))}
 
 
 @click.command()
 @click.option("--small", is_flag=True, help="Run a small part.")
 @click.option("--jobs", type=click.IntRange(1), default=1, show_default=True)
-@click.option("--records", type=click.IntRange(2), default=60, show_default=True, help="Records of a cell.")
-@click.option("--out", type=click.Path(dir_okay=False, path_type=Path), help="Write the rows as CSV.")
+@click.option(
+    "--records",
+    type=click.IntRange(2),
+    default=60,
+    show_default=True,
+    help="Records of a cell.",
+)
+@click.option(
+    "--out",
+    type=click.Path(dir_okay=False, path_type=Path),
+    help="Write the rows as CSV.",
+)
 def main(small: bool, jobs: int, records: int, out: Path | None) -> None:
     """Measure the regret of fitted laws of lead times under true laws."""
     rows = study(4, (5,), jobs) if small else study(records, jobs=jobs)

@@ -41,7 +41,7 @@ from crnplan.plan.backtest.one import Walk, Walked, chosen
 from crnplan.plan.backtest.smoothing import smoothed, smoothed_levels
 from crnplan.plan.backtest.sums import BLOCK, Ratio
 from crnplan.plan.question import NONE, Levels, Question, Settings, question_of
-from crnplan.records.item import Item
+from crnplan.read.item import Item
 from planner.studies.page import markdown
 from planner.studies.real_series import Series, real_series
 from planner.studies.walk_forward import COVER, HOLDING, LEAD, MADE, WALKS
@@ -81,27 +81,49 @@ def on_lattice(points: Floats, chances: Floats, mean: float) -> Law:
 def swapped(law: FittedLaw, parts: str, ratios: Ratios) -> Law:
     """Returns a law of demand with some of its parts in place of those of `auto`."""
     seen = law.diagnostics.history
-    wanted = ratios if parts == "all" else Ratios(ratios.level if "level" in parts else 1.0,
-                                                  ratios.spread if "spread" in parts else 1.0)
-    deviation = max(wanted.spread * (seen.variance or 0.0)**0.5, 0.1)
+    wanted = (
+        ratios
+        if parts == "all"
+        else Ratios(
+            ratios.level if "level" in parts else 1.0,
+            ratios.spread if "spread" in parts else 1.0,
+        )
+    )
+    deviation = max(wanted.spread * (seen.variance or 0.0) ** 0.5, 0.1)
     if parts in ("normal", "all"):
         mean = seen.mean * wanted.level
         normal = cut(np.diff(ndtr((DEMANDS + 0.5 - mean) / deviation), prepend=0.0))
-        return on_lattice(DEMANDS[:len(normal)].astype(float), normal, mean)
-    mean, points = float(law.mean) * wanted.level, np.array(law.values, float) * wanted.level
+        return on_lattice(DEMANDS[: len(normal)].astype(float), normal, mean)
+    mean, points = (
+        float(law.mean) * wanted.level,
+        np.array(law.values, float) * wanted.level,
+    )
     if "spread" in parts:
-        own = wanted.level * law.figures.variance**0.5 if law.figures.variance else 1.0
+        own = (
+            wanted.level * law.figures.variance**0.5 if law.figures.variance else 1.0
+        )
         points = mean + (points - mean) * deviation / own
     return on_lattice(points, np.array(law.weights, float), mean)
 
 
-def item_of(series: Series, backlog: int | None, record: int, fill: Fraction | None = None) -> Item:
+def item_of(
+    series: Series, backlog: int | None, record: int, fill: Fraction | None = None
+) -> Item:
     """Returns the item of a series, as in `walk_forward`: with a backlog cost, or a wanted fill rate."""
     mean = max(sum(series.counts[:record]) / record, 0.01)
     setup = Fraction(round(HOLDING * mean * COVER**2 / 2, 2)).limit_denominator(100)
     levels = round((LEAD + 1) * mean), round((LEAD + 1 + COVER) * mean) + 1
     cost = None if backlog is None else Fraction(backlog)
-    return Item(series.name, series.counts, (LEAD,), levels, setup, Fraction(HOLDING), cost, fill)
+    return Item(
+        series.name,
+        series.counts,
+        (LEAD,),
+        levels,
+        setup,
+        Fraction(HOLDING),
+        cost,
+        fill,
+    )
 
 
 def question_with(question: Question, parts: str, ratios: Ratios) -> Question:
@@ -109,20 +131,27 @@ def question_with(question: Question, parts: str, ratios: Ratios) -> Question:
     if parts == AUTO:
         return question
     law = swapped(question.demand, parts, ratios)
-    return dataclasses.replace(question, demand=FittedLaw.made(law, parts, question.demand.diagnostics))
+    return dataclasses.replace(
+        question, demand=FittedLaw.made(law, parts, question.demand.diagnostics)
+    )
 
 
 def ratios_of(counts: Sequence[int], forecast: tuple[float, float]) -> Ratios:
     """Returns how level and spread of smoothing are beside those of the counts of a window; 1 if these have none."""
     mean, deviation = np.mean(counts), np.std(counts, ddof=1)
-    return Ratios(forecast[0] / mean if mean else 1.0, forecast[1]**0.5 / deviation if deviation else 1.0)
+    return Ratios(
+        forecast[0] / mean if mean else 1.0,
+        forecast[1] ** 0.5 / deviation if deviation else 1.0,
+    )
 
 
-def plan_of(question: Question, parts: str, ratios: Ratios, before: Sequence[Levels]) -> Levels:
+def plan_of(
+    question: Question, parts: str, ratios: Ratios, before: Sequence[Levels]
+) -> Levels:
     """Returns s and S by a law with some parts swapped. As in a backtest, the last ones are kept if it has none."""
     try:
         asked = question_with(question, parts, ratios)
-        return chosen(asked, asked.theory())[0].levels
+        return chosen(asked)[0].levels
     except Refused:
         if before:
             return before[-1]
@@ -133,14 +162,20 @@ def levels_of(walked: Walked) -> dict[str, list[Levels]]:
     """Returns s and S of each period by the law or the rule; in the record those of the first plan. Raises Refused if
     there is no first plan by some law."""
     counts, question = walked.item.counts, walked.question
-    forecasts, rule = [*smoothed(counts)], [*smoothed_levels(walked.item, counts, LEAD, 0.0)]
+    forecasts, rule = [*smoothed(counts)], [
+        *smoothed_levels(walked.item, counts, LEAD, 0.0)
+    ]
     levels: dict[str, list[Levels]] = {name: [] for name in (*LAWS, RULES[0])}
     for start, origin, end in walked.walk.stretches(len(counts)):
         with contextlib.suppress(Refused):
-            question = question_of(walked.item.part(start, origin), Settings(), walked.prior)
+            question = question_of(
+                walked.item.part(start, origin), Settings(), walked.prior
+            )
         ratios = ratios_of(counts[start:origin], forecasts[origin])
         for name, own in levels.items():
-            plan = rule[origin] if name in RULES else plan_of(question, name, ratios, own)
+            plan = (
+                rule[origin] if name in RULES else plan_of(question, name, ratios, own)
+            )
             own += [plan] * (end - len(own))
     return levels | {RULES[1]: rule}
 
@@ -164,13 +199,22 @@ def later_of(job: tuple[Series, int, tuple[int, int, int]]) -> dict[str, Later]:
     except Refused:
         return {}
     mean = float(np.mean(item.counts))
-    later = np.array(item.counts[walk[0]:]) / mean
+    later = np.array(item.counts[walk[0] :]) / mean
     outcomes = {name: walked.happened.outcome(own) for name, own in levels.items()}
-    return {name: Later(np.array(its.costs) / mean, np.array(its.unmet) / mean, later, its.stock / mean)
-            for name, its in outcomes.items()}
+    return {
+        name: Later(
+            np.array(its.costs) / mean,
+            np.array(its.unmet) / mean,
+            later,
+            its.stock / mean,
+        )
+        for name, its in outcomes.items()
+    }
 
 
-def rows_of(kind: str, backlog: int, items: Sequence[dict[str, Later]]) -> Iterator[dict[str, Any]]:
+def rows_of(
+    kind: str, backlog: int, items: Sequence[dict[str, Later]]
+) -> Iterator[dict[str, Any]]:
     """Yields the figures of each law and each rule of a set, in percent."""
     lengths = [len(item[AUTO].costs) for item in items]
     numbers = np.repeat(np.arange(len(items)), lengths)
@@ -178,66 +222,126 @@ def rows_of(kind: str, backlog: int, items: Sequence[dict[str, Later]]) -> Itera
 
     def joined(name: str, figure: str) -> Floats:
         return np.concatenate([getattr(item[name], figure) for item in items])
+
     for name in (*LAWS, *RULES):
         own, base = joined(name, "costs"), joined(AUTO, "costs")
         cost = Ratio(own - base, base, numbers, blocks).estimate
-        fill = Ratio(joined(name, "unmet"), joined(name, "asked"), numbers, blocks).estimate
-        stock = sum(item[name].stock for item in items) / sum(item[AUTO].stock for item in items)
-        yield {"set": kind, "backlog": backlog, "law": name, "items": len(items), "cost": 100 * cost.value,
-               "cost_error": 100 * cost.error, "fill": 100 - 100 * fill.value, "fill_error": 100 * fill.error,
-               "stock": 100 * stock - 100}
+        fill = Ratio(
+            joined(name, "unmet"), joined(name, "asked"), numbers, blocks
+        ).estimate
+        stock = sum(item[name].stock for item in items) / sum(
+            item[AUTO].stock for item in items
+        )
+        yield {
+            "set": kind,
+            "backlog": backlog,
+            "law": name,
+            "items": len(items),
+            "cost": 100 * cost.value,
+            "cost_error": 100 * cost.error,
+            "fill": 100 - 100 * fill.value,
+            "fill_error": 100 * fill.error,
+            "stock": 100 * stock - 100,
+        }
 
 
 def made_series(kind: str, items: int) -> list[Series]:
     """Returns series of a kind that is made."""
     random = np.random.default_rng([[*MADE].index(kind), 7])
-    return [Series(f"{kind} {place}", tuple(MADE[kind](random, MADE_PERIODS).tolist())) for place in range(items)]
+    return [
+        Series(f"{kind} {place}", tuple(MADE[kind](random, MADE_PERIODS).tolist()))
+        for place in range(items)
+    ]
 
 
-def sets_of(sets: Sequence[str], kinds: Sequence[str], items: int) -> Iterator[tuple[str, list[Series]]]:
+def sets_of(
+    sets: Sequence[str], kinds: Sequence[str], items: int
+) -> Iterator[tuple[str, list[Series]]]:
     """Yields real and made series by set: so many of each, evenly. Raises ClickException without the real ones."""
     real = real_series() if sets else {}
     if sets and not real:
-        raise click.ClickException("there are no real series: install R with r-cran-surveillance and r-cran-bayesm")
+        raise click.ClickException(
+            "there are no real series: install R with r-cran-surveillance and r-cran-bayesm"
+        )
     for name in sets:
         series = real.get(name, [])
-        shown = [series[place * len(series) // items] for place in range(items)] if len(series) > items else series
+        shown = (
+            [series[place * len(series) // items] for place in range(items)]
+            if len(series) > items
+            else series
+        )
         if shown:
             yield name, [Series(its.name, its.counts[:MOST_PERIODS]) for its in shown]
     for kind in kinds:
         yield f"made: {kind}", made_series(kind, items)
 
 
-def study(sets: Sequence[str] = SETS, kinds: Sequence[str] = KINDS, items: int = ITEMS, made: int = MADE_ITEMS,
-          jobs: int = 1) -> pd.DataFrame:
+def study(
+    sets: Sequence[str] = SETS,
+    kinds: Sequence[str] = KINDS,
+    items: int = ITEMS,
+    made: int = MADE_ITEMS,
+    jobs: int = 1,
+) -> pd.DataFrame:
     """Returns the figures of all sets, with so many series of a real set at most, and of a made one."""
     rows = list[dict[str, Any]]()
     with ProcessPoolExecutor(jobs) as pool:
         for name, series in (*sets_of(sets, (), items), *sets_of((), kinds, made)):
             for backlog in BACKLOGS:
                 work = [(its, backlog, WALKS.get(name, WALK)) for its in series]
-                rows += rows_of(name, backlog, [its for its in pool.map(later_of, work) if its])
+                rows += rows_of(
+                    name, backlog, [its for its in pool.map(later_of, work) if its]
+                )
     return pd.DataFrame(rows)
 
 
 def tables() -> dict[str, str]:
     """Returns the stored figures for the page: costs beside the law of `auto`."""
     lines = []
-    for (name, backlog), its in pd.read_csv(STORED).groupby(["set", "backlog"], sort=False):
+    for (name, backlog), its in pd.read_csv(STORED).groupby(
+        ["set", "backlog"], sort=False
+    ):
         by_law = its.set_index("law")
-        lines.append({"set": name, "items": str(by_law["items"][AUTO]), "backlog": str(backlog),
-                      **{law: f"{by_law['cost'][law]:+.1f} ± {by_law['cost_error'][law]:.1f}"
-                         for law in (*LAWS[1:], *RULES)}})
+        lines.append(
+            {
+                "set": name,
+                "items": str(by_law["items"][AUTO]),
+                "backlog": str(backlog),
+                **{
+                    law: f"{by_law['cost'][law]:+.1f} ± {by_law['cost_error'][law]:.1f}"
+                    for law in (*LAWS[1:], *RULES)
+                },
+            }
+        )
     return {"level-spread-tail": markdown(pd.DataFrame(lines))}
 
 
 @click.command()
 @click.option("--small", is_flag=True, help="Run a small part, of made series.")
 @click.option("--jobs", type=click.IntRange(1), default=1, show_default=True)
-@click.option("--items", type=click.IntRange(2), default=ITEMS, show_default=True, help="Series of a set, at most.")
-@click.option("--set", "sets", multiple=True, default=SETS, show_default=True, help="A set of real series.")
-@click.option("--out", type=click.Path(dir_okay=False, path_type=Path), help="Write the rows as CSV.")
-def main(small: bool, jobs: int, items: int, sets: Sequence[str], out: Path | None) -> None:
+@click.option(
+    "--items",
+    type=click.IntRange(2),
+    default=ITEMS,
+    show_default=True,
+    help="Series of a set, at most.",
+)
+@click.option(
+    "--set",
+    "sets",
+    multiple=True,
+    default=SETS,
+    show_default=True,
+    help="A set of real series.",
+)
+@click.option(
+    "--out",
+    type=click.Path(dir_okay=False, path_type=Path),
+    help="Write the rows as CSV.",
+)
+def main(
+    small: bool, jobs: int, items: int, sets: Sequence[str], out: Path | None
+) -> None:
     """Measure what smoothing has that the plan lacks."""
     rows = study(**SMALL, jobs=jobs) if small else study(sets, items=items, jobs=jobs)
     if out:

@@ -51,7 +51,8 @@ CLASSES = (0, 5, 10, 20, 80, math.inf)
 @dataclass(frozen=True)
 class Outcome:
     """An item's exact saving a period, the orders of the rarer policy in 1,024 periods, and of each design the mean and
-    the standard error of the saving, with its degrees of freedom. The time is of the program's 48 runs, in seconds."""
+    the standard error of the saving, with its degrees of freedom. The time is of the program's 48 runs, in seconds.
+    """
 
     saving: float
     cost: float
@@ -65,9 +66,19 @@ def scenario_of(item: Item, seed: int) -> Scenario | None:
     """Returns the scenario with today's policy and the best by theory; None if these are the same, or none is found."""
     key = keys_of([f"study {seed}"], item.number + 1)[-1]
     version = 2 if item.returns else 1
-    plain = Scenario(version, key, MOST_PERIODS, REPLICATIONS, 0, 1024,
-                     Costs(item.setup, 0, item.holding, item.backlog), item.demand, item.lead,
-                     (Policy("today", *item.today),), item.returns)
+    plain = Scenario(
+        version,
+        key,
+        MOST_PERIODS,
+        REPLICATIONS,
+        0,
+        1024,
+        Costs(item.setup, 0, item.holding, item.backlog),
+        item.demand,
+        item.lead,
+        (Policy("today", *item.today),),
+        item.returns,
+    )
     asked = replace(plain, costs=replace(plain.costs, backlog=max(1, item.backlog)))
     try:
         theory, _ = theories_of(asked)
@@ -76,7 +87,9 @@ def scenario_of(item: Item, seed: int) -> Scenario | None:
     best = theory.best(item.fill or 0.0)
     if best.cost == math.inf or (best.point, best.level) == item.today:
         return None
-    initial = min(max(round(theory.mean_position(best.point, best.level)), 0), MOST_ITEMS)
+    initial = min(
+        max(round(theory.mean_position(best.point, best.level)), 0), MOST_ITEMS
+    )
     chosen = Policy("chosen", best.point, best.level)
     return replace(plain, initial=initial, policies=(*plain.policies, chosen))
 
@@ -84,7 +97,12 @@ def scenario_of(item: Item, seed: int) -> Scenario | None:
 def exact_costs(scenario: Scenario) -> list[tuple[float, float]] | None:
     """Returns the exact cost and orders of each policy in a period, on the lattice of single items; None if that is too
     large."""
-    shape = shape_of(replace(scenario, costs=replace(scenario.costs, backlog=max(1, scenario.costs.backlog))))
+    shape = shape_of(
+        replace(
+            scenario,
+            costs=replace(scenario.costs, backlog=max(1, scenario.costs.backlog)),
+        )
+    )
     widest, step = max(it.S - it.s for it in scenario.policies), shape.base
     theory = theory_on(scenario, replace(shape, order=widest / 3), step, True)
     if shape.leads == 1 and widest > MOST_GAP * step:
@@ -103,8 +121,16 @@ def outcome_of(item: Item, seed: int, program: Path) -> Outcome | None:
             return None
         bias = start_bias(scenario)
         theory = bias.theory
-        figures = [theory.figures(it.s, it.S) for it in scenario.policies] if theory.exact else None
-        exact = [(it.cost, it.orders) for it in figures] if figures else exact_costs(scenario)
+        figures = (
+            [theory.figures(it.s, it.S) for it in scenario.policies]
+            if theory.exact
+            else None
+        )
+        exact = (
+            [(it.cost, it.orders) for it in figures]
+            if figures
+            else exact_costs(scenario)
+        )
         if exact is None:
             return None
         begun = time.perf_counter()
@@ -115,17 +141,33 @@ def outcome_of(item: Item, seed: int, program: Path) -> Outcome | None:
         return None
     saved = np.array([(its[0] - its[1]) / own.periods for its in own.costs])
     effect = (bias.biases[0] - bias.biases[1]) / scenario.periods
-    mean, error = -float(row.diff_mean) / scenario.periods, math.sqrt(row.diff_var or 0) / scenario.periods
-    found = ((float(saved.mean()), float(saved.std(ddof=1)) / math.sqrt(len(saved)), len(saved) - 1),
-             (mean - effect, error, REPLICATIONS - 1), (mean, error, REPLICATIONS - 1))
+    mean, error = (
+        -float(row.diff_mean) / scenario.periods,
+        math.sqrt(row.diff_var or 0) / scenario.periods,
+    )
+    found = (
+        (
+            float(saved.mean()),
+            float(saved.std(ddof=1)) / math.sqrt(len(saved)),
+            len(saved) - 1,
+        ),
+        (mean - effect, error, REPLICATIONS - 1),
+        (mean, error, REPLICATIONS - 1),
+    )
     (today, many), (chosen, few) = exact
-    return Outcome(today - chosen, today, min(many, few) * MOST_PERIODS, found, effect, seconds)
+    return Outcome(
+        today - chosen, today, min(many, few) * MOST_PERIODS, found, effect, seconds
+    )
 
 
 def share_text(hits: Sequence[bool]) -> str:
     """Returns a share in percent with its standard error."""
     share = float(np.mean(hits)) if hits else math.nan
-    return f"{100 * share:.1f} +- {100 * math.sqrt(share * (1 - share) / max(1, len(hits))):.1f}" if hits else "-"
+    return (
+        f"{100 * share:.1f} +- {100 * math.sqrt(share * (1 - share) / max(1, len(hits))):.1f}"
+        if hits
+        else "-"
+    )
 
 
 def rows_of(outcomes: Sequence[Outcome], name: str) -> list[list[str]]:
@@ -137,30 +179,55 @@ def rows_of(outcomes: Sequence[Outcome], name: str) -> list[list[str]]:
         for it in outcomes:
             mean, error, degrees = it.found[place]
             half = t_quantile(1 - LEVEL, degrees) * error
-            number = next(number for number, most in enumerate(CLASSES[1:]) if it.orders < most)
+            number = next(
+                number for number, most in enumerate(CLASSES[1:]) if it.orders < most
+            )
             held[number].append(abs(mean - it.saving) <= half + 1e-9 * it.cost)
             wrong += mean * it.saving < 0 and abs(mean) > half
             chance += float(ndtr(-(half + abs(it.saving)) / error)) if error else 0.0
             widths.append(half / it.cost)
-        rows.append([name, design, str(len(outcomes)), share_text(sum(held, [])), *map(share_text, held), str(wrong),
-                     f"{chance:.1f}", f"{100 * float(np.median(widths)):.2f}"])
+        rows.append(
+            [
+                name,
+                design,
+                str(len(outcomes)),
+                share_text(sum(held, [])),
+                *map(share_text, held),
+                str(wrong),
+                f"{chance:.1f}",
+                f"{100 * float(np.median(widths)):.2f}",
+            ]
+        )
     return rows
 
 
 def table_of(by_seed: dict[int, list[Outcome]]) -> str:
     """Returns the table of all seeds, and of each."""
     parts = [f"{low:g} to {high:g}" for low, high in zip(CLASSES, CLASSES[1:])]
-    head = ["seed", "interval", "items", "held %", *parts, "wrong sign", "by chance", "half-width %"]
+    head = [
+        "seed",
+        "interval",
+        "items",
+        "held %",
+        *parts,
+        "wrong sign",
+        "by chance",
+        "half-width %",
+    ]
     every = [it for its in by_seed.values() for it in its]
     rows = [row for seed, its in by_seed.items() for row in rows_of(its, str(seed))]
     seconds = [it.seconds for it in every]
-    return (aligned([head, *rows, *rows_of(every, "all")], (0, 1))
-            + "\nThe columns '0 to 5' and so on: held %, by the expected orders of the rarer policy in 1,024 periods.\n"
-            f"own starts: {1000 * float(np.median(seconds)):.0f} ms an item in the median, "
-            f"{1000 * float(np.quantile(seconds, .95)):.0f} ms at the 95% quantile\n")
+    return (
+        aligned([head, *rows, *rows_of(every, "all")], (0, 1))
+        + "\nThe columns '0 to 5' and so on: held %, by the expected orders of the rarer policy in 1,024 periods.\n"
+        f"own starts: {1000 * float(np.median(seconds)):.0f} ms an item in the median, "
+        f"{1000 * float(np.quantile(seconds, .95)):.0f} ms at the 95% quantile\n"
+    )
 
 
-def outcomes_of(items: Iterable[Item], seed: int, program: Path, jobs: int) -> list[Outcome]:
+def outcomes_of(
+    items: Iterable[Item], seed: int, program: Path, jobs: int
+) -> list[Outcome]:
     """Returns the outcomes of items, in order, from several processes."""
     work = partial(outcome_of, seed=seed, program=program)
     if jobs == 1:
@@ -175,15 +242,26 @@ def tables() -> dict[str, str]:
 
 
 @click.command()
-@click.option("--items", type=click.IntRange(1, 3000), default=600, show_default=True, help="Of each seed.")
-@click.option("--jobs", type=click.IntRange(1), default=2, show_default=True, help="Processes.")
+@click.option(
+    "--items",
+    type=click.IntRange(1, 3000),
+    default=600,
+    show_default=True,
+    help="Of each seed.",
+)
+@click.option(
+    "--jobs", type=click.IntRange(1), default=2, show_default=True, help="Processes."
+)
 @click.option("--small", is_flag=True, help=f"A small part: {SMALL} items of one seed.")
 @click.option("--program", metavar="PATH", help="The program crnsim.")
 def command(items: int, jobs: int, small: bool, program: str | None) -> None:
     """Measure how often intervals of the long run hold the exact saving."""
     path, seeds = find_program(program), SEEDS[:1] if small else SEEDS
     count = SMALL if small else items
-    found = {seed: outcomes_of(items_of(seed, count), seed, path, 1 if small else jobs) for seed in seeds}
+    found = {
+        seed: outcomes_of(items_of(seed, count), seed, path, 1 if small else jobs)
+        for seed in seeds
+    }
     print(table_of(found), end="")
 
 

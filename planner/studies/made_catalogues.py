@@ -34,13 +34,21 @@ class Catalogue(NamedTuple):
 def cut(chances: Floats) -> Floats:
     """Returns a law without the end of its tail."""
     above = np.cumsum(chances[::-1])[::-1]
-    kept: Floats = chances[:int((above > LEAST_TAIL).sum())]
+    kept: Floats = chances[: int((above > LEAST_TAIL).sum())]
     return kept / kept.sum()
 
 
-def near(random: np.random.Generator, median: float, deviation: float, low: float, high: float) -> float:
+def near(
+    random: np.random.Generator,
+    median: float,
+    deviation: float,
+    low: float,
+    high: float,
+) -> float:
     """Draws a lognormal number with a median and a deviation of its logarithm, and keeps it within limits."""
-    return float(np.clip(median * math.exp(deviation * random.standard_normal()), low, high))
+    return float(
+        np.clip(median * math.exp(deviation * random.standard_normal()), low, high)
+    )
 
 
 def share(random: np.random.Generator, first: float, second: float) -> float:
@@ -57,7 +65,9 @@ def negative_binomial(mean: float, size: float) -> Floats:
 
 def poisson(mean: float) -> Floats:
     """Returns a Poisson law."""
-    return cut(stats.poisson.pmf(np.arange(int(mean + 12 * math.sqrt(mean) + 30)), mean))
+    return cut(
+        stats.poisson.pmf(np.arange(int(mean + 12 * math.sqrt(mean) + 30)), mean)
+    )
 
 
 def hurdle(chance: float, sizes: Floats) -> Floats:
@@ -82,15 +92,22 @@ def intermittent(random: np.random.Generator) -> Made:
 def parts_and_sellers(random: np.random.Generator) -> Made:
     """Draws a spare part or an item that sells in most periods, both with equal chances."""
     if random.random() < 0.5:
-        sizes = negative_binomial(near(random, 6, 0.7, 0.3, 40), near(random, 0.8, 0.3, 0.3, 5))
+        sizes = negative_binomial(
+            near(random, 6, 0.7, 0.3, 40), near(random, 0.8, 0.3, 0.3, 5)
+        )
         return Made(hurdle(share(random, 2, 22), sizes), "part")
-    return Made(negative_binomial(near(random, 8, 0.5, 1, 40), near(random, 6, 0.4, 1, 50)), "seller")
+    return Made(
+        negative_binomial(near(random, 8, 0.5, 1, 40), near(random, 6, 0.4, 1, 50)),
+        "seller",
+    )
 
 
 def two_sizes(random: np.random.Generator) -> Made:
     """Draws an item of one of two classes alike in frequency, with sizes of mean 3 or 15."""
     large = random.random() < 0.5
-    sizes = negative_binomial(near(random, 14 if large else 2, 0.3, 0.3, 40), near(random, 1, 0.3, 0.3, 20))
+    sizes = negative_binomial(
+        near(random, 14 if large else 2, 0.3, 0.3, 40), near(random, 1, 0.3, 0.3, 20)
+    )
     return Made(hurdle(share(random, 2, 12), sizes), "large" if large else "small")
 
 
@@ -106,9 +123,17 @@ def odd_families(random: np.random.Generator) -> Made:
     """Draws an item outside the family: packs, projects beside a Poisson demand, or even sizes."""
     kind = int(random.integers(3))
     if kind == 0:
-        return Made(packed(poisson(near(random, 0.4, 0.5, 0.08, 2)), int(random.choice([4, 6, 10, 12]))), "packs")
+        return Made(
+            packed(
+                poisson(near(random, 0.4, 0.5, 0.08, 2)),
+                int(random.choice([4, 6, 10, 12])),
+            ),
+            "packs",
+        )
     if kind == 1:
-        law, project = 0.95 * poisson(near(random, 2, 0.5, 0.5, 6)), int(random.integers(20, 41))
+        law, project = 0.95 * poisson(near(random, 2, 0.5, 0.5, 6)), int(
+            random.integers(20, 41)
+        )
         law = np.concatenate([law, np.zeros(max(0, project + 1 - len(law)))])
         law[project] += 0.05
         return Made(law / law.sum(), "projects")
@@ -125,11 +150,15 @@ def customers(random: np.random.Generator) -> Made:
     rate, median = near(random, 0.3, 0.9, 0.03, 3), near(random, 4, 0.6, 1, 20)
     deviation = near(random, 0.8, 0.3, 0.3, 1.5)
     cells = int(median * math.exp(4 * deviation)) + 2
-    sizes = np.diff(stats.lognorm(deviation, scale=median).cdf(np.arange(cells) + 0.5), prepend=0.0)
+    sizes = np.diff(
+        stats.lognorm(deviation, scale=median).cdf(np.arange(cells) + 0.5), prepend=0.0
+    )
     sizes[1] += sizes[0]
     sizes[0] = 0.0
     room = 1 << (4 * cells).bit_length()
-    law = np.fft.irfft(np.exp(rate * (np.fft.rfft(sizes / sizes.sum(), room) - 1)), room)
+    law = np.fft.irfft(
+        np.exp(rate * (np.fft.rfft(sizes / sizes.sum(), room) - 1)), room
+    )
     return Made(cut(np.clip(law, 0, None)))
 
 
@@ -139,19 +168,39 @@ def shop(random: np.random.Generator) -> Made:
     if kind == 0:
         return Made(poisson(near(random, 10, 0.6, 2, 40)), "steady")
     if kind == 1:
-        return Made(hurdle(share(random, 1.5, 30), poisson(near(random, 1, 0.6, 0.1, 5))), "part")
-    return Made(packed(poisson(near(random, 0.6, 0.6, 0.1, 3)), int(random.choice([5, 6, 10, 24]))), "packs")
+        return Made(
+            hurdle(share(random, 1.5, 30), poisson(near(random, 1, 0.6, 0.1, 5))),
+            "part",
+        )
+    return Made(
+        packed(
+            poisson(near(random, 0.6, 0.6, 0.1, 3)), int(random.choice([5, 6, 10, 24]))
+        ),
+        "packs",
+    )
 
 
 def alike(random: np.random.Generator) -> Made:
     """Draws an item of a tight catalogue: demand in 15% of periods, geometric sizes of mean 5, all but the same."""
-    return Made(hurdle(share(random, 60, 340), negative_binomial(near(random, 4, 0.1, 0.3, 40), 1.0)))
+    return Made(
+        hurdle(
+            share(random, 60, 340),
+            negative_binomial(near(random, 4, 0.1, 0.3, 40), 1.0),
+        )
+    )
 
 
 DESIGNED: dict[str, Callable[[np.random.Generator], Made]] = {
-    "intermittent": intermittent, "parts and sellers": parts_and_sellers, "two sizes": two_sizes, "wide": wide,
-    "odd families": odd_families}
-UNSEEN: dict[str, Callable[[np.random.Generator], Made]] = {"customers": customers, "shop": shop}
+    "intermittent": intermittent,
+    "parts and sellers": parts_and_sellers,
+    "two sizes": two_sizes,
+    "wide": wide,
+    "odd families": odd_families,
+}
+UNSEEN: dict[str, Callable[[np.random.Generator], Made]] = {
+    "customers": customers,
+    "shop": shop,
+}
 KINDS = DESIGNED | UNSEEN | {"alike": alike}
 
 

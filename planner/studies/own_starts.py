@@ -47,7 +47,16 @@ AGES = formats.MOST_LEAD + 1
 # Of the cipher.
 PARITY = np.uint64(0x1BD11BDAA9FC1A22)
 ROUNDS = 20
-ROTATIONS = (14, 16), (52, 57), (23, 40), (5, 37), (25, 33), (46, 12), (58, 22), (32, 32)
+ROTATIONS = (
+    (14, 16),
+    (52, 57),
+    (23, 40),
+    (5, 37),
+    (25, 33),
+    (46, 12),
+    (58, 22),
+    (32, 32),
+)
 HALF = np.uint64(32)
 LOW_HALF = np.uint64(2**32 - 1)
 
@@ -55,7 +64,8 @@ LOW_HALF = np.uint64(2**32 - 1)
 @dataclass(frozen=True)
 class State:
     """The state of a policy between two blocks: its stock, the cost of the current replication so far, the items that
-    arrive, by period of the replication, and the cost of each replication that is done."""
+    arrive, by period of the replication, and the cost of each replication that is done.
+    """
 
     stock: int
     cost: int = 0
@@ -83,17 +93,34 @@ def checkpoint_text(scenario: Scenario, block: int, states: Sequence[State]) -> 
     laws = [getattr(scenario, name) for name in formats.DRAWS]
     sizes = [len(law.values) if law else 0 for law in laws]
     rows: list[tuple[object, ...]] = [
-        ("checkpoint", formats.CHECKPOINT_VERSIONS[-1], block, scenario.periods, scenario.replications),
-        ("key", *scenario.key), ("costs", *(getattr(scenario.costs, name) for name in formats.COSTS)),
-        ("sizes", scenario.initial, *sizes[:2], len(scenario.policies)), ("returns", sizes[2])]
+        (
+            "checkpoint",
+            formats.CHECKPOINT_VERSIONS[-1],
+            block,
+            scenario.periods,
+            scenario.replications,
+        ),
+        ("key", *scenario.key),
+        ("costs", *(getattr(scenario.costs, name) for name in formats.COSTS)),
+        ("sizes", scenario.initial, *sizes[:2], len(scenario.policies)),
+        ("returns", sizes[2]),
+    ]
     for kind, law in zip(formats.DRAW_ROWS, laws):
-        rows += [(kind, value, weight) for value, weight in (zip(law.values, law.weights) if law else ())]
+        rows += [
+            (kind, value, weight)
+            for value, weight in (zip(law.values, law.weights) if law else ())
+        ]
     for policy, state in zip(scenario.policies, states, strict=True):
-        rows += [("policy", policy.name, policy.s, policy.S),
-                 ("state", state.stock, state.cost, len(state.due), len(state.costs)),
-                 *(("due", period, state.due[period]) for period in sorted(state.due)),
-                 *(("cost", number, cost) for number, cost in enumerate(state.costs))]
-    return "".join(",".join([*map(str, row), *"-" * (FIELDS - len(row))]) + "\n" for row in (*rows, ("end",)))
+        rows += [
+            ("policy", policy.name, policy.s, policy.S),
+            ("state", state.stock, state.cost, len(state.due), len(state.costs)),
+            *(("due", period, state.due[period]) for period in sorted(state.due)),
+            *(("cost", number, cost) for number, cost in enumerate(state.costs)),
+        ]
+    return "".join(
+        ",".join([*map(str, row), *"-" * (FIELDS - len(row))]) + "\n"
+        for row in (*rows, ("end",))
+    )
 
 
 def resume_all(program: Path, runs: Iterable[tuple[str, str]]) -> list[str]:
@@ -110,7 +137,10 @@ def resume_all(program: Path, runs: Iterable[tuple[str, str]]) -> list[str]:
 
 def keys_of(key: Sequence[str], count: int) -> list[Key]:
     """Returns the keys that follow from a scenario's key. All words of one follow from all words of the other."""
-    return [tuple(key_words(f"long run {number} {' '.join(key)}")) for number in range(count)]
+    return [
+        tuple(key_words(f"long run {number} {' '.join(key)}"))
+        for number in range(count)
+    ]
 
 
 def words_of_keys(keys: Sequence[Sequence[str]]) -> Words:
@@ -120,12 +150,15 @@ def words_of_keys(keys: Sequence[Sequence[str]]) -> Words:
 
 def _mixed(left: Words, right: Words, places: int) -> tuple[Words, Words]:
     total = left + right
-    return total, ((right << np.uint64(places)) | (right >> np.uint64(64 - places))) ^ total
+    return (
+        total,
+        ((right << np.uint64(places)) | (right >> np.uint64(64 - places))) ^ total,
+    )
 
 
 def stream_words(keys: Words, blocks: int, stream: int) -> Words:
     """Returns the words of a stream in its first blocks: a row of 4 * blocks words for each key, a row of 4 numbers."""
-    parts = [keys[:, place:place + 1] for place in range(4)]
+    parts = [keys[:, place : place + 1] for place in range(4)]
     parts.append(PARITY ^ parts[0] ^ parts[1] ^ parts[2] ^ parts[3])
     counter = np.zeros((4, len(keys), blocks), np.uint64)
     counter[0], counter[1] = np.arange(blocks), stream
@@ -146,25 +179,40 @@ def stream_words(keys: Words, blocks: int, stream: int) -> Words:
 def places_of(words: Words, count: int) -> Whole:
     """Returns for each word w the place w * count / 2^64, rounded down: 0 to `count` - 1. `count` is below 2^31."""
     most = np.uint64(count)
-    return (((words >> HALF) * most + ((words & LOW_HALF) * most >> HALF)) >> HALF).astype(np.int64)
+    return (
+        ((words >> HALF) * most + ((words & LOW_HALF) * most >> HALF)) >> HALF
+    ).astype(np.int64)
 
 
 def drawn(words: Words, table: Law) -> Whole:
     """Returns what each word draws, as the program does: from a list with each value as often as its weight says."""
     ends = np.cumsum(table.weights)
-    return np.array(table.values, np.int64)[np.searchsorted(ends, places_of(words, int(ends[-1])), side="right")]
+    return np.array(table.values, np.int64)[
+        np.searchsorted(ends, places_of(words, int(ends[-1])), side="right")
+    ]
 
 
 def settled(scenario: Scenario, keys: Words) -> Settled:
     """Runs our own periods, as docs/FORMATS.md has them, from a position even over s to S by one number of the key."""
     laws = [scenario.demand, scenario.lead, scenario.returns or Law((0,), (1,))]
-    demand, lead, back = (drawn(stream_words(keys, OWN_PERIODS // PERIODS_OF_BLOCK, stream), law)
-                          for stream, law in zip(OWN_STREAMS, laws))
-    low, high = (np.array([getattr(policy, name) for policy in scenario.policies]) for name in "sS")
+    demand, lead, back = (
+        drawn(stream_words(keys, OWN_PERIODS // PERIODS_OF_BLOCK, stream), law)
+        for stream, law in zip(OWN_STREAMS, laws)
+    )
+    low, high = (
+        np.array([getattr(policy, name) for policy in scenario.policies])
+        for name in "sS"
+    )
     number = stream_words(keys, 1, START_STREAM)[:, 0]
-    stocks = np.stack([it.s + places_of(number, it.S - it.s + 1) for it in scenario.policies], axis=1)
+    stocks = np.stack(
+        [it.s + places_of(number, it.S - it.s + 1) for it in scenario.policies], axis=1
+    )
     position = stocks.copy()
-    due, orders, each = np.zeros((AGES, *stocks.shape), np.int64), np.zeros_like(stocks), np.arange(len(keys))
+    due, orders, each = (
+        np.zeros((AGES, *stocks.shape), np.int64),
+        np.zeros_like(stocks),
+        np.arange(len(keys)),
+    )
     for period in range(OWN_PERIODS):
         place = period % AGES
         stocks += due[place]
@@ -183,34 +231,68 @@ def first_block(scenario: Scenario) -> int:
 
     A position after a review is at least s, and all that was on order then has arrived after the longest lead time.
     """
-    demand, lead = (max(value for value, weight in zip(it.values, it.weights) if weight)
-                    for it in (scenario.demand, scenario.lead))
+    demand, lead = (
+        max(value for value, weight in zip(it.values, it.weights) if weight)
+        for it in (scenario.demand, scenario.lead)
+    )
     lowest = min(it.s for it in scenario.policies) - (lead + 1) * demand
     return max(1, -(lowest // (PERIODS_OF_BLOCK * formats.MOST_DEMAND)))
 
 
-def _totals(program: Path, scenario: Scenario, block: int, states: Mapping[Key, Sequence[State]]
-            ) -> tuple[tuple[int, ...], ...]:
+def _totals(
+    program: Path, scenario: Scenario, block: int, states: Mapping[Key, Sequence[State]]
+) -> tuple[tuple[int, ...], ...]:
     """Continues a run under each key from the states of its policies, and returns the cost of each from then on."""
     runs = []
     for key, its in states.items():
         own = dict(zip(scenario.policies, its, strict=True))
-        runs += [(part, [own[policy] for policy in part.policies]) for part in parts_of(replace(scenario, key=key))]
-    texts = resume_all(program, ((plain_text(part.tree), checkpoint_text(part, block, its)) for part, its in runs))
+        runs += [
+            (part, [own[policy] for policy in part.policies])
+            for part in parts_of(replace(scenario, key=key))
+        ]
+    texts = resume_all(
+        program,
+        (
+            (plain_text(part.tree), checkpoint_text(part, block, its))
+            for part, its in runs
+        ),
+    )
     reports = [rows_of(part, text, program) for (part, _), text in zip(runs, texts)]
     count = len(reports) // len(states)
-    return tuple(tuple(row.total for row in joined(reports[first:first + count], program))
-                 for first in range(0, len(reports), count))
+    return tuple(
+        tuple(row.total for row in joined(reports[first : first + count], program))
+        for first in range(0, len(reports), count)
+    )
 
 
-def own_starts_of(scenario: Scenario, keys: int = KEYS, program: str | Path | None = None) -> OwnStarts:
+def own_starts_of(
+    scenario: Scenario, keys: int = KEYS, program: str | Path | None = None
+) -> OwnStarts:
     """Runs the policies of a scenario, each from a state of its own under each of so many keys."""
     block, words = first_block(scenario), keys_of(scenario.key, keys)
     own, first = settled(scenario, words_of_keys(words)), block * PERIODS_OF_BLOCK
-    asked = replace(scenario, periods=formats.MOST_PERIODS, replications=1, initial=0, ring=formats.RING_SIZES[-1],
-                    costs=replace(scenario.costs, unit=0), source=None)
+    asked = replace(
+        scenario,
+        periods=formats.MOST_PERIODS,
+        replications=1,
+        initial=0,
+        ring=formats.RING_SIZES[-1],
+        costs=replace(scenario.costs, unit=0),
+        source=None,
+    )
     states = {
-        word: [State(int(stock), due={first + int(age): int(amounts[age]) for age in np.flatnonzero(amounts)})
-               for stock, amounts in zip(stocks, due)]
-        for word, stocks, due in zip(words, own.stocks, np.moveaxis(own.due, 0, 2))}
-    return OwnStarts(_totals(find_program(program), asked, block, states), asked.periods - first)
+        word: [
+            State(
+                int(stock),
+                due={
+                    first + int(age): int(amounts[age])
+                    for age in np.flatnonzero(amounts)
+                },
+            )
+            for stock, amounts in zip(stocks, due)
+        ]
+        for word, stocks, due in zip(words, own.stocks, np.moveaxis(own.due, 0, 2))
+    }
+    return OwnStarts(
+        _totals(find_program(program), asked, block, states), asked.periods - first
+    )

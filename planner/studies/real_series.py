@@ -15,9 +15,24 @@ from typing import NamedTuple
 
 SCRIPT = Path(__file__).with_suffix(".R")
 # The set of a data set; those of no set are `cases`.
-SETS = {"cases fluBYBW": "flu", "cases measlesDE": "measles", "cases measlesWeserEms": "measles",
-        **{name: name for name in ("juice", "cheese", "tuna", "homes", "prescriptions", "rides", "monthly meningo.age",
-                                      "monthly rotaBB")}}
+SETS = {
+    "cases fluBYBW": "flu",
+    "cases measlesDE": "measles",
+    "cases measlesWeserEms": "measles",
+    **{
+        name: name
+        for name in (
+            "juice",
+            "cheese",
+            "tuna",
+            "homes",
+            "prescriptions",
+            "rides",
+            "monthly meningo.age",
+            "monthly rotaBB",
+        )
+    },
+}
 
 
 class Series(NamedTuple):
@@ -31,7 +46,9 @@ def parse(text: str) -> dict[str, list[Series]]:
     """Returns the series of each set, from the lines that the script prints."""
     sets = defaultdict[str, list[Series]](list)
     for line in text.splitlines():
-        data, name, *counts = (cell.strip() for cell in line.strip().rstrip(",").split(","))
+        data, name, *counts = (
+            cell.strip() for cell in line.strip().rstrip(",").split(",")
+        )
         sets[SETS.get(data, "cases")].append(Series(name, tuple(map(int, counts))))
     return dict(sets)
 
@@ -41,4 +58,11 @@ def real_series() -> dict[str, list[Series]]:
     program = shutil.which("Rscript")
     if program is None:
         return {}
-    return parse(subprocess.run([program, "--vanilla", str(SCRIPT)], capture_output=True, text=True, check=True).stdout)
+    return parse(
+        subprocess.run(
+            [program, "--vanilla", str(SCRIPT)],
+            capture_output=True,
+            text=True,
+            check=True,
+        ).stdout
+    )

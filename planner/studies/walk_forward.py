@@ -37,58 +37,121 @@ import crnplan
 from crnplan.backtesting import Backtests
 from crnplan.plan.backtest.one import Backtest
 from crnplan.plan.backtest.sums import SLACK, VERDICTS, Estimate, Sums
-from crnplan.records.defaults import KEEP
+from crnplan.read.defaults import KEEP
 from planner.studies.page import markdown
 from planner.studies.real_series import Series, real_series
 
 HOLDING, LEAD, COVER = 1.0, 2, 2
-GOALS: dict[str, dict[str, float]] = {"95%": {"fill": 0.95}, "98%": {"fill": 0.98}, "9 times": {"backlog": 9.0},
-                                      "49 times": {"backlog": 49.0}}
+GOALS: dict[str, dict[str, float]] = {
+    "95%": {"fill": 0.95},
+    "98%": {"fill": 0.98},
+    "9 times": {"backlog": 9.0},
+    "49 times": {"backlog": 49.0},
+}
 # The record of a set, what is refitted after, and the window; of all others 52, 13 and 52.
-WALKS = {"cheese": (26, 4, 26), "monthly rotaBB": (52, 12, 52), "monthly meningo.age": (52, 12, 52)}
+WALKS = {
+    "cheese": (26, 4, 26),
+    "monthly rotaBB": (52, 12, 52),
+    "monthly meningo.age": (52, 12, 52),
+}
 MANY, STRIDE = 100, 5
-SETS = ("cases", "flu", "measles", "monthly meningo.age", "monthly rotaBB", "juice", "cheese", "tuna")
+SETS = (
+    "cases",
+    "flu",
+    "measles",
+    "monthly meningo.age",
+    "monthly rotaBB",
+    "juice",
+    "cheese",
+    "tuna",
+)
 START = datetime.date(2000, 1, 3)  # a Monday
-CATALOGUES = {"steady": 100, "shuffled shift": 100, "shift": 20, "promotions": 20}  # made ones of each kind
+CATALOGUES = {
+    "steady": 100,
+    "shuffled shift": 100,
+    "shift": 20,
+    "promotions": 20,
+}  # made ones of each kind
 ITEMS, MADE_GOAL = 20, "95%"  # of a made catalogue
 FOLDER = Path(__file__).parent
-REAL, SINGLE, MADE_ONES = (FOLDER / f"walk_forward{part}.csv" for part in ("", "_single", "_made"))
+REAL, SINGLE, MADE_ONES = (
+    FOLDER / f"walk_forward{part}.csv" for part in ("", "_single", "_made")
+)
 
 
-def tables_of(series: Sequence[Series], goal: dict[str, float], record: int) -> tuple[pd.DataFrame, pd.DataFrame]:
+def tables_of(
+    series: Sequence[Series], goal: dict[str, float], record: int
+) -> tuple[pd.DataFrame, pd.DataFrame]:
     """Returns the movements and the masters of a catalogue."""
-    rows = [(it.name, START + datetime.timedelta(7 * week), count) for it in series
-            for week, count in enumerate(it.counts)]
+    rows = [
+        (it.name, START + datetime.timedelta(7 * week), count)
+        for it in series
+        for week, count in enumerate(it.counts)
+    ]
     means = [max(sum(it.counts[:record]) / record, 0.01) for it in series]
-    masters = pd.DataFrame({
-        "item": [it.name for it in series], "setup": [round(HOLDING * mean * COVER**2 / 2, 2) for mean in means],
-        "holding": HOLDING, "lead (weeks)": LEAD, "s": [round((LEAD + 1) * mean) for mean in means],
-        "S": [round((LEAD + 1 + COVER) * mean) + 1 for mean in means], **goal})
+    masters = pd.DataFrame(
+        {
+            "item": [it.name for it in series],
+            "setup": [round(HOLDING * mean * COVER**2 / 2, 2) for mean in means],
+            "holding": HOLDING,
+            "lead (weeks)": LEAD,
+            "s": [round((LEAD + 1) * mean) for mean in means],
+            "S": [round((LEAD + 1 + COVER) * mean) + 1 for mean in means],
+            **goal,
+        }
+    )
     return pd.DataFrame(rows, columns=["item", "date", "quantity"]), masters
 
 
-def tested(series: Sequence[Series], goal: dict[str, float], walk: tuple[int, int, int] = (52, 13, 52),
-           jobs: int = 1) -> Backtests:
+def tested(
+    series: Sequence[Series],
+    goal: dict[str, float],
+    walk: tuple[int, int, int] = (52, 13, 52),
+    jobs: int = 1,
+) -> Backtests:
     """Returns the tests of series on their past."""
     record, every, window = walk
     sales, masters = tables_of(series, goal, record)
     catalogue = crnplan.read_catalogue(sales, masters, far=KEEP)
-    return crnplan.backtest(catalogue, record=record, every=every, window=window, jobs=jobs)
+    return crnplan.backtest(
+        catalogue, record=record, every=every, window=window, jobs=jobs
+    )
 
 
 def figures(estimates: Mapping[str, Estimate]) -> dict[str, float]:
     """Returns estimates in percent, each with its error."""
-    return {name + end: 100 * figure for name, its in estimates.items()
-            for end, figure in (("", its.value), ("_error", its.error))}
+    return {
+        name + end: 100 * figure
+        for name, its in estimates.items()
+        for end, figure in (("", its.value), ("_error", its.error))
+    }
 
 
 def row_of(sums: Sums) -> dict[str, float | str]:
     """Returns the figures of all items of a set, in percent."""
-    fills = {policy: replace(unmet, value=1 - unmet.value) for policy, unmet in sums.unmet.items() if policy != "today"}
-    parts = {"missed": sums.missed, "shuffled": sums.chance, "time": sums.time, "dearer": sums.dearer,
-             **{f"cost_{policy}": sums.beside[policy] for policy in ("refitted", "smoothed")}}
-    return {"items": sums.items, "promised": 100 * sums.promised, **figures(fills), **figures(parts),
-            "broken": 100 * sums.broken / sums.items, "above": 100 * sums.above / sums.items, "verdict": sums.verdict}
+    fills = {
+        policy: replace(unmet, value=1 - unmet.value)
+        for policy, unmet in sums.unmet.items()
+        if policy != "today"
+    }
+    parts = {
+        "missed": sums.missed,
+        "shuffled": sums.chance,
+        "time": sums.time,
+        "dearer": sums.dearer,
+        **{
+            f"cost_{policy}": sums.beside[policy] for policy in ("refitted", "smoothed")
+        },
+    }
+    return {
+        "items": sums.items,
+        "promised": 100 * sums.promised,
+        **figures(fills),
+        **figures(parts),
+        "broken": 100 * sums.broken / sums.items,
+        "above": 100 * sums.above / sums.items,
+        "verdict": sums.verdict,
+    }
 
 
 def halves(tests: Iterable[Backtest]) -> tuple[list[bool], list[bool]]:
@@ -97,25 +160,41 @@ def halves(tests: Iterable[Backtest]) -> tuple[list[bool], list[bool]]:
     missed: tuple[list[bool], list[bool]] = [], []
     for test in tests:
         middle = len(test.demands) // 2
-        parts = [(test.demands[part], test.kept.unmet[part]) for part in (slice(middle), slice(middle, None))]
+        parts = [
+            (test.demands[part], test.kept.unmet[part])
+            for part in (slice(middle), slice(middle, None))
+        ]
         if all(sum(asked) for asked, _ in parts):
             for half, (asked, unmet) in zip(missed, parts):
-                half.append((test.kept.promised_fill or 0) - 1 + sum(unmet) / sum(asked) > SLACK)
+                half.append(
+                    (test.kept.promised_fill or 0) - 1 + sum(unmet) / sum(asked) > SLACK
+                )
     return missed
 
 
 def single_row(tests: Backtests) -> dict[str, float]:
     """Returns how often items miss their promise again, and for the first time, in percent."""
-    first, second = map(np.array, halves(test for _, test in tests.tested.items if isinstance(test, Backtest)))
+    first, second = map(
+        np.array,
+        halves(test for _, test in tests.tested.items if isinstance(test, Backtest)),
+    )
     row: dict[str, float] = {}
     for name, chosen in (("again", first), ("first", ~first)):
-        count, share = int(chosen.sum()), float(second[chosen].mean()) if chosen.any() else 0.0
-        row |= {f"{name}_items": count, name: 100 * share,
-                f"{name}_error": 100 * math.sqrt(share * (1 - share) / max(1, count))}
+        count, share = (
+            int(chosen.sum()),
+            float(second[chosen].mean()) if chosen.any() else 0.0,
+        )
+        row |= {
+            f"{name}_items": count,
+            name: 100 * share,
+            f"{name}_error": 100 * math.sqrt(share * (1 - share) / max(1, count)),
+        }
     return row
 
 
-def real_study(jobs: int, only: Sequence[str] = ()) -> tuple[pd.DataFrame, pd.DataFrame]:
+def real_study(
+    jobs: int, only: Sequence[str] = ()
+) -> tuple[pd.DataFrame, pd.DataFrame]:
     """Returns for each set and goal the figures of all items, and what is known of single ones."""
     rows: list[dict[str, float | str]] = []
     single: list[dict[str, float | str]] = []
@@ -156,60 +235,147 @@ def _shuffled(random: np.random.Generator, periods: int) -> np.ndarray[Any, Any]
     return random.permutation(_shifted(random, periods))
 
 
-MADE: dict[str, Draw] = {"steady": _steady, "shuffled shift": _shuffled, "shift": _shifted, "promotions": _promoted}
+MADE: dict[str, Draw] = {
+    "steady": _steady,
+    "shuffled shift": _shuffled,
+    "shift": _shifted,
+    "promotions": _promoted,
+}
 
 
-def made_verdict(kind: str, number: int, items: int = ITEMS, periods: int = 104, seed: int = 1) -> str:
+def made_verdict(
+    kind: str, number: int, items: int = ITEMS, periods: int = 104, seed: int = 1
+) -> str:
     """Returns the verdict on a made catalogue of a kind."""
     random = np.random.default_rng([[*MADE].index(kind), seed, number])
-    series = [Series(f"{kind} {number} {place}", tuple(MADE[kind](random, periods).tolist())) for place in range(items)]
+    series = [
+        Series(f"{kind} {number} {place}", tuple(MADE[kind](random, periods).tolist()))
+        for place in range(items)
+    ]
     return tested(series, GOALS[MADE_GOAL]).tested.sums[0].verdict
 
 
 def made_study(jobs: int, catalogues: Mapping[str, int]) -> pd.DataFrame:
     """Returns on how many made catalogues each verdict is given, by kind."""
     with ProcessPoolExecutor(jobs) as pool:
-        given = {kind: [*pool.map(partial(made_verdict, kind), range(count))] for kind, count in catalogues.items()}
-    counts = {kind: {word: verdicts.count(word) for word in VERDICTS} for kind, verdicts in given.items()}
-    return pd.DataFrame([{"kind": kind, "catalogues": catalogues[kind], **row} for kind, row in counts.items()])
+        given = {
+            kind: [*pool.map(partial(made_verdict, kind), range(count))]
+            for kind, count in catalogues.items()
+        }
+    counts = {
+        kind: {word: verdicts.count(word) for word in VERDICTS}
+        for kind, verdicts in given.items()
+    }
+    return pd.DataFrame(
+        [
+            {"kind": kind, "catalogues": catalogues[kind], **row}
+            for kind, row in counts.items()
+        ]
+    )
 
 
-def shown(row: Mapping[str, Any], names: Iterable[str], sign: str = "") -> dict[str, str]:
+def shown(
+    row: Mapping[str, Any], names: Iterable[str], sign: str = ""
+) -> dict[str, str]:
     """Returns figures of a row as texts, with their errors."""
-    return {name.replace("_", " "): f"{row[name]:{sign}.1f} ± {row[f'{name}_error']:.1f}" for name in names}
+    return {
+        name.replace("_", " "): f"{row[name]:{sign}.1f} ± {row[f'{name}_error']:.1f}"
+        for name in names
+    }
 
 
 def tables() -> dict[str, str]:
     """Returns the stored figures for the page: of real series, of single items, and of made catalogues."""
-    rows, single, made = (pd.read_csv(stored).to_dict("records") for stored in (REAL, SINGLE, MADE_ONES))
-    fills = [{"set": row["set"], "goal": row["goal"], "items": row["items"], "promised": f"{row['promised']:.1f}",
-              **shown(row, ("kept", "refitted", "smoothed", "missed", "shuffled", "time")), "verdict": row["verdict"]}
-             for row in rows]
-    costs = [{"set": row["set"], "goal": row["goal"], **shown(row, ("dearer", "cost_refitted", "cost_smoothed"), "+"),
-              "broken": f"{row['broken']:.0f}", "above": f"{row['above']:.0f}"} for row in rows]
-    again = [{"set": row["set"], "goal": row["goal"], **{
-        words: f"{row[name]:.0f} ± {row[f'{name}_error']:.0f} of {row[f'{name}_items']}" for name, words in
-        (("again", "missed before"), ("first", "kept before"))}} for row in single]
-    verdicts = [{"kind": row["kind"], "catalogues": row["catalogues"], **{
-        word: f"{100 * share:.1f} ± {100 * math.sqrt(share * (1 - share) / row['catalogues']):.1f}"
-        for word in VERDICTS for share in [row[word] / row["catalogues"]]}} for row in made]
-    return {name: markdown(pd.DataFrame(lines)) for name, lines in (
-        ("real-fills", fills), ("real-costs", costs), ("real-single", again), ("made-verdicts", verdicts))}
+    rows, single, made = (
+        pd.read_csv(stored).to_dict("records") for stored in (REAL, SINGLE, MADE_ONES)
+    )
+    fills = [
+        {
+            "set": row["set"],
+            "goal": row["goal"],
+            "items": row["items"],
+            "promised": f"{row['promised']:.1f}",
+            **shown(
+                row, ("kept", "refitted", "smoothed", "missed", "shuffled", "time")
+            ),
+            "verdict": row["verdict"],
+        }
+        for row in rows
+    ]
+    costs = [
+        {
+            "set": row["set"],
+            "goal": row["goal"],
+            **shown(row, ("dearer", "cost_refitted", "cost_smoothed"), "+"),
+            "broken": f"{row['broken']:.0f}",
+            "above": f"{row['above']:.0f}",
+        }
+        for row in rows
+    ]
+    again = [
+        {
+            "set": row["set"],
+            "goal": row["goal"],
+            **{
+                words: f"{row[name]:.0f} ± {row[f'{name}_error']:.0f} of {row[f'{name}_items']}"
+                for name, words in (
+                    ("again", "missed before"),
+                    ("first", "kept before"),
+                )
+            },
+        }
+        for row in single
+    ]
+    verdicts = [
+        {
+            "kind": row["kind"],
+            "catalogues": row["catalogues"],
+            **{
+                word: f"{100 * share:.1f} ± {100 * math.sqrt(share * (1 - share) / row['catalogues']):.1f}"
+                for word in VERDICTS
+                for share in [row[word] / row["catalogues"]]
+            },
+        }
+        for row in made
+    ]
+    return {
+        name: markdown(pd.DataFrame(lines))
+        for name, lines in (
+            ("real-fills", fills),
+            ("real-costs", costs),
+            ("real-single", again),
+            ("made-verdicts", verdicts),
+        )
+    }
 
 
 @click.command()
 @click.argument("sets", nargs=-1)
-@click.option("--small", is_flag=True, help="Run a small part: one made catalogue of each kind.")
-@click.option("--made/--no-made", default=True, help="With or without the made catalogues.")
+@click.option(
+    "--small", is_flag=True, help="Run a small part: one made catalogue of each kind."
+)
+@click.option(
+    "--made/--no-made", default=True, help="With or without the made catalogues."
+)
 @click.option("--jobs", type=click.IntRange(1), default=1, show_default=True)
-@click.option("--out", type=click.Path(file_okay=False, path_type=Path), help="Write the tables as CSV to this folder.")
-def main(sets: Sequence[str], small: bool, made: bool, jobs: int, out: Path | None) -> None:
+@click.option(
+    "--out",
+    type=click.Path(file_okay=False, path_type=Path),
+    help="Write the tables as CSV to this folder.",
+)
+def main(
+    sets: Sequence[str], small: bool, made: bool, jobs: int, out: Path | None
+) -> None:
     """Test plans on real series, all or some SETS, and on made catalogues."""
     if not small and not real_series():
-        raise click.ClickException("the real series need R with the packages surveillance and bayesm")
+        raise click.ClickException(
+            "the real series need R with the packages surveillance and bayesm"
+        )
     found = {} if small else dict(zip((REAL.name, SINGLE.name), real_study(jobs, sets)))
     if made:
-        found[MADE_ONES.name] = made_study(jobs, dict.fromkeys(MADE, 1) if small else CATALOGUES)
+        found[MADE_ONES.name] = made_study(
+            jobs, dict.fromkeys(MADE, 1) if small else CATALOGUES
+        )
     for name, table in found.items():
         if out:
             table.to_csv(out / name, index=False, float_format="%.4f")

@@ -22,7 +22,7 @@ from __future__ import annotations
 
 import itertools
 import math
-from collections.abc import Callable, Iterable, Iterator
+from collections.abc import Callable, Iterable, Iterator, Mapping, Sequence
 from pathlib import Path
 from typing import Any, NamedTuple
 
@@ -31,8 +31,10 @@ import numpy as np
 import numpy.typing as npt
 import pandas as pd
 
-from crnplan.demand.checks import FALSE_ALARMS, Facts, outliers_of, seasons_of, tests_of
-from crnplan.demand.permutation import ROUNDING, Orders, statistics_of
+from crnplan.demand.checks import FALSE_ALARMS, Facts, tests_of
+from crnplan.demand.outliers import outliers_of
+from crnplan.demand.seasons import seasons_of
+from crnplan.demand.permutation import ROUNDING, Orders
 from crnplan.demand.sample import Sample
 from planner.studies import dependence, laws
 from planner.studies.dependence import effect_of
@@ -59,14 +61,32 @@ class Effect(NamedTuple):
 
 CHAINS = {"P10": "steady", "NB3_9": "erratic"}
 ALL = (*CHAINS, "INT")
-SIZES = {"autocorrelation": (30, 60), "trend": (25, 50), "shift": (50,), "season": (30, 60)}
-EFFECTS = [Effect(law, kind, size) for kind, sizes in SIZES.items() for size in sizes
-           for law in (("P10",) if kind == "autocorrelation" else ALL)]
-SAID = [(law, kind) for kind in ("autocorrelation", "trend", "season")
-        for law in (CHAINS if kind == "autocorrelation" else ALL)]
+SIZES = {
+    "autocorrelation": (30, 60),
+    "trend": (25, 50),
+    "shift": (50,),
+    "season": (30, 60),
+}
+EFFECTS = [
+    Effect(law, kind, size)
+    for kind, sizes in SIZES.items()
+    for size in sizes
+    for law in (("P10",) if kind == "autocorrelation" else ALL)
+]
+SAID = [
+    (law, kind)
+    for kind in ("autocorrelation", "trend", "season")
+    for law in (CHAINS if kind == "autocorrelation" else ALL)
+]
 SMALL: dict[str, Any] = {  # of `study`
-    "names": ("P2", "INT"), "effects": (Effect("P10", "autocorrelation", 60), Effect("NB3_9", "trend", 50)),
-    "said": (("P10", "trend"),), "periods": (104,), "count": 60, "of_effect": 40, "of_stated": 30}
+    "names": ("P2", "INT"),
+    "effects": (Effect("P10", "autocorrelation", 60), Effect("NB3_9", "trend", 50)),
+    "said": (("P10", "trend"),),
+    "periods": (104,),
+    "count": 60,
+    "of_effect": 40,
+    "of_stated": 30,
+}
 
 
 def factors_of(kind: str, size: float, periods: int) -> npt.NDArray[np.float64]:
@@ -74,10 +94,16 @@ def factors_of(kind: str, size: float, periods: int) -> npt.NDArray[np.float64]:
     time = np.arange(periods)
     if kind == "trend":
         return 1 + size * (2 * time / (periods - 1) - 1)
-    return 1 + size * (np.sin(2 * math.pi * (time + 0.5) / YEAR) if kind == "season" else time >= 0.75 * periods)
+    return 1 + size * (
+        np.sin(2 * math.pi * (time + 0.5) / YEAR)
+        if kind == "season"
+        else time >= 0.75 * periods
+    )
 
 
-def drawn(law: str, kind: str, size: float, random: np.random.Generator, periods: int) -> Whole:
+def drawn(
+    law: str, kind: str, size: float, random: np.random.Generator, periods: int
+) -> Whole:
     """Draws a history of demand with an effect."""
     if kind == "autocorrelation":
         case = dependence.Case(kind, CHAINS[law], round(100 * size))
@@ -87,7 +113,9 @@ def drawn(law: str, kind: str, size: float, random: np.random.Generator, periods
         return random.poisson(10 * factors)
     if law == "NB3_9":
         return random.negative_binomial(dependence.SIZE * factors, dependence.SHARE)
-    return np.where(random.random(periods) < 0.1 * factors, random.geometric(1 / 8, periods), 0)
+    return np.where(
+        random.random(periods) < 0.1 * factors, random.geometric(1 / 8, periods), 0
+    )
 
 
 def independent(law: str, random: np.random.Generator, periods: int) -> Whole:
@@ -109,11 +137,19 @@ def p_value(statistics: npt.NDArray[np.float64]) -> float:
     return float((statistics >= statistics[0] * (1 - ROUNDING)).mean())
 
 
+def statistics_of(
+    numbers: Sequence[int], seasons: Mapping[str, Whole]
+) -> dict[str, npt.NDArray[np.float64]]:
+    """Returns each statistic of a history and, after it, of drawn orders of it."""
+    orders = Orders(numbers, seasons)
+    return dict(zip(orders.names, np.concatenate([*orders.statistics()]).T))
+
+
 def p_values(numbers: list[int]) -> dict[str, float]:
     """Returns the p value of each test."""
     seasons, _ = seasons_of(None, 1, len(numbers), YEAR)
-    kinds = statistics_of({it.name: it.part_of for it in seasons})
-    return {name: p_value(its) for name, its in Orders(numbers).statistics(kinds).items()}
+    found = statistics_of(numbers, {it.name: it.part_of for it in seasons})
+    return {name: p_value(statistics) for name, statistics in found.items()}
 
 
 def warned(found: dict[str, float]) -> list[str]:
@@ -125,48 +161,115 @@ def alarms(law: str, periods: int, count: int) -> dict[str, Any]:
     """Returns the shares of false alarms of a law."""
     random = np.random.default_rng([0, [*laws.LAWS].index(law), periods])
     found, far = [], 0
-    for numbers in itertools.islice(histories(lambda: independent(law, random, periods)), count):
+    for numbers in itertools.islice(
+        histories(lambda: independent(law, random, periods)), count
+    ):
         found.append(p_values(numbers))
         far += bool(outliers_of(numbers, Sample.of(numbers).pack))
-    return {"part": "independent", "law": law, "kind": "-", "size": 0, "periods": periods, "histories": count,
-            "any": np.mean([bool(warned(it)) for it in found]), "outliers": far / count,
-            **{name: np.mean([it[name] <= FALSE_ALARMS for it in found]) for name in found[0]}}
+    return {
+        "part": "independent",
+        "law": law,
+        "kind": "-",
+        "size": 0,
+        "periods": periods,
+        "histories": count,
+        "any": np.mean([bool(warned(it)) for it in found]),
+        "outliers": far / count,
+        **{
+            name: np.mean([it[name] <= FALSE_ALARMS for it in found])
+            for name in found[0]
+        },
+    }
 
 
 def power(effect: Effect, periods: int, count: int) -> dict[str, Any]:
     """Returns the shares of warnings about an effect."""
     random = np.random.default_rng([1, EFFECTS.index(effect), periods])
-    draw = histories(lambda: drawn(effect.law, effect.kind, effect.size / 100, random, periods))
+    draw = histories(
+        lambda: drawn(effect.law, effect.kind, effect.size / 100, random, periods)
+    )
     found = [warned(p_values(numbers)) for numbers in itertools.islice(draw, count)]
-    return {"part": "effect", **effect._asdict(), "periods": periods, "histories": count,
-            "any": np.mean([bool(it) for it in found]), "own": np.mean([effect.kind in it for it in found])}
+    return {
+        "part": "effect",
+        **effect._asdict(),
+        "periods": periods,
+        "histories": count,
+        "any": np.mean([bool(it) for it in found]),
+        "own": np.mean([effect.kind in it for it in found]),
+    }
 
 
 def stated(law: str, kind: str, periods: int, count: int) -> dict[str, Any]:
     """Returns how often an effect is seen that is as large as a history says."""
     random = np.random.default_rng([2, SAID.index((law, kind)), periods])
     said, seen = [], []
-    for numbers in itertools.islice(histories(lambda: independent(law, random, periods)), count):
+    for numbers in itertools.islice(
+        histories(lambda: independent(law, random, periods)), count
+    ):
         facts = Facts(numbers, seasons_of(None, 1, periods, YEAR)[0])
         size = next(it.least_seen for it in tests_of(facts) if it.name == kind)
         said.append(size)
         if size is not None and size != math.inf:
-            seen.append(kind in warned(p_values(next(histories(lambda: drawn(law, kind, size, random, periods))))))
+            seen.append(
+                kind
+                in warned(
+                    p_values(
+                        next(histories(lambda: drawn(law, kind, size, random, periods)))
+                    )
+                )
+            )
     finite = [it for it in said if it != math.inf]
-    return {"part": "stated", "law": law, "kind": kind, "size": round(100 * float(np.mean(finite))) if finite else 0,
-            "periods": periods, "histories": len(seen), "own": np.mean(seen) if seen else math.nan,
-            "none": 1 - len(finite) / count}
+    return {
+        "part": "stated",
+        "law": law,
+        "kind": kind,
+        "size": round(100 * float(np.mean(finite))) if finite else 0,
+        "periods": periods,
+        "histories": len(seen),
+        "own": np.mean(seen) if seen else math.nan,
+        "none": 1 - len(finite) / count,
+    }
 
 
-def study(names: Iterable[str], effects: Iterable[Effect], said: Iterable[tuple[str, str]], periods: Iterable[int],
-          count: int, of_effect: int, of_stated: int) -> pd.DataFrame:
+def study(
+    names: Iterable[str],
+    effects: Iterable[Effect],
+    said: Iterable[tuple[str, str]],
+    periods: Iterable[int],
+    count: int,
+    of_effect: int,
+    of_stated: int,
+) -> pd.DataFrame:
     """Returns the figures of all parts, a row for each case and number of periods. A part has so many histories."""
     counts = [*periods]
-    of_kind = {kind: [it for it in counts if it >= 2 * YEAR or kind != "season"] for kind in TESTS}
+    of_kind = {
+        kind: [it for it in counts if it >= 2 * YEAR or kind != "season"]
+        for kind in TESTS
+    }
     rows = [alarms(name, it, count) for name in names for it in counts]
-    rows += [power(effect, it, of_effect) for effect in effects for it in of_kind[effect.kind]]
-    rows += [stated(law, kind, it, of_stated) for law, kind in said for it in of_kind["season"]]
-    columns = ["part", "law", "kind", "size", "periods", "histories", "any", "own", "none", *TESTS, "outliers"]
+    rows += [
+        power(effect, it, of_effect)
+        for effect in effects
+        for it in of_kind[effect.kind]
+    ]
+    rows += [
+        stated(law, kind, it, of_stated)
+        for law, kind in said
+        for it in of_kind["season"]
+    ]
+    columns = [
+        "part",
+        "law",
+        "kind",
+        "size",
+        "periods",
+        "histories",
+        "any",
+        "own",
+        "none",
+        *TESTS,
+        "outliers",
+    ]
     return pd.DataFrame(rows).reindex(columns=columns)
 
 
@@ -189,13 +292,26 @@ def alarm_table(rows: pd.DataFrame) -> pd.DataFrame:
         def mean(name: str, part: pd.DataFrame = its) -> str:
             """Returns the mean of a column over laws."""
             errors = [error_of(*it) for it in zip(part[name], part["histories"])]
-            return percent(part[name].mean(), math.hypot(*errors) / len(part)) if part[name].notna().all() else "-"
-        most, far = its.loc[its["any"].idxmax()], one_hump.loc[one_hump["outliers"].idxmax()]
-        lines.append({"periods": periods, "any warning": mean("any"),
-                      "most (law)": f"{percent(most['any'], error_of(most['any'], most['histories']))} ({most['law']})",
-                      **{f"{name} at 5%": mean(name) for name in TESTS},
-                      "far above, one hump": mean("outliers", one_hump),
-                      "far above, most": f"{100 * far['outliers']:.1f} ({far['law']})"})
+            return (
+                percent(part[name].mean(), math.hypot(*errors) / len(part))
+                if part[name].notna().all()
+                else "-"
+            )
+
+        most, far = (
+            its.loc[its["any"].idxmax()],
+            one_hump.loc[one_hump["outliers"].idxmax()],
+        )
+        lines.append(
+            {
+                "periods": periods,
+                "any warning": mean("any"),
+                "most (law)": f"{percent(most['any'], error_of(most['any'], most['histories']))} ({most['law']})",
+                **{f"{name} at 5%": mean(name) for name in TESTS},
+                "far above, one hump": mean("outliers", one_hump),
+                "far above, most": f"{100 * far['outliers']:.1f} ({far['law']})",
+            }
+        )
     return pd.DataFrame(lines)
 
 
@@ -203,10 +319,20 @@ def power_table(rows: pd.DataFrame) -> pd.DataFrame:
     """Returns the share of histories with any warning, by effect, law and number of periods."""
     lines = []
     for (kind, size, law), its in rows.groupby(["kind", "size", "law"], sort=False):
-        shares = {periods: percent(share, error_of(share, count))
-                  for periods, share, count in zip(its["periods"], its["any"], its["histories"])}
+        shares = {
+            periods: percent(share, error_of(share, count))
+            for periods, share, count in zip(
+                its["periods"], its["any"], its["histories"]
+            )
+        }
         effect = effect_of(kind, size, YEAR * (kind == "season"))
-        lines.append({"effect": effect, "law": law, **{str(it): shares.get(it, "-") for it in PERIODS}})
+        lines.append(
+            {
+                "effect": effect,
+                "law": law,
+                **{str(it): shares.get(it, "-") for it in PERIODS},
+            }
+        )
     return pd.DataFrame(lines)
 
 
@@ -214,9 +340,21 @@ def stated_table(rows: pd.DataFrame) -> pd.DataFrame:
     """Returns the mean size that is said to be seen, how often it is seen, and how often none is said to be."""
     lines = []
     for (kind, law), its in rows.groupby(["kind", "law"], sort=False):
-        cells = {it["periods"]: f"{it['size']}: {percent(it['own'], error_of(it['own'], it['histories']))}"
-                 if it["none"] < 0.5 else "none" for it in its.to_dict("records")}
-        lines.append({"effect": kind, "law": law, **{str(it): cell for it, cell in cells.items()}})
+        cells = {
+            it[
+                "periods"
+            ]: f"{it['size']}: {percent(it['own'], error_of(it['own'], it['histories']))}"
+            if it["none"] < 0.5
+            else "none"
+            for it in its.to_dict("records")
+        }
+        lines.append(
+            {
+                "effect": kind,
+                "law": law,
+                **{str(it): cell for it, cell in cells.items()},
+            }
+        )
     return pd.DataFrame(lines)
 
 
@@ -224,20 +362,37 @@ def tables() -> dict[str, str]:
     """Returns the stored figures for the page: false alarms, power, and what is said to be seen."""
     rows = pd.read_csv(STORED)
     parts = {name: its for name, its in rows.groupby("part")}
-    made = {"false-alarms": alarm_table(parts["independent"]), "power": power_table(parts["effect"]),
-            "stated-power": stated_table(parts["stated"])}
+    made = {
+        "false-alarms": alarm_table(parts["independent"]),
+        "power": power_table(parts["effect"]),
+        "stated-power": stated_table(parts["stated"]),
+    }
     return {name: markdown(table) for name, table in made.items()}
 
 
 @click.command()
 @click.option("--small", is_flag=True, help="Run a small part.")
-@click.option("--histories", type=click.IntRange(8), default=HISTORIES, show_default=True,
-              help="Of each cell; a quarter of it for what is stated.")
-@click.option("--out", type=click.Path(dir_okay=False, path_type=Path), help="Write the rows as CSV.")
+@click.option(
+    "--histories",
+    type=click.IntRange(8),
+    default=HISTORIES,
+    show_default=True,
+    help="Of each cell; a quarter of it for what is stated.",
+)
+@click.option(
+    "--out",
+    type=click.Path(dir_okay=False, path_type=Path),
+    help="Write the rows as CSV.",
+)
 def main(small: bool, histories: int, out: Path | None) -> None:
     """Measure false alarms and power of the checks of a history."""
-    rows = study(**SMALL) if small else \
-        study(laws.LAWS, EFFECTS, SAID, PERIODS, histories, histories, histories // 4)
+    rows = (
+        study(**SMALL)
+        if small
+        else study(
+            laws.LAWS, EFFECTS, SAID, PERIODS, histories, histories, histories // 4
+        )
+    )
     if out:
         rows.to_csv(out, index=False, float_format="%.4f")
     click.echo(rows.round(3).to_string(index=False))

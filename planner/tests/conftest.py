@@ -5,19 +5,22 @@ import csv
 import fcntl
 import io
 import os
+import resource
 import shutil
 import signal
+import subprocess
 import sys
 import tempfile
-from collections.abc import Callable, Iterator
+import tomllib
+from collections.abc import Callable, Iterator, Sequence
 from pathlib import Path
 from types import ModuleType
-from typing import NamedTuple
+from typing import Any, NamedTuple
 
 import pytest
 
-from crnplan import commands
-from planner.tests.jobs.clusters import Cluster
+from crnplan import cli
+from planner.tests.store.clusters import Cluster
 
 
 class Answer(NamedTuple):
@@ -27,10 +30,27 @@ class Answer(NamedTuple):
     output: str
     errors: str
 
+    def refuses(self, part: str, status: int = 2) -> bool:
+        """Returns whether the command has ended with a status, 2 if it is refused, and says a part of why."""
+        return self.status == status and part in self.errors
+
 
 Command = Callable[..., Answer]
 # A user of whom the machine knows nothing, without a name and a home.
 NOBODY = "54321"
+
+
+def cases_beside(file: str) -> dict[str, Any]:
+    """Returns the cases of a module of tests: those of the TOML file of its name."""
+    return tomllib.loads(Path(file).with_suffix(".toml").read_text("utf-8"))
+
+
+def seconds_of(words: Sequence[str | Path], folder: Path | None = None) -> float:
+    """Returns the processor time of a process: what it takes on a quiet machine, however busy this one is."""
+    before = resource.getrusage(resource.RUSAGE_CHILDREN)
+    subprocess.run(words, cwd=folder, capture_output=True, check=True)
+    after = resource.getrusage(resource.RUSAGE_CHILDREN)
+    return after.ru_utime + after.ru_stime - before.ru_utime - before.ru_stime
 
 
 def heed_interrupts() -> None:
@@ -49,7 +69,33 @@ def script(path: Path, lines: str) -> Path:
 
 def as_nobody() -> list[str]:
     """Returns the words before a command that run it without the rights of root."""
-    return ["setpriv", "--reuid", NOBODY, "--regid", NOBODY, "--clear-groups"] if os.geteuid() == 0 else []
+    return (
+        ["setpriv", "--reuid", NOBODY, "--regid", NOBODY, "--clear-groups"]
+        if os.geteuid() == 0
+        else []
+    )
+
+
+def write_inputs(folder: Path, items: str = "A") -> Path:
+    """Writes the tables of items, each of 24 days, and settings by which a plan is short. Returns the folder."""
+    days = [
+        f"2026-{month:02}-{day:02},{day % 4}"
+        for month in range(1, 7)
+        for day in (2, 9, 16, 23)
+    ]
+    sales, masters = list[str](), list[str]()
+    for item in items:
+        sales += [f"{item},{day}" for day in days]
+        masters.append(f"{item},20,1,9,1,5,20,3")
+    heading = "item,setup,holding,backlog,lead (weeks),s,S,price"
+    texts = {
+        "demand.csv": ["item,date,quantity", *sales],
+        "items.csv": [heading, *masters],
+        "crnplan.toml": ["[catalogue]", "periods = 64", "replications = 2"],
+    }
+    for name, lines in texts.items():
+        (folder / name).write_text("\n".join([*lines, ""]), "utf-8")
+    return folder
 
 
 @pytest.fixture
@@ -68,10 +114,14 @@ def leave_as_written(monkeypatch: pytest.MonkeyPatch, *modules: ModuleType) -> N
                 monkeypatch.setattr(module, name, loop.__wrapped__)
 
 
-def shared(factory: pytest.TempPathFactory, name: str, make: Callable[[Path], object]) -> Path:
+def shared(
+    factory: pytest.TempPathFactory, name: str, make: Callable[[Path], object]
+) -> Path:
     """Returns a copy of a folder that the first worker which needs it makes for all, and which nobody changes."""
     base = factory.getbasetemp()
-    place = (base.parent if "PYTEST_XDIST_WORKER" in os.environ else base) / f"shared {name}"
+    place = (
+        base.parent if "PYTEST_XDIST_WORKER" in os.environ else base
+    ) / f"shared {name}"
     with place.with_suffix(".lock").open("w") as lock:
         fcntl.flock(lock, fcntl.LOCK_EX)
         if not place.with_suffix(".made").exists():
@@ -81,14 +131,22 @@ def shared(factory: pytest.TempPathFactory, name: str, make: Callable[[Path], ob
     return Path(shutil.copytree(place, factory.mktemp("copy") / "made", symlinks=True))
 
 
-def rows_of(path: Path, key: str = "item", kind: str = "", delimiter: str = ",") -> dict[str, dict[str, str]]:
+def rows_of(
+    path: Path, key: str = "item", kind: str = "", delimiter: str = ","
+) -> dict[str, dict[str, str]]:
     """Returns the rows of a table by a column, of one kind if the table has several."""
     with path.open(encoding="utf-8", newline="") as file:
-        return {row[key]: row for row in csv.DictReader(file, delimiter=delimiter) if row.get("kind", "") == kind}
+        return {
+            row[key]: row
+            for row in csv.DictReader(file, delimiter=delimiter)
+            if row.get("kind", "") == kind
+        }
 
 
 @pytest.fixture
-def crnplan(monkeypatch: pytest.MonkeyPatch, capfd: pytest.CaptureFixture[str]) -> Command:
+def crnplan(
+    monkeypatch: pytest.MonkeyPatch, capfd: pytest.CaptureFixture[str]
+) -> Command:
     """Returns a function that runs a command of crnplan by its words, with `data` as standard input."""
     usual = signal.getsignal(signal.SIGINT)
 
@@ -96,14 +154,19 @@ def crnplan(monkeypatch: pytest.MonkeyPatch, capfd: pytest.CaptureFixture[str]) 
         monkeypatch.setattr(sys, "argv", ["crnplan", *map(str, words)])
         monkeypatch.setattr(sys, "stdin", io.TextIOWrapper(io.BytesIO(data)))
         with pytest.raises(SystemExit) as ended:
-            commands.main()
-        signal.signal(signal.SIGINT, usual)  # A command that was interrupted heeds no second one.
+            cli.main()
+        signal.signal(
+            signal.SIGINT, usual
+        )  # A command that was interrupted heeds no second one.
         return Answer(int(ended.value.code or 0), *capfd.readouterr())
+
     return run
 
 
 @pytest.fixture(scope="module")
-def shared_cluster(tmp_path_factory: pytest.TempPathFactory, program: Path) -> Iterator[Cluster]:
+def shared_cluster(
+    tmp_path_factory: pytest.TempPathFactory, program: Path
+) -> Iterator[Cluster]:
     """Returns the cluster of all tests of a module, which find the tested program by its name. A test calls `restore`
     first. At the end nothing of it is left: an idle cluster takes 8% of a processor."""
     cluster = Cluster(tmp_path_factory.mktemp("cluster"))

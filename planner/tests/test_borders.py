@@ -23,7 +23,11 @@ Write = Callable[[str, Sequence[Sequence[object]]], str]
 
 def make_small(patch: pytest.MonkeyPatch, name: str, value: int) -> None:
     """Sets a limit in each module of crnplan that has it under its name."""
-    modules = [its for module, its in sys.modules.items() if module.startswith("crnplan") and hasattr(its, name)]
+    modules = [
+        its
+        for module, its in sys.modules.items()
+        if module.startswith("crnplan") and hasattr(its, name)
+    ]
     assert modules, f"there is no limit {name}"
     for module in modules:
         patch.setattr(module, name, value)
@@ -39,20 +43,33 @@ def write(tmp_path: Path, monkeypatch: pytest.MonkeyPatch) -> Write:
         with (tmp_path / name).open("w", encoding="utf-8", newline="") as out:
             csv.writer(out).writerows(rows)
         return name
+
     return file
 
 
-def catalogue(crnplan: Command, names: Sequence[str], *words: str | Path, teachers: Sequence[str] = ()) -> Answer:
+def catalogue(
+    crnplan: Command,
+    names: Sequence[str],
+    *words: str | Path,
+    teachers: Sequence[str] = (),
+) -> Answer:
     """Runs `crnplan catalogue` on demand.csv for items with these names, by one process. Teachers have no plan."""
-    rows = [(TEACHER if name in teachers else MASTER).format(name, "AB"[place % 2]) for place, name in enumerate(names)]
+    rows = [
+        (TEACHER if name in teachers else MASTER).format(name, "AB"[place % 2])
+        for place, name in enumerate(names)
+    ]
     Path("items.csv").write_text(MASTERS + "".join(rows), "utf-8")
-    return crnplan("catalogue", "demand.csv", "items.csv", "--config", "settings.toml", "--jobs", "1", "--out", "plan",
-                   *words)
+    line = "catalogue demand.csv items.csv --config settings.toml --jobs 1 --out plan"
+    return crnplan(*line.split(), *words)
 
 
 def of_days() -> list[str]:
     """Returns the words of a record of days, in which amounts of a period are those of a day."""
-    return ["--every", "day", *(f"--unit=items.{name}=day" for name in ("holding", "backlog", "lead"))]
+    return [
+        "--every",
+        "day",
+        *(f"--unit=items.{name}=day" for name in ("holding", "backlog", "lead")),
+    ]
 
 
 def rejects() -> list[dict[str, str]]:
@@ -60,47 +77,83 @@ def rejects() -> list[dict[str, str]]:
 
 
 @pytest.mark.parametrize("stated", ["neither", "from", "to", "both"])
-def test_days_at_the_ends_of_the_record(write: Write, crnplan: Command, program: Path, stated: str) -> None:
+def test_days_at_the_ends_of_the_record(
+    write: Write, crnplan: Command, program: Path, stated: str
+) -> None:
     """The first and the last day belong to the record, the days beside them do not. Without an end it is today."""
     today = datetime.date.today()
     first = today - datetime.timedelta(60)
     days = [first + datetime.timedelta(it) for it in range(-1, 62)]
-    write("demand.csv", [["date", "item", "quantity"], *([str(day), "A", number % 3 + 1]
-                                                         for number, day in enumerate(days))])
+    write(
+        "demand.csv",
+        [
+            ["date", "item", "quantity"],
+            *([str(day), "A", number % 3 + 1] for number, day in enumerate(days)),
+        ],
+    )
     words = {"from": ["--from", str(first)], "to": ["--to", str(today)]}
-    told = catalogue(crnplan, ["A"], "--program", program, *of_days(), *words.get(stated, []),
-                     *(words["from"] + words["to"] if stated == "both" else []))
+    words |= {"neither": [], "both": words["from"] + words["to"]}
+    told = catalogue(crnplan, ["A"], "--program", program, *of_days(), *words[stated])
     rejected = {row["line"] for row in rejects() if row["kind"] == "row"}
-    assert told.status == 0 and rejected == {*(["2"] if stated in ("from", "both") else []), str(len(days) + 1)}
+    assert told.status == 0
+    assert rejected == {
+        *(["2"] if stated in ("from", "both") else []),
+        str(len(days) + 1),
+    }
 
 
 @pytest.mark.parametrize(("borrow", "learned"), [("all", 35), ("class", 40)])
-def test_how_many_items_are_learned_from(write: Write, crnplan: Command, program: Path, borrow: str, learned: int,
-                                         monkeypatch: pytest.MonkeyPatch) -> None:
+def test_how_many_items_are_learned_from(
+    write: Write,
+    crnplan: Command,
+    program: Path,
+    borrow: str,
+    learned: int,
+    monkeypatch: pytest.MonkeyPatch,
+) -> None:
     """What all items learn comes from so many at most. What a class learns comes from all."""
     assert callable(crn.plan)  # its modules are loaded, so that their limits are there
     make_small(monkeypatch, "MOST_READ", 35)
     names = [f"I-{number:02}" for number in range(40)]
     day = datetime.date(2025, 1, 6)
-    write("demand.csv", [["date", "item", "quantity"], *(
-        [str(day + datetime.timedelta(7 * week)), name, 1 + (number * week) % 4]
-        for number, name in enumerate(names) for week in range(number % 3, 24, 2))])
-    told = catalogue(crnplan, names, "--borrow", borrow, "--program", program, teachers=names[2:])
-    assert told.status == 0 and f"laws of demand were learned from {learned} items" in told.output, told
+    write(
+        "demand.csv",
+        [
+            ["date", "item", "quantity"],
+            *(
+                [str(day + datetime.timedelta(7 * week)), name, 1 + (number * week) % 4]
+                for number, name in enumerate(names)
+                for week in range(number % 3, 24, 2)
+            ),
+        ],
+    )
+    told = catalogue(
+        crnplan, names, "--borrow", borrow, "--program", program, teachers=names[2:]
+    )
+    assert (
+        told.status == 0
+        and f"laws of demand were learned from {learned} items" in told.output
+    ), told
 
 
 def test_most_orders(write: Write, crnplan: Command) -> None:
     """So many orders are taken; with one more, the line of the first that is too many is named."""
     day = datetime.date(2020, 1, 6)
-    rows = [[day + datetime.timedelta(it % 999), day + datetime.timedelta(it % 999 + 7 * (1 + it % 3))]
-            for it in range(MOST_ORDERS + 1)]
+    rows = [
+        [
+            day + datetime.timedelta(it % 999),
+            day + datetime.timedelta(it % 999 + 7 * (1 + it % 3)),
+        ]
+        for it in range(MOST_ORDERS + 1)
+    ]
     history = write("history.csv", [["demand"], *([it % 4] for it in range(30))])
     for count, status in ((MOST_ORDERS, 0), (MOST_ORDERS + 1, 2)):
         orders = write("orders.csv", [["ordered", "received"], *rows[:count]])
-        told = crnplan("history", history, "--demand", "demand", "--fit", "empirical", "--orders", orders, "--every",
-                       "week")
+        line = f"history {history} --demand demand --fit empirical --orders {orders} --every week"
+        told = crnplan(*line.split())
         assert told.status == status, told.errors
-    assert f"orders.csv:{MOST_ORDERS + 2}:" in told.errors and "65,537 orders are more than 65,536" in told.errors
+    assert f"orders.csv:{MOST_ORDERS + 2}:" in told.errors
+    assert "65,537 orders are more than 65,536" in told.errors
 
 
 def test_odd_rows(write: Write, crnplan: Command, program: Path) -> None:
@@ -108,53 +161,83 @@ def test_odd_rows(write: Write, crnplan: Command, program: Path) -> None:
     day = datetime.date(2025, 1, 6)
     amounts = [4, 3, 1, 3_000, 2, 4, 4_500, *[1, 2, 3] * 12]
     days = [day + datetime.timedelta(7 * week) for week in range(len(amounts))]
-    write("demand.csv", [["date", "item", "quantity"], *([day, "A", amount] for day, amount in zip(days, amounts)),
-                         *([day, "B", 3] for day in days)])
+    write(
+        "demand.csv",
+        [
+            ["date", "item", "quantity"],
+            *([day, "A", amount] for day, amount in zip(days, amounts)),
+            *([day, "B", 3] for day in days),
+        ],
+    )
     catalogue(crnplan, ["A", "B"], "--program", program)
-    row, = (it for it in rejects() if it["item"] == "A")
-    assert "lines 8, 5" in row["reason"] and "750 times 4" in row["reason"] and row["text"] == "4500"
+    (row,) = (it for it in rejects() if it["item"] == "A")
+    assert "lines 8, 5" in row["reason"]
+    assert "750 times 4" in row["reason"]
+    assert row["text"] == "4500"
     day = datetime.date(2025, 1, 6)
-    rows = [[str(day + datetime.timedelta(7 * week)), "A", 1 + week % 3, "x"] for week in range(20)]
+    rows = [
+        [str(day + datetime.timedelta(7 * week)), "A", 1 + week % 3, "x"]
+        for week in range(20)
+    ]
     odd = [rows[0][:3], rows[1][:2], [*rows[2], ""], [*rows[3], "y"]]
     write("demand.csv", [["date", "item", "quantity", "note"], *odd, *rows[4:]])
     catalogue(crnplan, ["A"], "--program", program)
-    assert {(row["line"], row["column"]) for row in rejects() if row["kind"] == "row"} == {("3", "quantity"), ("5", "")}
+    assert {
+        (row["line"], row["column"]) for row in rejects() if row["kind"] == "row"
+    } == {("3", "quantity"), ("5", "")}
 
 
 @pytest.mark.parametrize("blank", [0, 2])
-def test_blank_rows_are_counted(write: Write, crnplan: Command, program: Path, blank: int) -> None:
+def test_blank_rows_are_counted(
+    write: Write, crnplan: Command, program: Path, blank: int
+) -> None:
     day = datetime.date(2025, 1, 6)
     rows = [[day + datetime.timedelta(7 * week), "A", week % 4] for week in range(30)]
-    write("demand.csv", [["date", "item", "quantity"], *rows[:9], *[["", "", ""]] * blank, *rows[9:]])
+    write(
+        "demand.csv",
+        [["date", "item", "quantity"], *rows[:9], *[["", "", ""]] * blank, *rows[9:]],
+    )
     told = catalogue(crnplan, ["A"], "--program", program)
-    line, = (it for it in told.output.splitlines() if it.startswith("demand.csv:"))
+    (line,) = (it for it in told.output.splitlines() if it.startswith("demand.csv:"))
     assert ("2 blank rows" in line, "blank" in line) == (blank == 2, blank == 2)
 
 
 @pytest.mark.parametrize("count", range(1, 13))
 def test_lines_of_equal_rows(write: Write, crnplan: Command, count: int) -> None:
     """A note on rows that stand twice names all their lines, or says that there are more."""
-    rows = [["2025-01-06", 3]] * (count + 1) + [[f"2025-02-{day:02}", day] for day in range(1, 20)]
+    rows = [["2025-01-06", 3]] * (count + 1) + [
+        [f"2025-02-{day:02}", day] for day in range(1, 20)
+    ]
     history = write("history.csv", [["date", "demand"], *rows])
-    told = crnplan("history", history, "--demand", "demand", "--date", "date", "--every", "day", "--fit", "empirical")
-    note, = (it for it in told.errors.splitlines() if "the same as that of line" in it)
+    line = f"history {history} --demand demand --date date --every day --fit empirical"
+    told = crnplan(*line.split())
+    (note,) = (
+        it for it in told.errors.splitlines() if "the same as that of line" in it
+    )
     lines = {int(it) for it in re.findall(r"\d+", note.partition("history.csv")[2])}
     assert ({*range(3, count + 3)} <= lines) == (".." not in note)
 
 
 @pytest.mark.parametrize("text", ["1.000", "2.500", "9.000", "1.234", "7.001"])
-def test_advice_on_two_readings_helps(write: Write, crnplan: Command, text: str) -> None:
+def test_advice_on_two_readings_helps(
+    write: Write, crnplan: Command, text: str
+) -> None:
     """Each decimal sign that a message advises leads to the number that it then is, or to the reason why it is none."""
     history = write("history.csv", [["demand"], [3], [text], [0], [2]])
-    words = ["history", history, "--demand", "demand", "--fit", "empirical"]
+    words = f"history {history} --demand demand --fit empirical".split()
     told = crnplan(*words)
     signs = re.findall(r"--decimal ([.,])", told.errors)
-    assert told.status == 2 and "," in signs
+    assert told.status == 2
+    assert "," in signs
     for sign in signs:
         number = float(text) if sign == "." else int(text.replace(".", ""))
         again = crnplan(*words, "--decimal", sign)
         if number % 1:
-            assert again.status == 2 and "is not a whole number" in again.errors
+            assert again.status == 2
+            assert "is not a whole number" in again.errors
         else:
             found = re.search(r"values = \[(.*)\]", again.output)
-            assert found and found[1].split(", ") == sorted({"0", "2", "3", f"{number:g}"}, key=int)
+            assert found
+            assert found[1].split(", ") == sorted(
+                {"0", "2", "3", f"{number:g}"}, key=int
+            )

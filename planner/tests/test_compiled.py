@@ -18,7 +18,7 @@ import numpy as np
 import pytest
 
 import crnplan
-from crnplan.caches import cache_folder
+from crnplan.store.caches import cache_folder
 from crnplan.compiled import compiled, kept_in
 
 
@@ -48,9 +48,12 @@ def halves(values):
 
 
 @pytest.fixture
-def installed(tmp_path: Path, monkeypatch: pytest.MonkeyPatch) -> Iterator[Callable[..., ModuleType]]:
+def installed(
+    tmp_path: Path, monkeypatch: pytest.MonkeyPatch
+) -> Iterator[Callable[..., ModuleType]]:
     """Returns a function that installs a module of loops in a folder. Nothing is compiled yet, and nothing kept."""
     from numba import config
+
     monkeypatch.setattr(config, "CACHE_DIR", "")
     monkeypatch.setenv("XDG_CACHE_HOME", str(tmp_path / "caches"))
 
@@ -59,21 +62,26 @@ def installed(tmp_path: Path, monkeypatch: pytest.MonkeyPatch) -> Iterator[Calla
         path.parent.mkdir(exist_ok=True)
         path.write_text(text, "utf-8")
         spec = importlib.util.spec_from_file_location("loops", path)
-        assert spec and spec.loader
+        assert spec
+        assert spec.loader
         found = importlib.util.module_from_spec(spec)
         vars(found)["SHARE"] = share
         monkeypatch.setitem(sys.modules, "loops", found)
         spec.loader.exec_module(found)
         return found
+
     yield install
 
 
 def sum_and_compiled(module: ModuleType) -> tuple[float, int]:
     """Returns what a loop returns, and how many functions were compiled for it."""
     from numba.core.event import install_recorder
+
     with install_recorder("numba:compile") as recorder:
         found = module.halves(np.arange(4.0))
-    names = [str(event.data["dispatcher"]) for _, event in recorder.buffer if event.is_start]
+    names = [
+        str(event.data["dispatcher"]) for _, event in recorder.buffer if event.is_start
+    ]
     return found, sum("half" in name or "halves" in name for name in names)
 
 
@@ -89,19 +97,30 @@ def test_changed_loops_are_compiled(installed: Callable[..., ModuleType]) -> Non
     """A change of a loop, of a function in it or of a loop that it calls, or of a number that these name, is heeded: also
     if the text was changed after it was read."""
     assert sum_and_compiled(installed("one")) == (3.0, 2)
-    assert sum_and_compiled(installed("one", LOOPS.replace("total = 0.0", "total = 1.0"))) == (4.0, 1)
-    assert sum_and_compiled(installed("one", LOOPS.replace("number /", "3 * number /"))) == (9.0, 2)
-    assert sum_and_compiled(installed("one", LOOPS.replace("total + value", "total - value"))) == (-3.0, 1)
+    assert sum_and_compiled(
+        installed("one", LOOPS.replace("total = 0.0", "total = 1.0"))
+    ) == (4.0, 1)
+    assert sum_and_compiled(
+        installed("one", LOOPS.replace("number /", "3 * number /"))
+    ) == (9.0, 2)
+    assert sum_and_compiled(
+        installed("one", LOOPS.replace("total + value", "total - value"))
+    ) == (-3.0, 1)
     assert sum_and_compiled(installed("one", share=4)) == (1.5, 2)
     before = installed("one", LOOPS.replace("number /", "5 * number /"))
     installed("one", LOOPS.replace("number /", "7 * number /"))
     assert sum_and_compiled(before) == (15.0, 2)
-    assert sum_and_compiled(installed("one", LOOPS.replace("number /", "7 * number /"))) == (21.0, 2)
+    assert sum_and_compiled(
+        installed("one", LOOPS.replace("number /", "7 * number /"))
+    ) == (21.0, 2)
     assert sum_and_compiled(installed("one")) == (3.0, 0)
 
 
-def test_a_folder_that_cannot_be_written(installed: Callable[..., ModuleType], tmp_path: Path,
-                                         monkeypatch: pytest.MonkeyPatch) -> None:
+def test_a_folder_that_cannot_be_written(
+    installed: Callable[..., ModuleType],
+    tmp_path: Path,
+    monkeypatch: pytest.MonkeyPatch,
+) -> None:
     """Loops are compiled, and not kept."""
     (tmp_path / "caches").touch()
     monkeypatch.setattr(tempfile, "tempdir", str(tmp_path / "caches"))
@@ -109,20 +128,31 @@ def test_a_folder_that_cannot_be_written(installed: Callable[..., ModuleType], t
         assert sum_and_compiled(installed("one")) == (3.0, 2)
 
 
-def test_a_full_disk(installed: Callable[..., ModuleType], monkeypatch: pytest.MonkeyPatch) -> None:
+def test_a_full_disk(
+    installed: Callable[..., ModuleType], monkeypatch: pytest.MonkeyPatch
+) -> None:
     """Loops are compiled, and not kept."""
+
     def full(*words: object, **more: object) -> None:
         raise OSError(28, "No space left on device")
+
     monkeypatch.setattr(Path, "touch", full)
     assert sum_and_compiled(installed("one")) == (3.0, 2)
 
 
 def loops_of_package() -> dict[str, Any]:
     """Returns all loops of the package by name, and each module that has one."""
-    modules = [importlib.import_module(it.name) for it in pkgutil.walk_packages(crnplan.__path__, "crnplan.")
-               if it.name != "crnplan.__main__"]
-    return {f"{module.__name__}.{name}": value for module in modules for name, value in vars(module).items()
-            if hasattr(value, "py_func") and value.__module__ == module.__name__}
+    modules = [
+        importlib.import_module(it.name)
+        for it in pkgutil.walk_packages(crnplan.__path__, "crnplan.")
+        if it.name != "crnplan.__main__"
+    ]
+    return {
+        f"{module.__name__}.{name}": value
+        for module in modules
+        for name, value in vars(module).items()
+        if hasattr(value, "py_func") and value.__module__ == module.__name__
+    }
 
 
 def test_what_loops_name_stands_above_them() -> None:
@@ -131,7 +161,9 @@ def test_what_loops_name_stands_above_them() -> None:
     assert len(loops) > 25
     for name, machine in loops.items():
         kept = machine.py_func.__code__.co_filename
-        assert kept_in(Path(kept).parent, machine.__wrapped__).__code__.co_filename == kept, name
+        assert (
+            kept_in(Path(kept).parent, machine.__wrapped__).__code__.co_filename == kept
+        ), name
 
 
 @pytest.fixture
@@ -145,7 +177,9 @@ def home(tmp_path: Path, monkeypatch: pytest.MonkeyPatch) -> Path:
     return tmp_path / "home"
 
 
-def test_folder_of_loops(monkeypatch: pytest.MonkeyPatch, home: Path, tmp_path: Path) -> None:
+def test_folder_of_loops(
+    monkeypatch: pytest.MonkeyPatch, home: Path, tmp_path: Path
+) -> None:
     """It is the user's own, also below a folder that all may write; a relative name counts for nothing."""
     assert cache_folder() == home / ".cache/crnplan"
     assert (home / ".cache/crnplan").stat().st_mode & 0o777 == 0o700
@@ -171,7 +205,9 @@ def spoil(folder: Path, way: str) -> None:
 
 
 @pytest.mark.parametrize("way", ["owner", "group", "all", "symlink", "file"])
-def test_folders_of_others(monkeypatch: pytest.MonkeyPatch, home: Path, tmp_path: Path, way: str) -> None:
+def test_folders_of_others(
+    monkeypatch: pytest.MonkeyPatch, home: Path, tmp_path: Path, way: str
+) -> None:
     """A folder that others own or can write is left alone: code that they put there would be run."""
     if way == "owner" and os.geteuid():
         monkeypatch.setattr(os, "geteuid", lambda: 4321)
@@ -180,7 +216,8 @@ def test_folders_of_others(monkeypatch: pytest.MonkeyPatch, home: Path, tmp_path
     if way == "owner" and os.getuid():
         assert cache_folder() is None
         return
-    assert cache_folder() == other and other.stat().st_mode & 0o777 == 0o700
+    assert cache_folder() == other
+    assert other.stat().st_mode & 0o777 == 0o700
     other.rmdir()
     spoil(other, way)
     assert cache_folder() is None
@@ -189,15 +226,20 @@ def test_folders_of_others(monkeypatch: pytest.MonkeyPatch, home: Path, tmp_path
     assert sorted(tmp_path.rglob("*")) == before
 
 
-def test_numba_of_others(monkeypatch: pytest.MonkeyPatch, home: Path, tmp_path: Path) -> None:
+def test_numba_of_others(
+    monkeypatch: pytest.MonkeyPatch, home: Path, tmp_path: Path
+) -> None:
     """The folder that numba was told to use counts if it is the user's own."""
     from numba import config
+
     told = tmp_path / "told"
     for way, is_own in (("all", False), ("own", True)):
         told.mkdir() if is_own else spoil(told, way)
         monkeypatch.setattr(config, "CACHE_DIR", str(told))
-        assert compiled(loop)(np.ones(3)) == 3 and config.CACHE_DIR == str(told)
-        assert any(told.iterdir()) == is_own and (home / ".cache/crnplan").exists() != is_own
+        assert compiled(loop)(np.ones(3)) == 3
+        assert config.CACHE_DIR == str(told)
+        assert any(told.iterdir()) == is_own
+        assert (home / ".cache/crnplan").exists() != is_own
         if not is_own:
             told.rmdir()
             shutil.rmtree(home / ".cache/crnplan")
@@ -208,7 +250,7 @@ PLANNED = """
 import sys
 from numba.core.event import install_recorder
 from pathlib import Path
-from crnplan.commands import main
+from crnplan.cli import main
 from planner.bench.made import make
 
 folder, program = Path(sys.argv[1]), sys.argv[2]
@@ -233,8 +275,16 @@ def test_all_is_compiled_beforehand(tmp_path: Path, program: Path) -> None:
     (tmp_path / "plan.py").write_text(PLANNED, "utf-8")
     top = Path(__file__).resolve().parents[2]
     paths = os.pathsep.join(filter(None, [str(top), os.environ.get("PYTHONPATH")]))
-    environment = {**os.environ, "XDG_CACHE_HOME": str(tmp_path / "caches"), "PYTHONPATH": paths}
-    subprocess.run([sys.executable, "-m", "crnplan.compiled"], env=environment, check=True)
+    environment = {
+        **os.environ,
+        "XDG_CACHE_HOME": str(tmp_path / "caches"),
+        "PYTHONPATH": paths,
+    }
+    subprocess.run(
+        [sys.executable, "-m", "crnplan.compiled"], env=environment, check=True
+    )
     words = [sys.executable, "plan.py", str(tmp_path), str(program)]
-    ran = subprocess.run(words, cwd=tmp_path, env=environment, check=True, capture_output=True, text=True)
+    ran = subprocess.run(
+        words, cwd=tmp_path, env=environment, check=True, capture_output=True, text=True
+    )
     assert ran.stdout.splitlines()[-1] == "[]"

@@ -15,14 +15,18 @@ import pytest
 TOP = Path(__file__).resolve().parents[2]
 SOURCE = TOP / "planner/src/crnplan"
 ROW = re.compile(r"^\| ((?:`\w+`(?:, )?)+) \|", re.MULTILINE)
-FILES = sorted(it for it in SOURCE.rglob("*.py") if it.parent != SOURCE or not it.name.startswith("__"))
+FILES = sorted(
+    it
+    for it in SOURCE.rglob("*.py")
+    if it.parent != SOURCE or not it.name.startswith("__")
+)
 KNOWN = tomllib.loads(Path(__file__).with_name("layers.toml").read_text("utf-8"))
 
 
 def layers() -> list[str]:
     """Returns the modules in the order of the table."""
     text = (TOP / "docs/ARCHITECTURE.md").read_text(encoding="utf-8")
-    table = text[text.index("| Module | Contents |"):].split("\n\n")[0]
+    table = text[text.index("| Module | Contents |") :].split("\n\n")[0]
     return [name for row in ROW.findall(table) for name in re.findall(r"\w+", row)]
 
 
@@ -35,7 +39,10 @@ def imported(file: Path) -> Iterator[str]:
     package = ["crnplan", *file.relative_to(SOURCE).parent.parts]
     for node in ast.parse(file.read_text(encoding="utf-8")).body:
         if isinstance(node, ast.ImportFrom) and node.level:
-            base = [*package[:len(package) - node.level + 1], *(node.module or "").split(".")]
+            base = [
+                *package[: len(package) - node.level + 1],
+                *(node.module or "").split("."),
+            ]
             parts = [it for it in base if it]
             yield from [parts[1]] if len(parts) > 1 else [it.name for it in node.names]
 
@@ -47,31 +54,55 @@ def test_table_has_all_modules() -> None:
 @pytest.mark.parametrize("file", FILES, ids=lambda it: str(it.relative_to(SOURCE)))
 def test_imports_only_those_above(file: Path) -> None:
     order = layers()
-    above = {*order[:order.index(module_of(file)) + 1], "__version__"}
+    above = {*order[: order.index(module_of(file)) + 1], "__version__"}
     assert set(imported(file)) - above == set()
 
 
 def made_in(text: str) -> Iterator[str]:
     """Yields the names of the functions, classes and constants that a module makes, but for those of Python."""
     tree = ast.parse(text)
-    yield from (node.name for node in ast.walk(tree) if isinstance(node, (ast.FunctionDef, ast.ClassDef)))
+    yield from (
+        node.name
+        for node in ast.walk(tree)
+        if isinstance(node, (ast.FunctionDef, ast.ClassDef))
+    )
     for node in tree.body:
-        targets = node.targets if isinstance(node, ast.Assign) else [node.target] if isinstance(
-            node, ast.AnnAssign) else []
-        yield from (it.id for target in targets for it in ast.walk(target) if isinstance(it, ast.Name))
+        targets = (
+            node.targets
+            if isinstance(node, ast.Assign)
+            else [node.target]
+            if isinstance(node, ast.AnnAssign)
+            else []
+        )
+        yield from (
+            it.id
+            for target in targets
+            for it in ast.walk(target)
+            if isinstance(it, ast.Name)
+        )
 
 
 def unreached(texts: dict[str, str]) -> set[str]:
     """Returns the names that modules make and that no text has a second time."""
-    counts = Counter(word for text in texts.values() for word in re.findall(r"\w+", text))
-    return {name for file, text in texts.items() if file.endswith(".py") for name in made_in(text)
-            if counts[name] == 1 and not name.startswith("__")}
+    counts = Counter(
+        word for text in texts.values() for word in re.findall(r"\w+", text)
+    )
+    return {
+        name
+        for file, text in texts.items()
+        if file.endswith(".py")
+        for name in made_in(text)
+        if counts[name] == 1 and not name.startswith("__")
+    }
 
 
 def test_plants() -> None:
     """Finds what nothing calls, and places that read words; none where data are read."""
-    texts = {"a.py": "MOST = 3\ndef one(): pass\nclass Two:\n    def three(self): pass\n", "b.py": "from a import one",
-             "c.html": "{{ its.three }}"}
+    texts = {
+        "a.py": "MOST = 3\ndef one(): pass\nclass Two:\n    def three(self): pass\n",
+        "b.py": "from a import one",
+        "c.html": "{{ its.three }}",
+    }
     assert unreached(texts) == {"MOST", "Two"}
     assert {len(found_in(code)) for code in KNOWN["code"]["wrong"]} == {1}
     assert [code for code in KNOWN["code"]["sound"] if found_in(code)] == []
@@ -79,21 +110,30 @@ def test_plants() -> None:
 
 def test_all_is_reached() -> None:
     """All is reached, and nothing looks into a text of our own, but for what is allowed, which is all there."""
-    texts = {str(it.relative_to(SOURCE)): it.read_text("utf-8") for it in sorted(SOURCE.rglob("*"))
-             if it.is_file() and it.suffix != ".pyc" and it.suffix != ".csv"}
+    texts = {
+        str(it.relative_to(SOURCE)): it.read_text("utf-8")
+        for it in sorted(SOURCE.rglob("*"))
+        if it.is_file() and it.suffix != ".pyc" and it.suffix != ".csv"
+    }
     assert unreached(texts) - KNOWN["called"].keys() == set()
-    found = {f"{path.relative_to(SOURCE)}: {code}": line for path in sorted(SOURCE.rglob("*.py"))
-             for line, code in found_in(path.read_text("utf-8"))}
-    assert {place: found[place] for place in found.keys() - KNOWN["allowed"].keys()} == {}
+    found = {
+        f"{path.relative_to(SOURCE)}: {code}": line
+        for path in sorted(SOURCE.rglob("*.py"))
+        for line, code in found_in(path.read_text("utf-8"))
+    }
+    assert {
+        place: found[place] for place in found.keys() - KNOWN["allowed"].keys()
+    } == {}
     assert KNOWN["allowed"].keys() - found.keys() == set()
 
 
 # Methods and functions that look into a text.
-LOOKING = {"startswith", "endswith", "split", "rsplit", "partition", "rpartition", "removeprefix",
-           "removesuffix", "match", "fullmatch", "search", "findall", "finditer", "sub"}
+LOOKING = {*KNOWN["code"]["looking"]}
 # Words of names that stand for our own sentences, and of what an error says.
-OURS = re.compile(r"(?:^|_)(?:message|note|reason|verdict|warning|advice|sentence|remark|refusal|alarm|why|fault|said"
-                  r"|told)(?:s|es)?(?:_|$)")
+OURS = re.compile(
+    r"(?:^|_)(?:message|note|reason|verdict|warning|advice|sentence|remark|refusal|alarm|why|fault|said"
+    r"|told)(?:s|es)?(?:_|$)"
+)
 
 
 def names_in(node: ast.AST) -> Iterator[str]:
@@ -113,11 +153,17 @@ def is_ours(node: ast.AST, ours: Collection[str] = ()) -> bool:
 
 def looks(node: ast.AST, ours: Collection[str] = ()) -> bool:
     """Returns whether a node looks into a text of our own."""
-    if isinstance(node, ast.Call) and isinstance(node.func, ast.Attribute) and node.func.attr in LOOKING:
+    if (
+        isinstance(node, ast.Call)
+        and isinstance(node.func, ast.Attribute)
+        and node.func.attr in LOOKING
+    ):
         return any(is_ours(it, ours) for it in (node.func.value, *node.args))
     if isinstance(node, ast.Compare) and isinstance(node.ops[0], (ast.In, ast.NotIn)):
         text = node.left.value if isinstance(node.left, ast.Constant) else ""
-        return isinstance(text, str) and " " in text and is_ours(node.comparators[0], ours)
+        return (
+            isinstance(text, str) and " " in text and is_ours(node.comparators[0], ours)
+        )
     return False
 
 
@@ -126,6 +172,15 @@ def found_in(text: str) -> set[tuple[int, str]]:
     found = set()
     for node in ast.walk(ast.parse(text)):
         loops = [node] if isinstance(node, ast.For) else getattr(node, "generators", [])
-        ours = {name for loop in loops if is_ours(loop.iter) for name in names_in(loop.target)}
-        found |= {(it.lineno, ast.unparse(it)) for it in (ast.walk(node) if ours else [node]) if looks(it, ours)}
+        ours = {
+            name
+            for loop in loops
+            if is_ours(loop.iter)
+            for name in names_in(loop.target)
+        }
+        found |= {
+            (it.lineno, ast.unparse(it))
+            for it in (ast.walk(node) if ours else [node])
+            if looks(it, ours)
+        }
     return found

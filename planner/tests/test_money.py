@@ -13,35 +13,15 @@ import pytest
 import crnplan as crn
 from crnplan.errors import Refused
 from crnplan.money import exact
-from crnplan.records.amounts import amount_of, share_of
-from planner.tests.conftest import Command
+from crnplan.read.amounts import amount_of, share_of
+from planner.tests.conftest import Command, cases_beside, write_inputs
 
-# Numbers whose exact value would take minutes or all memory to compute, or that no float can be. The last exponents are
-# of other digits, and of so many that Python doesn't read them.
-ENDLESS = ["1e-9999999", "1e9999999", "-1E+9999999", "0.5e-99_999_999", "1e-400", "1e310", "123456e305",
-           "1e-\u0669\u0669\u0669\u0669\u0669\u0669\u0669", "1e" + "9" * 5_000, "9" * 5_000]
+CASES = cases_beside(__file__)
+# Numbers whose exact value would take minutes or all memory to compute, or that no float can be. The last ones are of so
+# many digits that Python doesn't read them.
+ENDLESS = [*CASES["endless"], "1e" + "9" * 5_000, "9" * 5_000]
 # The same in TOML, where they are numbers without quotes.
-IN_TOML = ["1e-9999999", "0.5e-99_999_999", "1e-400"]
-TOO_LARGE = "1e15", "1e308", "1000000000000000"
-DEMAND = "item,date,quantity\n" + "".join(f"A,2026-{month:02}-{day:02},3\n" for month in range(1, 7)
-                                          for day in (2, 9, 16, 23))
-MASTERS = "item,setup,holding,backlog,lead (weeks),s,S,price\nA,20,1,9,1,5,20,3\n"
-ITEM = """[history]
-demand = "quantity"
-date = "date"
-every = "week"
-[lead]
-times = [2, 3]
-[costs]
-setup = {setup}
-holding = {holding}
-[today]
-s = 5
-S = 20
-stock = 9
-[run]
-fill = {fill}
-"""
+IN_TOML, TOO_LARGE = CASES["in_toml"], CASES["too_large"]
 
 
 @pytest.mark.parametrize("text", ENDLESS)
@@ -65,54 +45,82 @@ def test_amounts_out_of_range(amount: object) -> None:
         amount_of(amount)
 
 
-@pytest.mark.parametrize("value", [0.1, 5e-324, 1.7976931348623157e308, -2.5e-7, 0.0, np.float64(1e-300), np.float32(0.5)])
+@pytest.mark.parametrize(
+    "value",
+    [
+        0.1,
+        5e-324,
+        1.7976931348623157e308,
+        -2.5e-7,
+        0.0,
+        np.float64(1e-300),
+        np.float32(0.5),
+    ],
+)
 def test_each_float_is_a_number(value: float) -> None:
     """All finite floats are numbers: what their shortest spelling says."""
     number = exact(value)
-    assert number is not None and float(number) == float(str(value))
-    assert exact(Decimal("12.50")) == Fraction(25, 2) and exact(math.inf) is exact(math.nan) is None
+    assert number is not None
+    assert float(number) == float(str(value))
+    assert exact(Decimal("12.50")) == Fraction(25, 2)
+    assert exact(math.inf) is exact(math.nan) is None
 
 
 @pytest.fixture
 def files(tmp_path: Path, monkeypatch: pytest.MonkeyPatch) -> Path:
-    (tmp_path / "demand.csv").write_text(DEMAND, "utf-8")
-    (tmp_path / "items.csv").write_text(MASTERS, "utf-8")
+    write_inputs(tmp_path)
     monkeypatch.chdir(tmp_path)
     return tmp_path
 
 
 @pytest.mark.parametrize("text", ["1e-9999999", "1e9999999"])
-@pytest.mark.parametrize("words", [["--setup", "X"], ["--holding-rate", "X"], ["--fill", "X%"], ["--service", "A=X"],
-                                   ["--least-gain", "X"], ["--abc", "X,95"]], ids=lambda words: words[0])
-def test_words_of_commands(files: Path, crnplan: Command, words: list[str], text: str) -> None:
-    told = crnplan("catalogue", "demand.csv", "items.csv", "--check", *(word.replace("X", text) for word in words))
-    assert told.status == 2 and text in told.errors, told
+@pytest.mark.parametrize("words", CASES["words"])
+def test_words_of_commands(
+    files: Path, crnplan: Command, words: str, text: str
+) -> None:
+    line = f"catalogue demand.csv items.csv --check {words.replace('X', text)}"
+    assert crnplan(*line.split()).refuses(text)
 
 
 @pytest.mark.parametrize("text", IN_TOML)
-@pytest.mark.parametrize("key", ["setup", "holding_rate", "fill", "supplier_min.Bosch", "service.A"])
-def test_settings_of_a_catalogue(files: Path, crnplan: Command, key: str, text: str) -> None:
+@pytest.mark.parametrize(
+    "key", ["setup", "holding_rate", "fill", "supplier_min.Bosch", "service.A"]
+)
+def test_settings_of_a_catalogue(
+    files: Path, crnplan: Command, key: str, text: str
+) -> None:
     (files / "crnplan.toml").write_text(f"[catalogue]\n{key} = {text}\n", "utf-8")
     told = crnplan("catalogue", "demand.csv", "items.csv", "--check")
-    assert told.status == 2 and "crnplan.toml:2" in told.errors, told
+    assert told.refuses("crnplan.toml:2")
 
 
 @pytest.mark.parametrize("text", [*IN_TOML, *TOO_LARGE])
 @pytest.mark.parametrize("key", ["setup", "holding", "fill"])
-def test_settings_of_an_item(files: Path, crnplan: Command, key: str, text: str) -> None:
-    (files / "settings.toml").write_text(ITEM.format(**{"setup": 9, "holding": 1, "fill": 0.9} | {key: text}), "utf-8")
+def test_settings_of_an_item(
+    files: Path, crnplan: Command, key: str, text: str
+) -> None:
+    (files / "settings.toml").write_text(
+        CASES["item"].format(**{"setup": 9, "holding": 1, "fill": 0.9} | {key: text}),
+        "utf-8",
+    )
     told = crnplan("item", "demand.csv", "settings.toml", "--out", "plan")
-    assert told.status == 2 and f"{key}: {text}" in told.errors, told
+    assert told.refuses(f"{key}: {text}")
 
 
-@pytest.mark.parametrize("role", ["setup", "holding", "price", "lead (weeks)", "quantity"])
+@pytest.mark.parametrize(
+    "role", ["setup", "holding", "price", "lead (weeks)", "quantity"]
+)
 @pytest.mark.parametrize("text", ["1e-9999999", "1e9999999"])
 def test_cells(files: Path, role: str, text: str) -> None:
     """A cell with such a text is left out with its reason. A frame's own number is read in no time."""
     for value in (text, Decimal(text)):
-        sales, masters = pd.read_csv("demand.csv", dtype=object), pd.read_csv("items.csv", dtype=object)
+        sales, masters = pd.read_csv("demand.csv", dtype=object), pd.read_csv(
+            "items.csv", dtype=object
+        )
         for table in (sales, masters):
             if role in table:
                 table.loc[0, role] = value
         with crn.read_catalogue(sales, masters).opened() as base:
-            assert isinstance(value, Decimal) or any(out.text == text for out in base.rejects())
+            assert isinstance(value, Decimal) or any(
+                out.text == text for out in base.rejects()
+            )

@@ -6,7 +6,7 @@ from typing import Any
 
 import pytest
 
-from crnplan.commands import COMMANDS, options_of
+from crnplan.cli import COMMANDS, options_of
 from crnplan.errors import Refused
 from crnplan.options import Option, declared, option, table_of, within
 from crnplan.plan.settings import check_of
@@ -26,8 +26,12 @@ def ends(word: Option) -> Iterator[tuple[Any, bool]]:
         yield from [*((text, True) for text in word.choices), ("no such text", False)]
 
 
-CASES = [pytest.param(word, value, is_good, id=f"{table} {word.name} {value}")
-         for table in FILES for word in within(table) for value, is_good in ends(word)]
+CASES = [
+    pytest.param(word, value, is_good, id=f"{table} {word.name} {value}")
+    for table in FILES
+    for word in within(table)
+    for value, is_good in ends(word)
+]
 
 
 @pytest.mark.parametrize("word, value, is_good", CASES)
@@ -46,17 +50,24 @@ def test_each_word_is_used() -> None:
     used = [word for command in COMMANDS for word in options_of(command)]
     for table in declared():
         if table != "settings":
-            assert [word.name for word in within(table) if not word.key and word not in used] == []
+            assert [
+                word.name for word in within(table) if not word.key and word not in used
+            ] == []
     unsaid = {word.flag for word in used if not word.help and not word.positional}
     assert unsaid == {"--ordered", "--received"}
-    assert len({word.flag for word in options_of("catalogue")}) == len(COMMANDS["catalogue"]["options"])
+    assert len({word.flag for word in options_of("catalogue")}) == len(
+        COMMANDS["catalogue"]["options"]
+    )
 
 
 def test_references() -> None:
     """Constants of the package stand for ends, choices and defaults, and are spelt in a help."""
-    assert option("plan.every").choices == ("day", "week", "month") and option("plan.s_min").range == [0, 1_000_000]
-    assert option("check.replications").help.endswith("[default: 256]") and "poisson" in option("settings.history.fit").help
-    assert option("doubt.within").default == 0.03 and option("plan.start").key == "from"
+    assert option("plan.every").choices == ("day", "week", "month")
+    assert option("plan.s_min").range == [0, 1_000_000]
+    assert option("check.replications").help.endswith("[default: 256]")
+    assert "poisson" in option("settings.history.fit").help
+    assert option("doubt.within").default == 0.03
+    assert option("plan.start").key == "from"
     with pytest.raises(KeyError):
         option("plan.nothing")
     assert "level" in table_of("plan")

@@ -5,6 +5,7 @@ from __future__ import annotations
 import ast
 import errno
 import os
+import re
 import socket
 import stat
 import subprocess
@@ -18,47 +19,46 @@ import pytest
 
 import crnplan as crn
 from crnplan.errors import Failed, Refused
-from crnplan.files import named_bytes, own_folder
-from planner.tests.conftest import Command, as_nobody
-from planner.tests.test_folders import PLANT, files_of_at_most
+from crnplan.store.files import named_bytes, own_folder
+from planner.tests.conftest import Command, as_nobody, write_inputs
+from planner.tests.test_folders import PLANT
+from planner.tests.test_statuses import files_of_at_most
 
 OLD = b"what was here before\n"
 TOP = Path(__file__).resolve().parents[2]
 NULL = os.makedev(1, 3)
 # The commands that write a file which the user names, with OUT in its place.
-REPORT = ["decide", str(TOP / "examples/two_policies.csv"), "--scenario", str(TOP / "examples/two_policies.toml")]
+EXAMPLE = f"{TOP}/examples/two_policies"
+REPORT = f"decide {EXAMPLE}.csv --scenario {EXAMPLE}.toml"
 WRITING = {
-    "history": ["history", "demand.csv", "--demand", "quantity", "--leave-out", "--rejects", "OUT.csv"],
-    "history with faults": ["history", "demand.csv", "--demand", "quantity", "--rejects", "OUT.csv"],
-    "catalogue": ["catalogue", "demand.csv", "items.csv", "--check", "--rejects", "OUT.csv"],
-    "decide": [*REPORT, "--plot", "OUT.png"],
-    "map": [*REPORT, "--map", "OUT.svg"],
-    "doubt": ["doubt", str(TOP / "examples/two_policies.toml"), "demand.csv", "--demand", "quantity", "--leave-out",
-              "--times", "10", "--plot", "OUT.svg"]}
+    "history": "history demand.csv --demand quantity --leave-out --rejects OUT.csv",
+    "history with faults": "history demand.csv --demand quantity --rejects OUT.csv",
+    "catalogue": "catalogue demand.csv items.csv --check --rejects OUT.csv",
+    "decide": f"{REPORT} --plot OUT.png",
+    "map": f"{REPORT} --map OUT.svg",
+    "doubt": f"doubt {EXAMPLE}.toml demand.csv --demand quantity --leave-out --times 10 --plot OUT.svg",
+}
 # Those that need the program, the first two also a plan.
 BY_PROGRAM = {
-    "report": ["report", "plan", "--xlsx", "OUT.xlsx"],
-    "curve": ["curve", "plan", "--confirm", "0", "--plot", "OUT.png"],
-    "trajectory": ["trajectory", str(TOP / "examples/two_policies.toml"), "A", "--periods", "4", "--out", "OUT.svg"]}
+    "report": "report plan --xlsx OUT.xlsx",
+    "curve": "curve plan --confirm 0 --plot OUT.png",
+    "trajectory": f"trajectory {EXAMPLE}.toml A --periods 4 --out OUT.svg",
+}
 
 
 @pytest.fixture(autouse=True)
 def inputs(tmp_path: Path, monkeypatch: pytest.MonkeyPatch) -> Path:
     """Returns a folder with the inputs of all commands, in which the test runs."""
-    days = [f"A,2026-{month:02}-{day:02},{day % 4}\n" for month in range(1, 7) for day in (2, 9, 16, 23)]
-    (tmp_path / "demand.csv").write_text("item,date,quantity\n" + "".join(days) + "A,2026-06-30,n/a\n", "utf-8")
-    (tmp_path / "items.csv").write_text("item,setup,holding,backlog,lead (weeks),s,S,price\nA,20,1,9,1,5,20,3\n", "utf-8")
+    write_inputs(tmp_path)
+    with (tmp_path / "demand.csv").open("a") as file:
+        file.write("A,2026-06-30,n/a\n")
     monkeypatch.chdir(tmp_path)
     return tmp_path
 
 
-def words_to(path: Path, words: Sequence[str]) -> list[str]:
+def words_to(path: Path, line: str) -> list[str]:
     """Returns the words of a command that writes to a path."""
-    return [str(path) if word.startswith("OUT") else word for word in words]
-
-
-def ending_of(words: Sequence[str]) -> str:
-    return next(Path(word).suffix for word in words if word.startswith("OUT"))
+    return re.sub(r"OUT\.\w+", str(path), line).split()
 
 
 def make_device(path: Path) -> None:
@@ -87,11 +87,13 @@ class Reader(threading.Thread):
         return self.data
 
 
-def check_ways(crnplan: Command, folder: Path, words: Sequence[str]) -> None:
+def check_ways(crnplan: Command, folder: Path, words: str) -> None:
     """A command writes the same bytes into a new file, a pipe, and behind a symlink; a device stays one."""
-    ending = ending_of(words)
-    whole, device, pipe, link, target = (folder / f"{name}{ending}" for name in
-                                         ("whole", "device", "pipe", "link", "target"))
+    ending = words[words.index("OUT") + 3 :]
+    whole, device, pipe, link, target = (
+        folder / f"{name}{ending}"
+        for name in ("whole", "device", "pipe", "link", "target")
+    )
     first = crnplan(*words_to(whole, words))
     assert whole.is_file(), first
     make_device(device)
@@ -99,18 +101,24 @@ def check_ways(crnplan: Command, folder: Path, words: Sequence[str]) -> None:
     swallowing = Reader(device) if stat.S_ISFIFO(kind.st_mode) else None
     assert crnplan(*words_to(device, words)).status == first.status
     now = device.stat()
-    assert (now.st_ino, now.st_mode, now.st_rdev) == (kind.st_ino, kind.st_mode, kind.st_rdev)
+    assert (now.st_ino, now.st_mode, now.st_rdev) == (
+        kind.st_ino,
+        kind.st_mode,
+        kind.st_rdev,
+    )
     assert swallowing is None or swallowing.all() == whole.read_bytes()
     os.mkfifo(pipe)
     reader = Reader(pipe)
     assert crnplan(*words_to(pipe, words)).status == first.status
     assert stat.S_ISFIFO(pipe.lstat().st_mode)
     written = reader.all()
-    assert written and (ending == ".xlsx" or written == whole.read_bytes())
+    assert written
+    assert ending == ".xlsx" or written == whole.read_bytes()
     link.symlink_to(target.name)
     for _ in ("a target that is not there", "one that is"):
         assert crnplan(*words_to(link, words)).status == first.status
-        assert link.is_symlink() and (ending == ".xlsx" or target.read_bytes() == written)
+        assert link.is_symlink()
+        assert ending == ".xlsx" or target.read_bytes() == written
         assert not target.is_symlink()
     assert not [*folder.glob(".*")]
 
@@ -121,12 +129,17 @@ def test_each_way_to_write(inputs: Path, crnplan: Command, name: str) -> None:
 
 
 @pytest.mark.parametrize("name", BY_PROGRAM)
-def test_each_way_to_write_by_the_program(inputs: Path, crnplan: Command, program: Path, name: str,
-                                          monkeypatch: pytest.MonkeyPatch) -> None:
+def test_each_way_to_write_by_the_program(
+    inputs: Path,
+    crnplan: Command,
+    program: Path,
+    name: str,
+    monkeypatch: pytest.MonkeyPatch,
+) -> None:
     monkeypatch.setenv("CRNSIM", str(program))
-    (inputs / "crnplan.toml").write_text("[catalogue]\nperiods = 64\nreplications = 2\n", "utf-8")
     if "plan" in BY_PROGRAM[name]:
-        assert crnplan("catalogue", "demand.csv", "items.csv", "--jobs", "1", "--out", "plan").status == 0
+        words = "catalogue demand.csv items.csv --jobs 1 --out plan"
+        assert crnplan(*words.split()).status == 0
     check_ways(crnplan, inputs, BY_PROGRAM[name])
 
 
@@ -137,7 +150,9 @@ def write(path: Path, data: bytes = PLANT.encode()) -> None:
 
 def test_a_workbook_of_python(inputs: Path, program: Path) -> None:
     """`Plan.to_excel` writes into a pipe too."""
-    plan = crn.plan("demand.csv", "items.csv", periods=64, replications=2, jobs=1, program=program)
+    plan = crn.plan(
+        "demand.csv", "items.csv", periods=64, replications=2, jobs=1, program=program
+    )
     os.mkfifo(inputs / "plan.xlsx")
     reader = Reader(inputs / "plan.xlsx")
     plan.to_excel(inputs / "plan.xlsx")
@@ -159,8 +174,13 @@ def test_mode_and_owner(tmp_path: Path, mode: int) -> None:
     before, attributes = kept.stat(), os.listxattr(kept)
     write(kept)
     after = kept.stat()
-    assert (after.st_mode, after.st_uid, after.st_gid) == (before.st_mode, before.st_uid, before.st_gid)
-    assert os.listxattr(kept) == attributes and kept.read_text() == PLANT
+    assert (after.st_mode, after.st_uid, after.st_gid) == (
+        before.st_mode,
+        before.st_uid,
+        before.st_gid,
+    )
+    assert os.listxattr(kept) == attributes
+    assert kept.read_text() == PLANT
     new, other = tmp_path / "new", tmp_path / "other"
     write(new)
     other.write_bytes(b"")
@@ -180,9 +200,12 @@ def test_whole_or_as_it_was(tmp_path: Path, is_link: bool) -> None:
         file.flush()
         assert target.read_bytes() == OLD
         raise KeyError
-    with files_of_at_most(50), pytest.raises(Failed, match="File too large; what was done before is kept"):
+    with files_of_at_most(50), pytest.raises(
+        Failed, match="File too large; what was done before is kept"
+    ):
         write(path, bytes(99))
-    assert target.read_bytes() == OLD and not [*tmp_path.glob(".*")]
+    assert target.read_bytes() == OLD
+    assert not [*tmp_path.glob(".*")]
 
 
 def refused(path: Path) -> str:
@@ -196,18 +219,26 @@ def test_names_that_can_not_be_written(tmp_path: Path) -> None:
     given."""
     (tmp_path / "loop").symlink_to("loop")
     (tmp_path / "file").write_bytes(OLD)
-    for name, part in (("", "Is a directory"), ("loop", "Too many levels"), ("nowhere/file", "No such file or dir"),
-                       ("file/below", "Not a directory"), ("a" * 300, "File name too long")):
+    for name, part in (
+        ("", "Is a directory"),
+        ("loop", "Too many levels"),
+        ("nowhere/file", "No such file or dir"),
+        ("file/below", "Not a directory"),
+        ("a" * 300, "File name too long"),
+    ):
         assert refused(tmp_path / name).startswith(f"{tmp_path / name}: {part}")
 
 
 def test_a_name_that_became_a_device(tmp_path: Path) -> None:
     """What has become a device or a pipe while a file was written is not replaced."""
     path = tmp_path / "new"
-    with pytest.raises(Refused, match="new: it is no regular file"), named_bytes(path) as file:
+    with pytest.raises(Refused, match="new: it is no regular file"), named_bytes(
+        path
+    ) as file:
         file.write(OLD)
         make_device(path)
-    assert not path.is_file() and not [*tmp_path.glob(".*")]
+    assert not path.is_file()
+    assert not [*tmp_path.glob(".*")]
 
 
 def test_a_pipe_in_a_folder_of_ours(tmp_path: Path) -> None:
@@ -242,16 +273,22 @@ def test_a_pipe_whose_reader_goes(tmp_path: Path) -> None:
     path = tmp_path / "pipe"
     os.mkfifo(path)
     reader = os.open(path, os.O_RDONLY | os.O_NONBLOCK)
-    with pytest.raises(Failed, match="pipe: its reader has gone"), named_bytes(path) as file:
+    with pytest.raises(Failed, match="pipe: its reader has gone"), named_bytes(
+        path
+    ) as file:
         os.close(reader)
         file.write(OLD)
 
 
-def run(words: Sequence[str], prefix: Sequence[str] = (), **streams: object) -> "subprocess.CompletedProcess[bytes]":
+def run(
+    words: Sequence[str], prefix: Sequence[str] = (), **streams: object
+) -> "subprocess.CompletedProcess[bytes]":
     """Runs Python in a process of its own, perhaps on other standard streams or as another user."""
-    return subprocess.run([*prefix, sys.executable, *words], stdin=subprocess.DEVNULL,
-                          **{"stdout": subprocess.PIPE, "stderr": subprocess.PIPE,
-                             **streams})  # type: ignore[call-overload]
+    return subprocess.run(
+        [*prefix, sys.executable, *words],
+        stdin=subprocess.DEVNULL,
+        **{"stdout": subprocess.PIPE, "stderr": subprocess.PIPE, **streams},
+    )  # type: ignore[call-overload]
 
 
 @pytest.mark.parametrize("number, stream", [(1, "stdout"), (2, "stderr")])
@@ -260,20 +297,22 @@ def test_a_standard_stream_by_a_name(inputs: Path, number: int, stream: str) -> 
     by a symlink as the system's own, which no test may touch."""
     whole, both, link = inputs / "whole.csv", inputs / "both.txt", inputs / "stream"
     link.symlink_to(f"/proc/self/fd/{number}")
-    words = ["-m", "crnplan", *WRITING["history"]]
+    words = f"-m crnplan {WRITING['history']}"
     plain = run(words_to(whole, words))
     printed = plain.stdout if stream == "stdout" else plain.stderr
     with both.open("wb") as file:
         run(words_to(link, words), **{stream: file})
     written = both.read_bytes()
-    assert printed and whole.read_bytes() in written and written.replace(whole.read_bytes(), b"") == printed
+    assert printed
+    assert whole.read_bytes() in written
+    assert written.replace(whole.read_bytes(), b"") == printed
 
 
 AS_NOBODY = """
 import os, sys
 from pathlib import Path
 from crnplan.errors import Refused
-from crnplan.files import named_bytes
+from crnplan.store.files import named_bytes
 try:
     with named_bytes(Path(sys.argv[1])) as file:
         file.write(b"new")
@@ -292,8 +331,12 @@ def test_files_that_can_not_be_replaced(open_room: Path) -> None:
             (folder / name).write_bytes(OLD)
             (folder / name).chmod(its)
         folder.chmod(mode)
-    cases = [(closed / "writable", f"its folder {closed} can't be written"), (closed / "closed", "Permission denied"),
-             (closed / "new", "Permission denied"), (shared / "closed", "Permission denied")]
+    cases = [
+        (closed / "writable", f"its folder {closed} can't be written"),
+        (closed / "closed", "Permission denied"),
+        (closed / "new", "Permission denied"),
+        (shared / "closed", "Permission denied"),
+    ]
     if os.geteuid() == 0:
         cases.append((shared / "writable", "it belongs to another user"))
     for path, part in cases:
@@ -305,15 +348,10 @@ def test_files_that_can_not_be_replaced(open_room: Path) -> None:
 
 
 SOURCE = TOP / "planner/src/crnplan"
-ALLOWED = tomllib.loads((Path(__file__).with_name("layers.toml")).read_text("utf-8"))["writes"]
 # What replaces, removes or writes a file by its path: functions of modules, and methods of paths and figures.
-BY_PATH = {"os": {"replace", "rename", "renames", "remove", "unlink", "link", "symlink", "rmdir", "removedirs", "truncate",
-                  "open", "chown", "chmod", "mkfifo", "mknod"},
-           "shutil": {"move", "rmtree", "copyfile", "copy", "copy2", "copytree", "copystat", "chown"},
-           "sqlite3": {"connect"}, "np": {"save", "savez", "savetxt"}}
-OPENING = {"gzip", "io", "bz2", "lzma"}  # modules whose `open` takes a path
-METHODS = {"unlink", "rename", "rmdir", "write_text", "write_bytes", "touch", "symlink_to", "hardlink_to", "savefig",
-           "to_csv", "to_excel"}
+KNOWN = tomllib.loads((Path(__file__).with_name("layers.toml")).read_text("utf-8"))
+ALLOWED, BY_PATH = KNOWN["writes"], KNOWN["by_path"]
+OPENING, METHODS = KNOWN["code"]["opening"], KNOWN["code"]["methods"]
 
 
 def writes(call: ast.Call) -> bool:
@@ -326,47 +364,67 @@ def writes(call: ast.Call) -> bool:
     if isinstance(function.value, ast.Name) and function.value.id in BY_PATH:
         return function.attr in BY_PATH[function.value.id]
     if function.attr == "replace":
-        return len(call.args) == 1 and not call.keywords  # of a path: that of a text takes two
+        return (
+            len(call.args) == 1 and not call.keywords
+        )  # of a path: that of a text takes two
     is_module = isinstance(function.value, ast.Name) and function.value.id in OPENING
-    return function.attr in METHODS or function.attr == "open" and has_writing_mode(call, int(is_module))
+    return (
+        function.attr in METHODS
+        or function.attr == "open"
+        and has_writing_mode(call, int(is_module))
+    )
 
 
 def has_writing_mode(call: ast.Call, place: int) -> bool:
     """Returns whether a file may be opened to write. One that has to be new (`x`) replaces nothing."""
-    modes = [*call.args[place:place + 1], *(word.value for word in call.keywords if word.arg == "mode")]
-    return any(not isinstance(mode, ast.Constant) or bool({*str(mode.value)} & {*"wa+"}) for mode in modes)
+    modes = [
+        *call.args[place : place + 1],
+        *(word.value for word in call.keywords if word.arg == "mode"),
+    ]
+    return any(
+        not isinstance(mode, ast.Constant) or bool({*str(mode.value)} & {*"wa+"})
+        for mode in modes
+    )
 
 
 def writing_places(text: str) -> Iterator[str]:
     """Yields the function and the code of each call that may replace, remove or write a file, and of each import of
     such a function by its bare name."""
+
     def below(node: ast.AST, place: str) -> Iterator[str]:
         for child in ast.iter_child_nodes(node):
             is_named = isinstance(child, (ast.FunctionDef, ast.ClassDef))
-            yield from below(child, f"{place}.{child.name}".lstrip(".") if is_named else place)
+            yield from below(
+                child, f"{place}.{child.name}".lstrip(".") if is_named else place
+            )
         if isinstance(node, ast.Call) and writes(node):
             yield f"{place}: {ast.unparse(node.func)}"
         elif isinstance(node, ast.ImportFrom) and node.module in BY_PATH:
-            yield from (f"{place}: from {node.module} import {name.name}" for name in node.names
-                        if name.name in BY_PATH[str(node.module)])
+            yield from (
+                f"{place}: from {node.module} import {name.name}"
+                for name in node.names
+                if name.name in BY_PATH[str(node.module)]
+            )
+
     yield from below(ast.parse(text), "")
 
 
 def test_planted_writes() -> None:
     """Finds each way to write by a path, and none that reads or writes into what is open."""
-    wrong = ["os.replace(a, b)", "shutil.move(a, b)", "path.unlink()", "path.replace(other)", "path.rename(other)",
-             "path.open('w')", "open(path, 'ab')", "open(path, mode='r+')", "open(path, mode)", "gzip.open(path, 'wb')", "from os import replace",
-             "os.open(path, flags)", "figure.savefig(path)", "path.write_text('')", "table.frame.to_csv(path)"]
-    sound = ["text.replace('a', 'b')", "path.open()", "path.open('rb')", "gzip.open(path)", "open(path, 'rb')", "path.open('xb')", "file.write('')",
-             "names.remove('')", "from os import path", "dataclasses.replace(it, a=1)", "replace(it, a=1)"]
+    wrong, sound = KNOWN["code"]["writes"], KNOWN["code"]["writes_none"]
     assert [code for code in wrong if not [*writing_places(code)]] == []
     assert [place for code in sound for place in writing_places(code)] == []
-    assert [*writing_places("class A:\n    def b(self):\n        os.replace(1, 2)")] == ["A.b: os.replace"]
+    assert [
+        *writing_places("class A:\n    def b(self):\n        os.replace(1, 2)")
+    ] == ["A.b: os.replace"]
 
 
 def test_who_writes() -> None:
     """Only functions that check a path, or that write where nobody else does, write by it; each with a reason."""
-    found = {f"{file.relative_to(SOURCE)}: {place}" for file in SOURCE.rglob("*.py")
-             for place in writing_places(file.read_text("utf-8"))}
+    found = {
+        f"{file.relative_to(SOURCE)}: {place}"
+        for file in SOURCE.rglob("*.py")
+        for place in writing_places(file.read_text("utf-8"))
+    }
     assert found - ALLOWED.keys() == set()
     assert ALLOWED.keys() - found == set()

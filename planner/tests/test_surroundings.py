@@ -10,13 +10,12 @@ from pathlib import Path
 
 import pytest
 
-from crnplan.commands import is_open, open_streams
-from planner.tests.conftest import NOBODY, as_nobody
+from crnplan.cli import is_open, open_streams
+from planner.tests.conftest import NOBODY, as_nobody, write_inputs
 
 TOP = Path(__file__).resolve().parents[2]
 SCENARIO = TOP / "examples/two_policies.toml"
-MASTERS = "item,setup,holding,backlog,lead (weeks),s,S,price,stock\nA,20,1,9,1,5,20,3,4\n"
-PLAN = ["catalogue", "demand.csv", "items.csv", "--jobs", "1", "--out", "plan"]
+PLAN = "catalogue demand.csv items.csv --jobs 1 --out plan".split()
 
 
 @pytest.fixture
@@ -25,25 +24,31 @@ def room(open_room: Path) -> Path:
     room = open_room / "room"
     room.mkdir()
     room.chmod(0o777)
-    days = [f"A,2026-{month:02}-{day:02},{day % 4}\n" for month in range(1, 7) for day in (2, 9, 16, 23)]
-    (room / "demand.csv").write_text("item,date,quantity\n" + "".join(days), "utf-8")
-    (room / "items.csv").write_text(MASTERS, "utf-8")
-    (room / "crnplan.toml").write_text("[catalogue]\nperiods = 64\nreplications = 2\n", "utf-8")
+    write_inputs(room)
     return room
 
 
-def run(room: Path, words: Sequence[str], program: Path,
-        environment: Mapping[str, str]) -> "subprocess.CompletedProcess[str]":
+def run(
+    room: Path, words: Sequence[str], program: Path, environment: Mapping[str, str]
+) -> "subprocess.CompletedProcess[str]":
     """Runs Python as a user of whom the machine knows nothing, in the folder, with a few variables alone."""
-    plain = {"NUMBA_DISABLE_JIT": "1"}  # This user has no compiled loops, and these would take long to compile.
-    variables = {"PATH": os.environ["PATH"], "CRNSIM": str(program), **plain, **environment}
-    return subprocess.run([*as_nobody(), sys.executable, "-B", *words], cwd=room, capture_output=True, text=True,
-                          stdin=subprocess.DEVNULL, env=variables, check=False)
+    # This user has no compiled loops, and these would take long to compile.
+    variables = {"PATH": os.environ["PATH"], "CRNSIM": str(program)}
+    variables |= {"NUMBA_DISABLE_JIT": "1", **environment}
+    return subprocess.run(
+        [*as_nobody(), sys.executable, "-B", *words],
+        cwd=room,
+        capture_output=True,
+        text=True,
+        stdin=subprocess.DEVNULL,
+        env=variables,
+        check=False,
+    )
 
 
 KEEPING = """
 import numpy as np
-from crnplan.caches import cache_folder
+from crnplan.store.caches import cache_folder
 from crnplan.compiled import compiled
 
 @compiled
@@ -64,45 +69,95 @@ def temporary(open_room: Path) -> Path:
     return folder
 
 
-def test_loops_of_a_user_without_a_home(room: Path, program: Path, temporary: Path) -> None:
+def test_loops_of_a_user_without_a_home(
+    room: Path, program: Path, temporary: Path
+) -> None:
     """What is compiled is kept in an own folder among the temporary files."""
     (room / "loops.py").write_text(KEEPING, "utf-8")
-    told = run(room, ["loops.py"], program, {"TMPDIR": str(temporary), "NUMBA_DISABLE_JIT": "0"})
+    told = run(
+        room,
+        ["loops.py"],
+        program,
+        {"TMPDIR": str(temporary), "NUMBA_DISABLE_JIT": "0"},
+    )
     user = NOBODY if os.geteuid() == 0 else os.geteuid()
     assert told.stdout == f"{temporary}/crnplan-{user}\n", told.stderr
-    own, = temporary.iterdir()
-    assert own.stat().st_mode & 0o777 == 0o700 and [*own.rglob("*.nbi")]
+    (own,) = temporary.iterdir()
+    assert own.stat().st_mode & 0o777 == 0o700
+    assert [*own.rglob("*.nbi")]
     assert "~" not in {path.name for path in room.iterdir()}
 
 
-DRAWN = ["trajectory", str(SCENARIO), "A", "--periods", "4", "--out", "runs.png"]
+DRAWN = f"trajectory {SCENARIO} A --periods 4 --out runs.png".split()
 
 
-@pytest.mark.parametrize("variables, commands", [
-    ({}, [PLAN, DRAWN]), ({"HOME": ""}, [DRAWN]), ({"HOME": "/nowhere"}, [DRAWN]), ({"HOME": "/proc"}, [DRAWN]),
-    ({"XDG_CACHE_HOME": "caches"}, [DRAWN])], ids=str)
-def test_a_user_without_a_home(room: Path, program: Path, temporary: Path, variables: Mapping[str, str],
-                               commands: Sequence[Sequence[str]]) -> None:
+@pytest.mark.parametrize(
+    "variables, commands",
+    [
+        ({}, [PLAN, DRAWN]),
+        ({"HOME": ""}, [DRAWN]),
+        ({"HOME": "/nowhere"}, [DRAWN]),
+        ({"HOME": "/proc"}, [DRAWN]),
+        ({"XDG_CACHE_HOME": "caches"}, [DRAWN]),
+    ],
+    ids=str,
+)
+def test_a_user_without_a_home(
+    room: Path,
+    program: Path,
+    temporary: Path,
+    variables: Mapping[str, str],
+    commands: Sequence[Sequence[str]],
+) -> None:
     """A user of whom the machine knows no name and no home plans and draws; nothing is left beside that."""
     before = {path.name for path in room.iterdir()}
     for words in commands:
-        told = run(room, ["-m", "crnplan", *words], program, {**variables, "TMPDIR": str(temporary)})
-        assert told.returncode == 0 and "Traceback" not in told.stderr, (words, told.stderr)
+        told = run(
+            room,
+            ["-m", "crnplan", *words],
+            program,
+            {**variables, "TMPDIR": str(temporary)},
+        )
+        assert told.returncode == 0 and "Traceback" not in told.stderr, (
+            words,
+            told.stderr,
+        )
     assert {path.name for path in room.iterdir()} - before <= {"plan", "runs.png"}
 
 
 # Standard streams that are closed, that only the other way is open, and that are on a full disk.
-CLOSED = [">&-", "2>&-", "<&-", ">&- 2>&-", "<&- >&- 2>&-", "2<items.csv", "2>/dev/full"]
+CLOSED = "<&- >&- 2>&-", ">&-", "2>&-", "2<items.csv", "2>/dev/full"
 # Commands that do their work, that end with no, and that are refused.
-COMMANDS = {"history": (["history", "demand.csv", "--demand", "quantity"], 0), "why -": (["why", "-"], 1),
-            "no option": (["why", "--nonsense"], 2), "catalogue": (PLAN, 0)}
+COMMANDS = {
+    "history": ("history demand.csv --demand quantity", 0),
+    "why -": ("why -", 1),
+    "no option": ("why --nonsense", 2),
+    "catalogue": (" ".join(PLAN), 0),
+}
 
 
-def by_shell(room: Path, words: Sequence[str], program: Path, streams: str) -> "subprocess.CompletedProcess[str]":
+def by_shell(
+    room: Path, words: Sequence[str], program: Path, streams: str
+) -> "subprocess.CompletedProcess[str]":
     """Runs a command whose standard streams a shell has closed or turned elsewhere."""
-    return subprocess.run(["sh", "-c", f'exec "$@" {streams}', "sh", sys.executable, "-m", "crnplan", *words], cwd=room,
-                          capture_output=True, text=True, env={**os.environ, "CRNSIM": str(program)}, check=False,
-                          stdin=subprocess.DEVNULL)
+    command = [
+        "sh",
+        "-c",
+        f'exec "$@" {streams}',
+        "sh",
+        sys.executable,
+        "-m",
+        "crnplan",
+    ]
+    return subprocess.run(
+        [*command, *words],
+        cwd=room,
+        capture_output=True,
+        text=True,
+        env={**os.environ, "CRNSIM": str(program)},
+        check=False,
+        stdin=subprocess.DEVNULL,
+    )
 
 
 @pytest.mark.parametrize("streams", CLOSED)
@@ -111,11 +166,14 @@ def test_closed_streams(room: Path, program: Path, name: str, streams: str) -> N
     """A command ends as it does with open streams: what nobody can read is dropped, and written nowhere else."""
     words, status = COMMANDS[name]
     before = {path: path.read_bytes() for path in room.iterdir()}
-    told = by_shell(room, words, program, streams)
-    assert told.returncode == status and "Traceback" not in told.stderr and "fault of crnplan" not in told.stderr, told
+    told = by_shell(room, words.split(), program, streams)
+    assert told.returncode == status, told
+    assert "Traceback" not in told.stderr
+    assert "fault of crnplan" not in told.stderr
     assert {path: path.read_bytes() for path in before} == before
     if "2" not in streams and status == 2:
-        assert told.stderr.startswith("crnplan: ") and told.stderr.count("\n") == 1
+        assert told.stderr.startswith("crnplan: ")
+        assert told.stderr.count("\n") == 1
     if name == "catalogue":
         assert by_shell(room, ["report", "plan"], program, "").returncode == 0
 
@@ -124,14 +182,18 @@ def test_an_output_that_can_only_be_read(room: Path, program: Path) -> None:
     """What should be printed and can't be is a fault."""
     told = by_shell(room, ["--help"], program, "1<items.csv")
     lines = [line for line in told.stderr.splitlines() if line.startswith("crnplan: ")]
-    assert told.returncode == 3 and len(lines) == 1 and "Bad file descriptor" in lines[0], told
+    assert (
+        told.returncode == 3 and len(lines) == 1 and "Bad file descriptor" in lines[0]
+    ), told
 
 
 def test_streams_that_python_has_not(monkeypatch: pytest.MonkeyPatch) -> None:
     """A standard stream that Python did not open is opened."""
     monkeypatch.setattr(sys, "stdin", None)
     open_streams()
-    assert sys.stdin is not None and sys.stdin.fileno() == 0 and not is_open(-1)
+    assert sys.stdin is not None
+    assert sys.stdin.fileno() == 0
+    assert not is_open(-1)
 
 
 def test_a_descriptor_that_is_closed() -> None:
@@ -140,7 +202,8 @@ def test_a_descriptor_that_is_closed() -> None:
     os.close(0)
     try:
         open_streams()
-        assert is_open(0) and os.fstat(0).st_rdev == os.stat(os.devnull).st_rdev
+        assert is_open(0)
+        assert os.fstat(0).st_rdev == os.stat(os.devnull).st_rdev
     finally:
         os.dup2(kept, 0)
         os.close(kept)

@@ -28,9 +28,14 @@ Ask = Callable[..., Answer]
 @pytest.fixture
 def ask(program: Path, room: Path) -> Ask:
     """Returns a function that runs the program with some words on a text. FILE in its words is a file with `file`."""
+
     def answer(words: str, text: str = "", file: str = "") -> Answer:
         (room / "FILE").write_bytes(file.encode())
-        shown = run(program, [str(room / "FILE") if it == "FILE" else it for it in words.split()], text.encode())
+        shown = run(
+            program,
+            [str(room / "FILE") if it == "FILE" else it for it in words.split()],
+            text.encode(),
+        )
         return Answer(shown.status, shown.output.decode(), shown.errors.decode())
 
     return answer
@@ -42,14 +47,22 @@ def judge(ask: Ask) -> Callable[[str, int], bool | str]:
 
     The program and both readers are asked. The verdict is True, or says who says something else.
     """
+
     def verdict(scenario: str, number: int) -> bool | str:
         answer, data = ask("leg 0", scenario), scenario.encode()
         of_program = answer.errors.removeprefix("crnsim: scenario ").strip() or "0"
-        if answer.status != (formats.STATUSES["scenario"] if number else 0) or answer.errors and answer.output:
+        if (
+            answer.status != (formats.STATUSES["scenario"] if number else 0)
+            or answer.errors
+            and answer.output
+        ):
             of_program = f"status {answer.status}, {answer.errors!r}"
         found = read_scenario(data)[1]
-        told = {"crnsim": of_program, "crnplan why": str(found[0].rule if found else 0),
-                "tests/hostile/second_reader.py": str(second_reader.scenario_of(data)[0])}
+        told = {
+            "crnsim": of_program,
+            "crnplan why": str(found[0].rule if found else 0),
+            "tests/hostile/second_reader.py": str(second_reader.scenario_of(data)[0]),
+        }
         wrong = [f"{who} says {it}" for who, it in told.items() if it != str(number)]
         return not wrong or f"{', '.join(wrong)}, and not {number}"
 

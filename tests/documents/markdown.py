@@ -7,8 +7,11 @@ from typing import NamedTuple
 
 from tests.runs import TOP
 
-PAGES = [it.relative_to(TOP).as_posix() for folder in ("", "docs", "crates/uses", "examples", "examples/case", "tests")
-         for it in sorted((TOP / folder).glob("*.md"))]
+PAGES = [
+    it.relative_to(TOP).as_posix()
+    for folder in ("", "docs", "crates/uses", "examples", "examples/case", "tests")
+    for it in sorted((TOP / folder).glob("*.md"))
+]
 FENCE = re.compile(r"^```(\w*)\n(.*?)^```$", re.MULTILINE | re.DOTALL)
 NUMBER = re.compile(r"(?<![\w.,])[0-9]+(?:,[0-9]{3})*(?!\w)")
 
@@ -31,7 +34,10 @@ def pieces_of(page: str) -> list[Piece]:
     """Returns the pieces of a page, in order."""
     text, place, pieces = text_of(page), 0, []
     for fenced in FENCE.finditer(text):
-        pieces += [Piece(True, "", text[place:fenced.start()]), Piece(False, *fenced.groups())]
+        pieces += [
+            Piece(True, "", text[place : fenced.start()]),
+            Piece(False, *fenced.groups()),
+        ]
         place = fenced.end()
     return [*pieces, Piece(True, "", text[place:])]
 
@@ -60,9 +66,13 @@ def anchors_of(page: str) -> set[str]:
 def rows_of(page: str, *headings: str) -> list[list[str]]:
     """Returns the rows of the table of a page with these headings. There are none if it has not just one such table."""
     head = r"\| " + r" \| ".join(map(re.escape, headings)) + r" \|"
-    tables = re.findall(rf"^{head}\n\|[-|]+\|\n((?:\|.*\n)*)", text_of(page) + "\n", re.MULTILINE)
+    tables = re.findall(
+        rf"^{head}\n\|[-|]+\|\n((?:\|.*\n)*)", text_of(page) + "\n", re.MULTILINE
+    )
     rows = tables[0].splitlines() if len(tables) == 1 else []
-    return [[cell.strip() for cell in line.strip().strip("|").split("|")] for line in rows]
+    return [
+        [cell.strip() for cell in line.strip().strip("|").split("|")] for line in rows
+    ]
 
 
 def numbers_of(text: str) -> set[int]:

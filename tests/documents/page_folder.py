@@ -12,16 +12,26 @@ from tests.runs import TOP
 
 # A command that takes longer fails.
 SECONDS = 120
-RUNNERS = {"sh": ["bash", "-e", "-o", "pipefail", "-c"], "python": [sys.executable, "-c"]}
+RUNNERS = {
+    "sh": ["bash", "-e", "-o", "pipefail", "-c"],
+    "python": [sys.executable, "-c"],
+}
 # What a sweep reports of its progress.
-PROGRESS = re.compile(r"(\r?[0-9]+ of [0-9]+ scenarios \([0-9]+ kept\)(, [0-9.e+]+ a second, [0-9:]+ left)?)+\n")
+PROGRESS = re.compile(
+    r"(\r?[0-9]+ of [0-9]+ scenarios \([0-9]+ kept\)(, [0-9.e+]+ a second, [0-9:]+ left)?)+\n"
+)
 
 
 def is_whole(text: str) -> bool:
     """Returns whether a text ends where a command of the shell ends."""
     if text.endswith("\\"):
         return False
-    return subprocess.run(["bash", "-n", "-c", text], capture_output=True, check=False).returncode == 0
+    return (
+        subprocess.run(
+            ["bash", "-n", "-c", text], capture_output=True, check=False
+        ).returncode
+        == 0
+    )
 
 
 def commands_of(kind: str, text: str) -> list[str]:
@@ -34,7 +44,11 @@ def commands_of(kind: str, text: str) -> list[str]:
         if is_whole("\n".join(lines)):
             commands.append("\n".join(lines))
             lines = []
-    return [it for it in [*commands, "\n".join(lines)] if it.strip() and not it.startswith("#")]
+    return [
+        it
+        for it in [*commands, "\n".join(lines)]
+        if it.strip() and not it.startswith("#")
+    ]
 
 
 class Folder:
@@ -44,13 +58,26 @@ class Folder:
         """Makes the folder. `crnsim` is the program, and `crnplan` and `python3` are those by which this test runs."""
         self.path = path
         for name in ("examples", "docs"):
-            shutil.copytree(TOP / name, path / name, ignore=shutil.ignore_patterns("__pycache__"))
-        for link in (path / "crates/crnsim/out/crnsim", path / "tools/crnsim", path.parent / "bin/crnsim"):
+            shutil.copytree(
+                TOP / name, path / name, ignore=shutil.ignore_patterns("__pycache__")
+            )
+        for link in (
+            path / "crates/crnsim/out/crnsim",
+            path / "tools/crnsim",
+            path.parent / "bin/crnsim",
+        ):
             link.parent.mkdir(parents=True, exist_ok=True)
             link.symlink_to(program)
-        search = f"{path.parent / 'bin'}:{Path(sys.executable).parent}:{os.environ['PATH']}"
-        self.environment = {**os.environ, "PATH": search, "CRNSIM": str(program), "LC_ALL": "C.UTF-8",
-                            "PYTHONDONTWRITEBYTECODE": "1"}
+        search = (
+            f"{path.parent / 'bin'}:{Path(sys.executable).parent}:{os.environ['PATH']}"
+        )
+        self.environment = {
+            **os.environ,
+            "PATH": search,
+            "CRNSIM": str(program),
+            "LC_ALL": "C.UTF-8",
+            "PYTHONDONTWRITEBYTECODE": "1",
+        }
 
     def fetch(self, command: str) -> None:
         """Copies the files of the repository's tests that a command names."""
@@ -64,8 +91,16 @@ class Folder:
         self.fetch(command)
         words = [*RUNNERS[kind], command]
         try:
-            ran = subprocess.run(words, cwd=self.path, env=self.environment, stdin=subprocess.DEVNULL, timeout=SECONDS,
-                                 stdout=subprocess.PIPE, stderr=subprocess.STDOUT, check=False)
+            ran = subprocess.run(
+                words,
+                cwd=self.path,
+                env=self.environment,
+                stdin=subprocess.DEVNULL,
+                timeout=SECONDS,
+                stdout=subprocess.PIPE,
+                stderr=subprocess.STDOUT,
+                check=False,
+            )
         except subprocess.TimeoutExpired:
             return None, f"it does not end in {SECONDS} seconds"
         return ran.returncode, PROGRESS.sub("", ran.stdout.decode("utf-8", "replace"))

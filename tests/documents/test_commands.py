@@ -18,7 +18,7 @@ from typing import Any
 import click
 import pytest
 
-from crnplan import commands
+from crnplan import cli
 from tests.documents.markdown import blocks_of, pieces_of, prose_of, spans_of, text_of
 from tests.documents.page_folder import RUNNERS, Folder, commands_of
 from tests.runs import TOP
@@ -38,18 +38,35 @@ NOT_RUN = {
     r".*\b(rt|apt|apt-get|pip|pip3|git|sbatch|srun|curl|wget|sudo|ssh)\b.*": "",
 }
 # Blocks without a kind that no command prints: a page and how the block begins, and what it is.
-NOT_PRINTED = {("docs/FORMATS.md", "period  t  "): "a drawing",
-               ("docs/FORMATS.md", "policy,s,S,"): "the header of a report, which is compared by itself",
-               ("docs/PROVING.md", "fn of_words("): "a quote, as the next two: test_names.py compares them",
-               ("docs/PROVING.md", "invariant-loop-y l = "): "a quote",
-               ("docs/PROVING.md", "loop-y-preserved c g h = "): "a quote"}
+NOT_PRINTED = {
+    ("docs/FORMATS.md", "period  t  "): "a drawing",
+    (
+        "docs/FORMATS.md",
+        "policy,s,S,",
+    ): "the header of a report, which is compared by itself",
+    (
+        "docs/PROVING.md",
+        "fn of_words(",
+    ): "a quote, as the next two: test_names.py compares them",
+    ("docs/PROVING.md", "invariant-loop-y l = "): "a quote",
+    ("docs/PROVING.md", "loop-y-preserved c g h = "): "a quote",
+}
 # Blocks of other kinds, and what is done with them.
-OTHER_KINDS = {"toml": "they are compared with the examples", "cpp": "not run, as it needs the headers of Random123",
-               "text": "what the prover prints, and an edit", "rust": "code of a change", "antt": "a proof of a change"}
+OTHER_KINDS = {
+    "toml": "they are compared with the examples",
+    "cpp": "not run, as it needs the headers of Random123",
+    "text": "what the prover prints, and an edit",
+    "rust": "code of a change",
+    "antt": "a proof of a change",
+}
 # A span is a command if it begins with one of these and goes on, unless it only names a command's words.
-COMMAND = re.compile(r"\.ci/run|(crnsim|crnplan|(tools|crates/crnsim/out)/\w+|apt-get|awk|cat|cd|cmp|cp|cut|diff|echo"
-                     r"|git|grep|head|ls|mkdir|pip|printf|python3|rt|sed|seq|sh|sort|tail|tr|xargs) .*")
-USAGE = re.compile(r"(crnsim|crnplan)( [a-z]+)?( \[?-?-?[A-Z][\w.]*\]?| --[a-z-]+)*( \.\.)?")
+COMMAND = re.compile(
+    r"\.ci/run|(crnsim|crnplan|(tools|crates/crnsim/out)/\w+|apt-get|awk|cat|cd|cmp|cp|cut|diff|echo"
+    r"|git|grep|head|ls|mkdir|pip|printf|python3|rt|sed|seq|sh|sort|tail|tr|xargs) .*"
+)
+USAGE = re.compile(
+    r"(crnsim|crnplan)( [a-z]+)?( \[?-?-?[A-Z][\w.]*\]?| --[a-z-]+)*( \.\.)?"
+)
 
 
 def short(text: str) -> str:
@@ -67,7 +84,9 @@ def beside(printed: str, shown: str) -> str:
 
 def pattern_of(lines: list[str]) -> str:
     """Returns a pattern of what is printed if a page shows these lines."""
-    return "".join("(?:.*\n)+?" if line == ".." else re.escape(f"{line}\n") for line in lines)
+    return "".join(
+        "(?:.*\n)+?" if line == ".." else re.escape(f"{line}\n") for line in lines
+    )
 
 
 def unlike(printed: str, shown: str) -> tuple[bool | str, int]:
@@ -85,9 +104,17 @@ def unlike(printed: str, shown: str) -> tuple[bool | str, int]:
 
 def ranks(printed: str) -> bool | str:
     """Returns True if a table that pandas prints is that of the guide's report, ranked."""
-    rows = sorted(csv.DictReader(text_of("examples/spare_part.csv").splitlines()), key=lambda row: int(row["total"]))
-    hundredths = [(row["policy"], int(100 * Fraction(row["per_period"]))) for row in rows]
-    wanted = "".join(rf".*\b{policy}\b.*\s{it // 100}\.{it % 100:02}[0-9]*\b.*\n" for policy, it in hundredths)
+    rows = sorted(
+        csv.DictReader(text_of("examples/spare_part.csv").splitlines()),
+        key=lambda row: int(row["total"]),
+    )
+    hundredths = [
+        (row["policy"], int(100 * Fraction(row["per_period"]))) for row in rows
+    ]
+    wanted = "".join(
+        rf".*\b{policy}\b.*\s{it // 100}\.{it % 100:02}[0-9]*\b.*\n"
+        for policy, it in hundredths
+    )
     return re.search(wanted, printed) is not None or f"prints {printed!r}"
 
 
@@ -100,12 +127,16 @@ class Page:
         # The block whose output is still to be shown: its kind, and its commands with what each has printed.
         self.waiting: tuple[str, list[tuple[str, str]]] = ("", [])
 
-    def run(self, kind: str, command: str, printed: list[tuple[str, str]]) -> Iterator[Case]:
+    def run(
+        self, kind: str, command: str, printed: list[tuple[str, str]]
+    ) -> Iterator[Case]:
         """Runs a command, and adds it with what it prints to a list."""
         name, key = short(command), " ".join(command.split())
         reason = next((NOT_RUN[it] for it in NOT_RUN if re.fullmatch(it, key)), None)
         if reason is not None:
-            yield name, bool(reason) or "it is not to be run, and NOT_RUN does not say why"
+            yield name, bool(
+                reason
+            ) or "it is not to be run, and NOT_RUN does not say why"
             return
         status, text = self.folder.run(kind, command)
         printed.append((name, text))
@@ -116,7 +147,11 @@ class Page:
         kind, printed = self.waiting
         self.waiting = "", []
         for name, text in printed:
-            right = ranks(text) if kind != "sh" else not text or f"prints {short(text)!r}, which is not shown"
+            right = (
+                ranks(text)
+                if kind != "sh"
+                else not text or f"prints {short(text)!r}, which is not shown"
+            )
             yield f"{name}: what it prints", right
 
     def run_block(self, kind: str, text: str) -> Iterator[Case]:
@@ -129,7 +164,9 @@ class Page:
 
     def compare(self, text: str) -> Iterator[Case]:
         """Compares a block without a kind with what was printed."""
-        if any(page == self.name and text.startswith(start) for page, start in NOT_PRINTED):
+        if any(
+            page == self.name and text.startswith(start) for page, start in NOT_PRINTED
+        ):
             return
         _, printed = self.waiting
         self.waiting = "", []
@@ -163,38 +200,84 @@ def test_commands(page: str, folder: Folder, check_all: Any) -> None:
 
 def test_exceptions_are_met() -> None:
     """Each exception to what is run and compared is met by a page."""
-    lines = [line for page in RUN for line in [*text_of(page).splitlines(), *spans_of(prose_of(page))]]
-    assert [it for it in NOT_RUN if NOT_RUN[it] and not any(re.fullmatch(it, line) for line in lines)] == []
-    assert [it for it in NOT_PRINTED if not any(block.startswith(it[1]) for block in blocks_of(it[0]))] == []
-    assert OTHER_KINDS.keys() <= {piece.kind for page in RUN for piece in pieces_of(page)}
+    lines = [
+        line
+        for page in RUN
+        for line in [*text_of(page).splitlines(), *spans_of(prose_of(page))]
+    ]
+    assert [
+        it
+        for it in NOT_RUN
+        if NOT_RUN[it] and not any(re.fullmatch(it, line) for line in lines)
+    ] == []
+    assert [
+        it
+        for it in NOT_PRINTED
+        if not any(block.startswith(it[1]) for block in blocks_of(it[0]))
+    ] == []
+    assert OTHER_KINDS.keys() <= {
+        piece.kind for page in RUN for piece in pieces_of(page)
+    }
 
 
 def options_of_crnplan() -> set[str]:
     """Returns the options of all commands of crnplan."""
-    context = click.Context(commands.group)
-    taken = (commands.group.get_command(context, name) for name in commands.group.list_commands(context))
-    return {flag for command in taken if command for option in command.params for flag in option.opts}
+    context = click.Context(cli.group)
+    taken = (
+        cli.group.get_command(context, name)
+        for name in cli.group.list_commands(context)
+    )
+    return {
+        flag
+        for command in taken
+        if command
+        for option in command.params
+        for flag in option.opts
+    }
 
 
 @pytest.mark.parametrize("page", [*FOR_PLANNERS, "examples/case/README.md"])
 def test_options(page: str) -> None:
     """An option that a page for planners names is one that a command takes."""
     patterns = ("planner/src/**/*.py", "tests/theory/*.py", "tools/*", "conftest.py")
-    sources = "".join(it.read_text("utf-8") for pattern in patterns for it in TOP.glob(pattern) if it.is_file())
-    options = {"--help", *re.findall(r"""["'/ |(](--[A-Za-z][\w-]*)""", sources), *options_of_crnplan()}
-    named = re.findall(r"(?<![\w-])--[A-Za-z][\w-]*", " ".join(spans_of(prose_of(page))))
+    sources = "".join(
+        it.read_text("utf-8")
+        for pattern in patterns
+        for it in TOP.glob(pattern)
+        if it.is_file()
+    )
+    options = {
+        "--help",
+        *re.findall(r"""["'/ |(](--[A-Za-z][\w-]*)""", sources),
+        *options_of_crnplan(),
+    }
+    named = re.findall(
+        r"(?<![\w-])--[A-Za-z][\w-]*", " ".join(spans_of(prose_of(page)))
+    )
     assert sorted(set(named) - options) == []
 
 
 def is_part(part: dict[str, Any], whole: dict[str, Any]) -> bool:
     """Returns whether a table says nothing but what another one says too."""
-    return all(whole.get(key) == value or isinstance(value, dict) and is_part(value, whole.get(key, {}))
-               for key, value in part.items())
+    return all(
+        whole.get(key) == value
+        or isinstance(value, dict)
+        and is_part(value, whole.get(key, {}))
+        for key, value in part.items()
+    )
 
 
 @pytest.mark.parametrize("page", RUN)
 def test_blocks_of_toml(page: str) -> None:
     """A block of TOML on a page is a part of an example."""
-    trees = [tomllib.loads(it.read_text("utf-8")) for it in TOP.glob("examples/**/*.toml") if it.name != "broken.toml"]
-    alone = [text for text in blocks_of(page, "toml") if not any(is_part(tomllib.loads(text), tree) for tree in trees)]
+    trees = [
+        tomllib.loads(it.read_text("utf-8"))
+        for it in TOP.glob("examples/**/*.toml")
+        if it.name != "broken.toml"
+    ]
+    alone = [
+        text
+        for text in blocks_of(page, "toml")
+        if not any(is_part(tomllib.loads(text), tree) for tree in trees)
+    ]
     assert not alone

@@ -15,8 +15,11 @@ from tests.documents.markdown import text_of
 from tests.runs import TOP
 
 PUBLIC = r"pub (?:(?:const|unsafe) )*"
-ITEM = re.compile(rf"((?:^ *//[^\n]*\n)*)(?:^ *#\[[^\n]*\n)*^ *{PUBLIC}(fn|struct|enum|trait|type|const) (\w+)([^\n]*\n"
-                  r"(?:(?! *\{| *//| *pub )[^\n]+\n)*)", re.MULTILINE)
+ITEM = re.compile(
+    rf"((?:^ *//[^\n]*\n)*)(?:^ *#\[[^\n]*\n)*^ *{PUBLIC}(fn|struct|enum|trait|type|const) (\w+)([^\n]*\n"
+    r"(?:(?! *\{| *//| *pub )[^\n]+\n)*)",
+    re.MULTILINE,
+)
 KIND = re.compile(rf"^ *{PUBLIC}(?:fn|struct|enum|trait|type|const) \w", re.MULTILINE)
 # What comments, and restricted visibility, are not to be spelt as, each with what stands in its place.
 OTHER_WAYS = {
@@ -26,9 +29,13 @@ OTHER_WAYS = {
     r"\ba front of\b": "a prefix of",
     r"pub\((?:super|in )": "pub(crate)",
 }
-LOOSE = re.compile(r"\b(?:Condition: |Asks that |Refuses, |of these faults that holds is answered)")
+LOOSE = re.compile(
+    r"\b(?:Condition: |Asks that |Refuses, |of these faults that holds is answered)"
+)
 CODE = sorted(it.relative_to(TOP).as_posix() for it in TOP.glob("crates/*/src/**/*.rt"))
-SPECS = sorted(it.relative_to(TOP).as_posix() for it in TOP.glob("crates/*/specs/**/*.antt"))
+SPECS = sorted(
+    it.relative_to(TOP).as_posix() for it in TOP.glob("crates/*/specs/**/*.antt")
+)
 
 
 def broken_rules(doc: str, kind: str, head: str) -> Iterator[str]:
@@ -39,17 +46,24 @@ def broken_rules(doc: str, kind: str, head: str) -> Iterator[str]:
         yield "it has no docstring"
     if kind != "fn":
         return
-    wanted = ["# Asks"] * bool(re.search(r"\brequires\b", head)) + ["# Errors"] * bool(re.search(r"-> Result<", head))
+    wanted = ["# Asks"] * bool(re.search(r"\brequires\b", head)) + ["# Errors"] * bool(
+        re.search(r"-> Result<", head)
+    )
     if [lines[at] for at in headings] != wanted:
         yield f"it lacks the headings {wanted}, or has others"
-    apart = (lines[at - 1] == lines[at + 1] == "" and lines[at + 2][:1] not in ("", "#") for at in headings)
+    apart = (
+        lines[at - 1] == lines[at + 1] == "" and lines[at + 2][:1] not in ("", "#")
+        for at in headings
+    )
     if 0 in headings or not all(apart):
         yield "a heading is not between blank lines, or has no text below"
     if LOOSE.search(" ".join(lines)):
         yield "it says what it asks or its errors outside the headings"
 
 
-@pytest.mark.parametrize("name", [it for it in CODE if "tests" not in it.rpartition("/src/")[2]])
+@pytest.mark.parametrize(
+    "name", [it for it in CODE if "tests" not in it.rpartition("/src/")[2]]
+)
 def test_docstrings(name: str, check_all: Any) -> None:
     """Each public item of a file has a docstring of the one form."""
     text = text_of(name)
@@ -58,7 +72,9 @@ def test_docstrings(name: str, check_all: Any) -> None:
     def cases() -> Iterator[tuple[str, object]]:
         yield "each public item is looked at", len(found) == len(KIND.findall(text))
         for it in found:
-            yield f"{it[2]} {it[3]}", "; ".join(broken_rules(it[1], it[2], it[4])) or True
+            yield f"{it[2]} {it[3]}", "; ".join(
+                broken_rules(it[1], it[2], it[4])
+            ) or True
 
     check_all(cases())
 
@@ -73,4 +89,8 @@ def test_comment_on_the_module(name: str) -> None:
 def test_one_way_to_say_it(name: str) -> None:
     """A file says no thing in another way than all others."""
     text = text_of(name)
-    assert not [f"{found[0]}: {wanted}" for way, wanted in OTHER_WAYS.items() for found in re.finditer(way, text)]
+    assert not [
+        f"{found[0]}: {wanted}"
+        for way, wanted in OTHER_WAYS.items()
+        for found in re.finditer(way, text)
+    ]

@@ -29,9 +29,15 @@ def rounded(number: Fraction | int | float | str, places: int = 0) -> str:
 
 def report_of(text: str) -> dict[str, dict[str, Any]]:
     """Returns the rows of a report by their policies, with numbers for texts."""
-    rows: dict[str, dict[str, Any]] = {row["policy"]: dict(row) for row in csv.DictReader(text.splitlines())}
+    rows: dict[str, dict[str, Any]] = {
+        row["policy"]: dict(row) for row in csv.DictReader(text.splitlines())
+    }
     for row in rows.values():
-        row |= {name: Fraction(row[name]) for name in [*formats.FRACTIONS, "total", "diff_total"] if row[name] != "-"}
+        row |= {
+            name: Fraction(row[name])
+            for name in [*formats.FRACTIONS, "total", "diff_total"]
+            if row[name] != "-"
+        }
     return rows
 
 
@@ -39,9 +45,33 @@ def test_report_in_round_numbers() -> None:
     """A page shows the report of an example in round numbers."""
     wanted: list[list[str]] = []
     for policy, row in report_of(text_of("examples/mail_order.csv")).items():
-        means = [rounded(it) if wanted else "" for it in (row["diff_mean"], sqrt(row["diff_var"]))]
-        wanted.append([policy, row["s"], row["S"], rounded(row["per_period"], 2), *means, rounded(row["cov"])])
-    assert rows_of(EXAMPLES, "policy", "s", "S", "cost a day", "`diff_mean`", "its standard error", "`cov`") == wanted
+        means = [
+            rounded(it) if wanted else ""
+            for it in (row["diff_mean"], sqrt(row["diff_var"]))
+        ]
+        wanted.append(
+            [
+                policy,
+                row["s"],
+                row["S"],
+                rounded(row["per_period"], 2),
+                *means,
+                rounded(row["cov"]),
+            ]
+        )
+    assert (
+        rows_of(
+            EXAMPLES,
+            "policy",
+            "s",
+            "S",
+            "cost a day",
+            "`diff_mean`",
+            "its standard error",
+            "`cov`",
+        )
+        == wanted
+    )
 
 
 def test_counts_of_a_total(ask: Ask) -> None:
@@ -53,8 +83,14 @@ def test_counts_of_a_total(ask: Ask) -> None:
         only = rate.sub(lambda it: f"{it[1]} = {int(it[1] == cost)}", text)
         for policy, row in report_of(ask("", only).output).items():
             counts.setdefault(policy, [policy]).append(rounded(row["total"]))
-    assert rows_of(EXAMPLES, "policy", "orders (`setup`)", "items ordered (`unit`)", "item-weeks in stock (`holding`)",
-                   "items owed at weeks' ends (`backlog`)") == list(counts.values())
+    assert rows_of(
+        EXAMPLES,
+        "policy",
+        "orders (`setup`)",
+        "items ordered (`unit`)",
+        "item-weeks in stock (`holding`)",
+        "items owed at weeks' ends (`backlog`)",
+    ) == list(counts.values())
 
 
 def test_periods_of_the_example() -> None:
@@ -62,11 +98,32 @@ def test_periods_of_the_example() -> None:
     run = oracle.run_of(text_of("examples/two_policies.toml"))
     placed, stocks, spent = run.histories[1][0]
     demands = run.scenario.draws(0, "demand")
-    rows = rows_of("docs/FORMATS.md", "Period", "Arrives", "Position at the review", "Ordered", "Demand",
-                   "Stock at the end", "Cost")
-    arrived = [sum(amount for amount, due in placed if due == period) for period in range(len(stocks))]
-    wanted = zip(range(len(stocks)), arrived, (amount for amount, _ in placed), demands, stocks, spent)
-    shown = [[int(re.findall("[0-9]+", row[it])[-1]) for it in (0, 1, 3, 4, 5, 6)] for row in rows]
+    rows = rows_of(
+        "docs/FORMATS.md",
+        "Period",
+        "Arrives",
+        "Position at the review",
+        "Ordered",
+        "Demand",
+        "Stock at the end",
+        "Cost",
+    )
+    arrived = [
+        sum(amount for amount, due in placed if due == period)
+        for period in range(len(stocks))
+    ]
+    wanted = zip(
+        range(len(stocks)),
+        arrived,
+        (amount for amount, _ in placed),
+        demands,
+        stocks,
+        spent,
+    )
+    shown = [
+        [int(re.findall("[0-9]+", row[it])[-1]) for it in (0, 1, 3, 4, 5, 6)]
+        for row in rows
+    ]
     assert shown == [list(it) for it in wanted]
 
 

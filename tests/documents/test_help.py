@@ -8,7 +8,7 @@ from pathlib import Path
 import click
 import pytest
 from click.testing import CliRunner
-from crnplan.commands import COMMANDS, group
+from crnplan.cli import COMMANDS, group
 
 from tests.runs import TOP
 
@@ -58,8 +58,15 @@ def test_help_of_all_commands() -> None:
 
 
 def test_modules_are_commands() -> None:
-    """Each command of the modules of crnplan.commands is in the list, with its module."""
-    modules = (TOP / "planner/src/crnplan/commands").glob("[a-z]*.py")
-    made = {name: it.stem for it in modules
-            for name in re.findall(r"^@command\((?:[^\n]|\n(?!\n))*?\ndef (\w+)", it.read_text("utf-8"), re.MULTILINE)}
+    """Each command of the modules of crnplan.cli is in the list, with its module."""
+    modules = (TOP / "planner/src/crnplan/cli").glob("[a-z]*.py")
+    made = {
+        name: it.stem
+        for it in modules
+        for name in re.findall(
+            r"^@command\((?:[^\n]|\n(?!\n))*?\ndef (\w+)",
+            it.read_text("utf-8"),
+            re.MULTILINE,
+        )
+    }
     assert made == {name: page["module"] for name, page in COMMANDS.items()}

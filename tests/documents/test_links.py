@@ -11,23 +11,42 @@ from tests.documents.markdown import FENCE, PAGES, anchors_of, text_of
 from tests.runs import TOP
 
 # The pages of the program that is proved, and all that people read to use and to change it.
-CORE = ["README.md", "CONTRIBUTING.md", "docs/ARCHITECTURE.md", "docs/DECISIONS.md", "docs/DEFINITIONS.md",
-        "docs/GLOSSARY.md", "docs/PROOFS.md", "docs/PROVING.md", "docs/READING.md", "tests/README.md",
-        "crates/uses/README.md"]
+CORE = [
+    "README.md",
+    "CONTRIBUTING.md",
+    "docs/ARCHITECTURE.md",
+    "docs/DECISIONS.md",
+    "docs/DEFINITIONS.md",
+    "docs/GLOSSARY.md",
+    "docs/PROOFS.md",
+    "docs/PROVING.md",
+    "docs/READING.md",
+    "tests/README.md",
+    "crates/uses/README.md",
+]
 READ = [*CORE, "docs/FORMATS.md", "docs/GUIDE.md", "examples/README.md"]
 
 
 def links_of(page: str) -> list[str]:
     """Returns the links of a page to files and headings of the repository."""
-    return [it for it in re.findall(r"\]\(([^)\s]+)\)", text_of(page)) if not it.startswith("http")]
+    return [
+        it
+        for it in re.findall(r"\]\(([^)\s]+)\)", text_of(page))
+        if not it.startswith("http")
+    ]
 
 
 @pytest.mark.parametrize("page", [it for it in PAGES if links_of(it)])
 def test_links(page: str, check_all: Any) -> None:
     """A link to a file of the repository, or to a heading, leads there."""
+
     def leads(link: str) -> bool:
         path, _, anchor = link.partition("#")
-        name = os.path.normpath(os.path.join(os.path.dirname(page), path)) if path else page
+        name = (
+            os.path.normpath(os.path.join(os.path.dirname(page), path))
+            if path
+            else page
+        )
         return (TOP / name).exists() and (not anchor or anchor in anchors_of(name))
 
     check_all((it, leads(it)) for it in links_of(page))
@@ -37,7 +56,9 @@ def test_links(page: str, check_all: Any) -> None:
 def test_fences(page: str) -> None:
     """Each fence is spelt as the others are."""
     text = text_of(page)
-    assert len(re.findall(r"^ *(?:```|~~~)", text, re.MULTILINE)) == 2 * len(FENCE.findall(text))
+    assert len(re.findall(r"^ *(?:```|~~~)", text, re.MULTILINE)) == 2 * len(
+        FENCE.findall(text)
+    )
 
 
 def words_of(*pages: str) -> int:
@@ -71,8 +92,15 @@ def test_readme_fits_three_screens() -> None:
 def test_words_of_the_guide() -> None:
     """The guide has at most 4,500 words, and its first sections at most 400 each."""
     text = text_of("docs/GUIDE.md")
-    for heading in ("Monday morning", "What is read", "What is decided, and ordered", "All items together",
-                    r"Does it hold on your past\?"):
-        section, = re.findall(rf"^## {heading}\n.*?(?=^## )", text, re.MULTILINE | re.DOTALL)
+    for heading in (
+        "Monday morning",
+        "What is read",
+        "What is decided, and ordered",
+        "All items together",
+        r"Does it hold on your past\?",
+    ):
+        (section,) = re.findall(
+            rf"^## {heading}\n.*?(?=^## )", text, re.MULTILINE | re.DOTALL
+        )
         assert len(section.split()) <= 400
     assert words_of("docs/GUIDE.md") <= 4_500

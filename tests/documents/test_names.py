@@ -16,12 +16,36 @@ LISTED = re.findall(r"^(\w+):", text_of("crates.txt"), re.MULTILINE)
 CRATES = text_of("docs/ARCHITECTURE.md").partition("| Module | Contents |")[0]
 ROWS = re.findall(r"^- `((?:crn|tests_|uses)[a-z_]*)`:", CRATES, re.MULTILINE)
 # What the program gives out. Each is defined in a crate below it, so main.rt compiles only if it is there.
-PROGRAM_NAMES = {"simulate", "leg", "resume", "migrate", "replay_run", "read_words", "Command", "Fault"}
+PROGRAM_NAMES = {
+    "simulate",
+    "leg",
+    "resume",
+    "migrate",
+    "replay_run",
+    "read_words",
+    "Command",
+    "Fault",
+}
 # Names in pages that stand for any of their kind.
-STANDING_FOR_ANY = {"crn_x", "tests_x", "tests_ring_tests", "two_for_one", "what_it_does_wrong"}
-ENGINEERS = ["crates/uses/README.md", "docs/ARCHITECTURE.md", "docs/DEFINITIONS.md", "docs/PROOFS.md", "docs/PROVING.md",
-             "docs/READING.md", "CONTRIBUTING.md"]
-EDITS = [it for crate in crates() for folder in FOLDERS for it in edits_of(crate, folder)]
+STANDING_FOR_ANY = {
+    "crn_x",
+    "tests_x",
+    "tests_ring_tests",
+    "two_for_one",
+    "what_it_does_wrong",
+}
+ENGINEERS = [
+    "crates/uses/README.md",
+    "docs/ARCHITECTURE.md",
+    "docs/DEFINITIONS.md",
+    "docs/PROOFS.md",
+    "docs/PROVING.md",
+    "docs/READING.md",
+    "CONTRIBUTING.md",
+]
+EDITS = [
+    it for crate in crates() for folder in FOLDERS for it in edits_of(crate, folder)
+]
 SENTENCES = Counter(it.what for it in EDITS)
 
 
@@ -33,7 +57,9 @@ def test_map_has_each_crate() -> None:
 def test_program_gives_out_its_names() -> None:
     """The program exports its engines, its command line and its faults. crates/tests_engines has the other names."""
     code = text_of("crates/crnsim/src/main.rt")
-    given = re.findall(r"^pub use [\w:]+?(?:::(\w+)|::\{([^}]*)\});", code, re.MULTILINE)
+    given = re.findall(
+        r"^pub use [\w:]+?(?:::(\w+)|::\{([^}]*)\});", code, re.MULTILINE
+    )
     names = {name.strip() for one, more in given for name in (more or one).split(",")}
     assert names >= PROGRAM_NAMES
 
@@ -41,21 +67,39 @@ def test_program_gives_out_its_names() -> None:
 def quotes() -> dict[str, tuple[str, list[str]]]:
     """Returns the quoted lines of the pages by a name, each with the files that the paragraph before it names."""
     reading = text_of("docs/READING.md")
-    chain = reading[reading.index("## The chain"):reading.index("## What must be believed")]
+    chain = reading[
+        reading.index("## The chain") : reading.index("## What must be believed")
+    ]
     found: dict[str, tuple[str, list[str]]] = {}
-    proving = re.sub(r"^```\w+\n.*?^```$", "", text_of("docs/PROVING.md"), flags=re.MULTILINE | re.DOTALL)
-    for page, text in (("READING", chain), ("PROVING", proving), ("uses", text_of("crates/uses/README.md"))):
-        for before, block in re.findall(r"((?:^(?!```)[^\n]*\n)+)^```\n(.*?)^```$", text, re.MULTILINE | re.DOTALL):
+    proving = re.sub(
+        r"^```\w+\n.*?^```$",
+        "",
+        text_of("docs/PROVING.md"),
+        flags=re.MULTILINE | re.DOTALL,
+    )
+    for page, text in (
+        ("READING", chain),
+        ("PROVING", proving),
+        ("uses", text_of("crates/uses/README.md")),
+    ):
+        for before, block in re.findall(
+            r"((?:^(?!```)[^\n]*\n)+)^```\n(.*?)^```$", text, re.MULTILINE | re.DOTALL
+        ):
             files = re.findall(r"`(crates/[^`]*\.(?:rt|antt))`", before)
-            found |= {f"{page}: {line.strip()}": (line, files) for line in block.splitlines()}
+            found |= {
+                f"{page}: {line.strip()}": (line, files) for line in block.splitlines()
+            }
     return found
 
 
 def test_quotes(check_all: Any) -> None:
     """A quoted line stands in one of the files that the paragraph before it names, and each of these is there."""
+
     def stands(line: str, files: list[str]) -> bool:
         texts = [" ".join(text_of(it).split()) for it in files if (TOP / it).exists()]
-        return len(texts) == len(files) > 0 and any(" ".join(line.split()) in it for it in texts)
+        return len(texts) == len(files) > 0 and any(
+            " ".join(line.split()) in it for it in texts
+        )
 
     check_all((name, stands(*quote)) for name, quote in quotes().items())
 
@@ -63,14 +107,32 @@ def test_quotes(check_all: Any) -> None:
 @pytest.fixture(scope="module")
 def words() -> set[str]:
     """Returns the names of the code: words of sources, functions and classes of Python, files and crates."""
-    patterns = ("crates/*/src/**/*.rt", "crates/*/specs/**/*.antt", "crates/*/proofs/**/*.antt", "crates/*/*/*.edit",
-                "tests/**/*.*", "tools/*", "examples/**/*.*", "planner/**/*.*")
+    patterns = (
+        "crates/*/src/**/*.rt",
+        "crates/*/specs/**/*.antt",
+        "crates/*/proofs/**/*.antt",
+        "crates/*/*/*.edit",
+        "tests/**/*.*",
+        "tools/*",
+        "examples/**/*.*",
+        "planner/**/*.*",
+    )
     paths = [it for pattern in patterns for it in TOP.glob(pattern) if it.is_file()]
     code = [it for it in paths if it.suffix in (".rt", ".antt", ".edit")]
     names = {word for it in code for word in re.findall(r"\w+", it.read_text("utf-8"))}
-    names |= {word for it in paths if it.suffix == ".py"
-              for word in re.findall(r"^ *(?:def|class) (\w+)", it.read_text("utf-8"), re.MULTILINE)}
-    return names | {it.stem for it in paths} | {it.relative_to(TOP).parts[1] for it in paths}
+    names |= {
+        word
+        for it in paths
+        if it.suffix == ".py"
+        for word in re.findall(
+            r"^ *(?:def|class) (\w+)", it.read_text("utf-8"), re.MULTILINE
+        )
+    }
+    return (
+        names
+        | {it.stem for it in paths}
+        | {it.relative_to(TOP).parts[1] for it in paths}
+    )
 
 
 @pytest.mark.parametrize("page", ENGINEERS)
@@ -82,7 +144,9 @@ def test_names_of_the_code(page: str, words: set[str]) -> None:
     assert sorted(names - words - STANDING_FOR_ANY) == []
 
 
-@pytest.mark.parametrize("edit", EDITS, ids=lambda it: f"{it.crate}-{it.folder}-{it.name}")
+@pytest.mark.parametrize(
+    "edit", EDITS, ids=lambda it: f"{it.crate}-{it.folder}-{it.name}"
+)
 def test_wrong_implementation_says_what_it_is(edit: Edit) -> None:
     """It says what goes wrong, in a sentence of its own, and which function or test must notice it."""
     assert SENTENCES[edit.what] == 1 and edit.what.endswith(".")

@@ -47,8 +47,14 @@ def test_examples(ask: Ask, folder: Folder, check_all: Any) -> None:
                 status, printed = folder.run("sh", command)
                 yield command, status == 0 or printed
                 written = re.search(r" > (\S+)$", command)
-                text = (folder.path / written[1]).read_text("utf-8") if written else printed
-                yield f"{command}: what it writes", is_written(command, text) or f"it writes {text[:100]!r}"
+                text = (
+                    (folder.path / written[1]).read_text("utf-8")
+                    if written
+                    else printed
+                )
+                yield f"{command}: what it writes", is_written(
+                    command, text
+                ) or f"it writes {text[:100]!r}"
 
     check_all(cases())
 
@@ -58,4 +64,8 @@ def test_limits(ask: Ask) -> None:
     sections = text_of(FORMATS).split("\n## ")
     for name in NAMES:
         allowed = limits_in("".join(it for it in sections if f"crnsim {name}" in it))
-        assert name is not None and limits_in(ask(f"help {name}").output.split("\nExample")[0]) - allowed == set()
+        assert (
+            name is not None
+            and limits_in(ask(f"help {name}").output.split("\nExample")[0]) - allowed
+            == set()
+        )

@@ -8,7 +8,9 @@ from __future__ import annotations
 import copy
 import json
 import re
+import tomllib
 from collections.abc import Callable, Sequence
+from pathlib import Path
 from random import Random
 from typing import Any
 
@@ -19,18 +21,45 @@ from tests.shapes import SHAPES, Shape
 
 Change = Callable[[Random, bytes], bytes]
 # The ends of the range of each key's numbers, and of all entries of lists.
-RANGES = {it.name: formats.limits(it.table, it.name) for it in formats.KEYS
-          if it.table not in formats.DRAWS and it.ranges}
+RANGES = {
+    it.name: formats.limits(it.table, it.name)
+    for it in formats.KEYS
+    if it.table not in formats.DRAWS and it.ranges
+}
 RANGES["version"] = (formats.VERSIONS[0], formats.VERSIONS[-1])
-LIST_ENDS = sorted({int(end) for it in formats.KEYS if it.table in formats.DRAWS for pair in it.ranges for end in pair})
-ENDS = sorted({0, 1, 4, 31, 1023, formats.MOST_COST, 2**31, 2**32, 2**63, 2**64, *LIST_ENDS,
-               *(end for pair in RANGES.values() for end in pair), *formats.POLICIES})
-NUMBERS = sorted({sign * it + step for it in ENDS for sign in (1, -1) for step in (-1, 0, 1)})
-STRINGS = ["", "A", "B", "A b", "a" * 16, "a" * 17, "a" * 5000, "0" * 16, "f" * 15 + "F", "\u00e4", "x\u0000", "q,r",
-           "-", "_0-Z", "\ufeff"]
-OTHER_KINDS: list[Any] = [True, 1.0, "1", [], {}, [1], [[1]], [{}], {"a": 1}, ["1"], [1, "1"], 2**63 - 1, -(2**63),
-                          float("inf"), ""]
-KEYS = ["colour", "Version", "s", "S", "name", "values", "weights", "", "a b", "returns", "ring", "x" * 300]
+LIST_ENDS = sorted(
+    {
+        int(end)
+        for it in formats.KEYS
+        if it.table in formats.DRAWS
+        for pair in it.ranges
+        for end in pair
+    }
+)
+ENDS = sorted(
+    {
+        0,
+        1,
+        4,
+        31,
+        1023,
+        formats.MOST_COST,
+        2**31,
+        2**32,
+        2**63,
+        2**64,
+        *LIST_ENDS,
+        *(end for pair in RANGES.values() for end in pair),
+        *formats.POLICIES,
+    }
+)
+NUMBERS = sorted(
+    {sign * it + step for it in ENDS for sign in (1, -1) for step in (-1, 0, 1)}
+)
+DATA = tomllib.loads(Path(__file__).with_name("changed.toml").read_text("utf-8"))
+STRINGS = [*DATA["strings"], "a" * 5000]
+OTHER_KINDS: list[Any] = [*DATA["other_kinds"], 2**63 - 1, -(2**63)]
+KEYS = [*DATA["keys"], "x" * 300]
 # Bytes that mean something in one of the formats, and some that mean nothing.
 MARKS = b"[]{}=.,\"'#\\\n\r\t -+_0123456789abefnrSsxZ:\x00\x7f\x80\xc3\xa4\xff"
 
@@ -49,17 +78,23 @@ def with_other_bytes(chance: Random, text: bytes) -> bytes:
     its = bytearray(text)
     for _ in range(chance.randint(1, 3)):
         at, byte = chance.randint(0, len(its)), chance.choice(MARKS)
-        its[at:at + chance.randint(0, 1)] = chance.choice([b"", bytes([byte]), bytes([byte, byte])])
+        its[at : at + chance.randint(0, 1)] = chance.choice(
+            [b"", bytes([byte]), bytes([byte, byte])]
+        )
     return bytes(its)
 
 
 def with_other_lines(chance: Random, text: bytes) -> bytes:
     """Drops, doubles, moves or cuts a line."""
     lines = text.split(b"\n")
-    at, to, kind = chance.randrange(len(lines)), chance.randrange(len(lines)), chance.randrange(4)
+    at, to, kind = (
+        chance.randrange(len(lines)),
+        chance.randrange(len(lines)),
+        chance.randrange(4),
+    )
     if kind == 3:
         place = chance.randint(0, len(lines[at]))
-        lines[at:at + 1] = [lines[at][:place], lines[at][place:]]
+        lines[at : at + 1] = [lines[at][:place], lines[at][place:]]
     else:
         line = lines[at] if kind == 1 else lines.pop(at)
         lines[to:to] = [line] if kind else []
@@ -68,8 +103,12 @@ def with_other_lines(chance: Random, text: bytes) -> bytes:
 
 def cut_off(chance: Random, text: bytes) -> bytes:
     """Returns a prefix of the text, up to anywhere, the end of a line or the last byte; sometimes with an odd end."""
-    ends = [it.start() + more for it in re.finditer(rb"\n", text) for more in (0, 1)] or [0]
-    size = chance.choice([chance.randint(0, len(text)), chance.choice(ends), len(text) - 1])
+    ends = [
+        it.start() + more for it in re.finditer(rb"\n", text) for more in (0, 1)
+    ] or [0]
+    size = chance.choice(
+        [chance.randint(0, len(text)), chance.choice(ends), len(text) - 1]
+    )
     return text[:size] + chance.choice([b"", b"", b"\n", b"]", b"#"])
 
 
@@ -86,7 +125,11 @@ def with_other_number(chance: Random, text: bytes, more: Sequence[int] = ()) -> 
     if not places:
         return text
     place = chance.choice(places)
-    return text[:place.start()] + b"%d" % number_near(chance, int(place[0][:18]), more) + text[place.end():]
+    return (
+        text[: place.start()]
+        + b"%d" % number_near(chance, int(place[0][:18]), more)
+        + text[place.end() :]
+    )
 
 
 def with_other_spelling(chance: Random, text: bytes) -> bytes:
@@ -97,13 +140,29 @@ def with_other_spelling(chance: Random, text: bytes) -> bytes:
         return text.replace(b"\n", b"\r\n")
     place = chance.choice(places)
     number = place[0]
-    spelt = [b"+" + number, b"0" + number, b"-" + number, b"0x" + number, number + b"_0", b"1_" + number, number + b" ",
-             number + b".0", b"\"" + number + b"\""][kind - 1]
-    return text[:place.start()] + spelt + text[place.end():]
+    spelt = [
+        b"+" + number,
+        b"0" + number,
+        b"-" + number,
+        b"0x" + number,
+        number + b"_0",
+        b"1_" + number,
+        number + b" ",
+        number + b".0",
+        b'"' + number + b'"',
+    ][kind - 1]
+    return text[: place.start()] + spelt + text[place.end() :]
 
 
-TEXT_CHANGES: list[Change] = [with_other_bytes, with_other_lines, cut_off, with_other_number, with_other_number,
-                              with_other_spelling, with_mark]
+TEXT_CHANGES: list[Change] = [
+    with_other_bytes,
+    with_other_lines,
+    cut_off,
+    with_other_number,
+    with_other_number,
+    with_other_spelling,
+    with_mark,
+]
 
 
 # ---- trees of scenarios
@@ -113,15 +172,22 @@ def some_draws(chance: Random, keys: Shape) -> Tree:
     """Returns values with their weights."""
     _, low, high = keys["values"]
     high = min(high, low + chance.choice([5, high]))
-    values = sorted(chance.sample(range(low, high + 1), chance.randint(1, min(6, high - low + 1))))
+    values = sorted(
+        chance.sample(range(low, high + 1), chance.randint(1, min(6, high - low + 1)))
+    )
     return {"values": values, "weights": [chance.randint(1, 9) for _ in values]}
 
 
 def some_policies(chance: Random, keys: Shape) -> list[Tree]:
     """Returns policies with names of their own."""
-    policies = [a_table(chance, keys) for _ in range(chance.choice([1, 2, 3, formats.POLICIES[1]]))]
+    policies = [
+        a_table(chance, keys)
+        for _ in range(chance.choice([1, 2, 3, formats.POLICIES[1]]))
+    ]
     for number, it in enumerate(policies):
-        it["name"], (it["s"], it["S"]) = chance.choice(["P%d", "p-%d", "_%d"]) % number, sorted((it["s"], it["S"]))
+        it["name"], (it["s"], it["S"]) = chance.choice(
+            ["P%d", "p-%d", "_%d"]
+        ) % number, sorted((it["s"], it["S"]))
     return policies
 
 
@@ -134,7 +200,9 @@ def a_value(chance: Random, kind: str, *more: Any) -> Any:
         case "ring":
             return chance.choice(formats.RING_SIZES)
         case "key":
-            return ["%016x" % chance.getrandbits(64) for _ in range(formats.WORDS_OF_KEY)]
+            return [
+                "%016x" % chance.getrandbits(64) for _ in range(formats.WORDS_OF_KEY)
+            ]
         case "draws":
             return some_draws(chance, *more)
         case "policies":
@@ -146,7 +214,11 @@ def a_value(chance: Random, kind: str, *more: Any) -> Any:
 
 def a_table(chance: Random, keys: Shape) -> Tree:
     """Returns a table with a value at each of these keys."""
-    return {key: a_value(chance, kind, *more) for key, (kind, *more) in keys.items() if kind != "version"}
+    return {
+        key: a_value(chance, kind, *more)
+        for key, (kind, *more) in keys.items()
+        if kind != "version"
+    }
 
 
 def a_scenario(chance: Random) -> Tree:
@@ -180,7 +252,7 @@ def list_changed(chance: Random, value: list[Any]) -> list[Any]:
         return value + [chance.choice([*value, 1])]
     at, to = chance.randrange(len(value)), chance.randrange(len(value))
     if kind == 1:
-        return value[:at] + value[at + 1:]
+        return value[:at] + value[at + 1 :]
     value = list(value)
     value[at], value[to] = value[to], value[at]
     return value
@@ -189,7 +261,11 @@ def list_changed(chance: Random, value: list[Any]) -> list[Any]:
 def other_value(chance: Random, key: Any, old: Any) -> Any:
     """Returns another value of the same kind as an old one."""
     if isinstance(old, list):
-        return list_changed(chance, old) if chance.random() < 0.75 else old * chance.choice([0, 2, 9])
+        return (
+            list_changed(chance, old)
+            if chance.random() < 0.75
+            else old * chance.choice([0, 2, 9])
+        )
     if isinstance(old, str):
         return chance.choice(STRINGS)
     if isinstance(old, dict):
@@ -223,28 +299,34 @@ def rule_changed(chance: Random, tree: Tree) -> Tree:
     """Returns the tree with a change that is at the very end of a rule, or just beyond it."""
     tree = copy.deepcopy(tree)
     draws = tree[chance.choice([it for it in formats.DRAWS if it in tree])]
-    policies, policy, most = tree["policy"], chance.choice(tree["policy"]), formats.MOST_WEIGHT
+    policies, most = tree["policy"], formats.MOST_WEIGHT
+    policy = chance.choice(policies)
     kind, more = chance.randrange(8), chance.randrange(2)
     match kind:
         case 0:
-            draws["weights"] = [0] * (len(draws["values"]) - 1) + [chance.choice([0, 1, most, most + 1])]
+            last = chance.choice([0, 1, most, most + 1])
+            draws["weights"] = [0] * (len(draws["values"]) - 1) + [last]
         case 1:
-            draws["values"] = draws["values"] + [draws["values"][-1] + more]
-            draws["weights"] = draws["weights"] + [most - sum(draws["weights"])]
+            draws["values"] += [draws["values"][-1] + more]
+            draws["weights"] += [most - sum(draws["weights"])]
         case 2:
             policy["s"] = policy["S"] + chance.choice([1, 1, 0])
         case 3:
-            policy["name"] = chance.choice(policies)["name"] + "x" * chance.choice([0, 10, 14, 15])
+            other = chance.choice(policies)["name"]
+            policy["name"] = other + "x" * chance.choice([0, 10, 14, 15])
         case 4:
             most = formats.RING_SIZES[-1]
-            tree["ring"] = chance.choice([0, 1, 3, most // 2, most - 1, most, most + 1, 2 * most, -2])
+            near = [most - 1, most, most + 1]
+            tree["ring"] = chance.choice([0, 1, 3, most // 2, *near, 2 * most, -2])
         case 5:
             most = formats.POLICIES[1]
-            tree["policy"] = [{**policy, "name": f"N{it}"} for it in range(chance.choice([0, most, most + 1, 40]))]
+            count = chance.choice([0, most, most + 1, 40])
+            tree["policy"] = [{**policy, "name": f"N{it}"} for it in range(count)]
         case 6:
-            draws["weights"] = draws["weights"] + [1] * (1 + more)
+            draws["weights"] += [1] * (1 + more)
         case _:
-            tree["key"] = tree["key"][more:] + chance.choice([[], ["0" * 16], ["0" * 15], ["0" * 17]])
+            word = chance.choice([[], ["0" * 16], ["0" * 15], ["0" * 17]])
+            tree["key"] = tree["key"][more:] + word
     return tree
 
 
@@ -254,7 +336,13 @@ def rule_changed(chance: Random, tree: Tree) -> Tree:
 def spelt(chance: Random, value: Any) -> str:
     """Returns a value in TOML, tables inline."""
     if isinstance(value, dict):
-        return "{" + ", ".join(f"{spelt_key(chance, it)} = {spelt(chance, value[it])}" for it in value) + "}"
+        return (
+            "{"
+            + ", ".join(
+                f"{spelt_key(chance, it)} = {spelt(chance, value[it])}" for it in value
+            )
+            + "}"
+        )
     if isinstance(value, list):
         gap = chance.choice(["", " ", "\n  ", " # more\n"]) if value else ""
         end = chance.choice(["", ",", gap]) if value else ""
@@ -262,13 +350,19 @@ def spelt(chance: Random, value: Any) -> str:
     if isinstance(value, str):
         return json.dumps(value, ensure_ascii=False).replace("\x7f", "\\u007f")
     if type(value) is int and value >= 0 and chance.random() < 0.1:
-        return chance.choice([hex(value), oct(value), bin(value), f"{value:_}", f"+{value}"])
+        return chance.choice(
+            [hex(value), oct(value), bin(value), f"{value:_}", f"+{value}"]
+        )
     return str(value).lower()
 
 
 def spelt_key(chance: Random, key: str) -> str:
     """Returns a key in TOML."""
-    return key if re.fullmatch("[A-Za-z0-9_-]+", key) and chance.random() < 0.9 else json.dumps(key)
+    return (
+        key
+        if re.fullmatch("[A-Za-z0-9_-]+", key) and chance.random() < 0.9
+        else json.dumps(key)
+    )
 
 
 def document(chance: Random, tree: Tree) -> bytes:
@@ -276,14 +370,27 @@ def document(chance: Random, tree: Tree) -> bytes:
     items, tail = [], []
     for key, value in chance.sample(sorted(tree.items()), len(tree)):
         name = spelt_key(chance, key)
-        tables = isinstance(value, list) and value and all(isinstance(it, dict) for it in value)
+        tables = (
+            isinstance(value, list)
+            and value
+            and all(isinstance(it, dict) for it in value)
+        )
         way = chance.randrange(3)
         if isinstance(value, dict) and value and way == 1:
-            items += [f"{name}.{spelt_key(chance, it)} = {spelt(chance, value[it])}" for it in value]
+            items += [
+                f"{name}.{spelt_key(chance, it)} = {spelt(chance, value[it])}"
+                for it in value
+            ]
         elif (isinstance(value, dict) or tables) and way == 2:
             for table in value if tables else [value]:
                 head = f"[[{name}]]" if tables else f"[ {name} ]"
-                tail += [head, *(f"{spelt_key(chance, it)} = {spelt(chance, table[it])}" for it in table)]
+                tail += [
+                    head,
+                    *(
+                        f"{spelt_key(chance, it)} = {spelt(chance, table[it])}"
+                        for it in table
+                    ),
+                ]
         else:
             items.append(f"{name} = {spelt(chance, value)}")
     end = chance.choice(["\n", "\r\n", " # end\n", "\n\n"])
@@ -318,25 +425,41 @@ def with_other_field(chance: Random, text: bytes) -> bytes:
     at = chance.randrange(len(lines))
     fields, others = lines[at].split(b","), chance.choice(lines).split(b",")
     place = chance.randrange(len(fields))
-    fields[place:place + 1] = chance.choice([[], [b""], [b"-"], fields[place:place + 1] * 2, [chance.choice(others)]])
+    fields[place : place + 1] = chance.choice(
+        [[], [b""], [b"-"], fields[place : place + 1] * 2, [chance.choice(others)]]
+    )
     lines[at] = b",".join(fields)
     return b"\n".join(lines)
 
 
 def changed_checkpoint(chance: Random, text: bytes, ends: Sequence[int]) -> bytes:
     """Returns a checkpoint's text with up to three changes. Numbers may also be these ends of its ranges."""
-    others: list[Change] = [with_other_bytes, with_other_lines, cut_off, with_other_field, with_other_spelling]
+    others: list[Change] = [
+        with_other_bytes,
+        with_other_lines,
+        cut_off,
+        with_other_field,
+        with_other_spelling,
+    ]
     for _ in range(chance.choice([0, 1, 1, 1, 2, 3])):
-        text = with_other_number(chance, text, ends) if chance.random() < 0.6 else chance.choice(others)(chance, text)
+        text = (
+            with_other_number(chance, text, ends)
+            if chance.random() < 0.6
+            else chance.choice(others)(chance, text)
+        )
     return text
 
 
 def changed_schedule(chance: Random, readers: int) -> bytes:
     """Returns a schedule of up to forty lines, with some that are of another form."""
-    odd = ["", "r", "l", "P", "p ", " p", "p0", "e1", "r+1", "r-1", "r01", "r00", "r 1", "r1\r", "rr", "r0x1",
-           "r\u0661", "r1.", "x", "r4294967296", "r4294967295", "l18446744073709551616", "r" + "1" * 400,
-           *[f"r{readers}", f"l{readers}"] * 3]
-    good = ["p", "p", "e", *(f"{it}{number}" for it in "rrl" for number in range(readers))]
+    ends = [f"r{readers}", f"l{readers}"] * 3
+    odd = [*DATA["odd_turns"], "r" + "1" * 400, *ends]
+    good = [
+        "p",
+        "p",
+        "e",
+        *(f"{it}{number}" for it in "rrl" for number in range(readers)),
+    ]
     lines = chance.choices(good, k=chance.randint(0, 40))
     for _ in range(chance.choice([0, 0, 0, 1, 2])):
         lines.insert(chance.randint(0, len(lines)), chance.choice(odd))

@@ -27,11 +27,20 @@ POLICIES = (b'{ name = "%s", s = 5, S = 10 }', b'{ name = "%s", s = 4, S = 10 }'
 END = b"end,-,-,-,-\n"
 
 
-MEMORY, THREAD, READING, WRITING = map(refused, ("memory", "thread", "reading", "writing"))
+MEMORY, THREAD, READING, WRITING = map(
+    refused, ("memory", "thread", "reading", "writing")
+)
 
 
-def run(program: Path, words: Sequence[str], data: bytes | int = b"", *, before: Sequence[str] = (),
-        environment: dict[str, str] | None = None, **how: Any) -> Shown:
+def run(
+    program: Path,
+    words: Sequence[str],
+    data: bytes | int = b"",
+    *,
+    before: Sequence[str] = (),
+    environment: dict[str, str] | None = None,
+    **how: Any,
+) -> Shown:
     """Runs the program on an input, bytes or an open file, and returns what it shows.
 
     `before` has the words of a command that becomes the program. How else it is started is up to subprocess.
@@ -40,7 +49,9 @@ def run(program: Path, words: Sequence[str], data: bytes | int = b"", *, before:
     how["input" if isinstance(data, bytes) else "stdin"] = data
     how |= {"env": {**os.environ, **environment}} if environment else {}
     try:
-        ran = subprocess.run([*before, program, *words], timeout=SECONDS, check=False, **how)
+        ran = subprocess.run(
+            [*before, program, *words], timeout=SECONDS, check=False, **how
+        )
     except subprocess.TimeoutExpired:
         return Shown(b"", b"", None)
     return Shown(ran.stdout or b"", ran.stderr, ran.returncode)
@@ -62,7 +73,10 @@ def start_text(said: dict[str, Any]) -> bytes:
 
 def report_lines(said: dict[str, Any]) -> list[str]:
     """Returns the beginnings of a report's lines."""
-    return [formats.HEADER, *(f"{it['name']},{it['s']},{it['S']}," for it in said["scenario"]["policy"])]
+    return [
+        formats.HEADER,
+        *(f"{it['name']},{it['s']},{it['S']}," for it in said["scenario"]["policy"]),
+    ]
 
 
 def newest_text(said: dict[str, Any]) -> bytes:
@@ -73,7 +87,11 @@ def newest_text(said: dict[str, Any]) -> bytes:
 def trace_lines(said: dict[str, Any]) -> list[str]:
     """Returns the beginnings of a trace's lines: each turn has one, which begins with the turn itself."""
     turns, count = said["schedule"]
-    return [*(f"{it.decode()} " for it in turns), "published ", *(f"reader {it} taken " for it in range(count))]
+    return [
+        *(f"{it.decode()} " for it in turns),
+        "published ",
+        *(f"reader {it} taken " for it in range(count)),
+    ]
 
 
 class Reads(NamedTuple):
@@ -91,21 +109,37 @@ class Reads(NamedTuple):
 
 
 # By the words of each command. A run of any scenario takes too long to be judged.
-READS = {"": Reads("scenario"),
-         "run": Reads("scenario"),
-         "leg N": Reads("scenario", shown=start_text),
-         "resume FILE": Reads("scenario", "checkpoint", formats.CHECKPOINT_VERSIONS[-1:], 4, report_lines),
-         "migrate FILE": Reads("", "checkpoint", formats.CHECKPOINT_VERSIONS[:-1], 5, newest_text),
-         "words K0 K1 K2 K3 N": Reads(),
-         "replay SIZE READERS TOTAL": Reads("schedule", shown=trace_lines),
-         "help": Reads()}
+READS = {
+    "": Reads("scenario"),
+    "run": Reads("scenario"),
+    "leg N": Reads("scenario", shown=start_text),
+    "resume FILE": Reads(
+        "scenario", "checkpoint", formats.CHECKPOINT_VERSIONS[-1:], 4, report_lines
+    ),
+    "migrate FILE": Reads(
+        "", "checkpoint", formats.CHECKPOINT_VERSIONS[:-1], 5, newest_text
+    ),
+    "words K0 K1 K2 K3 N": Reads(),
+    "replay SIZE READERS TOTAL": Reads("schedule", shown=trace_lines),
+    "help": Reads(),
+}
 # What stands for the names in these words, if a test has nothing else.
-VALUES = {"N": "0", "SIZE": "1", "READERS": "1", "TOTAL": "0", **{f"K{it}": "0" * 16 for it in range(4)}}
+VALUES = {
+    "N": "0",
+    "SIZE": "1",
+    "READERS": "1",
+    "TOTAL": "0",
+    **{f"K{it}": "0" * 16 for it in range(4)},
+}
 
 
 def usages_with(**kinds: str) -> list[str]:
     """Returns the words of the commands that read texts of these kinds."""
-    return [it for it in READS if all(getattr(READS[it], place) == kind for place, kind in kinds.items())]
+    return [
+        it
+        for it in READS
+        if all(getattr(READS[it], place) == kind for place, kind in kinds.items())
+    ]
 
 
 def words_of(usage: str, **values: str) -> list[str]:
@@ -143,7 +177,10 @@ class Command:
         if self.file is None:
             return self
         (room / "FILE").write_bytes(self.file)
-        return replace(self, words=[str(room / "FILE") if it == "FILE" else it for it in self.words])
+        return replace(
+            self,
+            words=[str(room / "FILE") if it == "FILE" else it for it in self.words],
+        )
 
     def is_right(self, shown: Shown) -> bool:
         """Returns whether a run shows the right bytes, and nothing else."""
@@ -151,7 +188,11 @@ class Command:
             return shown == refused(self.fault)
         if shown.errors or shown.status != 0:
             return False
-        return all(it in shown.output for it in self.parts) if self.output is None else shown.output == self.output
+        return (
+            all(it in shown.output for it in self.parts)
+            if self.output is None
+            else shown.output == self.output
+        )
 
     def verdict(self, shown: Shown) -> bool | str:
         """Returns the verdict on a run that is to show the right bytes."""
@@ -164,36 +205,75 @@ def of_policies(count: int) -> tuple[bytes, bytes, bytes]:
     The policies are A and B by turns under names of their own. Each has the rows of the stored texts, since these do
     not depend on the other policies.
     """
-    scenario, report, cut = (stored(f"tests/program/five_periods{it}") for it in (".toml", ".csv", "_cut.csv"))
+    scenario, report, cut = (
+        stored(f"tests/program/five_periods{it}")
+        for it in (".toml", ".csv", "_cut.csv")
+    )
     header, *rows = report.splitlines(keepends=True)
     head, *states = cut.removesuffix(END).split(b"policy,")
     names = [b"P%d" % number for number in range(1, count + 1)]
-    listed = swapped(scenario, b", ".join([POLICIES[0] % b"A", POLICIES[1] % b"B"]),
-                     b", ".join(POLICIES[at % 2] % name for at, name in enumerate(names)))
+    listed = swapped(
+        scenario,
+        b", ".join([POLICIES[0] % b"A", POLICIES[1] % b"B"]),
+        b", ".join(POLICIES[at % 2] % name for at, name in enumerate(names)),
+    )
     counted = swapped(head, b"sizes,10,1,1,2\n", b"sizes,10,1,1,%d\n" % count)
-    return (listed, header + b"".join(name + rows[at % 2][1:] for at, name in enumerate(names)),
-            counted + b"".join(b"policy," + name + states[at % 2][1:] for at, name in enumerate(names)) + END)
+    return (
+        listed,
+        header + b"".join(name + rows[at % 2][1:] for at, name in enumerate(names)),
+        counted
+        + b"".join(
+            b"policy," + name + states[at % 2][1:] for at, name in enumerate(names)
+        )
+        + END,
+    )
 
 
 def runs_of_policies(count: int) -> list[Command]:
     """Returns `run`, `leg` and `resume` of so many policies. Each starts as many threads."""
     scenario, report, cut = of_policies(count)
-    return [Command(f"run-of-{count}", ["run"], scenario, report, starts=count),
-            Command(f"leg-of-{count}", ["leg", "1"], scenario, cut, starts=count),
-            Command(f"resume-of-{count}", ["resume", "FILE"], scenario, report, file=cut, starts=count)]
+    return [
+        Command(f"run-of-{count}", ["run"], scenario, report, starts=count),
+        Command(f"leg-of-{count}", ["leg", "1"], scenario, cut, starts=count),
+        Command(
+            f"resume-of-{count}",
+            ["resume", "FILE"],
+            scenario,
+            report,
+            file=cut,
+            starts=count,
+        ),
+    ]
 
 
 def base_commands() -> list[Command]:
     """Returns `run`, `leg` and `resume` of README's scenario, from its checkpoint at block 0 by the oracle."""
-    scenario, report = stored("examples/two_policies.toml"), stored("examples/two_policies.csv")
-    start, end = (oracle.checkpoint(scenario.decode(), block).encode() for block in (0, 1))
-    return [Command("run-of-the-base", ["run"], scenario, report, starts=2),
-            Command("leg-of-the-base", ["leg", "1"], scenario, end, starts=2),
-            Command("resume-of-the-base", ["resume", "FILE"], scenario, report, file=start, starts=2)]
+    scenario, report = stored("examples/two_policies.toml"), stored(
+        "examples/two_policies.csv"
+    )
+    start, end = (
+        oracle.checkpoint(scenario.decode(), block).encode() for block in (0, 1)
+    )
+    return [
+        Command("run-of-the-base", ["run"], scenario, report, starts=2),
+        Command("leg-of-the-base", ["leg", "1"], scenario, end, starts=2),
+        Command(
+            "resume-of-the-base",
+            ["resume", "FILE"],
+            scenario,
+            report,
+            file=start,
+            starts=2,
+        ),
+    ]
 
 
 # A schedule and its trace, worked by hand.
-REPLAY = Command("replay", ["replay", "1", "2", "0"], b"r0\np\nr1\nl0\ne\nr0\n", b"""\
+REPLAY = Command(
+    "replay",
+    ["replay", "1", "2", "0"],
+    b"r0\np\nr1\nl0\ne\nr0\n",
+    b"""\
 r0 R1 0 0000000000000000
 p P3 0 0000000000000001
 r1 R1 0 0000000000000001
@@ -203,16 +283,27 @@ r0 - - -
 published 0 ended 1
 reader 0 taken 0 left 1 ended 0
 reader 1 taken 0 left 0 ended 1
-""")
+""",
+)
 
 
 def all_commands() -> list[Command]:
     """Returns each command once, with its right bytes. The words of the zero key are the oracle's."""
-    words = Command("words", words_of("words K0 K1 K2 K3 N"), output=oracle.words_text((0, 0, 0, 0), 0).encode())
+    words = Command(
+        "words",
+        words_of("words K0 K1 K2 K3 N"),
+        output=oracle.words_text((0, 0, 0, 0), 0).encode(),
+    )
     *olds, new = map(stored, CUTS)
-    migrations = [Command(f"migrate-of-{version}", ["migrate", "FILE"], output=new, file=old)
-                  for version, old in enumerate(olds, 1)]
-    help_text = Command("help", ["help"], parts=tuple(f"\n  {it.split()[0]} ".encode() for it in formats.COMMANDS))
+    migrations = [
+        Command(f"migrate-of-{version}", ["migrate", "FILE"], output=new, file=old)
+        for version, old in enumerate(olds, 1)
+    ]
+    help_text = Command(
+        "help",
+        ["help"],
+        parts=tuple(f"\n  {it.split()[0]} ".encode() for it in formats.COMMANDS),
+    )
     scenario, report = stored("crates/crnsim/stdin"), stored("crates/crnsim/stdout")
     base = Command("run-of-the-stored-run", ["run"], scenario, report, starts=2)
     return [*runs_of_policies(2), base, *migrations, words, REPLAY, help_text]
@@ -225,16 +316,41 @@ def refused_commands() -> list[Command]:
     """Returns commands whose words, input or file is refused."""
     scenario, _, cut = of_policies(2)
     broken = swapped(scenario, b"initial = 10\n", b"initial = -1\n")
-    return [Command("run-on-a-broken-rule", ["run"], broken, fault="scenario 6"),
-            Command("leg-on-no-document", ["leg", "1"], scenario + b"[", fault="scenario 1"),
-            Command("resume-on-no-checkpoint", ["resume", "FILE"], scenario, file=cut + b"end", fault="checkpoint 1"),
-            Command("resume-on-another-scenario", ["resume", "FILE"], scenario.replace(b'"P2"', b'"P3"'), file=cut,
-                    fault="checkpoint 2"),
-            Command("migrate-on-a-new-version", ["migrate", "FILE"], file=cut, fault="checkpoint 5"),
-            Command("replay-on-a-reader-too-many", ["replay", "1", "2", "0"], b"p\nr2\n", fault="schedule 2"),
-            Command("leg-past-the-end", ["leg", "5"], scenario, fault="command line"),
-            Command("no-command", ["walk"], fault="command line"),
-            Command("resume-without-a-file", ["resume", "none"], scenario, fault="reading")]
+    return [
+        Command("run-on-a-broken-rule", ["run"], broken, fault="scenario 6"),
+        Command(
+            "leg-on-no-document", ["leg", "1"], scenario + b"[", fault="scenario 1"
+        ),
+        Command(
+            "resume-on-no-checkpoint",
+            ["resume", "FILE"],
+            scenario,
+            file=cut + b"end",
+            fault="checkpoint 1",
+        ),
+        Command(
+            "resume-on-another-scenario",
+            ["resume", "FILE"],
+            scenario.replace(b'"P2"', b'"P3"'),
+            file=cut,
+            fault="checkpoint 2",
+        ),
+        Command(
+            "migrate-on-a-new-version",
+            ["migrate", "FILE"],
+            file=cut,
+            fault="checkpoint 5",
+        ),
+        Command(
+            "replay-on-a-reader-too-many",
+            ["replay", "1", "2", "0"],
+            b"p\nr2\n",
+            fault="schedule 2",
+        ),
+        Command("leg-past-the-end", ["leg", "5"], scenario, fault="command line"),
+        Command("no-command", ["walk"], fault="command line"),
+        Command("resume-without-a-file", ["resume", "none"], scenario, fault="reading"),
+    ]
 
 
 Case = tuple[str, object]

@@ -11,11 +11,46 @@ from tests.hostile import second_reader as reader
 from tests.hostile.second_reader import MOST_A_PERIOD, Checkpoint, State, Tree
 from tests.shapes import SHAPES, Shape, least_scenario
 
-MOST_LETTERS, MOST_WEIGHT, MOST_ITEMS = formats.MOST_LETTERS, formats.MOST_WEIGHT, formats.MOST_ITEMS
-NAMES = ["", "a", "a" * MOST_LETTERS, "a" * (MOST_LETTERS + 1), "B", "b", "A B", "azAZ09_-", "\u00e4", "a\n", "."]
-WORDS = ["0" * 16, "0" * 15, "0" * 17, "g" + "0" * 15, "F" * 16, "f" * 16, "-" + "0" * 15, " " + "0" * 15]
-WEIGHTS = [[0, 0], [0, 1], [MOST_WEIGHT, 0], [MOST_WEIGHT - 1, 1], [MOST_WEIGHT, 1], [MOST_WEIGHT + 1, 0], [-1, 2], [1],
-           [1, 1, 1], []]
+MOST_LETTERS, MOST_WEIGHT, MOST_ITEMS = (
+    formats.MOST_LETTERS,
+    formats.MOST_WEIGHT,
+    formats.MOST_ITEMS,
+)
+NAMES = [
+    "",
+    "a",
+    "a" * MOST_LETTERS,
+    "a" * (MOST_LETTERS + 1),
+    "B",
+    "b",
+    "A B",
+    "azAZ09_-",
+    "\u00e4",
+    "a\n",
+    ".",
+]
+WORDS = [
+    "0" * 16,
+    "0" * 15,
+    "0" * 17,
+    "g" + "0" * 15,
+    "F" * 16,
+    "f" * 16,
+    "-" + "0" * 15,
+    " " + "0" * 15,
+]
+WEIGHTS = [
+    [0, 0],
+    [0, 1],
+    [MOST_WEIGHT, 0],
+    [MOST_WEIGHT - 1, 1],
+    [MOST_WEIGHT, 1],
+    [MOST_WEIGHT + 1, 0],
+    [-1, 2],
+    [1],
+    [1, 1, 1],
+    [],
+]
 
 
 def a_scenario(version: int) -> Tree:
@@ -26,8 +61,15 @@ def a_scenario(version: int) -> Tree:
         tree[table] = {"values": [low, low + 3], "weights": [2, 1]}
     tree["costs"] = {it: place for place, it in enumerate(tree["costs"], 1)}
     policy = {**tree["policy"][0], "s": 5, "S": 10}
-    return {**tree, "key": ["0123456789abcdef"] * 4, "periods": 5, "replications": 2, "initial": 10, "ring": 2,
-            "policy": [policy, {**policy, "name": "B", "s": 0, "S": MOST_ITEMS}]}
+    return {
+        **tree,
+        "key": ["0123456789abcdef"] * 4,
+        "periods": 5,
+        "replications": 2,
+        "initial": 10,
+        "ring": 2,
+        "policy": [policy, {**policy, "name": "B", "s": 0, "S": MOST_ITEMS}],
+    }
 
 
 SCENARIO = a_scenario(formats.VERSIONS[-1])
@@ -57,7 +99,10 @@ def table_ends(tree: Tree, path: list[Any], keys: Shape) -> Iterator[Tree]:
         elif kind in ("table", "draws"):
             yield from table_ends(tree, place, more[0])
         elif key == "values":
-            yield from (with_value(tree, place, it) for it in ([], [1, 1], [2, 1], [1], [1, 2, 3]))
+            yield from (
+                with_value(tree, place, it)
+                for it in ([], [1, 1], [2, 1], [1], [1, 2, 3])
+            )
             yield from (with_value(tree, [*place, 0], it) for it in around(*more)[:3])
             yield from (with_value(tree, [*place, 1], it) for it in around(*more)[3:])
         elif key == "weights":
@@ -70,18 +115,26 @@ def scenario_ends() -> Iterator[Tree]:
         tree, shape = a_scenario(version), SHAPES[version]
         yield tree
         yield from table_ends(tree, [], shape)
-        yield from (with_value(tree, ["version"], it) for it in around(version, version))
+        yield from (
+            with_value(tree, ["version"], it) for it in around(version, version)
+        )
         for place in range(len(tree["policy"])):
             yield from table_ends(tree, ["policy", place], shape["policy"][1])
     yield from (with_value(SCENARIO, ["policy", 0, "s"], it) for it in (9, 10, 11))
     yield from (with_value(SCENARIO, ["policy", 0, "name"], it) for it in NAMES)
     yield from (with_value(SCENARIO, ["key", 3], it) for it in WORDS)
     yield from (with_value(SCENARIO, ["key"], ["0" * 16] * it) for it in (0, 3, 4, 5))
-    yield from (with_value(SCENARIO, ["ring"], it + step) for size in formats.RING_SIZES for it in (size, 2 * size)
-                for step in (-1, 0, 1))
+    yield from (
+        with_value(SCENARIO, ["ring"], it + step)
+        for size in formats.RING_SIZES
+        for it in (size, 2 * size)
+        for step in (-1, 0, 1)
+    )
     policy = SCENARIO["policy"][0]
     for count in around(*formats.POLICIES):
-        yield with_value(SCENARIO, ["policy"], [{**policy, "name": f"P{it}"} for it in range(count)])
+        yield with_value(
+            SCENARIO, ["policy"], [{**policy, "name": f"P{it}"} for it in range(count)]
+        )
     for first in SCENARIO:
         yield {it: SCENARIO[it] for it in SCENARIO if it != first}
 
@@ -89,27 +142,47 @@ def scenario_ends() -> Iterator[Tree]:
 def damaged(text: bytes) -> Iterator[bytes]:
     """Yields each proper prefix of a text, and the text with each of its bytes set to `0`."""
     yield from (text[:size] for size in range(len(text)))
-    yield from (text[:at] + b"0" + text[at + 1:] for at in range(len(text)))
+    yield from (text[:at] + b"0" + text[at + 1 :] for at in range(len(text)))
 
 
 def due_ends(stock: int, period: int, top: int) -> list[list[tuple[int, int]]]:
     """Returns outstanding orders that may stand beside a stock, or nearly."""
     last = period + formats.MOST_LEAD - 1
     near: list[list[tuple[int, int]]] = [
-        [], [(period, 1)], [(last, 1)], [(last + 1, 1)], [(period - 1, 1)], [(period, 0)], [(period, -1)],
-        [(period, 1), (period, 1)], [(period + 1, 1), (period, 1)], [(period, 1), (last, 1)]]
-    return near + [[(period, it - stock)] for it in [*around(-MOST_A_PERIOD, MOST_ITEMS), top, top + 1]]
+        [],
+        [(period, 1)],
+        [(last, 1)],
+        [(last + 1, 1)],
+        [(period - 1, 1)],
+        [(period, 0)],
+        [(period, -1)],
+        [(period, 1), (period, 1)],
+        [(period + 1, 1), (period, 1)],
+        [(period, 1), (last, 1)],
+    ]
+    return near + [
+        [(period, it - stock)]
+        for it in [*around(-MOST_A_PERIOD, MOST_ITEMS), top, top + 1]
+    ]
 
 
 def state_ends(state: State, scenario: Tree, period: int) -> Iterator[State]:
     """Yields a state with each of its amounts at its ends, before a period of a replication."""
     top = MOST_ITEMS + (MOST_A_PERIOD * period if "returns" in scenario else 0)
-    for stock in [*around(-MOST_A_PERIOD * period, top), *around(-MOST_A_PERIOD, MOST_ITEMS), state.stock]:
-        yield from (state._replace(stock=stock, due=due) for due in due_ends(stock, period, top))
+    for stock in [
+        *around(-MOST_A_PERIOD * period, top),
+        *around(-MOST_A_PERIOD, MOST_ITEMS),
+        state.stock,
+    ]:
+        yield from (
+            state._replace(stock=stock, due=due) for due in due_ends(stock, period, top)
+        )
     yield from (state._replace(cost=it) for it in around(0, formats.MOST_COST * period))
     most = formats.MOST_COST * scenario["periods"]
     yield from (state._replace(costs=[*state.costs[:-1], it]) for it in around(0, most))
-    yield from (state._replace(costs=it) for it in (state.costs[:-1], [*state.costs, 0]))
+    yield from (
+        state._replace(costs=it) for it in (state.costs[:-1], [*state.costs, 0])
+    )
 
 
 def checkpoint_ends(cut: Checkpoint) -> Iterator[Checkpoint]:

@@ -23,8 +23,10 @@ MOST_A_PERIOD = formats.limits("demand", "values")[1]
 MOST_ROWS = formats.WEIGHT_SUMS[1]
 INTEGER = re.compile(r"0|-?[1-9][0-9]*")
 # What counts when levels are counted, and texts and comments, in which nothing does.
-PIECE = re.compile(r'"""(?:\\.|[^\\])*?"{3,5}|\'\'\'.*?\'{3,5}|"(?:\\.|[^"\\])*"|\'[^\']*\'|#[^\n]*|[][{}.=,\n]',
-                   re.DOTALL)
+PIECE = re.compile(
+    r'"""(?:\\.|[^\\])*?"{3,5}|\'\'\'.*?\'{3,5}|"(?:\\.|[^"\\])*"|\'[^\']*\'|#[^\n]*|[][{}.=,\n]',
+    re.DOTALL,
+)
 # What TOML 1.1 takes and 1.0, which Python's reader knows, does not: a comma or a line's end before the end of an
 # inline table, two escapes, and a time without seconds.
 NEWER = re.compile(rb",\s*}|{[^}]*\n|\\[ex]|[0-9]{2}:[0-9]{2}")
@@ -49,7 +51,7 @@ def has_huge_integer(value: object) -> bool:
         value = left.pop()
         if isinstance(value, (dict, list)):
             left += value.values() if isinstance(value, dict) else value
-        elif type(value) is int and not -2**63 <= value < 2**63:
+        elif type(value) is int and not -(2**63) <= value < 2**63:
             return True
     return False
 
@@ -80,7 +82,11 @@ def tree_of(data: bytes) -> Tree | None:
         tree = tomllib.loads(text, parse_float=double_of)
     except (ValueError, RecursionError):
         return None
-    return None if has_huge_integer(tree) or levels_of(text) > formats.MOST_LEVELS else tree
+    return (
+        None
+        if has_huge_integer(tree) or levels_of(text) > formats.MOST_LEVELS
+        else tree
+    )
 
 
 def is_for_both(data: bytes) -> bool:
@@ -110,7 +116,12 @@ def key_faults(value: Any) -> set[int]:
     """Returns the faults of the key of random numbers."""
     if list_faults(value, lambda it: isinstance(it, str)):
         return {5}
-    return set() if len(value) == formats.WORDS_OF_KEY and all(map(formats.WORD.fullmatch, value)) else {6}
+    return (
+        set()
+        if len(value) == formats.WORDS_OF_KEY
+        and all(map(formats.WORD.fullmatch, value))
+        else {6}
+    )
 
 
 def policies_faults(value: Any, keys: Shape) -> set[int]:
@@ -118,7 +129,9 @@ def policies_faults(value: Any, keys: Shape) -> set[int]:
     if not isinstance(value, list):
         return {5}
     least, most = formats.POLICIES
-    faults: set[int] = set().union(*(table_faults(it, keys) for it in value if isinstance(it, dict)))
+    faults: set[int] = set().union(
+        *(table_faults(it, keys) for it in value if isinstance(it, dict))
+    )
     faults |= set() if least <= len(value) <= most else {13}
     return faults | list_faults(value, lambda it: isinstance(it, dict))
 
@@ -131,13 +144,27 @@ def value_faults(value: Any, kind: str, *more: Any) -> set[int]:
         case "number":
             return range_faults([value], *more) if is_integer(value) else {5}
         case "numbers":
-            return list_faults(value, is_integer) or (range_faults(value, *more) if value else {6})
+            return list_faults(value, is_integer) or (
+                range_faults(value, *more) if value else {6}
+            )
         case "key":
             return key_faults(value)
         case "ring":
-            return {5} if not is_integer(value) else set() if value in formats.RING_SIZES else {12}
+            return (
+                {5}
+                if not is_integer(value)
+                else set()
+                if value in formats.RING_SIZES
+                else {12}
+            )
         case "name":
-            return {5} if not isinstance(value, str) else set() if formats.NAME.fullmatch(value) else {11}
+            return (
+                {5}
+                if not isinstance(value, str)
+                else set()
+                if formats.NAME.fullmatch(value)
+                else {11}
+            )
         case "table" | "draws":
             return table_faults(value, *more) if isinstance(value, dict) else {5}
     return policies_faults(value, *more)
@@ -147,7 +174,9 @@ def table_faults(table: Tree, keys: Shape) -> set[int]:
     """Returns the faults of a table's keys and of their values."""
     faults = {3} if table.keys() - keys.keys() else set()
     faults |= {4} if keys.keys() - table.keys() else set()
-    return faults.union(*(value_faults(table[it], *keys[it]) for it in keys.keys() & table.keys()))
+    return faults.union(
+        *(value_faults(table[it], *keys[it]) for it in keys.keys() & table.keys())
+    )
 
 
 def draw_faults(draws: Tree) -> set[int]:
@@ -178,7 +207,9 @@ def scenario_of(data: bytes) -> tuple[int, Tree | None]:
     # finds.
     if not faults & {3, 4, 5}:
         faults |= policy_faults(tree["policy"])
-        faults = faults.union(*(draw_faults(tree[it]) for it in formats.DRAWS if it in tree))
+        faults = faults.union(
+            *(draw_faults(tree[it]) for it in formats.DRAWS if it in tree)
+        )
     return min(faults, default=0), tree
 
 
@@ -215,7 +246,9 @@ def demand_that(holds: object) -> None:
 
 def number_of(field: str, low: int, high: int) -> int:
     """Reads the number that a field spells, which is in a range."""
-    demand_that(INTEGER.fullmatch(field) and len(field) <= 20 and low <= int(field) <= high)
+    demand_that(
+        INTEGER.fullmatch(field) and len(field) <= 20 and low <= int(field) <= high
+    )
     return int(field)
 
 
@@ -239,12 +272,17 @@ class Rows:
         demand_that(self.place < len(self.rows))
         row = self.rows[self.place]
         self.place += 1
-        demand_that(len(row) == 5 and row[0] == kind and row[count + 1:] == ["-"] * (4 - count))
-        return row[1:count + 1]
+        demand_that(
+            len(row) == 5 and row[0] == kind and row[count + 1 :] == ["-"] * (4 - count)
+        )
+        return row[1 : count + 1]
 
     def numbers(self, kind: str, *ranges: tuple[int, int]) -> list[int]:
         """Returns the numbers of the next row, each in its range."""
-        return [number_of(field, *it) for field, it in zip(self.take(kind, len(ranges)), ranges)]
+        return [
+            number_of(field, *it)
+            for field, it in zip(self.take(kind, len(ranges)), ranges)
+        ]
 
 
 def draws_of(rows: Rows, kind: str, count: int, table: str) -> Tree:
@@ -260,14 +298,24 @@ def state_of(rows: Rows, scenario: Tree, done: int, periods: int) -> State:
     """Reads the state of a policy, after so many replications and so many periods of the next one."""
     top = formats.MOST_ITEMS + (MOST_A_PERIOD * periods if "returns" in scenario else 0)
     low, most = -MOST_A_PERIOD * periods, formats.MOST_LEAD
-    stock, cost, count, _ = rows.numbers("state", (low, top), (0, formats.MOST_COST * periods), (0, most), (done, done))
+    stock, cost, count, _ = rows.numbers(
+        "state", (low, top), (0, formats.MOST_COST * periods), (0, most), (done, done)
+    )
     due = []
     for _ in range(count):
-        period, amount = rows.numbers("due", (periods, periods + most - 1), (1, top - low))
+        period, amount = rows.numbers(
+            "due", (periods, periods + most - 1), (1, top - low)
+        )
         due.append((period, amount))
-    demand_that(rises([it[0] for it in due]) and -MOST_A_PERIOD <= stock + sum(it[1] for it in due) <= top)
+    demand_that(
+        rises([it[0] for it in due])
+        and -MOST_A_PERIOD <= stock + sum(it[1] for it in due) <= top
+    )
     demand_that(periods or (stock, cost, due) == (scenario["initial"], 0, []))
-    costs = [rows.numbers("cost", (it, it), (0, formats.MOST_COST * scenario["periods"]))[1] for it in range(done)]
+    costs = [
+        rows.numbers("cost", (it, it), (0, formats.MOST_COST * scenario["periods"]))[1]
+        for it in range(done)
+    ]
     return State(stock, cost, due, costs)
 
 
@@ -276,24 +324,52 @@ def policy_of(rows: Rows) -> Tree:
     name, low, high = rows.take("policy", 3)
     demand_that(formats.NAME.fullmatch(name))
     limits = {it: formats.limits("policy", it) for it in "sS"}
-    return {"name": name, "s": number_of(low, *limits["s"]), "S": number_of(high, *limits["S"])}
+    return {
+        "name": name,
+        "s": number_of(low, *limits["s"]),
+        "S": number_of(high, *limits["S"]),
+    }
 
 
 def scenario_rows(rows: Rows) -> tuple[int, int, int, Tree]:
     """Reads the rows before the policies: the version, the block, how many policies come, and the scenario."""
     spelling, block, periods, replications = rows.numbers(
-        "checkpoint", (1, NEWEST), (0, 2**64), formats.limits("", "periods"), formats.limits("", "replications"))
-    scenario: Tree = {"version": 1, "periods": periods, "replications": replications, "key": rows.take("key", 4)}
+        "checkpoint",
+        (1, NEWEST),
+        (0, 2**64),
+        formats.limits("", "periods"),
+        formats.limits("", "replications"),
+    )
+    scenario: Tree = {
+        "version": 1,
+        "periods": periods,
+        "replications": replications,
+        "key": rows.take("key", 4),
+    }
     demand_that(all(map(formats.WORD.fullmatch, scenario["key"])))
-    rates = rows.numbers("costs", *(formats.limits("costs", it) for it in formats.COSTS))
+    rates = rows.numbers(
+        "costs", *(formats.limits("costs", it) for it in formats.COSTS)
+    )
     scenario["costs"] = dict(zip(formats.COSTS, rates))
     scenario["initial"], demands, leads, count = rows.numbers(
-        "sizes", formats.limits("", "initial"), (1, MOST_ROWS), (1, MOST_ROWS), formats.POLICIES)
+        "sizes",
+        formats.limits("", "initial"),
+        (1, MOST_ROWS),
+        (1, MOST_ROWS),
+        formats.POLICIES,
+    )
     # In the older spelling there are no rows of returns.
     returned = rows.numbers("returns", (0, MOST_ROWS))[0] if spelling > 1 else 0
-    for table, kind, size in zip(formats.DRAWS, formats.DRAW_ROWS, (demands, leads, returned)):
+    for table, kind, size in zip(
+        formats.DRAWS, formats.DRAW_ROWS, (demands, leads, returned)
+    ):
         scenario |= {table: draws_of(rows, kind, size, table)} if size else {}
-    return spelling, block, count, {**scenario, "version": formats.version_with(scenario), "policy": []}
+    return (
+        spelling,
+        block,
+        count,
+        {**scenario, "version": formats.version_with(scenario), "policy": []},
+    )
 
 
 def checkpoint_of(data: bytes) -> Checkpoint | None:
@@ -318,33 +394,67 @@ def checkpoint_of(data: bytes) -> Checkpoint | None:
 def start_of(scenario: Tree) -> Checkpoint:
     """Returns what stands at block 0 of a scenario's run: initial stocks, and nothing due."""
     scenario = {it: scenario[it] for it in scenario if it != "ring"}
-    return Checkpoint(NEWEST, 0, scenario, [State(scenario["initial"], 0, [], [])] * len(scenario["policy"]))
+    return Checkpoint(
+        NEWEST,
+        0,
+        scenario,
+        [State(scenario["initial"], 0, [], [])] * len(scenario["policy"]),
+    )
 
 
 def text_of(checkpoint: Checkpoint) -> bytes:
     """Writes a checkpoint in its spelling."""
     scenario = checkpoint.scenario
-    lists: list[Tree] = [scenario.get(it, {"values": [], "weights": []}) for it in formats.DRAWS]
+    lists: list[Tree] = [
+        scenario.get(it, {"values": [], "weights": []}) for it in formats.DRAWS
+    ]
     rows: list[Sequence[object]] = [
-        ("checkpoint", checkpoint.spelling, checkpoint.block, scenario["periods"], scenario["replications"]),
-        ("key", *scenario["key"]), ("costs", *(scenario["costs"][it] for it in formats.COSTS)),
-        ("sizes", scenario["initial"], *(len(it["values"]) for it in lists[:2]), len(scenario["policy"]))]
+        (
+            "checkpoint",
+            checkpoint.spelling,
+            checkpoint.block,
+            scenario["periods"],
+            scenario["replications"],
+        ),
+        ("key", *scenario["key"]),
+        ("costs", *(scenario["costs"][it] for it in formats.COSTS)),
+        (
+            "sizes",
+            scenario["initial"],
+            *(len(it["values"]) for it in lists[:2]),
+            len(scenario["policy"]),
+        ),
+    ]
     rows += [("returns", len(lists[2]["values"]))] if checkpoint.spelling > 1 else []
     for kind, draws in zip(formats.DRAW_ROWS, lists):
         rows += [(kind, *it) for it in zip(draws["values"], draws["weights"])]
     for policy, (stock, cost, due, costs) in zip(scenario["policy"], checkpoint.states):
-        rows += [("policy", policy["name"], policy["s"], policy["S"]), ("state", stock, cost, len(due), len(costs))]
-        rows += [("due", *it) for it in due] + [("cost", *it) for it in enumerate(costs)]
-    return "".join(",".join([*map(str, it), *["-"] * (5 - len(it))]) + "\n" for it in [*rows, ("end",)]).encode()
+        rows += [
+            ("policy", policy["name"], policy["s"], policy["S"]),
+            ("state", stock, cost, len(due), len(costs)),
+        ]
+        rows += [("due", *it) for it in due] + [
+            ("cost", *it) for it in enumerate(costs)
+        ]
+    return "".join(
+        ",".join([*map(str, it), *["-"] * (5 - len(it))]) + "\n"
+        for it in [*rows, ("end",)]
+    ).encode()
 
 
 def versions_of(scenario: Tree) -> list[int]:
     """Returns the versions in which there are checkpoints of a scenario."""
-    return [it for it in formats.CHECKPOINT_VERSIONS if it > 1 or "returns" not in scenario]
+    return [
+        it for it in formats.CHECKPOINT_VERSIONS if it > 1 or "returns" not in scenario
+    ]
 
 
-def checkpoint_fault(checkpoint: Checkpoint | None, versions: Collection[int], number: int,
-                     scenario: Tree | None = None) -> int:
+def checkpoint_fault(
+    checkpoint: Checkpoint | None,
+    versions: Collection[int],
+    number: int,
+    scenario: Tree | None = None,
+) -> int:
     """Returns the number with which a command refuses a checkpoint, 0 if it takes it.
 
     The command takes these versions, and refuses others with this number. It may read a scenario too.

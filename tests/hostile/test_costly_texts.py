@@ -44,8 +44,11 @@ def filled(piece: bytes, start: bytes = b"", end: bytes = b"") -> Callable[[], b
     return lambda: start + piece * ((LIMIT - len(start) - len(end)) // len(piece)) + end
 
 
-def listed(piece_of: Callable[[int], bytes], start: bytes = b"", end: bytes = b"") -> Callable[[], bytes]:
+def listed(
+    piece_of: Callable[[int], bytes], start: bytes = b"", end: bytes = b""
+) -> Callable[[], bytes]:
     """Returns what makes a text of nearly the most bytes: a start, the pieces of the numbers from 0 on, and an end."""
+
     def make() -> bytes:
         pieces, size, number = [], len(start) + len(end), 0
         while size + len(piece := piece_of(number)) <= LIMIT:
@@ -56,7 +59,9 @@ def listed(piece_of: Callable[[int], bytes], start: bytes = b"", end: bytes = b"
     return make
 
 
-def nested(opening: bytes, closing: bytes, start: bytes = b"a = ") -> Callable[[], bytes]:
+def nested(
+    opening: bytes, closing: bytes, start: bytes = b"a = "
+) -> Callable[[], bytes]:
     """Returns what makes a text of as many levels as there is room for."""
     count = (LIMIT - len(start) - 1) // (len(opening) + len(closing))
     return lambda: start + opening * count + closing * count
@@ -85,7 +90,9 @@ def no_documents() -> dict[str, Callable[[], bytes]]:
 def no_scenarios() -> dict[str, Callable[[], bytes]]:
     """Returns documents whose version is none of a scenario."""
     return {
-        "many dotted keys of fifty parts": listed(lambda it: b"a." * 50 + b"b%d = 1\n" % it),
+        "many dotted keys of fifty parts": listed(
+            lambda it: b"a." * 50 + b"b%d = 1\n" % it
+        ),
         "a million digits of a fraction": filled(b"1", b"version = 0.", b"\n"),
         "many keys": listed(lambda it: b"k%d=1\n" % it),
         "many keys that begin alike": listed(lambda it: b"k" * 1000 + b"%d=1\n" % it),
@@ -97,69 +104,113 @@ def no_scenarios() -> dict[str, Callable[[], bytes]]:
     }
 
 
-def scenario_texts() -> Iterator[tuple[str, Text]]:
-    """Yields scenarios, each with its least fault if it is a document."""
-    yield from ((name, Text(make, "scenario 1")) for name, make in no_documents().items())
-    yield from ((name, Text(make, "scenario 2")) for name, make in no_scenarios().items())
+def faulty_scenarios() -> dict[str, tuple[int, Callable[[], bytes]]]:
+    """Returns documents with the rule that each breaks."""
     front = GOOD.split(b"policy = ")[0]
     tables, a_table = front + b"\n", b'[[policy]]\nname = "p%d"\ns = 1\nS = 2\n'
     before, mark, after = GOOD.partition(b"values = [")
-    faulty = {
-        "many policies": (13, listed(lambda it: a_table % it, tables)),
+    inline = front + b"policy=["
+    name = tables + b'[[policy]]\ns = 1\nS = 1\nname = "'
+    return {
+        "many policies": (13, listed(a_table.__mod__, tables)),
         "many policies of one name": (11, filled(a_table % 1, tables)),
-        "many empty policies": (4, filled(b"{},", front + b"policy = [", b"]\n")),
-        "many policies in a list": (13, listed(lambda it: b'{name="%x",s=0,S=0},' % it, front + b"policy=[", b"]\n")),
-        "a policy with many keys": (3, listed(lambda it: b"k%d=1\n" % it, tables + a_table % 1)),
+        "many empty policies": (4, filled(b"{},", inline, b"]\n")),
+        "many policies in a list": (
+            13,
+            listed(b'{name="%x",s=0,S=0},'.__mod__, inline, b"]\n"),
+        ),
+        "a policy with many keys": (
+            3,
+            listed(b"k%d=1\n".__mod__, tables + a_table % 1),
+        ),
         "a key of a million bytes": (3, filled(b"k", GOOD, b" = 1\n")),
-        "a quoted key of a million escapes": (3, filled(b"\\n", GOOD + b'"', b'" = 1\n')),
-        "a name of a million bytes": (11, filled(b"n", tables + b'[[policy]]\ns = 1\nS = 1\nname = "', b'"\n')),
+        "a quoted key of a million escapes": (
+            3,
+            filled(b"\\n", GOOD + b'"', b'" = 1\n'),
+        ),
+        "a name of a million bytes": (11, filled(b"n", name, b'"\n')),
         "a text of many lines": (3, filled(b"\n", GOOD + b'name = """', b'"""\n')),
         "many demands": (7, filled(b"0,", before + mark, after)),
-        "many quoted names":
-            (11, listed(lambda it: b'{name="\\u004%d",s=1,S=1},' % (it % 10), front + b"policy=[", b"]")),
+        "many quoted names": (
+            11,
+            listed(lambda it: b'{name="\\u004%d",s=1,S=1},' % (it % 10), inline, b"]"),
+        ),
     }
-    yield from ((name, Text(make, f"scenario {rule}")) for name, (rule, make) in faulty.items())
-    good = {"many comments": filled(b"#\n", end=GOOD), "one long comment": filled(b"#", end=b"\n" + GOOD),
-            "many empty lines": filled(b"\n", end=GOOD), "many spaces": filled(b" ", end=GOOD),
-            "many carriage returns": filled(b"\r\n", end=GOOD)}
-    yield from ((name, Text(make)) for name, make in good.items())
+
+
+def scenario_texts() -> Iterator[tuple[str, Text]]:
+    """Yields scenarios, each with its least fault if it is a document."""
+    for name, make in no_documents().items():
+        yield name, Text(make, "scenario 1")
+    for name, make in no_scenarios().items():
+        yield name, Text(make, "scenario 2")
+    for name, (rule, make) in faulty_scenarios().items():
+        yield name, Text(make, f"scenario {rule}")
+    yield "many comments", Text(filled(b"#\n", end=GOOD))
+    yield "one long comment", Text(filled(b"#", end=b"\n" + GOOD))
+    yield "many empty lines", Text(filled(b"\n", end=GOOD))
+    yield "many spaces", Text(filled(b" ", end=GOOD))
+    yield "many carriage returns", Text(filled(b"\r\n", end=GOOD))
 
 
 def table_texts() -> Iterator[tuple[str, Text]]:
     """Yields scenarios of many small tables. A document has 80 levels at most, so these go to seventy."""
     texts = {
         "many tables of a key": filled(b"{a=0},", b"a = [", b"]\n"),
-        "many policies of a wrong key": filled(b"{a=0},", b"version = 1\npolicy = [", b"]\n"),
-        "tables of seventy levels": filled(b"{a=" * 70 + b"0" + b"}" * 70 + b",", b"a = [", b"]\n"),
-        "tables of seventy dots": filled(b"{" + b"a." * 70 + b"a=0},", b"a = [", b"]\n"),
-        "lists of seventy levels": filled(b"[" * 70 + b"]" * 70 + b",", b"a = [", b"]\n"),
-        "lists and tables of seventy levels": filled(b"[{a=" * 35 + b"0" + b"}]" * 35 + b",", b"a = [", b"]\n"),
+        "many policies of a wrong key": filled(
+            b"{a=0},", b"version = 1\npolicy = [", b"]\n"
+        ),
+        "tables of seventy levels": filled(
+            b"{a=" * 70 + b"0" + b"}" * 70 + b",", b"a = [", b"]\n"
+        ),
+        "tables of seventy dots": filled(
+            b"{" + b"a." * 70 + b"a=0},", b"a = [", b"]\n"
+        ),
+        "lists of seventy levels": filled(
+            b"[" * 70 + b"]" * 70 + b",", b"a = [", b"]\n"
+        ),
+        "lists and tables of seventy levels": filled(
+            b"[{a=" * 35 + b"0" + b"}]" * 35 + b",", b"a = [", b"]\n"
+        ),
         "many lists of one": filled(b"[0],", b"a = [", b"]\n"),
         "many dotted keys": listed(lambda it: b"%x.a=1\n" % it),
-        "many dotted keys of seventy parts": listed(lambda it: b"%x." % it + b"a." * 70 + b"a=1\n"),
+        "many dotted keys of seventy parts": listed(
+            lambda it: b"%x." % it + b"a." * 70 + b"a=1\n"
+        ),
         "many headers of three parts": listed(lambda it: b"[%x.a.a]\n" % it),
         "headers below tables of a list": filled(b"[[a]]\n[a.b.b.b.b.b]\n"),
     }
     for name, make in texts.items():
-        yield name, Text(make, "scenario 3" if "policies" in name else "scenario 2", MOST_OF_TABLES)
+        yield name, Text(
+            make, "scenario 3" if "policies" in name else "scenario 2", MOST_OF_TABLES
+        )
 
 
-def checkpoint_texts(good: bytes) -> Iterator[tuple[str, Text]]:
-    """Yields checkpoints made from a good one: none of them is one."""
-    spelling = good.split(b",")[1]
+def wrong_checkpoints(good: bytes) -> dict[str, Callable[[], bytes]]:
+    """Returns texts made from a good checkpoint: none of them is one."""
+    spelling, end = good.split(b",")[1], b"end,-,-,-,-\n"
     head, state = good.partition(b"demand,")[0], good.partition(b"state,")[0]
     policies = state.rpartition(b"policy,")[0]
-    texts = {
-        "many demand rows": listed(lambda it: b"demand,%d,1,-,-\n" % it, head),
-        "many demand rows that are counted":
-            listed(lambda it: b"demand,%d,1,-,-\n" % it, head.replace(b",1,1,2\n", b",60000,1,2\n")),
-        "many policy rows": listed(lambda it: b"policy,P%d,1,1,-\n" % it, state),
-        "many policies with states":
-            listed(lambda it: b"policy,P%d,1,1,-\nstate,0,0,0,0\n" % it, policies, b"end,-,-,-,-\n"),
-        "many due rows": listed(lambda it: b"due,%d,1,-,-\n" % it, state + b"state,4,35,99999,0\n"),
-        "many cost rows": listed(lambda it: b"cost,%d,1,-,-\n" % it, state + b"state,4,35,0,99999\n"),
+    demand, one_demand = b"demand,%d,1,-,-\n".__mod__, b",1,1,2\n"
+    policy = b"policy,P%d,1,1,-\n"
+    many = head.replace(one_demand, b",60000,1,2\n")
+    beyond = head.replace(one_demand, b",4294967295,1,2\n")
+    block = b"checkpoint," + spelling + b","
+    return {
+        "many demand rows": listed(demand, head),
+        "many demand rows that are counted": listed(demand, many),
+        "many policy rows": listed(policy.__mod__, state),
+        "many policies with states": listed(
+            (policy + b"state,0,0,0,0\n").__mod__, policies, end
+        ),
+        "many due rows": listed(
+            b"due,%d,1,-,-\n".__mod__, state + b"state,4,35,99999,0\n"
+        ),
+        "many cost rows": listed(
+            b"cost,%d,1,-,-\n".__mod__, state + b"state,4,35,0,99999\n"
+        ),
         "many whole checkpoints": filled(good),
-        "many end rows": filled(b"end,-,-,-,-\n", good),
+        "many end rows": filled(end, good),
         "many empty lines behind": filled(b"\n", good),
         "empty lines alone": filled(b"\n"),
         "commas alone": filled(b","),
@@ -167,11 +218,16 @@ def checkpoint_texts(good: bytes) -> Iterator[tuple[str, Text]]:
         "quotes alone": filled(b'"'),
         "a quoted field": filled(b"\n", b'checkpoint,"', b'",1,5,2\n'),
         "a field of a million digits": filled(b"1", b"checkpoint,", b",1,5,2\n"),
-        "a block of a million digits": filled(b"0", b"checkpoint," + spelling + b",", b"1,5,2\n"),
+        "a block of a million digits": filled(b"0", block, b"1,5,2\n"),
         "a name of a million bytes": filled(b"n", policies + b"policy,", b",4,10,-\n"),
-        "counts beyond all rows": filled(b"demand,3,1,-,-\n", head.replace(b",1,1,2\n", b",4294967295,1,2\n")),
+        "counts beyond all rows": filled(b"demand,3,1,-,-\n", beyond),
     }
-    yield from ((name, Text(make, "checkpoint 1")) for name, make in texts.items())
+
+
+def checkpoint_texts(good: bytes) -> Iterator[tuple[str, Text]]:
+    """Yields wrong checkpoints with their fault."""
+    for name, make in wrong_checkpoints(good).items():
+        yield name, Text(make, "checkpoint 1")
 
 
 def schedule_texts() -> Iterator[tuple[str, Text]]:
@@ -180,21 +236,32 @@ def schedule_texts() -> Iterator[tuple[str, Text]]:
     yield "a producer alone", Text(filled(b"p\n"), values=RING)
     yield "readers by turns", Text(filled(readers), values=RING)
     yield "producer and readers by turns", Text(filled(b"p\n" + readers), values=RING)
-    yield "readers that leave", Text(filled(b"".join(b"l%d\n" % it for it in range(16))), values=RING)
+    yield "readers that leave", Text(
+        filled(b"".join(b"l%d\n" % it for it in range(16))), values=RING
+    )
     yield "ends", Text(filled(b"e\n"))
     yield "an actor of a million digits", Text(filled(b"1", b"r", b"\n"), "schedule 1")
-    yield "a reader that is not there, at last", Text(filled(b"p\n", end=b"r1"), "schedule 2")
-    yield "a line of another form, at last", Text(filled(b"p\n", end=b"r4294967296"), "schedule 1")
+    yield "a reader that is not there, at last", Text(
+        filled(b"p\n", end=b"r1"), "schedule 2"
+    )
+    yield "a line of another form, at last", Text(
+        filled(b"p\n", end=b"r4294967296"), "schedule 1"
+    )
     yield "many empty turns", Text(filled(b"\n"), "schedule 1")
     yield "many high readers", Text(filled(b"r4294967295\n"), "schedule 2")
 
 
 def inputs() -> Iterator[object]:
     """Yields each command with each text that it reads as its input. The file beside it is good."""
-    texts = {"scenario": [*scenario_texts(), *table_texts()], "schedule": [*schedule_texts()]}
+    texts = {
+        "scenario": [*scenario_texts(), *table_texts()],
+        "schedule": [*schedule_texts()],
+    }
     for usage, reads in READS.items():
         for name, text in texts.get(reads.input, []) if usage else []:
-            yield pytest.param(usage, text, id=f"{usage.split()[0]}-{name.replace(' ', '_')}")
+            yield pytest.param(
+                usage, text, id=f"{usage.split()[0]}-{name.replace(' ', '_')}"
+            )
 
 
 def files() -> Iterator[object]:
@@ -202,17 +269,31 @@ def files() -> Iterator[object]:
     for usage, reads in READS.items():
         for version in reads.versions:
             for name, text in checkpoint_texts(stored(CUTS[version - 1])):
-                yield pytest.param(usage, text, id=f"{usage.split()[0]}-version_{version}-{name.replace(' ', '_')}")
+                yield pytest.param(
+                    usage,
+                    text,
+                    id=f"{usage.split()[0]}-version_{version}-{name.replace(' ', '_')}",
+                )
 
 
 def check_cost(program: Path, room: Path, usage: str, text: Text, data: bytes) -> None:
     """Checks the fault of a text, and what the run takes."""
     (room / "input").write_bytes(data)
-    words = [sys.executable, "-S", str(COST), str(room / "input"), str(room / "errors"), str(program),
-             *words_of(usage, FILE=str(room / "FILE"), **text.values)]
+    words = [
+        sys.executable,
+        "-S",
+        str(COST),
+        str(room / "input"),
+        str(room / "errors"),
+        str(program),
+        *words_of(usage, FILE=str(room / "FILE"), **text.values),
+    ]
     took = subprocess.run(words, capture_output=True, check=True).stdout.split()
     line = f"crnsim: {text.fault}\n".encode() if text.fault else b""
-    assert (int(took[2]), (room / "errors").read_bytes()) == (formats.status_of(text.fault), line)
+    assert (int(took[2]), (room / "errors").read_bytes()) == (
+        formats.status_of(text.fault),
+        line,
+    )
     # The least that is seen as its megabytes are those of cost.py, some ten.
     seconds, megabytes = float(took[0]), int(took[1]) / 1024
     assert seconds <= text.most[0], f"{seconds:.2f} seconds of processor time"

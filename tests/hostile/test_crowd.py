@@ -29,11 +29,15 @@ def scenario(room: Path, ring: int) -> Path:
     return file
 
 
-def begun(program: Path, file: Path, prepare: Callable[[], None] | None = None) -> subprocess.Popen[bytes]:
+def begun(
+    program: Path, file: Path, prepare: Callable[[], None] | None = None
+) -> subprocess.Popen[bytes]:
     """Starts a process that runs on a file."""
     pipe = subprocess.PIPE
     with file.open("rb") as data:
-        return subprocess.Popen([program], stdin=data, stdout=pipe, stderr=pipe, preexec_fn=prepare)
+        return subprocess.Popen(
+            [program], stdin=data, stdout=pipe, stderr=pipe, preexec_fn=prepare
+        )
 
 
 def ended(process: subprocess.Popen[bytes], seconds: float) -> Shown:
@@ -53,7 +57,10 @@ def test_many_processes(program: Path, scenario: Path, check_all: CheckAll) -> N
     """A hundred processes at once write the same report."""
     processes = [begun(program, scenario) for _ in range(PROCESSES)]
     shown = [ended(it, SECONDS) for it in processes]
-    check_all((f"process {number}", it == WANTED or unlike(it)) for number, it in enumerate(shown))
+    check_all(
+        (f"process {number}", it == WANTED or unlike(it))
+        for number, it in enumerate(shown)
+    )
 
 
 def stay() -> None:
@@ -74,7 +81,10 @@ def busy_processor() -> Iterator[None]:
 
 @pytest.mark.timeout(240)
 @pytest.mark.usefixtures("busy_processor")
-@pytest.mark.parametrize("ring, number", [(ring, number) for ring, count in RINGS.items() for number in range(count)])
+@pytest.mark.parametrize(
+    "ring, number",
+    [(ring, number) for ring, count in RINGS.items() for number in range(count)],
+)
 def test_busy_processor(program: Path, scenario: Path, number: int) -> None:
     """All threads of a run on one processor, beside busy processes, write the same report."""
     shown = ended(begun(program, scenario, stay), 2 * SECONDS)

@@ -15,8 +15,19 @@ from pathlib import Path
 
 import pytest
 
-from tests.hostile.known import (COMMANDS, LIMIT, MEMORY, THREAD, Case, CheckAll, Command, named, run, runs_of_policies,
-                                 unlike)
+from tests.hostile.known import (
+    COMMANDS,
+    LIMIT,
+    MEMORY,
+    THREAD,
+    Case,
+    CheckAll,
+    Command,
+    named,
+    run,
+    runs_of_policies,
+    unlike,
+)
 from tests.runs import Shown
 from tests.stored import stored
 
@@ -39,23 +50,38 @@ def long_commands() -> list[Command]:
     trace = b"e P3 0 0000000000000001\n" + b"e - - -\n" * (LIMIT // 2 - 1)
     trace += b"published 0 ended 1\nreader 0 taken 0 left 0 ended 0\n"
     base = next(it for it in COMMANDS if it.name == "run-of-the-stored-run")
-    return [replace(base, name="run-of-a-long-text", data=comments + stored("crates/crnsim/stdin")),
-            Command("long-replay", ["replay", "1", "1", "0"], b"e\n" * (LIMIT // 2), trace)]
+    return [
+        replace(
+            base,
+            name="run-of-a-long-text",
+            data=comments + stored("crates/crnsim/stdin"),
+        ),
+        Command("long-replay", ["replay", "1", "1", "0"], b"e\n" * (LIMIT // 2), trace),
+    ]
 
 
 def limited(program: Path, command: Command, kind: str, kilobytes: int) -> Shown:
     """Returns what a run of a command shows under a limit on `as`, its address space, or `stack`."""
-    return run(program, command.words, command.data, before=["prlimit", f"--{kind}={1024 * kilobytes}:"])
+    return run(
+        program,
+        command.words,
+        command.data,
+        before=["prlimit", f"--{kind}={1024 * kilobytes}:"],
+    )
 
 
 def is_ended(shown: Shown) -> bool:
     """Returns whether the system has ended a process that had written nothing."""
-    return shown in [Shown(b"", b"", -it) for it in (signal.SIGSEGV, signal.SIGKILL, signal.SIGBUS)]
+    return shown in [
+        Shown(b"", b"", -it) for it in (signal.SIGSEGV, signal.SIGKILL, signal.SIGBUS)
+    ]
 
 
 def is_up(shown: Shown) -> bool:
     """Returns whether the process of a run came up, as far as can be seen."""
-    return not is_ended(shown) and not (shown.status == 127 and LOADER in shown.errors and not shown.output)
+    return not is_ended(shown) and not (
+        shown.status == 127 and LOADER in shown.errors and not shown.output
+    )
 
 
 @pytest.fixture(scope="module")
@@ -66,19 +92,30 @@ def least_address(program: Path) -> int:
 
 
 @pytest.mark.parametrize("command", COMMANDS + long_commands() + OF_16, ids=named)
-def test_limited_address_space(program: Path, room: Path, check_all: CheckAll, least_address: int,
-                               command: Command) -> None:
+def test_limited_address_space(
+    program: Path, room: Path, check_all: CheckAll, least_address: int, command: Command
+) -> None:
     """Under rising limits, once the process is up and has its stack, its results are its own, and at last right."""
+
     def cases() -> Iterator[Case]:
         its, seen = command.in_room(room), []
         for size in ADDRESSES_OF_16 if command.starts == 16 else ADDRESSES:
             shown = limited(program, its, "as", size)
             seen.append(shown)
-            good = shown == MEMORY or (shown == THREAD and its.starts > 0) or its.is_right(shown)
-            good = good or (size < least_address + STACK_ROOM and (is_ended(shown) or not is_up(shown)))
+            good = (
+                shown == MEMORY
+                or (shown == THREAD and its.starts > 0)
+                or its.is_right(shown)
+            )
+            good = good or (
+                size < least_address + STACK_ROOM
+                and (is_ended(shown) or not is_up(shown))
+            )
             yield f"{size} KB of address space", good or unlike(shown)
         # At which limits a short input is short of memory is a matter of a few pages.
-        wanted = ({THREAD} if its.starts else set()) | ({MEMORY} if len(its.data) > LIMIT // 2 else set())
+        wanted = ({THREAD} if its.starts else set()) | (
+            {MEMORY} if len(its.data) > LIMIT // 2 else set()
+        )
         good = wanted <= set(seen) and its.is_right(seen[-1])
         yield "from no process to the right bytes", good or "not each fault came, or not the right bytes at last"
 
@@ -86,8 +123,11 @@ def test_limited_address_space(program: Path, room: Path, check_all: CheckAll, l
 
 
 @pytest.mark.parametrize("command", COMMANDS + OF_16, ids=named)
-def test_limited_stack(program: Path, room: Path, check_all: CheckAll, command: Command) -> None:
+def test_limited_stack(
+    program: Path, room: Path, check_all: CheckAll, command: Command
+) -> None:
     """With a stack of 384 KB or more everything works. With less, nothing wrong is written."""
+
     def cases() -> Iterator[Case]:
         its = command.in_room(room)
         for size in SMALL_STACKS + LARGE_STACKS + HUGE_STACKS:

@@ -9,8 +9,20 @@ from pathlib import Path
 
 import pytest
 
-from tests.hostile.known import (COMMANDS, MEMORY, THREAD, Case, CheckAll, Command, base_commands, named,
-                                 refused_commands, run, runs_of_policies, unlike)
+from tests.hostile.known import (
+    COMMANDS,
+    MEMORY,
+    THREAD,
+    Case,
+    CheckAll,
+    Command,
+    base_commands,
+    named,
+    refused_commands,
+    run,
+    runs_of_policies,
+    unlike,
+)
 from tests.preload import Counts, counts_of, environment
 from tests.runs import Shown
 
@@ -21,14 +33,21 @@ STARTED = BASE + [it for count in (1, 2, 3, 16) for it in runs_of_policies(count
 MOST = 5000
 
 
-def counted(program: Path, command: Command, library: Path, room: Path, **rules: object) -> tuple[Shown, Counts | None]:
+def counted(
+    program: Path, command: Command, library: Path, room: Path, **rules: object
+) -> tuple[Shown, Counts | None]:
     """Runs a command under rules such as refuse_memory=3. Returns what it shows, and what was counted.
 
     The counts are None if the process did not come to its end.
     """
     file = room / "counts"
     file.unlink(missing_ok=True)
-    shown = run(program, command.words, command.data, environment=environment(str(library), str(file), **rules))
+    shown = run(
+        program,
+        command.words,
+        command.data,
+        environment=environment(str(library), str(file), **rules),
+    )
     return shown, counts_of(str(file))
 
 
@@ -57,7 +76,9 @@ def of_refused_start(shown: Shown, counts: Counts | None, number: int) -> bool |
     return keeps_nothing(counts)
 
 
-def without_memory(command: Command, shown: Shown, counts: Counts | None, start: int | None) -> bool | str:
+def without_memory(
+    command: Command, shown: Shown, counts: Counts | None, start: int | None
+) -> bool | str:
     """Returns the verdict on a run of which requests for memory were refused.
 
     It shows the right bytes, or that memory was refused. If the start of a thread, with this number, made the first of
@@ -65,50 +86,83 @@ def without_memory(command: Command, shown: Shown, counts: Counts | None, start:
     """
     if start:
         return of_refused_start(shown, counts, start)
-    return keeps_nothing(counts) if shown == MEMORY or command.is_right(shown) else unlike(shown)
+    return (
+        keeps_nothing(counts)
+        if shown == MEMORY or command.is_right(shown)
+        else unlike(shown)
+    )
 
 
 @pytest.mark.parametrize("onward", ["", "+"], ids=["one", "all_later"])
 @pytest.mark.parametrize("command", BASE + COMMANDS + refused_commands(), ids=named)
-def test_refused_memory(program: Path, preload_library: Path, room: Path, check_all: CheckAll, command: Command,
-                        onward: str) -> None:
+def test_refused_memory(
+    program: Path,
+    preload_library: Path,
+    room: Path,
+    check_all: CheckAll,
+    command: Command,
+    onward: str,
+) -> None:
     """Each request for memory is refused in turn, alone or with all later ones, until a run meets no refusal.
 
     That run is right, and its requests are as many as were refused in turn.
     """
+
     def cases() -> Iterator[Case]:
         its = command.in_room(room)
         _, whole = counted(program, its, preload_library, room)
         assert whole
         yield "its starts", len(whole.starts) == its.starts
         for number in range(1, MOST):
-            shown, counts = counted(program, its, preload_library, room, refuse_memory=f"{number}{onward}")
-            if (counts and not counts.memory_refused) or (not counts and its.is_right(shown)):
+            shown, counts = counted(
+                program, its, preload_library, room, refuse_memory=f"{number}{onward}"
+            )
+            if (counts and not counts.memory_refused) or (
+                not counts and its.is_right(shown)
+            ):
                 break
-            yield f"memory {number}{onward}", without_memory(its, shown, counts, whole.start_of(number))
-        right = its.is_right(shown) and counts is not None and counts.memory == number - 1
+            yield f"memory {number}{onward}", without_memory(
+                its, shown, counts, whole.start_of(number)
+            )
+        right = (
+            its.is_right(shown) and counts is not None and counts.memory == number - 1
+        )
         yield f"all {number - 1} requests", right or unlike(shown)
 
     check_all(cases())
 
 
 @pytest.mark.parametrize("command", STARTED, ids=named)
-def test_refused_starts(program: Path, preload_library: Path, room: Path, check_all: CheckAll,
-                        command: Command) -> None:
+def test_refused_starts(
+    program: Path,
+    preload_library: Path,
+    room: Path,
+    check_all: CheckAll,
+    command: Command,
+) -> None:
     """Each start of a thread is refused in turn: no other is asked for after it."""
+
     def cases() -> Iterator[Case]:
         its = command.in_room(room)
         for number in range(1, its.starts + 1):
-            shown, counts = counted(program, its, preload_library, room, refuse_thread=number)
-            yield f"thread {number}", unlike(shown) if shown != THREAD else has_threads(counts, number, number - 1)
+            shown, counts = counted(
+                program, its, preload_library, room, refuse_thread=number
+            )
+            yield f"thread {number}", unlike(shown) if shown != THREAD else has_threads(
+                counts, number, number - 1
+            )
 
     check_all(cases())
 
 
 @pytest.mark.parametrize("command", STARTED, ids=named)
-def test_no_refusal(program: Path, preload_library: Path, room: Path, command: Command) -> None:
+def test_no_refusal(
+    program: Path, preload_library: Path, room: Path, command: Command
+) -> None:
     """A run without a refusal starts a thread for each policy, and no other."""
     its = command.in_room(room)
-    shown, counts = counted(program, its, preload_library, room, refuse_thread=its.starts + 1)
+    shown, counts = counted(
+        program, its, preload_library, room, refuse_thread=its.starts + 1
+    )
     assert its.is_right(shown), unlike(shown)
     assert has_threads(counts, its.starts, its.starts) is True

@@ -33,9 +33,14 @@ Counted = Callable[..., tuple[Shown, Counts | None]]
 @pytest.fixture
 def run_counted(top: Path, preload_library: Path, room: Path) -> Counted:
     """Returns a function that runs a test of a crate under rules, and says what it shows and what was counted."""
-    def run(test: str, crate: str = "tests_ring", **rules: object) -> tuple[Shown, Counts | None]:
+
+    def run(
+        test: str, crate: str = "tests_ring", **rules: object
+    ) -> tuple[Shown, Counts | None]:
         built = top / "crates" / crate / "out" / f"{crate}_tests"
-        assert built.exists(), f"there are no tests {built}: run `rt test` in crates/{crate}"
+        assert (
+            built.exists()
+        ), f"there are no tests {built}: run `rt test` in crates/{crate}"
         return counted(built, Command(test, [test]), preload_library, room, **rules)
 
     return run
@@ -53,19 +58,26 @@ def is_begun_in_vain(shown: Shown) -> bool:
 
 def prints(shown: Shown, fault: int) -> bool | str:
     """Returns the verdict on a run of the test that prints a fault."""
-    return is_good(shown) and b"fault %d\n" % fault in shown.output or f"fault {fault} was wanted: {unlike(shown)}"
+    return (
+        is_good(shown)
+        and b"fault %d\n" % fault in shown.output
+        or f"fault {fault} was wanted: {unlike(shown)}"
+    )
 
 
 @pytest.mark.parametrize("test", [OPENING, RUN, FAULT])
 def test_refused_memory(run_counted: Counted, check_all: CheckAll, test: str) -> None:
     """Each request is refused in turn, until one meets no refusal. Once the test has made its call, it passes."""
+
     def cases() -> Iterator[Case]:
         has_begun = False
         for number in range(1, MOST):
             shown, counts = run_counted(test, refuse_memory=number)
             has_begun = has_begun or is_good(shown)
             allowed = is_good(shown) or is_begun_in_vain(shown) and not has_begun
-            yield f"memory {number}", keeps_nothing(counts) if allowed else unlike(shown)
+            yield f"memory {number}", keeps_nothing(counts) if allowed else unlike(
+                shown
+            )
             if counts and not counts.memory_refused:
                 break
 
@@ -95,8 +107,11 @@ def test_refused_start_prints_its_fault(run_counted: Counted, number: int) -> No
     assert counts and counts.started == number - 1 and keeps_nothing(counts) is True
 
 
-def test_refused_memory_of_a_start_prints_its_fault(run_counted: Counted, check_all: CheckAll) -> None:
+def test_refused_memory_of_a_start_prints_its_fault(
+    run_counted: Counted, check_all: CheckAll
+) -> None:
     """Each request for memory that a start makes is refused in turn, and the one before the first of them."""
+
     def cases() -> Iterator[Case]:
         _, whole = run_counted(FAULT)
         assert whole
@@ -104,8 +119,12 @@ def test_refused_memory_of_a_start_prints_its_fault(run_counted: Counted, check_
         for number in [starts[0] - 1, *starts]:
             shown, counts = run_counted(FAULT, refuse_memory=number)
             start = whole.start_of(number)
-            yield f"memory {number}", prints(shown, THREAD_FAULT if start else MEMORY_FAULT)
-            kept = bool(counts and counts.started == (start or 1) - 1) and keeps_nothing(counts)
+            yield f"memory {number}", prints(
+                shown, THREAD_FAULT if start else MEMORY_FAULT
+            )
+            kept = bool(
+                counts and counts.started == (start or 1) - 1
+            ) and keeps_nothing(counts)
             yield f"memory {number}, its threads", kept
 
     check_all(cases())

@@ -36,8 +36,12 @@ def figures_of(call: str, built: Path, room: Path) -> dict[str, str]:
     """Returns the figures of the test that makes a call, by their columns. It must pass."""
     crate, test = CALLS[call]
     program = TOP / "crates" / crate / "out" / f"{crate}_tests"
-    assert program.exists(), f"there are no tests {program}: run `rt test` in crates/{crate}"
-    shown = run(program, [test], environment=preload.environment(built, room / "counts"))
+    assert (
+        program.exists()
+    ), f"there are no tests {program}: run `rt test` in crates/{crate}"
+    shown = run(
+        program, [test], environment=preload.environment(built, room / "counts")
+    )
     assert shown.status == 0 and shown.output.endswith(b"\ntest result: ok\n"), shown
     counts = preload.counts_of(room / "counts")
     assert counts is not None
@@ -46,7 +50,11 @@ def figures_of(call: str, built: Path, room: Path) -> dict[str, str]:
 
 def stored_rows() -> dict[str, dict[str, str]]:
     """Returns the stored figures of each call by its name."""
-    header, *rows = (it.split(";") for it in TABLE.read_text("ascii").splitlines() if not it.startswith("#"))
+    header, *rows = (
+        it.split(";")
+        for it in TABLE.read_text("ascii").splitlines()
+        if not it.startswith("#")
+    )
     return {row[0]: dict(zip(header[1:], row[1:], strict=True)) for row in rows}
 
 
@@ -57,7 +65,9 @@ def main() -> None:
         for call in CALLS:
             figures = figures_of(call, built, Path(folder))
             rows.append(";".join([call, *(figures[it] for it in COLUMNS)]))
-    TABLE.write_text(HEAD + "\n".join([";".join(["call", *COLUMNS]), *rows]) + "\n", "ascii")
+    TABLE.write_text(
+        HEAD + "\n".join([";".join(["call", *COLUMNS]), *rows]) + "\n", "ascii"
+    )
 
 
 if __name__ == "__main__":

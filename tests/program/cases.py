@@ -41,14 +41,28 @@ FILES = ("reports", "replays", "cases", "scenarios", "checkpoints", "legs", "lim
 MANY = {"blocks", "old_blocks", "prefixes", "turned", "rows", "steps", "limits"}
 # What a case is named by has at most so many letters, and these keys have no part in it.
 MOST_LETTERS = 60
-UNNAMED = ("args", "name", "commands", "files", "input", "output", "output_from", "has", "map", "blocks", "old_blocks",
-           "prefixes")
+UNNAMED = (
+    "args",
+    "name",
+    "commands",
+    "files",
+    "input",
+    "output",
+    "output_from",
+    "has",
+    "map",
+    "blocks",
+    "old_blocks",
+    "prefixes",
+)
 
 
 @functools.cache
 def groups_of(file: str) -> list[Case]:
     """Returns the groups of a file of this folder."""
-    groups: list[Case] = tomllib.loads((HERE / f"{file}.toml").read_text("utf-8"))["group"]
+    groups: list[Case] = tomllib.loads((HERE / f"{file}.toml").read_text("utf-8"))[
+        "group"
+    ]
     return groups
 
 
@@ -67,7 +81,10 @@ def command_of(case: Case) -> str:
     """Returns the command line of a case as one text, in which words of a key lack their leading zeros."""
     words = case["args"]
     text = words if isinstance(words, str) else " ".join(words)
-    return " ".join(it.lstrip("0") or "0" if len(it) == formats.DIGITS_OF_WORD else it for it in text.split(" "))
+    return " ".join(
+        it.lstrip("0") or "0" if len(it) == formats.DIGITS_OF_WORD else it
+        for it in text.split(" ")
+    )
 
 
 def label_of(case: Case, own: Case) -> str:
@@ -76,18 +93,33 @@ def label_of(case: Case, own: Case) -> str:
     for key, value in own.items():
         if key.endswith("_change"):
             old, new, *numbers = value
-            parts.append(f"{numbers[1]} times {new!r}" if numbers else repr(new) if new else f"without {old!r}")
+            parts.append(
+                f"{numbers[1]} times {new!r}"
+                if numbers
+                else repr(new)
+                if new
+                else f"without {old!r}"
+            )
         elif key in ("file_from", "input_from"):
             parts.append(Path(value).name)
         elif key not in UNNAMED:
             parts.append(f"{key} {value!r}")
-    return ", ".join(it if len(it) <= MOST_LETTERS else f"{it[:MOST_LETTERS]}.." for it in parts)
+    return ", ".join(
+        it if len(it) <= MOST_LETTERS else f"{it[:MOST_LETTERS]}.." for it in parts
+    )
 
 
 def with_key(*keys: str) -> list[Any]:
     """Returns the parameters of a test: each case that has one of these keys, by its file, group and label."""
-    return [pytest.param(case, id=": ".join(filter(None, [file, case["name"], case["label"]])))
-            for file in FILES for group in groups_of(file) for case in cases_of(group) if case.keys() & set(keys)]
+    return [
+        pytest.param(
+            case, id=": ".join(filter(None, [file, case["name"], case["label"]]))
+        )
+        for file in FILES
+        for group in groups_of(file)
+        for case in cases_of(group)
+        if case.keys() & set(keys)
+    ]
 
 
 def by_command() -> list[Any]:
@@ -96,7 +128,9 @@ def by_command() -> list[Any]:
     for file, group in ((file, group) for file in FILES for group in groups_of(file)):
         for case in cases_of(group):
             if not case.keys() & MANY:
-                listed.setdefault(f"{file}: {group['name']}: {command_of(case)}", []).append(case)
+                listed.setdefault(
+                    f"{file}: {group['name']}: {command_of(case)}", []
+                ).append(case)
     return [pytest.param(cases, id=name) for name, cases in listed.items()]
 
 
@@ -128,11 +162,13 @@ def text_of(case: Case, name: str) -> bytes | None:
     for change in first + case.get(f"{name}_changes", []):
         text = changed(text, change, case)
     if f"{name}_lines" in case:
-        text = "".join(text.splitlines(keepends=True)[:case[f"{name}_lines"]])
+        text = "".join(text.splitlines(keepends=True)[: case[f"{name}_lines"]])
     if f"{name}_fill" in case:
         fill, size = case[f"{name}_fill"], case[f"{name}_size"]
         text = (text + fill * (size // len(fill) + 1))[:size]
-    return (text + case.get(f"{name}_end", "")).encode(case.get(f"{name}_encoding", "utf-8"))
+    return (text + case.get(f"{name}_end", "")).encode(
+        case.get(f"{name}_encoding", "utf-8")
+    )
 
 
 def input_of(case: Case) -> bytes:
@@ -144,13 +180,19 @@ def words_of(case: Case, room: Path) -> Sequence[str | bytes]:
     """Returns the words of a case's command line, with the path of FILE in a folder."""
     words = case["args"].split() if isinstance(case["args"], str) else case["args"]
     words = [f"{room}/FILE" if word == "FILE" else word for word in words]
-    return [it.encode(case["args_encoding"]) for it in words] if "args_encoding" in case else words
+    return (
+        [it.encode(case["args_encoding"]) for it in words]
+        if "args_encoding" in case
+        else words
+    )
 
 
 # ---- runs
 
 
-def on_file(program: Path, room: Path, words: Words, file: bytes, data: bytes | None = None) -> Shown:
+def on_file(
+    program: Path, room: Path, words: Words, file: bytes, data: bytes | None = None
+) -> Shown:
     """Returns what a run shows if this text is in FILE."""
     (room / "FILE").write_bytes(file)
     return run(program, words, data)
@@ -165,8 +207,18 @@ def shown_of(program: Path, case: Case, room: Path) -> Shown:
             stack.enter_context(pieces.named_pipe(file, case["file_pieces"], path))
         elif file is not None:
             path.write_bytes(file)
-        given = stack.enter_context(pieces.piped(data, case["input_pieces"])) if "input_pieces" in case else data
-        shown = run(program, words_of(case, room), given, to=case.get("to"), kilobytes=case.get("kilobytes"))
+        given = (
+            stack.enter_context(pieces.piped(data, case["input_pieces"]))
+            if "input_pieces" in case
+            else data
+        )
+        shown = run(
+            program,
+            words_of(case, room),
+            given,
+            to=case.get("to"),
+            kilobytes=case.get("kilobytes"),
+        )
     return shown
 
 
@@ -177,11 +229,17 @@ def wanted_by(case: Case, shown: Shown) -> bool | str:
     if "has" in case:
         text = shown.output.decode()
         missing = [it for it in case["has"] if it not in text]
-        wide = [it for it in text.splitlines() if len(it) > case.get("columns", sys.maxsize)]
-        return (shown[1:] == (b"", 0) and not missing and not wide) or f"it lacks {missing}, and is too wide in {wide}"
+        wide = [
+            it for it in text.splitlines() if len(it) > case.get("columns", sys.maxsize)
+        ]
+        return (
+            shown[1:] == (b"", 0) and not missing and not wide
+        ) or f"it lacks {missing}, and is too wide in {wide}"
     wanted = text_of(case, "output")
     assert wanted is not None, f"{case['label']} says no output"
-    return as_wanted(shown._replace(output=compared(shown.output, wanted)), written(wanted))
+    return as_wanted(
+        shown._replace(output=compared(shown.output, wanted)), written(wanted)
+    )
 
 
 def compared(output: bytes, wanted: bytes) -> bytes:
@@ -194,4 +252,6 @@ def compared(output: bytes, wanted: bytes) -> bytes:
     if not formats.HEADER.encode().startswith(header + b","):
         return output
     count = header.count(b",") + 1
-    return b"".join(b",".join(row.split(b",")[:count]) + b"\n" for row in output.splitlines())
+    return b"".join(
+        b",".join(row.split(b",")[:count]) + b"\n" for row in output.splitlines()
+    )

@@ -41,9 +41,19 @@ SECONDS = 100
 # Stands for a figure that depends on how threads happen to run.
 NO_FIGURE = "-"
 # Keeps the C library from copying by string instructions: callgrind takes a byte at a time then, for minutes.
-NO_STRINGS = {"GLIBC_TUNABLES": ":".join(f"glibc.cpu.x86_rep_{it}sb_threshold=1000000000" for it in ("mov", "sto"))}
-CALLGRIND = ("valgrind", "-q", "--tool=callgrind", "--compress-strings=no", "--compress-pos=no",
-             "--callgrind-out-file=callgrind")
+NO_STRINGS = {
+    "GLIBC_TUNABLES": ":".join(
+        f"glibc.cpu.x86_rep_{it}sb_threshold=1000000000" for it in ("mov", "sto")
+    )
+}
+CALLGRIND = (
+    "valgrind",
+    "-q",
+    "--tool=callgrind",
+    "--compress-strings=no",
+    "--compress-pos=no",
+    "--callgrind-out-file=callgrind",
+)
 
 
 class Unfit(Exception):
@@ -62,8 +72,13 @@ def cases() -> Iterator[tuple[str, Case]]:
             yield f"{group['name']}: {words}{place}{fault}", case
 
 
-def shown_of(case: Case, words: list[str], room: Path, before: tuple[str, ...] = (),
-             environment: Mapping[str, str] | None = None) -> Shown:
+def shown_of(
+    case: Case,
+    words: list[str],
+    room: Path,
+    before: tuple[str, ...] = (),
+    environment: Mapping[str, str] | None = None,
+) -> Shown:
     """Runs the program with these words, behind others before it, in a folder where FILE is, and returns what it shows.
 
     Its input is a file, which is read in the same pieces each time.
@@ -71,7 +86,14 @@ def shown_of(case: Case, words: list[str], room: Path, before: tuple[str, ...] =
     (room / "INPUT").write_bytes(text_of(case, "input") or b"")
     command = [*before, CALLED, *words]
     with open(room / "INPUT", "rb") as file:
-        return run(command[0], command[1:], file, cwd=room, environment=environment, seconds=SECONDS)
+        return run(
+            command[0],
+            command[1:],
+            file,
+            cwd=room,
+            environment=environment,
+            seconds=SECONDS,
+        )
 
 
 def checked(case: Case, shown: Shown) -> None:
@@ -115,7 +137,9 @@ def can_count_instructions() -> bool:
     return shutil.which("valgrind") is not None and platform.machine() == "x86_64"
 
 
-def figures_of(program: Path, case: Case, built: Path, room: Path) -> dict[str, int | str]:
+def figures_of(
+    program: Path, case: Case, built: Path, room: Path
+) -> dict[str, int | str]:
     """Returns the figures of a run by their columns, without the instructions if they cannot be counted.
 
     Raises Unfit if the run does not end as it should.
@@ -123,12 +147,18 @@ def figures_of(program: Path, case: Case, built: Path, room: Path) -> dict[str, 
     if not (room / CALLED).exists():
         (room / CALLED).symlink_to(program.resolve())
     put_file(case, room)
-    is_held, words = case.get("held", False), [str(it) for it in words_of(case, Path("."))]
-    environment = preload.environment(built, room / "counts", **({"hold_threads": 1} if is_held else {}))
+    is_held, words = case.get("held", False), [
+        str(it) for it in words_of(case, Path("."))
+    ]
+    environment = preload.environment(
+        built, room / "counts", **({"hold_threads": 1} if is_held else {})
+    )
     checked(case, shown_of(case, words, room, environment=environment))
     counts = preload.counts_of(room / "counts")
     if counts is None:
-        raise Unfit("the run did not get to its end: the library of preload.c has written no counts")
+        raise Unfit(
+            "the run did not get to its end: the library of preload.c has written no counts"
+        )
     figures: dict[str, int | str] = {it: getattr(counts, it) for it in COUNTED}
     figures |= {it: getattr(counts, it) if is_held else NO_FIGURE for it in HELD}
     if not is_held:
@@ -136,19 +166,30 @@ def figures_of(program: Path, case: Case, built: Path, room: Path) -> dict[str, 
     if not can_count_instructions():
         return figures
     checked(case, shown_of(case, words, room, CALLGRIND, {**environment, **NO_STRINGS}))
-    return {**figures, INSTRUCTIONS: instructions_in(room / "callgrind", program.resolve())}
+    return {
+        **figures,
+        INSTRUCTIONS: instructions_in(room / "callgrind", program.resolve()),
+    }
 
 
 def stored_rows() -> dict[str, dict[str, str]]:
     """Returns the stored figures of each run by its name."""
-    header, *rows = (it.split(";") for it in TABLE.read_text("ascii").splitlines() if not it.startswith("#"))
+    header, *rows = (
+        it.split(";")
+        for it in TABLE.read_text("ascii").splitlines()
+        if not it.startswith("#")
+    )
     return {row[0]: dict(zip(header[1:], row[1:], strict=True)) for row in rows}
 
 
 def main() -> None:
     """Writes the table anew."""
-    words = argparse.ArgumentParser(description=__doc__, formatter_class=argparse.RawDescriptionHelpFormatter)
-    words.add_argument("program", metavar="PROGRAM", type=lambda it: Path(os.path.abspath(it)))
+    words = argparse.ArgumentParser(
+        description=__doc__, formatter_class=argparse.RawDescriptionHelpFormatter
+    )
+    words.add_argument(
+        "program", metavar="PROGRAM", type=lambda it: Path(os.path.abspath(it))
+    )
     program, rows = words.parse_args().program, []
     with tempfile.TemporaryDirectory(prefix="crnsim-") as room:
         built = library(HERE.parent / "preload.c", Path(room))
@@ -160,7 +201,9 @@ def main() -> None:
             if INSTRUCTIONS not in figures:
                 words.error("valgrind on x86_64 is needed")
             rows.append(";".join([name, *(str(figures[it]) for it in COLUMNS)]))
-    TABLE.write_text(HEAD + "\n".join([";".join(["run", *COLUMNS]), *rows]) + "\n", "ascii")
+    TABLE.write_text(
+        HEAD + "\n".join([";".join(["run", *COLUMNS]), *rows]) + "\n", "ascii"
+    )
 
 
 if __name__ == "__main__":

@@ -27,13 +27,20 @@ costs = {{ setup = 7, unit = 2, holding = 1, backlog = 4 }}
 demand = {{ values = [3], weights = [1] }}
 lead = {{ values = [1], weights = [1] }}
 """
-    return head + "".join(f'[[policy]]\nname = "p{p}"\ns = {p}\nS = {100 + p}\n' for p in range(policies))
+    return head + "".join(
+        f'[[policy]]\nname = "p{p}"\ns = {p}\nS = {100 + p}\n' for p in range(policies)
+    )
 
 
 def checkpoint(policies: int, replications: int, version: int = oracle.NEWEST) -> str:
     """Returns its checkpoint at the end, as if the policies had cost what is said above."""
-    states = [(10, 0, {}, [1000 + 10 * p + (p + 1) * i for i in range(replications)]) for p in range(policies)]
-    return oracle.checkpoint_text(tomllib.loads(scenario(policies, replications)), replications, states, version)
+    states = [
+        (10, 0, {}, [1000 + 10 * p + (p + 1) * i for i in range(replications)])
+        for p in range(policies)
+    ]
+    return oracle.checkpoint_text(
+        tomllib.loads(scenario(policies, replications)), replications, states, version
+    )
 
 
 def words(number: int | str) -> str:
@@ -44,12 +51,20 @@ def words(number: int | str) -> str:
 def producer_steps(size: int, readers: int, blocks: int) -> Iterator[str]:
     """Yields the producer's steps for so many blocks, one after the other, on a ring whose readers have all left."""
     numbers = np.arange(blocks, dtype=np.uint64)
-    words = np.stack([word for it in range(len(oracle.STREAMS))
-                      for word in oracle.threefry((0, 0, 0, 0), [numbers, it, 0, 0])], axis=1)
+    words = np.stack(
+        [
+            word
+            for it in range(len(oracle.STREAMS))
+            for word in oracle.threefry((0, 0, 0, 0), [numbers, it, 0, 0])
+        ],
+        axis=1,
+    )
     for block, stored in enumerate(words.tolist()):
         yield from (f"p P1 {1 + reader} 8000000000000000" for reader in range(readers))
         first = 1 + readers + len(stored) * (block % size)
-        yield from (f"p P2 {place} {word:016x}" for place, word in enumerate(stored, first))
+        yield from (
+            f"p P2 {place} {word:016x}" for place, word in enumerate(stored, first)
+        )
         yield f"p P3 0 {2 * (block + 1):016x}"
 
 

@@ -24,7 +24,16 @@ from crnplan import formats
 
 MASK = 2**64 - 1
 PARITY = 0x1BD11BDAA9FC1A22
-ROTATIONS = [(14, 16), (52, 57), (23, 40), (5, 37), (25, 33), (46, 12), (58, 22), (32, 32)]
+ROTATIONS = [
+    (14, 16),
+    (52, 57),
+    (23, 40),
+    (5, 37),
+    (25, 33),
+    (46, 12),
+    (58, 22),
+    (32, 32),
+]
 STREAMS = formats.DRAWS
 NEWEST = formats.CHECKPOINT_VERSIONS[-1]
 
@@ -49,11 +58,16 @@ def threefry(key: Key, counter: Sequence[Any]) -> list[Any]:
     words = list(counter)
     for number in range(21):
         if number % 4 == 0:
-            words = [(word + keys[(number // 4 + i) % 5]) & MASK for i, word in enumerate(words)]
+            words = [
+                (word + keys[(number // 4 + i) % 5]) & MASK
+                for i, word in enumerate(words)
+            ]
             words[3] = (words[3] + number // 4) & MASK
         if number < 20:
             for pair, places in enumerate(ROTATIONS[number % 8]):
-                left, right = 2 * pair, (2 * pair + 1 if number % 2 == 0 else 3 - 2 * pair)
+                left, right = 2 * pair, (
+                    2 * pair + 1 if number % 2 == 0 else 3 - 2 * pair
+                )
                 words[left] = (words[left] + words[right]) & MASK
                 words[right] = rotl(words[right], places) ^ words[left]
     return words
@@ -66,7 +80,10 @@ def stream_words(key: Key, number: int, stream: str) -> list[int]:
 
 def words_text(key: Key, number: int) -> str:
     """Returns the text of a block's words."""
-    return "".join(f"{it} {' '.join(f'{word:016x}' for word in stream_words(key, number, it))}\n" for it in STREAMS)
+    return "".join(
+        f"{it} {' '.join(f'{word:016x}' for word in stream_words(key, number, it))}\n"
+        for it in STREAMS
+    )
 
 
 # ---- draws
@@ -74,7 +91,11 @@ def words_text(key: Key, number: int) -> str:
 
 def spread(weighted: Tree) -> list[int]:
     """Returns each value as often as its weight says, in order."""
-    return [it for value, weight in zip(weighted["values"], weighted["weights"]) for it in [value] * weight]
+    return [
+        it
+        for value, weight in zip(weighted["values"], weighted["weights"])
+        for it in [value] * weight
+    ]
 
 
 def pick(spread_out: list[int], word: int) -> int:
@@ -89,7 +110,10 @@ class Scenario:
         """Reads a text without a fault."""
         self.tree: Tree = tomllib.loads(text)
         self.key = tuple(int(word, 16) for word in self.tree["key"])
-        self.periods, self.replications = self.tree["periods"], self.tree["replications"]
+        self.periods, self.replications = (
+            self.tree["periods"],
+            self.tree["replications"],
+        )
         self.policies, self.costs = self.tree["policy"], self.tree["costs"]
         # Four periods to a block; words left over in a replication's last block are skipped.
         self.blocks = (self.periods + 3) // 4
@@ -100,9 +124,14 @@ class Scenario:
         """Returns what a replication's periods draw from a stream; without returns nothing is returned."""
         if stream not in self.spreads:
             return [0] * self.periods
-        words = [word for block in range(replication * self.blocks, (replication + 1) * self.blocks)
-                 for word in stream_words(self.key, block, stream)]
-        return [pick(self.spreads[stream], word) for word in words[:self.periods]]
+        words = [
+            word
+            for block in range(
+                replication * self.blocks, (replication + 1) * self.blocks
+            )
+            for word in stream_words(self.key, block, stream)
+        ]
+        return [pick(self.spreads[stream], word) for word in words[: self.periods]]
 
 
 # ---- inventory
@@ -116,14 +145,23 @@ def history(scenario: Any, policy: Tree, draws: Sequence[Sequence[int]]) -> Hist
     stocks: list[int] = []
     spent: list[int] = []
     for period in range(scenario.periods):
-        position = initial + sum(amount for amount, _ in placed) + sum(returned[:period]) - sum(demands[:period])
+        position = (
+            initial
+            + sum(amount for amount, _ in placed)
+            + sum(returned[:period])
+            - sum(demands[:period])
+        )
         order = policy["S"] - position if position < policy["s"] else 0
         placed.append((order, period + leads[period]))
         arrived = sum(amount for amount, due in placed if due <= period)
-        stock = initial + arrived + sum(returned[:period + 1]) - sum(demands[:period + 1])
+        stock = (
+            initial + arrived + sum(returned[: period + 1]) - sum(demands[: period + 1])
+        )
         stocks.append(stock)
-        spent.append((costs["setup"] + costs["unit"] * order if order else 0)
-                     + (costs["holding"] * stock if stock >= 0 else costs["backlog"] * -stock))
+        spent.append(
+            (costs["setup"] + costs["unit"] * order if order else 0)
+            + (costs["holding"] * stock if stock >= 0 else costs["backlog"] * -stock)
+        )
     return placed, stocks, spent
 
 
@@ -133,9 +171,14 @@ class Run:
     def __init__(self, text: str) -> None:
         """Runs the scenario of a text."""
         self.scenario = scenario = Scenario(text)
-        draws = [[scenario.draws(replication, it) for it in STREAMS] for replication in range(scenario.replications)]
+        draws = [
+            [scenario.draws(replication, it) for it in STREAMS]
+            for replication in range(scenario.replications)
+        ]
         self.histories: list[dict[int, History]] = [
-            {place: history(scenario, policy, it) for place, it in enumerate(draws)} for policy in scenario.policies]
+            {place: history(scenario, policy, it) for place, it in enumerate(draws)}
+            for policy in scenario.policies
+        ]
 
     def costs(self, policy: int) -> list[int]:
         """Returns the cost of each replication of a policy, by its number."""
@@ -165,7 +208,11 @@ def run_of(text: str) -> Run:
 
 def over_pairs(left: Sequence[int], right: Sequence[int]) -> int:
     """Returns the sum of the products of differences over all pairs of replications."""
-    return sum((left[i] - left[j]) * (right[i] - right[j]) for j in range(len(left)) for i in range(j))
+    return sum(
+        (left[i] - left[j]) * (right[i] - right[j])
+        for j in range(len(left))
+        for i in range(j)
+    )
 
 
 def fraction(num: int, den: int) -> str:
@@ -184,34 +231,65 @@ def report_of(run: Run) -> str:
     for number, policy in enumerate(run.scenario.policies):
         costs = run.costs(number)
         differences = [its - base for its, base in zip(costs, first)]
-        rows.append(",".join(map(str, [
-            policy["name"], policy["s"], policy["S"], sum(costs), fraction(sum(costs), count * periods),
-            sum(differences), fraction(sum(differences), count),
-            fraction(over_pairs(differences, differences), count**2 * (count - 1)),
-            fraction(over_pairs(costs, first), count * (count - 1))])))
+        rows.append(
+            ",".join(
+                map(
+                    str,
+                    [
+                        policy["name"],
+                        policy["s"],
+                        policy["S"],
+                        sum(costs),
+                        fraction(sum(costs), count * periods),
+                        sum(differences),
+                        fraction(sum(differences), count),
+                        fraction(
+                            over_pairs(differences, differences),
+                            count**2 * (count - 1),
+                        ),
+                        fraction(over_pairs(costs, first), count * (count - 1)),
+                    ],
+                )
+            )
+        )
     return "".join(f"{row}\n" for row in rows)
 
 
-def checkpoint_text(tree: Tree, block: int, states: Sequence[State], version: int = NEWEST) -> str:
+def checkpoint_text(
+    tree: Tree, block: int, states: Sequence[State], version: int = NEWEST
+) -> str:
     """Returns the checkpoint of a scenario's tree at a block, with these states of its policies."""
     if version == 1 and "returns" in tree:
         raise ValueError("there is no such checkpoint")
     rows: list[list[Any]] = [
-        ["checkpoint", version, block, tree["periods"], tree["replications"]], ["key", *tree["key"]],
+        ["checkpoint", version, block, tree["periods"], tree["replications"]],
+        ["key", *tree["key"]],
         ["costs", *(tree["costs"][it] for it in formats.COSTS)],
-        ["sizes", tree["initial"], len(tree["demand"]["values"]), len(tree["lead"]["values"]), len(tree["policy"])]]
+        [
+            "sizes",
+            tree["initial"],
+            len(tree["demand"]["values"]),
+            len(tree["lead"]["values"]),
+            len(tree["policy"]),
+        ],
+    ]
     if version > 1:
         rows.append(["returns", len(tree.get("returns", {"values": []})["values"])])
     for table, name in zip(STREAMS, formats.DRAW_ROWS, strict=True):
         if table in tree:
-            rows += [[name, value, weight] for value, weight in zip(tree[table]["values"], tree[table]["weights"])]
+            rows += [
+                [name, value, weight]
+                for value, weight in zip(tree[table]["values"], tree[table]["weights"])
+            ]
     for policy, (stock, cost, due, costs) in zip(tree["policy"], states, strict=True):
         rows.append(["policy", policy["name"], policy["s"], policy["S"]])
         rows.append(["state", stock, cost, len(due), len(costs)])
         rows += [["due", period, due[period]] for period in sorted(due)]
         rows += [["cost", replication, its] for replication, its in enumerate(costs)]
     rows.append(["end"])
-    return "".join(",".join(map(str, row + ["-"] * (5 - len(row)))) + "\n" for row in rows)
+    return "".join(
+        ",".join(map(str, row + ["-"] * (5 - len(row)))) + "\n" for row in rows
+    )
 
 
 def checkpoint_of(run: Run, block: int, version: int = NEWEST) -> str:

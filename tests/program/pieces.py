@@ -25,7 +25,7 @@ def is_empty(end: int) -> bool:
 def write_pieces(text: bytes, size: int, end: int, ended: threading.Event) -> None:
     """Writes a text to a pipe in pieces of `size` bytes and closes the pipe; stops early if the run has ended."""
     for at in range(0, len(text), size):
-        os.write(end, text[at:at + size])
+        os.write(end, text[at : at + size])
         while not is_empty(end) and not ended.is_set():
             time.sleep(0)
         if ended.is_set():

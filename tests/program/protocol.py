@@ -65,7 +65,9 @@ class State(NamedTuple):
 
     def with_reader(self, number: int, reader: Reader) -> State:
         """Returns the state with one reader changed."""
-        return self._replace(readers=(*self.readers[:number], reader, *self.readers[number + 1:]))
+        return self._replace(
+            readers=(*self.readers[:number], reader, *self.readers[number + 1 :])
+        )
 
     def has_finished(self, number: int) -> bool:
         """Returns whether an actor has finished: 0 is the producer, 1 + r reader r."""
@@ -124,15 +126,31 @@ class Protocol:
             return self.end(state)
         if passed < self.readers:
             reader = state.readers[passed]
-            return (state._replace(passed=passed + 1 if self.lets_in(published, reader) else 0),
-                    ("P1", 1 + passed, reader.cursor))
+            return (
+                state._replace(
+                    passed=passed + 1 if self.lets_in(published, reader) else 0
+                ),
+                ("P1", 1 + passed, reader.cursor),
+            )
         if stored < self.words:
-            return state._replace(stored=stored + 1), ("P2", self.place(published, stored), None)
-        return state._replace(published=published + 1, passed=0, stored=0), ("P3", 0, 2 * published + 2)
+            return state._replace(stored=stored + 1), (
+                "P2",
+                self.place(published, stored),
+                None,
+            )
+        return state._replace(published=published + 1, passed=0, stored=0), (
+            "P3",
+            0,
+            2 * published + 2,
+        )
 
     def finish_turn(self, state: State) -> tuple[State, Step]:
         """Returns what a turn `e` leads to."""
-        return (state, None) if state.ended or state.passed or state.stored else self.end(state)
+        return (
+            (state, None)
+            if state.ended or state.passed or state.stored
+            else self.end(state)
+        )
 
     def reader_turn(self, state: State, number: int) -> tuple[State, Step]:
         """Returns what a turn `r` of a reader leads to."""
@@ -141,15 +159,36 @@ class Protocol:
             return state, None
         if it.stage == RESTS:
             cursor = 2 * state.published + state.ended
-            stage = SEES_END if cursor == 2 * it.taken + 1 else READS if it.taken < state.published else RESTS
-            return state.with_reader(number, it._replace(stage=stage)), ("R1", 0, cursor)
+            stage = (
+                SEES_END
+                if cursor == 2 * it.taken + 1
+                else READS
+                if it.taken < state.published
+                else RESTS
+            )
+            return state.with_reader(number, it._replace(stage=stage)), (
+                "R1",
+                0,
+                cursor,
+            )
         read = it.stage - READS
         if read < self.words:
-            return state.with_reader(number, it._replace(stage=it.stage + 1)), ("R2", self.place(it.taken, read), None)
+            return state.with_reader(number, it._replace(stage=it.stage + 1)), (
+                "R2",
+                self.place(it.taken, read),
+                None,
+            )
         taken = it.taken + 1
         if not self.frees(state, it):
-            return state.with_reader(number, it._replace(taken=taken, stage=RESTS)), None
-        return state.with_reader(number, Reader(taken, taken, RESTS)), ("R3", 1 + number, taken)
+            return (
+                state.with_reader(number, it._replace(taken=taken, stage=RESTS)),
+                None,
+            )
+        return state.with_reader(number, Reader(taken, taken, RESTS)), (
+            "R3",
+            1 + number,
+            taken,
+        )
 
     def leave_turn(self, state: State, number: int) -> tuple[State, Step]:
         """Returns what a turn `l` of a reader leads to."""
@@ -157,7 +196,11 @@ class Protocol:
         if it.has_left or it.stage >= READS:
             return state, None
         stage = LEFT_AFTER_END if it.has_seen_end else LEFT
-        return state.with_reader(number, Reader(it.taken, LEFT_MARK, stage)), ("R3", 1 + number, LEFT_MARK)
+        return state.with_reader(number, Reader(it.taken, LEFT_MARK, stage)), (
+            "R3",
+            1 + number,
+            LEFT_MARK,
+        )
 
     def turn(self, state: State, actor: str) -> tuple[State, Step]:
         """Returns what a turn of an actor leads to: the state, and the step."""
@@ -165,7 +208,9 @@ class Protocol:
             return self.producer_turn(state)
         if actor == "e":
             return self.finish_turn(state)
-        return (self.reader_turn if actor[0] == "r" else self.leave_turn)(state, int(actor[1:]))
+        return (self.reader_turn if actor[0] == "r" else self.leave_turn)(
+            state, int(actor[1:])
+        )
 
     def moves(self, state: State, actor: str) -> Iterator[State]:
         """Yields each state to which a turn of an actor may lead."""
@@ -204,8 +249,12 @@ class Protocol:
             for number, actor in enumerate(self.actors()):
                 had = counts
                 if number <= self.readers and counts[number] < turns[number]:
-                    had = (*counts[:number], counts[number] + 1, *counts[number + 1:])
-                new = {(after, had) for after in self.moves(state, actor) if not after.all_finished()} - seen
+                    had = (*counts[:number], counts[number] + 1, *counts[number + 1 :])
+                new = {
+                    (after, had)
+                    for after in self.moves(state, actor)
+                    if not after.all_finished()
+                } - seen
                 seen |= new
                 to_do += new
         return ends
@@ -232,7 +281,10 @@ class Batches(Protocol):
 
     def moves(self, state: State, actor: str) -> Iterator[State]:
         """Yields each state to which a turn of an actor may lead, with a batch of any size that it begins."""
-        yield from {replace(self, most=most).turn(state, actor)[0] for most in range(1, self.most + 1)}
+        yield from {
+            replace(self, most=most).turn(state, actor)[0]
+            for most in range(1, self.most + 1)
+        }
 
     def producer_turn(self, state: State) -> tuple[State, Step]:
         """Returns what a turn `p` leads to."""
@@ -242,7 +294,11 @@ class Batches(Protocol):
             return super().producer_turn(state)
         if state.batch and state.stored == self.words * state.batch:
             published += state.batch
-            return state._replace(published=published, stored=0, batch=0), ("P3", 0, 2 * published)
+            return state._replace(published=published, stored=0, batch=0), (
+                "P3",
+                0,
+                2 * published,
+            )
         if state.batch:
             return state._replace(stored=state.stored + 1), ("P2", 0, None)
         if not passed and published + wanted <= state.least + self.size:
@@ -250,10 +306,18 @@ class Batches(Protocol):
         if passed < self.readers:
             cursor = state.readers[passed].cursor
             if not self.lets_in(published, state.readers[passed]):
-                return state._replace(passed=0, least=cursor, loaded=LEFT_MARK), ("P1", 1 + passed, cursor)
-            return state._replace(passed=passed + 1, loaded=min(state.loaded, cursor)), ("P1", 1 + passed, cursor)
+                return state._replace(passed=0, least=cursor, loaded=LEFT_MARK), (
+                    "P1",
+                    1 + passed,
+                    cursor,
+                )
+            return state._replace(
+                passed=passed + 1, loaded=min(state.loaded, cursor)
+            ), ("P1", 1 + passed, cursor)
         batch = min(wanted, state.loaded + self.size - published)
-        return state._replace(passed=0, least=state.loaded, loaded=LEFT_MARK, batch=batch, stored=1), ("P2", 0, None)
+        return state._replace(
+            passed=0, least=state.loaded, loaded=LEFT_MARK, batch=batch, stored=1
+        ), ("P2", 0, None)
 
     def finish_turn(self, state: State) -> tuple[State, Step]:
         """Returns what a turn `e` leads to."""
@@ -265,11 +329,22 @@ class Batches(Protocol):
         if it.stage < READS:
             after, step = super().reader_turn(state, number)
             batch = min(self.most, state.published - it.taken)
-            return after.with_reader(number, after.readers[number]._replace(batch=batch)), step
+            return (
+                after.with_reader(number, after.readers[number]._replace(batch=batch)),
+                step,
+            )
         if it.stage - READS < self.words * it.batch:
-            return state.with_reader(number, it._replace(stage=it.stage + 1)), ("R2", 0, None)
+            return state.with_reader(number, it._replace(stage=it.stage + 1)), (
+                "R2",
+                0,
+                None,
+            )
         taken = it.taken + it.batch
-        return state.with_reader(number, Reader(taken, taken, RESTS)), ("R3", 1 + number, taken)
+        return state.with_reader(number, Reader(taken, taken, RESTS)), (
+            "R3",
+            1 + number,
+            taken,
+        )
 
     def turns_a_round(self) -> Counts:
         """Returns the turns of a round, by which the producer publishes a batch and a reader takes one."""
@@ -283,8 +358,25 @@ def trace_of(protocol: Protocol, schedule: Schedule) -> Iterator[list[str]]:
     for actor in schedule:
         state, step = protocol.turn(state, actor)
         kind, word, value = step or ("-", "-", "-")
-        yield [actor, kind, str(word), "?" if value is None else value if isinstance(value, str) else f"{value:016x}"]
+        yield [
+            actor,
+            kind,
+            str(word),
+            "?"
+            if value is None
+            else value
+            if isinstance(value, str)
+            else f"{value:016x}",
+        ]
     yield ["published", str(state.published), "ended", f"{state.ended:d}"]
     for number, it in enumerate(state.readers):
-        yield ["reader", str(number), "taken", str(it.taken), "left", f"{it.has_left:d}", "ended",
-               f"{it.has_seen_end:d}"]
+        yield [
+            "reader",
+            str(number),
+            "taken",
+            str(it.taken),
+            "left",
+            f"{it.has_left:d}",
+            "ended",
+            f"{it.has_seen_end:d}",
+        ]

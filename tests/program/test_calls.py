@@ -16,4 +16,6 @@ def test_calls(call: str, preload_library: Path, room: Path) -> None:
 
 def test_table() -> None:
     """The table has the calls, each once and in their order."""
-    assert list(stored_rows()) == list(CALLS), "write it anew: python -m tests.program.calls"
+    assert list(stored_rows()) == list(
+        CALLS
+    ), "write it anew: python -m tests.program.calls"

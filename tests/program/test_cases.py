@@ -12,7 +12,16 @@ from typing import Any
 import pytest
 
 from tests.program import oracle
-from tests.program.cases import Case, by_command, input_of, shown_of, text_of, wanted_by, with_key, words_of
+from tests.program.cases import (
+    Case,
+    by_command,
+    input_of,
+    shown_of,
+    text_of,
+    wanted_by,
+    with_key,
+    words_of,
+)
 from tests.program.long_runs import long_run_of
 from tests.runs import Shown, as_wanted, refused, run, written
 
@@ -24,7 +33,9 @@ def told(case: Case) -> Shown | None:
     if "fault" in case:
         return None
     if "long" in case:
-        return written(oracle.report_of(long_run_of(input_of(case).decode(), ())).encode())
+        return written(
+            oracle.report_of(long_run_of(input_of(case).decode(), ())).encode()
+        )
     text = oracle.answer(words_of(case, Path()), input_of(case).decode())
     return None if text is None else written(text.encode())
 
@@ -32,11 +43,16 @@ def told(case: Case) -> Shown | None:
 def verdicts(program: Path, case: Case, room: Path) -> Verdicts:
     """Yields the verdict on a case, which is run as often as it says, and that on the oracle."""
     runs = [shown_of(program, case, room) for _ in range(case.get("times", 1))]
-    yield case["label"], next((it for it in (wanted_by(case, shown) for shown in runs) if it is not True), True)
+    yield case["label"], next(
+        (it for it in (wanted_by(case, shown) for shown in runs) if it is not True),
+        True,
+    )
     its = told(case)
     if its is not None:
         right = wanted_by(case, its)
-        yield f"oracle, {case['label']}", as_wanted(runs[0], its) if right is True else f"the oracle is wrong: {right}"
+        yield f"oracle, {case['label']}", as_wanted(
+            runs[0], its
+        ) if right is True else f"the oracle is wrong: {right}"
 
 
 @pytest.mark.parametrize("cases", by_command())

@@ -15,7 +15,16 @@ from typing import Any
 
 import pytest
 
-from tests.program.cases import Case, changed, input_of, on_file, text_of, wanted_by, with_key, words_of
+from tests.program.cases import (
+    Case,
+    changed,
+    input_of,
+    on_file,
+    text_of,
+    wanted_by,
+    with_key,
+    words_of,
+)
 from tests.runs import as_wanted, refused, run
 
 Verdicts = Iterator[tuple[str, object]]
@@ -46,9 +55,17 @@ def wanted_at(case: Case, place: int, text: bytes) -> Case:
 
 def verdicts(program: Path, case: Case, room: Path, texts: Changes) -> Verdicts:
     """Yields the verdict on each changed text."""
-    words, data, is_input = words_of(case, room), text_of(case, "input"), text_of(case, "file") is None
+    words, data, is_input = (
+        words_of(case, room),
+        text_of(case, "input"),
+        text_of(case, "file") is None,
+    )
     for name, place, text in texts:
-        shown = run(program, words, text) if is_input else on_file(program, room, words, text, data)
+        shown = (
+            run(program, words, text)
+            if is_input
+            else on_file(program, room, words, text, data)
+        )
         yield name, wanted_by(wanted_at(case, place, text), shown)
 
 
@@ -56,14 +73,24 @@ def verdicts(program: Path, case: Case, room: Path, texts: Changes) -> Verdicts:
 def test_prefixes(program: Path, case: Case, room: Path, check_all: Any) -> None:
     """Each proper prefix of a text is refused."""
     text = changed_text(case)
-    check_all(verdicts(program, case, room, ((f"{size} bytes", size, text[:size]) for size in range(len(text)))))
+    check_all(
+        verdicts(
+            program,
+            case,
+            room,
+            ((f"{size} bytes", size, text[:size]) for size in range(len(text))),
+        )
+    )
 
 
 @pytest.mark.parametrize("case", with_key("turned"))
 def test_bytes(program: Path, case: Case, room: Path, check_all: Any) -> None:
     """A text with one byte put to another shows what the map says."""
     text, byte = changed_text(case), case["turned"].encode()
-    texts = ((f"byte {place}", place, text[:place] + byte + text[place + 1:]) for place in range(len(text)))
+    texts = (
+        (f"byte {place}", place, text[:place] + byte + text[place + 1 :])
+        for place in range(len(text))
+    )
     check_all(verdicts(program, case, room, texts))
 
 
@@ -71,8 +98,14 @@ def test_bytes(program: Path, case: Case, room: Path, check_all: Any) -> None:
 def test_rows(program: Path, case: Case, room: Path, check_all: Any) -> None:
     """A file with one row more is refused, wherever the row stands."""
     lines = changed_text(case).decode().splitlines(keepends=True)
-    texts = ((f"{row} in place {place}", place, "".join([*lines[:place], f"{row}\n", *lines[place:]]).encode())
-             for row, place in itertools.product(case["rows"], range(len(lines) + 1)))
+    texts = (
+        (
+            f"{row} in place {place}",
+            place,
+            "".join([*lines[:place], f"{row}\n", *lines[place:]]).encode(),
+        )
+        for row, place in itertools.product(case["rows"], range(len(lines) + 1))
+    )
     check_all(verdicts(program, case, room, texts))
 
 
@@ -81,7 +114,9 @@ def steps(program: Path, case: Case) -> Verdicts:
     text = input_of(case).decode()
     for number, (old, new, fault) in enumerate(case["steps"], 1):
         text = changed(text, (old, new), case)
-        yield f"step {number}, {new!r}", as_wanted(run(program, ["run"], text.encode()), refused(f"scenario {fault}"))
+        yield f"step {number}, {new!r}", as_wanted(
+            run(program, ["run"], text.encode()), refused(f"scenario {fault}")
+        )
 
 
 @pytest.mark.parametrize("case", with_key("steps"))

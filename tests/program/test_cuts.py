@@ -44,21 +44,35 @@ def cuts(program: Path, case: Case, room: Path, its: oracle.Run) -> Verdicts:
     yield "run", as_wanted(run(program, ["run"], data), whole)
     for block in blocks_of(case, "blocks"):
         leg = oracle.checkpoint_of(its, block).encode()
-        yield f"leg {block}", as_wanted(run(program, ["leg", str(block)], data), written(leg))
-        yield f"resumed from {block}", as_wanted(on_file(program, room, ["resume", f"{room}/FILE"], leg, ring), whole)
+        yield f"leg {block}", as_wanted(
+            run(program, ["leg", str(block)], data), written(leg)
+        )
+        yield f"resumed from {block}", as_wanted(
+            on_file(program, room, ["resume", f"{room}/FILE"], leg, ring), whole
+        )
 
 
 def migrations(program: Path, case: Case, room: Path, its: oracle.Run) -> Verdicts:
     """Migrates old checkpoints of a run: from what comes of them it ends as the whole run. No command takes both."""
-    data, resume, migrate = input_of(case), ["resume", f"{room}/FILE"], ["migrate", f"{room}/FILE"]
+    data, resume, migrate = (
+        input_of(case),
+        ["resume", f"{room}/FILE"],
+        ["migrate", f"{room}/FILE"],
+    )
     ring, whole = on_ring(data, 1024), written(oracle.report_of(its).encode())
     for block in blocks_of(case, "old_blocks"):
         new = oracle.checkpoint_of(its, block).encode()
         for version in formats.CHECKPOINT_VERSIONS[:-1]:
             old = oracle.checkpoint_of(its, block, version).encode()
-            yield f"migrated at {block}", as_wanted(on_file(program, room, migrate, old), written(new))
-            yield f"resumed from {block}", as_wanted(on_file(program, room, resume, new, ring), whole)
-            yield f"migrated twice at {block}", as_wanted(on_file(program, room, migrate, new), refused("checkpoint 5"))
+            yield f"migrated at {block}", as_wanted(
+                on_file(program, room, migrate, old), written(new)
+            )
+            yield f"resumed from {block}", as_wanted(
+                on_file(program, room, resume, new, ring), whole
+            )
+            yield f"migrated twice at {block}", as_wanted(
+                on_file(program, room, migrate, new), refused("checkpoint 5")
+            )
             shown = on_file(program, room, resume, old, data)
             yield f"old resumed at {block}", as_wanted(shown, refused("checkpoint 4"))
 
@@ -70,6 +84,8 @@ def test_cut_and_resumed(program: Path, case: Case, room: Path, check_all: Any) 
 
 
 @pytest.mark.parametrize("case", with_key("old_blocks"))
-def test_migrated_and_resumed(program: Path, case: Case, room: Path, check_all: Any) -> None:
+def test_migrated_and_resumed(
+    program: Path, case: Case, room: Path, check_all: Any
+) -> None:
     """Each old checkpoint becomes the new one of its block, from which the run ends as the whole one."""
     check_all(migrations(program, case, room, run_of(case)))

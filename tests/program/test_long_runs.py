@@ -13,9 +13,15 @@ from tests.program.long_runs import LongRun
 
 def laws(least: int, most: int) -> st.SearchStrategy[dict[str, Any]]:
     """Returns a strategy for tables of values in a range, with weights of which one is not 0."""
-    rows = st.dictionaries(st.integers(least, most), st.integers(0, 9000), min_size=1, max_size=4)
+    rows = st.dictionaries(
+        st.integers(least, most), st.integers(0, 9000), min_size=1, max_size=4
+    )
     return rows.filter(lambda its: any(its.values())).map(
-        lambda its: {"values": sorted(its), "weights": [its[value] for value in sorted(its)]})
+        lambda its: {
+            "values": sorted(its),
+            "weights": [its[value] for value in sorted(its)],
+        }
+    )
 
 
 def policy_of(levels: tuple[int, int]) -> dict[str, Any]:
@@ -23,13 +29,26 @@ def policy_of(levels: tuple[int, int]) -> dict[str, Any]:
     return {"name": "P", "s": min(levels), "S": max(levels)}
 
 
-COSTS = st.fixed_dictionaries({it: st.integers(0, 10_000) for it in ("setup", "unit", "holding", "backlog")})
+COSTS = st.fixed_dictionaries(
+    {it: st.integers(0, 10_000) for it in ("setup", "unit", "holding", "backlog")}
+)
 LEVELS = st.integers(0, 50)
 POLICIES = st.lists(st.tuples(LEVELS, LEVELS).map(policy_of), min_size=1, max_size=3)
 SCENARIOS = st.fixed_dictionaries(
-    {"key": st.lists(st.integers(0, 2**64 - 1).map("{:016x}".format), min_size=4, max_size=4),
-     "periods": st.integers(1, 30), "replications": st.integers(1, 5), "initial": st.integers(0, 60), "costs": COSTS,
-     "demand": laws(0, 20), "lead": laws(1, 32), "policy": POLICIES}, optional={"returns": laws(0, 20)})
+    {
+        "key": st.lists(
+            st.integers(0, 2**64 - 1).map("{:016x}".format), min_size=4, max_size=4
+        ),
+        "periods": st.integers(1, 30),
+        "replications": st.integers(1, 5),
+        "initial": st.integers(0, 60),
+        "costs": COSTS,
+        "demand": laws(0, 20),
+        "lead": laws(1, 32),
+        "policy": POLICIES,
+    },
+    optional={"returns": laws(0, 20)},
+)
 
 
 @settings(max_examples=60)

@@ -19,8 +19,17 @@ WORDS = 12
 # A ring's slots, readers, blocks and words a block, and the rounds after which it has ended. By hand: one to publish
 # each block, one to take the last and to mark the end, and one to see the end. On one slot the producer waits a round
 # for the readers between two blocks.
-ROUNDS = {(2, 2, 3, 1): 5, (2, 1, 0, 1): 2, (2, 1, 2, 2): 4, (2, 1, 4, 1): 6, (4, 1, 3, 1): 5,
-          (1, 1, 0, 1): 2, (1, 1, 1, 1): 3, (1, 1, 3, 1): 7, (1, 2, 2, 1): 5}
+ROUNDS = {
+    (2, 2, 3, 1): 5,
+    (2, 1, 0, 1): 2,
+    (2, 1, 2, 2): 4,
+    (2, 1, 4, 1): 6,
+    (4, 1, 3, 1): 5,
+    (1, 1, 0, 1): 2,
+    (1, 1, 1, 1): 3,
+    (1, 1, 3, 1): 7,
+    (1, 2, 2, 1): 5,
+}
 
 
 class WaitsForOneThatLeft(Protocol):
@@ -56,10 +65,18 @@ class EndsOnceOneHasLeft(Protocol):
 
     def may_end(self, state: State) -> bool:
         readers = state.readers
-        return any(it.has_left for it in readers) and all(it.has_left or it.taken == state.published for it in readers)
+        return any(it.has_left for it in readers) and all(
+            it.has_left or it.taken == state.published for it in readers
+        )
 
 
-WRONG = [WaitsForOneThatLeft, KeepsASlotFree, KeepsTheLastBlock, NeverLoadsAnew, EndsOnceOneHasLeft]
+WRONG = [
+    WaitsForOneThatLeft,
+    KeepsASlotFree,
+    KeepsTheLastBlock,
+    NeverLoadsAnew,
+    EndsOnceOneHasLeft,
+]
 
 
 @pytest.mark.parametrize("ring", ROUNDS, ids=str)
@@ -90,13 +107,25 @@ def test_bound_is_tight(ring: tuple[int, int, int, int]) -> None:
     assert ROUNDS[ring] == rounds_proved(size, blocks)
 
 
-@pytest.mark.parametrize("ring", [(2, 1, 0, 1), (2, 1, 2, 1), (2, 1, 3, 1), (4, 1, 3, 1), (1, 1, 2, 1), (1, 2, 1, 1)],
-                         ids=str)
+@pytest.mark.parametrize(
+    "ring",
+    [
+        (2, 1, 0, 1),
+        (2, 1, 2, 1),
+        (2, 1, 3, 1),
+        (4, 1, 3, 1),
+        (1, 1, 2, 1),
+        (1, 2, 1, 1),
+    ],
+    ids=str,
+)
 def test_batches(ring: tuple[int, int, int, int]) -> None:
     """With batches of one or two blocks and remembered counts, a ring with blocks needs one round fewer than is
     proved."""
     size, _, blocks, _ = ring
-    assert Batches(*ring, 2).rounds_needed() == rounds_proved(size, blocks) - (blocks > 0)
+    assert Batches(*ring, 2).rounds_needed() == rounds_proved(size, blocks) - (
+        blocks > 0
+    )
 
 
 @pytest.mark.parametrize("wrong", WRONG, ids=lambda it: it.__name__)
@@ -114,13 +143,21 @@ def slowest(protocol: Protocol) -> list[Schedule]:
     """
     turns = protocol.turns_a_round()
     producer = ["p"] * turns[0]
-    readers = [f"r{number}" for number, count in enumerate(turns[1:]) for _ in range(count)]
-    return [producer + readers if protocol.size == 1 and number % 2 else readers + producer for number in range(12)]
+    readers = [
+        f"r{number}" for number, count in enumerate(turns[1:]) for _ in range(count)
+    ]
+    return [
+        producer + readers if protocol.size == 1 and number % 2 else readers + producer
+        for number in range(12)
+    ]
 
 
 def trace(program: Path, protocol: Protocol, schedule: Schedule) -> list[list[str]]:
     """Returns the fields of each line of the trace that the program writes of a schedule."""
-    words = ["replay", *(str(it) for it in (protocol.size, protocol.readers, protocol.blocks))]
+    words = [
+        "replay",
+        *(str(it) for it in (protocol.size, protocol.readers, protocol.blocks)),
+    ]
     shown = run(program, words, "".join(f"{it}\n" for it in schedule).encode())
     assert (shown.status, shown.errors) == (0, b"")
     return [line.split() for line in shown.output.decode().splitlines()]
@@ -128,18 +165,30 @@ def trace(program: Path, protocol: Protocol, schedule: Schedule) -> list[list[st
 
 def has_ended(lines: list[list[str]]) -> bool:
     """Returns whether a trace's last lines say that the end is marked, and that each reader has seen it or has left."""
-    return all("1" in (it[3:] if it[0] == "published" else it[5:]) for it in lines if it[0] in ("published", "reader"))
+    return all(
+        "1" in (it[3:] if it[0] == "published" else it[5:])
+        for it in lines
+        if it[0] in ("published", "reader")
+    )
 
 
-@pytest.mark.parametrize("ring, needed", [((2, 2, 3), 5), ((8, 3, 20), 22), ((1, 1, 1), 3), ((1, 2, 4), 9)], ids=str)
+@pytest.mark.parametrize(
+    "ring, needed",
+    [((2, 2, 3), 5), ((8, 3, 20), 22), ((1, 1, 1), 3), ((1, 2, 4), 9)],
+    ids=str,
+)
 def test_program(program: Path, ring: tuple[int, int, int], needed: int) -> None:
     """The ring of `replay` needs these rounds too, and ends in them, under the schedule that takes longest."""
     rounds = (slowest(Protocol(*ring, WORDS)) * 2)[:needed]
     whole, short = list(chain(*rounds)), list(chain(*rounds[:-1]))
-    assert [has_ended(trace(program, Protocol(*ring, WORDS), it)) for it in (short, whole)] == [False, True]
+    assert [
+        has_ended(trace(program, Protocol(*ring, WORDS), it)) for it in (short, whole)
+    ] == [False, True]
 
 
-@pytest.mark.parametrize("ring, stores", [((2, 2, 3), 48), ((1, 1, 0), 2), ((8, 3, 20), 324)], ids=str)
+@pytest.mark.parametrize(
+    "ring, stores", [((2, 2, 3), 48), ((1, 1, 0), 2), ((8, 3, 20), 324)], ids=str
+)
 def test_most_stores(program: Path, ring: tuple[int, int, int], stores: int) -> None:
     """A run in which each reader sees the end and leaves has all the stores that are proved to be the most.
 
@@ -147,8 +196,14 @@ def test_most_stores(program: Path, ring: tuple[int, int, int], stores: int) -> 
     to leave.
     """
     leaves = [f"l{number}" for number in range(ring[1])]
-    lines = trace(program, Protocol(*ring, WORDS), [*chain(*slowest(Protocol(*ring, WORDS)) * 2), *leaves])
-    assert has_ended(lines) and sum(it[1] in ("P2", "P3", "R3") for it in lines) == stores
+    lines = trace(
+        program,
+        Protocol(*ring, WORDS),
+        [*chain(*slowest(Protocol(*ring, WORDS)) * 2), *leaves],
+    )
+    assert (
+        has_ended(lines) and sum(it[1] in ("P2", "P3", "R3") for it in lines) == stores
+    )
 
 
 @pytest.mark.parametrize("ring", [(2, 2, 3), (1, 1, 2), (4, 3, 9), (1, 3, 5)], ids=str)
@@ -162,4 +217,6 @@ def test_program_keeps_the_protocol(program: Path, ring: tuple[int, int, int]) -
         schedule = drawn.choices(actors, weights, k=2000)
         lines = trace(program, protocol, schedule)
         wanted = list(trace_of(protocol, schedule))
-        assert [[*it[:3], "?"] if it[1] in ("P2", "R2") else it for it in lines] == wanted
+        assert [
+            [*it[:3], "?"] if it[1] in ("P2", "R2") else it for it in lines
+        ] == wanted

@@ -53,10 +53,17 @@ PROCESSOR_SECONDS = 20
 Compiler = Callable[[Path], Path]
 
 
-def ended(program: Path, text: bytes, prepare: Callable[[], None] | None = None) -> subprocess.Popen[bytes]:
+def ended(
+    program: Path, text: bytes, prepare: Callable[[], None] | None = None
+) -> subprocess.Popen[bytes]:
     """Runs the program on a text to its end, and returns its process, which is still to be waited for."""
-    process = subprocess.Popen([program], stdin=subprocess.PIPE, stdout=subprocess.DEVNULL, stderr=subprocess.DEVNULL,
-                               preexec_fn=prepare)
+    process = subprocess.Popen(
+        [program],
+        stdin=subprocess.PIPE,
+        stdout=subprocess.DEVNULL,
+        stderr=subprocess.DEVNULL,
+        preexec_fn=prepare,
+    )
     timer = threading.Timer(SECONDS, process.kill)
     timer.start()
     try:
@@ -77,7 +84,9 @@ def seconds_asleep_of(program: Path, text: bytes) -> float:
     begun = time.perf_counter()
     with ended(program, text) as process:
         wall = time.perf_counter() - begun
-        runs, waits, _ = map(int, Path(f"/proc/{process.pid}/schedstat").read_text("ascii").split())
+        runs, waits, _ = map(
+            int, Path(f"/proc/{process.pid}/schedstat").read_text("ascii").split()
+        )
     return wall - (runs + waits) / 1e9 if process.returncode == 0 else math.inf
 
 
@@ -105,13 +114,19 @@ def numbers_of(program: Path, text: bytes, library: Path) -> list[int]:
 @pytest.mark.parametrize("size", LARGE)
 def test_sleeps_are_short(program: Path, size: int) -> None:
     """The sleeps of a run on a large ring are within the bound."""
-    assert any(seconds_asleep_of(program, on_ring(TEXT, size)) <= MOST_ASLEEP for _ in range(ROUNDS))
+    assert any(
+        seconds_asleep_of(program, on_ring(TEXT, size)) <= MOST_ASLEEP
+        for _ in range(ROUNDS)
+    )
 
 
 @pytest.mark.serial
 def test_threads_do_not_spin(program: Path) -> None:
     """A run on the small ring takes little more processor time than one on the largest."""
-    small, large = (processor_seconds_of(program, on_ring(TEXT, size)) for size in (SMALL, max(LARGE)))
+    small, large = (
+        processor_seconds_of(program, on_ring(TEXT, size))
+        for size in (SMALL, max(LARGE))
+    )
     assert small <= TIMES * large + MORE
 
 
@@ -123,7 +138,9 @@ def test_threads_sleep_while_one_is_held(program: Path, compiled: Compiler) -> N
 
 def test_pauses_on_small_ring(program: Path, compiled: Compiler) -> None:
     """Threads yield on the small ring, and ask to sleep for the time of this ring, if they sleep."""
-    yields, *times = numbers_of(program, on_ring(TEXT, SMALL), compiled(HERE / "pauses.c"))
+    yields, *times = numbers_of(
+        program, on_ring(TEXT, SMALL), compiled(HERE / "pauses.c")
+    )
     assert yields > 0
     assert set(times) <= {0, 1_000 * LEAST_SLEEP}
 
@@ -131,9 +148,13 @@ def test_pauses_on_small_ring(program: Path, compiled: Compiler) -> None:
 @pytest.mark.parametrize("size", LARGE)
 def test_pauses_on_large_ring(program: Path, compiled: Compiler, size: int) -> None:
     """Threads never yield on a large ring, and ask to sleep for the time of its size. By chance none may sleep."""
-    producer, reader = (1_000 * max(micros, LEAST_SLEEP) for micros in (size // 64, size // 8 - 16))
+    producer, reader = (
+        1_000 * max(micros, LEAST_SLEEP) for micros in (size // 64, size // 8 - 16)
+    )
     for _ in range(ROUNDS):
-        yields, *times = numbers_of(program, on_ring(TEXT, size), compiled(HERE / "pauses.c"))
+        yields, *times = numbers_of(
+            program, on_ring(TEXT, size), compiled(HERE / "pauses.c")
+        )
         if yields or 0 not in times:
             break
     assert [yields, *times] == [0, producer, producer, reader, reader]

@@ -58,13 +58,21 @@ exit 1
 REFUSES, PROVES, CRASHES = "search did not prove `returns`", "proved", "crashes"
 KIT = '#!/bin/sh\necho "rattle-kit-13b"\n'
 NEXT = "what: A wrong sum.\nrefused by: next\nfile: src/lib.rt\nold:     n + 1\nnew:     n + 2\n"
-FILES = {"crates.txt": "low:\ntiny: low\n", "crates/low/src/lib.rt": LOW,
-         "crates/low/specs/Lib.antt": "pub mod Steps\n", "crates/low/specs/Steps.antt": "-- A step.\n",
-         "crates/low/proofs/Lib.antt": "-- Proofs.\n",
-         "crates/low/out/rlib/low.rlib/format": "rattle rlib\n", "crates/low/out/rlib/low.rlib/lang/a": "fn step\n",
-         "crates/tiny/src/lib.rt": TINY, "crates/tiny/src/part.rt": "//! A part.\n",
-         "crates/tiny/specs/Lib.antt": "pub mod Moves\n", "crates/tiny/specs/Moves.antt": "-- A move.\n",
-         "crates/tiny/proofs/above/Answers.antt": "-- Answers.\n", "crates/tiny/wrong/next.edit": NEXT}
+FILES = {
+    "crates.txt": "low:\ntiny: low\n",
+    "crates/low/src/lib.rt": LOW,
+    "crates/low/specs/Lib.antt": "pub mod Steps\n",
+    "crates/low/specs/Steps.antt": "-- A step.\n",
+    "crates/low/proofs/Lib.antt": "-- Proofs.\n",
+    "crates/low/out/rlib/low.rlib/format": "rattle rlib\n",
+    "crates/low/out/rlib/low.rlib/lang/a": "fn step\n",
+    "crates/tiny/src/lib.rt": TINY,
+    "crates/tiny/src/part.rt": "//! A part.\n",
+    "crates/tiny/specs/Lib.antt": "pub mod Moves\n",
+    "crates/tiny/specs/Moves.antt": "-- A move.\n",
+    "crates/tiny/proofs/above/Answers.antt": "-- Answers.\n",
+    "crates/tiny/wrong/next.edit": NEXT,
+}
 
 
 @dataclass
@@ -82,7 +90,11 @@ class Repository:
     def make(self, top: Path) -> None:
         """Writes all files."""
         for tool in ("rounds.py", "edits.py", "tested.py", "refused.py"):
-            write(self.top / "tools" / tool, (top / "tools" / tool).read_text("utf-8"), 0o755)
+            write(
+                self.top / "tools" / tool,
+                (top / "tools" / tool).read_text("utf-8"),
+                0o755,
+            )
         for name, text in FILES.items():
             write(self.top / name, text)
         (self.top / ".git").mkdir()
@@ -104,10 +116,27 @@ class Repository:
     def run(self, verdict: str, *words: str | Path, **more: str) -> Said:
         """Runs the tool with a prover that has this verdict on each function."""
         (self.room / "verdict").write_text(f"{verdict}\n", "utf-8")
-        environment = {**os.environ, "PATH": f"{self.room}/kit/bin:{os.environ['PATH']}", **self.caches, **more}
-        done = subprocess.run([self.top / "tools" / "rounds.py", "--proved", "--prover", self.room / "prover", *words],
-                              stdin=subprocess.DEVNULL, stdout=subprocess.PIPE, stderr=subprocess.STDOUT, text=True,
-                              check=False, env={name: value for name, value in environment.items() if value})
+        environment = {
+            **os.environ,
+            "PATH": f"{self.room}/kit/bin:{os.environ['PATH']}",
+            **self.caches,
+            **more,
+        }
+        done = subprocess.run(
+            [
+                self.top / "tools" / "rounds.py",
+                "--proved",
+                "--prover",
+                self.room / "prover",
+                *words,
+            ],
+            stdin=subprocess.DEVNULL,
+            stdout=subprocess.PIPE,
+            stderr=subprocess.STDOUT,
+            text=True,
+            check=False,
+            env={name: value for name, value in environment.items() if value},
+        )
         return Said(done.returncode, done.stdout.splitlines())
 
     def checks(self) -> int:
@@ -116,11 +145,21 @@ class Repository:
 
     def git(self, *words: str) -> None:
         """Runs git, at a time that does not change."""
-        who = {f"GIT_{it}_{part}": "tiny" for it in ("AUTHOR", "COMMITTER") for part in ("NAME", "EMAIL")}
-        when = {f"GIT_{it}_DATE": "2026-01-01T00:00:00Z" for it in ("AUTHOR", "COMMITTER")}
+        who = {
+            f"GIT_{it}_{part}": "tiny"
+            for it in ("AUTHOR", "COMMITTER")
+            for part in ("NAME", "EMAIL")
+        }
+        when = {
+            f"GIT_{it}_DATE": "2026-01-01T00:00:00Z" for it in ("AUTHOR", "COMMITTER")
+        }
         alone = {"GIT_CONFIG_GLOBAL": os.devnull, "GIT_CONFIG_SYSTEM": os.devnull}
-        subprocess.run(["git", "-C", self.top, *words], check=True, capture_output=True,
-                       env={**os.environ, **who, **when, **alone})
+        subprocess.run(
+            ["git", "-C", self.top, *words],
+            check=True,
+            capture_output=True,
+            env={**os.environ, **who, **when, **alone},
+        )
 
 
 @pytest.fixture
@@ -178,20 +217,38 @@ def renames(old: str, new: str) -> Callable[[Repository], None]:
 
 
 CHANGES = {
-    "what the edit writes": replaces("top/crates/tiny/wrong/next.edit", "n + 2", "n + 5"),
-    "the function that the edit names": replaces("top/crates/tiny/wrong/next.edit", "by: next", "by: above"),
-    "the code that the edit changes": appends("top/crates/tiny/src/lib.rt", "// more\n"),
+    "what the edit writes": replaces(
+        "top/crates/tiny/wrong/next.edit", "n + 2", "n + 5"
+    ),
+    "the function that the edit names": replaces(
+        "top/crates/tiny/wrong/next.edit", "by: next", "by: above"
+    ),
+    "the code that the edit changes": appends(
+        "top/crates/tiny/src/lib.rt", "// more\n"
+    ),
     "other code of the crate": appends("top/crates/tiny/src/part.rt", "// more\n"),
-    "a name of a file of the crate": renames("top/crates/tiny/src/part.rt", "top/crates/tiny/src/parts.rt"),
-    "a contract of the crate": replaces("top/crates/tiny/src/lib.rt", "n + 3 }", "3 + n }"),
+    "a name of a file of the crate": renames(
+        "top/crates/tiny/src/part.rt", "top/crates/tiny/src/parts.rt"
+    ),
+    "a contract of the crate": replaces(
+        "top/crates/tiny/src/lib.rt", "n + 3 }", "3 + n }"
+    ),
     "a definition": appends("top/crates/tiny/specs/Moves.antt"),
     "a proof": appends("top/crates/tiny/proofs/above/Answers.antt"),
-    "a contract of the crate below": replaces("top/crates/low/src/lib.rt", "result ≡ 2", "result ≡ 1 + 1"),
+    "a contract of the crate below": replaces(
+        "top/crates/low/src/lib.rt", "result ≡ 2", "result ≡ 1 + 1"
+    ),
     "a definition of the crate below": appends("top/crates/low/specs/Steps.antt"),
     "a proof of the crate below": appends("top/crates/low/proofs/Lib.antt"),
-    "the library of the crate below": appends("top/crates/low/out/rlib/low.rlib/lang/a"),
-    "what the crate stands on": replaces("top/crates.txt", "tiny: low", "tiny: low itoa"),
-    "what the crate below stands on": replaces("top/crates.txt", "low:\n", "low: itoa\n"),
+    "the library of the crate below": appends(
+        "top/crates/low/out/rlib/low.rlib/lang/a"
+    ),
+    "what the crate stands on": replaces(
+        "top/crates.txt", "tiny: low", "tiny: low itoa"
+    ),
+    "what the crate below stands on": replaces(
+        "top/crates.txt", "low:\n", "low: itoa\n"
+    ),
     "the version of the kit": replaces("kit/bin/rt", "kit-13b", "kit-13c"),
     "the prover": appends("prover", "# more\n"),
     "the tool": appends("top/tools/rounds.py", "# more\n"),
@@ -200,8 +257,12 @@ CHANGES = {
 }
 
 
-@pytest.mark.parametrize("change", CHANGES.values(), ids=[it.replace(" ", "_") for it in CHANGES])
-def test_edit_is_judged_again_after_a_change(repository: Repository, change: Callable[[Repository], None]) -> None:
+@pytest.mark.parametrize(
+    "change", CHANGES.values(), ids=[it.replace(" ", "_") for it in CHANGES]
+)
+def test_edit_is_judged_again_after_a_change(
+    repository: Repository, change: Callable[[Repository], None]
+) -> None:
     """A kept verdict passes the edit, until something changes: then an edit that is no longer refused fails."""
     assert ends(repository.run(REFUSES)) == passed(1, 0)
     assert ends(repository.run(PROVES)) == passed(0, 1)
@@ -209,15 +270,25 @@ def test_edit_is_judged_again_after_a_change(repository: Repository, change: Cal
     change(repository)
     said = repository.run(PROVES)
     assert ends(said) == failed(1)
-    assert any(line.startswith("FAILED tiny/next: it is not refused: ") for line in said.lines)
+    assert any(
+        line.startswith("FAILED tiny/next: it is not refused: ") for line in said.lines
+    )
     assert not any("KEPT VERDICT" in line for line in said.lines)
 
 
-@pytest.mark.parametrize("change", [appends("top/README.md", "More.\n"), appends("top/tools/tested.py", "# more\n"),
-                                    appends("top/planner/item.py", "# more\n"),
-                                    appends("top/crates/tiny/wrong/other.edit", "no edit\n"),
-                                    renames("top", "clone")])
-def test_other_changes_leave_verdicts(repository: Repository, change: Callable[[Repository], None]) -> None:
+@pytest.mark.parametrize(
+    "change",
+    [
+        appends("top/README.md", "More.\n"),
+        appends("top/tools/tested.py", "# more\n"),
+        appends("top/planner/item.py", "# more\n"),
+        appends("top/crates/tiny/wrong/other.edit", "no edit\n"),
+        renames("top", "clone"),
+    ],
+)
+def test_other_changes_leave_verdicts(
+    repository: Repository, change: Callable[[Repository], None]
+) -> None:
     """What no verdict depends on is no reason to judge again: other files, another edit, the place of the clone."""
     for name in ("README.md", "planner/item.py", "crates/tiny/wrong/other.edit"):
         write(repository.top / name, "")
@@ -233,7 +304,10 @@ def test_anew_judges_all(repository: Repository) -> None:
     repository.run(REFUSES)
     assert ends(repository.run(REFUSES, "--anew")) == passed(1, 0)
     assert ends(repository.run(REFUSES, "--alone")) == passed(1, 0)
-    assert any("A KEPT VERDICT SAID THAT IT IS REFUSED" in line for line in repository.run(PROVES, "--anew").lines)
+    assert any(
+        "A KEPT VERDICT SAID THAT IT IS REFUSED" in line
+        for line in repository.run(PROVES, "--anew").lines
+    )
     assert repository.kept == []
     assert ends(repository.run(PROVES)) == failed(1)
 
@@ -248,14 +322,24 @@ def test_only_refusals_are_kept(repository: Repository) -> None:
     assert len(repository.kept) == 1
 
 
-@pytest.mark.parametrize("change", [lambda text: "", lambda text: text[:-9], lambda text: "[]",
-                                    lambda text: text.replace("did not", "could not"),
-                                    lambda text: text.replace('"sum"', '"some"'), lambda text: "null",
-                                    lambda text: json.dumps({**json.loads(text), "goal": None})])
-def test_damaged_verdict_is_none(repository: Repository, change: Callable[[str], str]) -> None:
+@pytest.mark.parametrize(
+    "change",
+    [
+        lambda text: "",
+        lambda text: text[:-9],
+        lambda text: "[]",
+        lambda text: text.replace("did not", "could not"),
+        lambda text: text.replace('"sum"', '"some"'),
+        lambda text: "null",
+        lambda text: json.dumps({**json.loads(text), "goal": None}),
+    ],
+)
+def test_damaged_verdict_is_none(
+    repository: Repository, change: Callable[[str], str]
+) -> None:
     """A kept verdict is checked when it is read."""
     repository.run(REFUSES)
-    path, = repository.kept
+    (path,) = repository.kept
     path.write_text(change(path.read_text("utf-8")), "utf-8")
     said = repository.run(PROVES)
     assert ends(said) == failed(1)
@@ -266,7 +350,7 @@ def test_damaged_verdict_is_none(repository: Repository, change: Callable[[str],
 def test_verdict_under_another_digest_is_none(repository: Repository) -> None:
     """The file of a verdict cannot be used for another edit."""
     repository.run(REFUSES)
-    other, = repository.kept
+    (other,) = repository.kept
     text = other.read_text("utf-8")
     CHANGES["what the edit writes"](repository)
     repository.run(REFUSES)
@@ -297,13 +381,15 @@ def test_folder_that_cannot_be_made(repository: Repository) -> None:
     for _ in range(2):
         said = repository.run(REFUSES)
         assert ends(said) == passed(1, 0)
-        assert any(line.startswith("verdicts cannot be kept in ") for line in said.lines)
+        assert any(
+            line.startswith("verdicts cannot be kept in ") for line in said.lines
+        )
 
 
 def test_old_verdicts_are_removed(repository: Repository) -> None:
     """A verdict that no run has read for sixty days is removed; one that is read is not."""
     repository.run(REFUSES)
-    path, = repository.kept
+    (path,) = repository.kept
     os.utime(path, (0, 0))
     assert ends(repository.run(REFUSES)) == passed(0, 1)
     assert repository.kept == [path]
@@ -315,16 +401,25 @@ def test_old_verdicts_are_removed(repository: Repository) -> None:
 
 def test_stale_library_is_refused(repository: Repository) -> None:
     """A library that was built of other files is none to judge over."""
-    write(repository.top / "crates" / "low" / "out" / "rlib" / "stamp", "of other files")
+    write(
+        repository.top / "crates" / "low" / "out" / "rlib" / "stamp", "of other files"
+    )
     said = repository.run(REFUSES)
-    assert said.status == 1 and "tiny needs the library low, which is not built of its files" in said.lines[-1]
+    assert (
+        said.status == 1
+        and "tiny needs the library low, which is not built of its files"
+        in said.lines[-1]
+    )
 
 
 def test_some_are_judged_anew_in_each_commit(repository: Repository) -> None:
     """Of a hundred kept verdicts some five are judged anew in each commit, and others in the next. If the prover
     contradicts one, the run fails and says so."""
     for number in range(99):
-        write(repository.top / "crates" / "tiny" / "wrong" / f"sum_{number}.edit", NEXT.replace("n + 2", f"{number}"))
+        write(
+            repository.top / "crates" / "tiny" / "wrong" / f"sum_{number}.edit",
+            NEXT.replace("n + 2", f"{number}"),
+        )
     repository.run(REFUSES)
     (repository.top / ".git").rmdir()
     repository.git("init", "-q")
@@ -334,10 +429,24 @@ def test_some_are_judged_anew_in_each_commit(repository: Repository) -> None:
         assert repository.run(REFUSES).status == 0
         before = len(repository.kept)
         said = repository.run(PROVES)
-        wrong = {line.split(": ")[0] for line in said.lines if line.startswith("FAILED tiny/")}
-        assert all("A KEPT VERDICT SAID THAT IT IS REFUSED" in line for line in said.lines if line.startswith("FAILED"))
+        wrong = {
+            line.split(": ")[0]
+            for line in said.lines
+            if line.startswith("FAILED tiny/")
+        }
+        assert all(
+            "A KEPT VERDICT SAID THAT IT IS REFUSED" in line
+            for line in said.lines
+            if line.startswith("FAILED")
+        )
         count = len(wrong)
-        assert 1 <= count <= 15 and (said.status, len(repository.kept)) == (1, before - count)
-        assert said.lines[-1] == f"{100 - count} passed, {count} failed ({count} judged, {100 - count} kept)"
+        assert 1 <= count <= 15 and (said.status, len(repository.kept)) == (
+            1,
+            before - count,
+        )
+        assert (
+            said.lines[-1]
+            == f"{100 - count} passed, {count} failed ({count} judged, {100 - count} kept)"
+        )
         seen.append(wrong)
     assert seen[0] != seen[1] != seen[2]

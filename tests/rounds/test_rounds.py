@@ -130,15 +130,39 @@ HARMLESS = ("following", "    1 + n\n", "    n + 1\n")
 OTHER_CONSTANT = ("step", "const STEP: u64 = 2;\n", "const STEP: u64 = 3;\n")
 SAME_CONSTANT = ("step", "const STEP: u64 = 2;\n", "const STEP: u64 = 1 + 1;\n")
 ANOTHER_SUM = ("above", "    first + 2\n", "    first + 1\n")
-ANOTHER_NAME = ("above", "    let first = next(n);\n    first + 2\n", "    let second = next(n);\n    second + 2\n")
+ANOTHER_NAME = (
+    "above",
+    "    let first = next(n);\n    first + 2\n",
+    "    let second = next(n);\n    second + 2\n",
+)
 MISFIT = ("last", "    one\n", "    one - 1\n")
 ONLY_ABOVE = ("above", "    n + 1\n", "    n + 2\n")
 UP = ("moved, arm Up", "        Way::Up => n + 1,\n", "        Way::Up => n + 2,\n")
-DOWN = ("moved, arm Down", "        Way::Down => n + 2,\n", "        Way::Down => n + 1,\n")
-HARMLESS_STAY = ("moved, arm Stay", "        Way::Stay => n,\n", "        Way::Stay => n + 0,\n")
-UP_AS_STAY = ("moved, arm Stay", "        Way::Up => n + 1,\n", "        Way::Up => n + 2,\n")
-ENDLESS = ("next, measure", "    n + 1\n", "    let mut k = n; while k > 0 { k = n; } n + 1\n")
-ENDLESS_ALONE = ("next", "    n + 1\n", "    let mut k = n; while k > 0 { k = n; } n + 1\n")
+DOWN = (
+    "moved, arm Down",
+    "        Way::Down => n + 2,\n",
+    "        Way::Down => n + 1,\n",
+)
+HARMLESS_STAY = (
+    "moved, arm Stay",
+    "        Way::Stay => n,\n",
+    "        Way::Stay => n + 0,\n",
+)
+UP_AS_STAY = (
+    "moved, arm Stay",
+    "        Way::Up => n + 1,\n",
+    "        Way::Up => n + 2,\n",
+)
+ENDLESS = (
+    "next, measure",
+    "    n + 1\n",
+    "    let mut k = n; while k > 0 { k = n; } n + 1\n",
+)
+ENDLESS_ALONE = (
+    "next",
+    "    n + 1\n",
+    "    let mut k = n; while k > 0 { k = n; } n + 1\n",
+)
 NO_TYPE = ("following", "    1 + n\n", "    1 + true\n")
 NO_FUNCTION = ("follows", "    1 + n\n", "    2 + n\n")
 NO_TEXT = ("following", "    3 + n\n", "    2 + n\n")
@@ -147,38 +171,107 @@ NO_TEXT = ("following", "    3 + n\n", "    2 + n\n")
 # prover.
 CASES = [
     # Together, since a check takes long however little it checks.
-    ("edits that are refused, of functions, of arms and of a constant, and edits that show nothing",
-     {"next": TWO_MORE, "again": ("next", "    n + 1\n", "    n\n"), "following": OTHER_FOLLOWS, "above": ANOTHER_SUM,
-      "constant": OTHER_CONSTANT, "up": UP, "down": DOWN, "endless": ENDLESS,
-      "harmless": HARMLESS, "same_constant": SAME_CONSTANT, "name": ANOTHER_NAME, "only_above": ONLY_ABOVE,
-      "text": NO_TEXT, "function": NO_FUNCTION, "stay": HARMLESS_STAY, "other_arm": UP_AS_STAY, "alone": ENDLESS_ALONE,
-      "sum": ("following, measure", *OTHER_FOLLOWS[1:]), "misfit": MISFIT, "misfit_by_hand": MISFIT,
-      "open_by_hand": TWO_MORE, "harmless_by_hand": HARMLESS},
-     {"next": "", "again": "", "following": "", "above": "", "constant": "", "up": "", "down": "", "endless": "",
-      "harmless": "it is not refused: following is still proved",
-      "same_constant": "it is not refused: step is still proved",
-      "name": "above is refused only because its proof file names what the edit took away",
-      "only_above": "above is not refused by itself", "text": "stands 0 times",
-      "function": "there is no function follows", "stay": "it is not refused: moved is still proved",
-      "other_arm": "no goal of the arm Stay of moved is open", "alone": "next has no open goal of its own",
-      "sum": "following has no open goal of its own",
-      "misfit": "last is refused only because an answer does not fit the goal that the edit has changed",
-      "misfit_by_hand": "", "open_by_hand": "a goal of next is open, so tools/by_hand.toml must not list it",
-      "harmless_by_hand": "it is not refused: following is still proved",
-      "gone_by_hand": "tools/by_hand.toml lists it, and there is no such edit"},
-     None),
-    ("edits that are hidden by one that does not compile", {"type": NO_TYPE, "next": TWO_MORE, "above": ANOTHER_SUM},
-     {"type": "its check ended with status", "next": "", "above": ""}, None),
-    ("a name that is gone, which the second line of an error says", {"above": ANOTHER_SUM},
-     {"above": "above is refused only because its proof file names what the edit took away"}, TELLS_IN_TWO_LINES),
-    ("names of functions that are not there, without a control",
-     {"next": TWO_MORE, "function": NO_FUNCTION, "other": ("folows", "    1 + n\n", "    3 + n\n"),
-      "above": ANOTHER_SUM},
-     {"next": "", "function": "there is no function follows", "other": "there is no function folows", "above": ""},
-     NO_CONTROL),
-    ("a prover that crashes", {"next": TWO_MORE}, {"next": "its check was killed by signal 11"}, CRASHES),
-    ("a prover that is cut off", {"next": TWO_MORE}, {"next": "its check was killed by signal 9"}, HANGS),
-    ("a prover that ends without a verdict", {"next": TWO_MORE}, {"next": "and no verdict"}, IS_SILENT),
+    (
+        "edits that are refused, of functions, of arms and of a constant, and edits that show nothing",
+        {
+            "next": TWO_MORE,
+            "again": ("next", "    n + 1\n", "    n\n"),
+            "following": OTHER_FOLLOWS,
+            "above": ANOTHER_SUM,
+            "constant": OTHER_CONSTANT,
+            "up": UP,
+            "down": DOWN,
+            "endless": ENDLESS,
+            "harmless": HARMLESS,
+            "same_constant": SAME_CONSTANT,
+            "name": ANOTHER_NAME,
+            "only_above": ONLY_ABOVE,
+            "text": NO_TEXT,
+            "function": NO_FUNCTION,
+            "stay": HARMLESS_STAY,
+            "other_arm": UP_AS_STAY,
+            "alone": ENDLESS_ALONE,
+            "sum": ("following, measure", *OTHER_FOLLOWS[1:]),
+            "misfit": MISFIT,
+            "misfit_by_hand": MISFIT,
+            "open_by_hand": TWO_MORE,
+            "harmless_by_hand": HARMLESS,
+        },
+        {
+            "next": "",
+            "again": "",
+            "following": "",
+            "above": "",
+            "constant": "",
+            "up": "",
+            "down": "",
+            "endless": "",
+            "harmless": "it is not refused: following is still proved",
+            "same_constant": "it is not refused: step is still proved",
+            "name": "above is refused only because its proof file names what the edit took away",
+            "only_above": "above is not refused by itself",
+            "text": "stands 0 times",
+            "function": "there is no function follows",
+            "stay": "it is not refused: moved is still proved",
+            "other_arm": "no goal of the arm Stay of moved is open",
+            "alone": "next has no open goal of its own",
+            "sum": "following has no open goal of its own",
+            "misfit": "last is refused only because an answer does not fit the goal that the edit has changed",
+            "misfit_by_hand": "",
+            "open_by_hand": "a goal of next is open, so tools/by_hand.toml must not list it",
+            "harmless_by_hand": "it is not refused: following is still proved",
+            "gone_by_hand": "tools/by_hand.toml lists it, and there is no such edit",
+        },
+        None,
+    ),
+    (
+        "edits that are hidden by one that does not compile",
+        {"type": NO_TYPE, "next": TWO_MORE, "above": ANOTHER_SUM},
+        {"type": "its check ended with status", "next": "", "above": ""},
+        None,
+    ),
+    (
+        "a name that is gone, which the second line of an error says",
+        {"above": ANOTHER_SUM},
+        {
+            "above": "above is refused only because its proof file names what the edit took away"
+        },
+        TELLS_IN_TWO_LINES,
+    ),
+    (
+        "names of functions that are not there, without a control",
+        {
+            "next": TWO_MORE,
+            "function": NO_FUNCTION,
+            "other": ("folows", "    1 + n\n", "    3 + n\n"),
+            "above": ANOTHER_SUM,
+        },
+        {
+            "next": "",
+            "function": "there is no function follows",
+            "other": "there is no function folows",
+            "above": "",
+        },
+        NO_CONTROL,
+    ),
+    (
+        "a prover that crashes",
+        {"next": TWO_MORE},
+        {"next": "its check was killed by signal 11"},
+        CRASHES,
+    ),
+    (
+        "a prover that is cut off",
+        {"next": TWO_MORE},
+        {"next": "its check was killed by signal 9"},
+        HANGS,
+    ),
+    (
+        "a prover that ends without a verdict",
+        {"next": TWO_MORE},
+        {"next": "and no verdict"},
+        IS_SILENT,
+    ),
 ]
 
 # In place of rt: the program is the crate's text, its tests are a script, and a sum of a thousand is not proved.
@@ -209,8 +302,12 @@ SUMS = """def test_next(request):
 BROKEN = "#!/bin/sh\necho 'FAILED sums: next'\necho '0 passed, 1 failed'\nexit 1\n"
 BREAKS_OFF = "#!/bin/sh\necho 'no such file'\nexit 2\n"
 OTHER_SUM = "file: src/lib.rt\nold:     n + 1\nnew:     n + 2\n"
-OTHER_PROOF = "file: proofs/above/Answers.antt\nold: first_is c = c\nnew: first_is c =  c\n"
-SAME_SUM = "file: src/lib.rt\nold:         Way::Stay => n,\nnew:         Way::Stay => n + 0,\n"
+OTHER_PROOF = (
+    "file: proofs/above/Answers.antt\nold: first_is c = c\nnew: first_is c =  c\n"
+)
+SAME_SUM = (
+    "file: src/lib.rt\nold:         Way::Stay => n,\nnew:         Way::Stay => n + 0,\n"
+)
 
 
 def seen_by(command: str, fails: str = "sums: next") -> str:
@@ -232,27 +329,58 @@ TESTED = {
     "seen_for_its_reason": (BY_CRATE + "fails: sums FAILED\n" + OTHER_SUM, ""),
     "seen_by_pytest": (BY_PYTEST + OTHER_SUM, ""),
     "not_seen_by_pytest": (BY_PYTEST + SAME_SUM, "its test passes"),
-    "other_reason_of_pytest": (seen_by("pytest tests/test_sums.py", "test_above") + OTHER_SUM,
-                               "fails for another reason: FAILED tests/test_sums.py::test_next"),
-    "no_such_pytest": (seen_by("pytest tests/test_products.py") + OTHER_SUM, "is neither a test of a crate nor"),
-    "seen_before_it_hangs": (seen_by("tests/part PROGRAM", "sums: above") + sum_with(8), ""),
+    "other_reason_of_pytest": (
+        seen_by("pytest tests/test_sums.py", "test_above") + OTHER_SUM,
+        "fails for another reason: FAILED tests/test_sums.py::test_next",
+    ),
+    "no_such_pytest": (
+        seen_by("pytest tests/test_products.py") + OTHER_SUM,
+        "is neither a test of a crate nor",
+    ),
+    "seen_before_it_hangs": (
+        seen_by("tests/part PROGRAM", "sums: above") + sum_with(8),
+        "",
+    ),
     "of_a_proof": (BY_PART + OTHER_SUM + OTHER_PROOF, ""),
     "of_a_proof_alone": (BY_PART + OTHER_PROOF, "its test passes"),
     "not_seen": (BY_PART + SAME_SUM, "its test passes"),
     "not_seen_by_a_crate": (BY_CRATE + SAME_SUM, "its test passes"),
-    "other_reason": (seen_by("tests/part PROGRAM", "sums: above") + OTHER_SUM,
-                     "fails for another reason: FAILED sums: next"),
-    "other_reason_of_a_crate": (BY_CRATE + "fails: products\n" + OTHER_SUM, "fails for another reason: sums FAILED"),
+    "other_reason": (
+        seen_by("tests/part PROGRAM", "sums: above") + OTHER_SUM,
+        "fails for another reason: FAILED sums: next",
+    ),
+    "other_reason_of_a_crate": (
+        BY_CRATE + "fails: products\n" + OTHER_SUM,
+        "fails for another reason: sums FAILED",
+    ),
     "hangs": (BY_PART + sum_with(9), "its test has not ended"),
-    "not_proved": (BY_PART + OTHER_SUM.replace("n + 2", "n + 1000"), "it is not proved: fn tiny::next: not proved"),
-    "fails_anyway": (seen_by("tests/broken PROGRAM") + OTHER_SUM, "does not pass without an edit: it fails: FAILED"),
-    "breaks_off": (seen_by("tests/off PROGRAM") + OTHER_SUM, "does not pass without an edit: it breaks off"),
-    "no_command": (seen_by("tests/none PROGRAM") + OTHER_SUM, "is neither a test of a crate nor"),
+    "not_proved": (
+        BY_PART + OTHER_SUM.replace("n + 2", "n + 1000"),
+        "it is not proved: fn tiny::next: not proved",
+    ),
+    "fails_anyway": (
+        seen_by("tests/broken PROGRAM") + OTHER_SUM,
+        "does not pass without an edit: it fails: FAILED",
+    ),
+    "breaks_off": (
+        seen_by("tests/off PROGRAM") + OTHER_SUM,
+        "does not pass without an edit: it breaks off",
+    ),
+    "no_command": (
+        seen_by("tests/none PROGRAM") + OTHER_SUM,
+        "is neither a test of a crate nor",
+    ),
     "no_test": ("seen by: tiny\n" + OTHER_SUM, "names no test of tiny"),
-    "no_reason": ("seen by: tests/part PROGRAM\n" + OTHER_SUM, "it lacks the head line 'fails:'"),
+    "no_reason": (
+        "seen by: tests/part PROGRAM\n" + OTHER_SUM,
+        "it lacks the head line 'fails:'",
+    ),
     "no_head": (OTHER_SUM, "it lacks a head line"),
     "no_text": (BY_PART + OTHER_SUM.replace("n + 1", "n + 3"), "stands 0 times"),
-    "no_code": (BY_PART + "file: specs/Lib.antt\nold: pub mod Moves\nnew: mod Moves\n", "no file of src/ or proofs/"),
+    "no_code": (
+        BY_PART + "file: specs/Lib.antt\nold: pub mod Moves\nnew: mod Moves\n",
+        "no file of src/ or proofs/",
+    ),
 }
 
 
@@ -283,13 +411,21 @@ def make_repository(room: Path, top: Path) -> None:
     write(crate / "proofs" / "above" / "Answers.antt", ANSWERS)
     write(crate / "proofs" / "last" / "Answers.antt", FACT)
     (room / ".git").mkdir()
-    ran = subprocess.run(["rt", "check"], cwd=crate, stdin=subprocess.DEVNULL, capture_output=True, text=True,
-                         check=False)
+    ran = subprocess.run(
+        ["rt", "check"],
+        cwd=crate,
+        stdin=subprocess.DEVNULL,
+        capture_output=True,
+        text=True,
+        check=False,
+    )
     assert ran.returncode == 0, f"the small crate is not proved: {ran.stdout[-400:]}"
 
 
 @pytest.fixture(scope="session")
-def proved(tmp_path_factory: pytest.TempPathFactory, top: Path, request: pytest.FixtureRequest) -> Path:
+def proved(
+    tmp_path_factory: pytest.TempPathFactory, top: Path, request: pytest.FixtureRequest
+) -> Path:
     """Returns a repository in which the small crate is proved. All processes of a parallel run share it."""
     folder = tmp_path_factory.getbasetemp()
     folder = folder.parent if hasattr(request.config, "workerinput") else folder
@@ -310,39 +446,64 @@ def repository(proved: Path, room: Path) -> Path:
 def edit_text(function: str, old: str, new: str) -> str:
     """Returns the text of an edit: a pair for each of its lines."""
     pairs = zip(old.rstrip("\n").split("\n"), new.rstrip("\n").split("\n"))
-    changed = "".join(f"old: {one}\nnew: {other}\n" for one, other in pairs if one != other)
+    changed = "".join(
+        f"old: {one}\nnew: {other}\n" for one, other in pairs if one != other
+    )
     return f"what: A wrong {function}.\nrefused by: {function}\nfile: src/lib.rt\n{changed}"
 
 
 def run_tool(repository: Path, *words: str | Path) -> Said:
     """Runs the tool with these words."""
-    done = subprocess.run([repository / "tools" / "rounds.py", *words], stdin=subprocess.DEVNULL,
-                          stdout=subprocess.PIPE, stderr=subprocess.STDOUT, text=True, check=False,
-                          env={**os.environ, "XDG_CACHE_HOME": str(repository / "caches")})
+    done = subprocess.run(
+        [repository / "tools" / "rounds.py", *words],
+        stdin=subprocess.DEVNULL,
+        stdout=subprocess.PIPE,
+        stderr=subprocess.STDOUT,
+        text=True,
+        check=False,
+        env={**os.environ, "XDG_CACHE_HOME": str(repository / "caches")},
+    )
     return Said(done.returncode, done.stdout.splitlines())
 
 
 def of_edit(edit: str, lines: list[str], part: str) -> bool | str:
     """Returns the verdict on what is said of an edit: nothing if it passes, else one failure with this part."""
     said = [line for line in lines if line.startswith(f"FAILED tiny/{edit}: ")]
-    return (not said if not part else len(said) == 1 and part in said[0]) or f"it says {said or lines}"
+    return (
+        not said if not part else len(said) == 1 and part in said[0]
+    ) or f"it says {said or lines}"
 
 
 def last_line(wanted: dict[str, str]) -> str:
     """Returns the last line, by what becomes of each edit, if none is kept."""
     failed = sum(map(bool, wanted.values()))
-    return f"{len(wanted) - failed} passed, {failed} failed ({len(wanted)} judged, 0 kept)"
+    return (
+        f"{len(wanted) - failed} passed, {failed} failed ({len(wanted)} judged, 0 kept)"
+    )
 
 
 @pytest.mark.timeout(1200)
-@pytest.mark.parametrize("edits, wanted, prover", [pytest.param(*it[1:], id=it[0].replace(" ", "_")) for it in CASES])
-def test_wrong_implementations(repository: Path, check_all: CheckAll, edits: dict[str, tuple[str, str, str]],
-                               wanted: dict[str, str], prover: str | None) -> None:
+@pytest.mark.parametrize(
+    "edits, wanted, prover",
+    [pytest.param(*it[1:], id=it[0].replace(" ", "_")) for it in CASES],
+)
+def test_wrong_implementations(
+    repository: Path,
+    check_all: CheckAll,
+    edits: dict[str, tuple[str, str, str]],
+    wanted: dict[str, str],
+    prover: str | None,
+) -> None:
     """Each edit passes or fails as it must, and so do the last line and the status."""
     for name, edit in edits.items():
-        write(repository / "crates" / "tiny" / "wrong" / f"{name}.edit", edit_text(*edit))
+        write(
+            repository / "crates" / "tiny" / "wrong" / f"{name}.edit", edit_text(*edit)
+        )
     listed = [it for it in wanted if it.endswith("_by_hand")]
-    write(repository / "tools" / "by_hand.toml", "[tiny]\n" + "".join(f'{it} = "It is false."\n' for it in listed))
+    write(
+        repository / "tools" / "by_hand.toml",
+        "[tiny]\n" + "".join(f'{it} = "It is false."\n' for it in listed),
+    )
     words: list[str | Path] = ["--proved"] * (prover is not None)
     if prover:
         write(repository / "prover", prover, 0o755)
@@ -352,10 +513,16 @@ def test_wrong_implementations(repository: Path, check_all: CheckAll, edits: dic
     def cases() -> Iterator[Case]:
         yield from ((edit, of_edit(edit, lines, part)) for edit, part in wanted.items())
         if prover == NO_CONTROL:
-            yield "the others share a check", any(it.startswith("tiny: 2 edits, ") for it in lines) or str(lines)
+            yield "the others share a check", any(
+                it.startswith("tiny: 2 edits, ") for it in lines
+            ) or str(lines)
         if listed:
-            yield "the reason", "tiny/misfit_by_hand, judged by hand: It is false." in lines or str(lines)
-            yield "the count", "1 of the edits are judged by hand (tools/by_hand.toml)" in lines or str(lines)
+            yield "the reason", "tiny/misfit_by_hand, judged by hand: It is false." in lines or str(
+                lines
+            )
+            yield "the count", "1 of the edits are judged by hand (tools/by_hand.toml)" in lines or str(
+                lines
+            )
         yield "the last line", lines[-1] == last_line(wanted) or lines[-1]
         yield "the status", status == any(wanted.values()) or str(status)
 
@@ -370,15 +537,27 @@ def test_no_edits(repository: Path) -> None:
 
 def test_edit_without_a_head(repository: Path) -> None:
     """An edit without its head is a failure."""
-    write(repository / "crates" / "tiny" / "wrong" / "bare.edit", "file: src/lib.rt\nold:     n + 1\nnew:     n + 2\n")
-    assert any("FAILED tiny/bare: it lacks a head line" in line for line in run_tool(repository).lines)
+    write(
+        repository / "crates" / "tiny" / "wrong" / "bare.edit",
+        "file: src/lib.rt\nold:     n + 1\nnew:     n + 2\n",
+    )
+    assert any(
+        "FAILED tiny/bare: it lacks a head line" in line
+        for line in run_tool(repository).lines
+    )
 
 
 @pytest.fixture
 def tested(repository: Path, top: Path) -> Path:
     """Returns the repository with edits that a test must see."""
-    for name, text in (("builder", BUILDER), ("tests/part", PART), ("tests/broken", BROKEN), ("tests/off", BREAKS_OFF),
-                       ("tests/conftest.py", OPTION), ("tests/test_sums.py", SUMS)):
+    for name, text in (
+        ("builder", BUILDER),
+        ("tests/part", PART),
+        ("tests/broken", BROKEN),
+        ("tests/off", BREAKS_OFF),
+        ("tests/conftest.py", OPTION),
+        ("tests/test_sums.py", SUMS),
+    ):
         write(repository / name, text, 0o755)
     (repository / ".venv").symlink_to(top / ".venv")
     write(repository / "crates" / "crnsim" / "src" / "main.rt", "")
@@ -391,29 +570,49 @@ def tested(repository: Path, top: Path) -> Path:
 def test_edits_that_a_test_must_see(tested: Path, check_all: CheckAll) -> None:
     """Each edit is seen, or fails as it must; so do the last line and the status."""
     wanted = {edit: part for edit, (_, part) in TESTED.items()}
-    status, lines = run_tool(tested, "--tested", "--builder", tested / "builder", "--limit", "3")
+    status, lines = run_tool(
+        tested, "--tested", "--builder", tested / "builder", "--limit", "3"
+    )
 
     def cases() -> Iterator[Case]:
         for edit, part in wanted.items():
             yield edit, of_edit(edit, lines, part)
             seen = any(line.startswith(f"tiny/{edit}: seen, ") for line in lines)
-            yield f"{edit} is {'not ' if part else ''}seen", seen == (not part) or str(lines)
+            yield f"{edit} is {'not ' if part else ''}seen", seen == (not part) or str(
+                lines
+            )
         yield "the last line", lines[-1] == last_line(wanted) or lines[-1]
         yield "the status", status == 1 or str(status)
 
     check_all(cases())
 
 
-@pytest.mark.parametrize("name, text, wanted", [("crates/tiny/README.md", "More.\n", "[0-9a-f]{64}"),
-                                                ("crates/tiny/src/lib.rt", f"{CODE}\n", "none"),
-                                                ("crates/tiny/out/rlib/stamp", "of rt check", "of rt check")],
-                         ids=["all_is_as_built", "a_file_has_changed", "of_rt_check"])
-def test_libraries_that_rt_ci_has_left(tested: Path, name: str, text: str, wanted: str) -> None:
+@pytest.mark.parametrize(
+    "name, text, wanted",
+    [
+        ("crates/tiny/README.md", "More.\n", "[0-9a-f]{64}"),
+        ("crates/tiny/src/lib.rt", f"{CODE}\n", "none"),
+        ("crates/tiny/out/rlib/stamp", "of rt check", "of rt check"),
+    ],
+    ids=["all_is_as_built", "a_file_has_changed", "of_rt_check"],
+)
+def test_libraries_that_rt_ci_has_left(
+    tested: Path, name: str, text: str, wanted: str
+) -> None:
     """They count as built, unless a file has changed since; those of `rt check` have a stamp of their own."""
-    write(tested / "crates" / "tiny" / "out" / "rlib" / "tiny.rlib" / "format", "rattle rlib\n")
+    write(
+        tested / "crates" / "tiny" / "out" / "rlib" / "tiny.rlib" / "format",
+        "rattle rlib\n",
+    )
     write(tested / name, text)
-    write(tested / "looks", f"#!/bin/sh\ncat ../tiny/out/rlib/stamp > {tested}/found || echo none > {tested}/found\n", 0o755)
-    run_tool(tested, "--tested", "--names", "seen_by_a_crate", "--builder", tested / "looks")
+    write(
+        tested / "looks",
+        f"#!/bin/sh\ncat ../tiny/out/rlib/stamp > {tested}/found || echo none > {tested}/found\n",
+        0o755,
+    )
+    run_tool(
+        tested, "--tested", "--names", "seen_by_a_crate", "--builder", tested / "looks"
+    )
     assert re.fullmatch(wanted, (tested / "found").read_text("utf-8").strip())
 
 

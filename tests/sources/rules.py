@@ -18,7 +18,8 @@ from typing import NamedTuple, Protocol
 
 # A name, a whole string or character, or one sign; what stands in comments and in ghost lines is no code.
 TOKEN = re.compile(
-    r"""//[^\n]*|"(?:\\.|[^"\\])*"|b?'(?:\\.[^']*|[^'\\])'|[A-Za-z_][A-Za-z0-9_]*|::|=>|->|\d\w*|\S""")
+    r"""//[^\n]*|"(?:\\.|[^"\\])*"|b?'(?:\\.[^']*|[^'\\])'|[A-Za-z_][A-Za-z0-9_]*|::|=>|->|\d\w*|\S"""
+)
 GHOST = re.compile(r"^\s*(ghost |pub ghost |requires|ensures|→)")
 
 
@@ -39,10 +40,12 @@ class Rule(Protocol):
     """A rule for the sources whose names begin as one of its files."""
 
     @property
-    def name(self) -> str: ...
+    def name(self) -> str:
+        ...
 
     @property
-    def files(self) -> Sequence[str]: ...
+    def files(self) -> Sequence[str]:
+        ...
 
     def refused_in(self, name: str, text: str) -> list[str]:
         """Returns what the rule refuses in a source."""
@@ -58,7 +61,11 @@ class Forbidden(NamedTuple):
 
     def refused_in(self, name: str, text: str) -> list[str]:
         tokens = tokens_of(text)
-        return [f"line {token.line}: {token.text}" for at, token in enumerate(tokens) if self.refuses(name, tokens, at)]
+        return [
+            f"line {token.line}: {token.text}"
+            for at, token in enumerate(tokens)
+            if self.refuses(name, tokens, at)
+        ]
 
 
 class Places(NamedTuple):
@@ -73,7 +80,11 @@ class Places(NamedTuple):
     def found_in(self, text: str) -> Counter[str]:
         """Returns the places of the words in a source, with how often each is there."""
         tokens = tokens_of(text)
-        return Counter(place_of(tokens[at], word) for at in range(len(tokens)) for word in self.words_at(tokens, at))
+        return Counter(
+            place_of(tokens[at], word)
+            for at in range(len(tokens))
+            for word in self.words_at(tokens, at)
+        )
 
     def words_at(self, tokens: Tokens, at: int) -> Iterator[str]:
         """Yields the words that begin at a place, as they stand there."""
@@ -85,14 +96,19 @@ class Places(NamedTuple):
             elif parts[1:] == ["{"]:
                 if type_made(tokens, at) == parts[0]:
                     yield pattern
+            elif parts[0] == "use":
+                if tokens[at].text == parts[1] and is_imported(tokens, at):
+                    yield pattern
             else:
-                words = [token.text for token in tokens[at:at + len(parts)]]
+                words = [token.text for token in tokens[at : at + len(parts)]]
                 if len(words) == len(parts) and all(map(fnmatchcase, words, parts)):
                     yield " ".join(words)
 
     def refused_in(self, name: str, text: str) -> list[str]:
         found, listed = self.found_in(text), listed_places(self.places.get(name, []))
-        return [f"new: {place}" for place in (found - listed)] + [f"gone: {place}" for place in (listed - found)]
+        return [f"new: {place}" for place in (found - listed)] + [
+            f"gone: {place}" for place in (listed - found)
+        ]
 
 
 class Scope:
@@ -118,7 +134,11 @@ class Scope:
         if word == "impl" and self.begins is None:
             self.head = []
         elif self.head is not None and word == "{":
-            self.impl, self.impl_depth, self.head = " ".join(self.head), self.depth, None
+            self.impl, self.impl_depth, self.head = (
+                " ".join(self.head),
+                self.depth,
+                None,
+            )
         elif self.head is not None:
             self.head.append(word)
         if word == "{":
@@ -157,12 +177,21 @@ def tokens_of(text: str) -> Tokens:
 
 def next_words(tokens: Tokens, at: int, count: int = 2) -> list[str]:
     """Returns the words after a place, of which there may be fewer."""
-    return [it.text for it in tokens[at + 1:at + 1 + count]]
+    return [it.text for it in tokens[at + 1 : at + 1 + count]]
 
 
 def before(tokens: Tokens, at: int, count: int = 1) -> list[str]:
     """Returns the words before a place, of which there may be fewer."""
-    return [it.text for it in tokens[max(0, at - count):at]]
+    return [it.text for it in tokens[max(0, at - count) : at]]
+
+
+def is_imported(tokens: Tokens, at: int) -> bool:
+    """Returns whether a name stands in a `use`, in braces or not."""
+    while at > 0 and re.fullmatch(r"[A-Za-z_]\w*|::|[{},]", tokens[at].text):
+        if tokens[at].text == "use":
+            return True
+        at -= 1
+    return tokens[at].text == "use"
 
 
 def place_of(token: Token, word: str) -> str:
@@ -195,7 +224,10 @@ def is_value(tokens: Tokens, at: int) -> bool:
     """Returns whether a type's name stands as a value: in a body and not in another type, or after an equal sign."""
     if tokens[at].function is None:
         return before(tokens, at) == ["="]
-    return next_words(tokens, at, 1) != [">"] and next_words(tokens, at) != ["::", "from"]
+    return next_words(tokens, at, 1) != [">"] and next_words(tokens, at) != [
+        "::",
+        "from",
+    ]
 
 
 def makes_want_of_memory(name: str, tokens: Tokens, at: int) -> bool:
@@ -207,12 +239,21 @@ def makes_want_of_memory(name: str, tokens: Tokens, at: int) -> bool:
 def makes_error_of_system(name: str, tokens: Tokens, at: int) -> bool:
     """Finds an error made by its type's functions, or of a kind that is no pattern."""
     word, inside = tokens[at].text, tokens[at].function is not None
-    if word in ("last_error", "last_os_error", "const_error", "from_raw_os_error", "out_of_memory"):
+    if word in (
+        "last_error",
+        "last_os_error",
+        "const_error",
+        "from_raw_os_error",
+        "out_of_memory",
+    ):
         return True
     if word == "ErrorKind" and inside:
         after = next_words(tokens, at, 6)[2:]
         return after[:1] not in (["=>"], ["|"]) and after != ["(", "_", ")", "=>"]
-    is_used = next_words(tokens, at, 1) == ["::"] or before(tokens, at, 2) == ["fmt", "::"]
+    is_used = next_words(tokens, at, 1) == ["::"] or before(tokens, at, 2) == [
+        "fmt",
+        "::",
+    ]
     return word == "Error" and inside and is_used
 
 
@@ -226,8 +267,12 @@ def tells_no_pause(name: str, tokens: Tokens, at: int) -> bool:
 
 def tells_no_byte(name: str, tokens: Tokens, at: int) -> bool:
     """Finds a write that took no byte, unless a write took none."""
-    return tokens[at].text == "NoByte" and tokens[at].function is not None \
-        and before(tokens, at, 10) != ["Ok", "(", "0", ")", "=>", "return", "Err", "(", "WriteFault", "::"]
+    return (
+        tokens[at].text == "NoByte"
+        and tokens[at].function is not None
+        and before(tokens, at, 10)
+        != ["Ok", "(", "0", ")", "=>", "return", "Err", "(", "WriteFault", "::"]
+    )
 
 
 def renames(name: str, tokens: Tokens, at: int) -> bool:
@@ -254,7 +299,7 @@ def parts_of(tokens: Tokens, at: int, mark: str) -> list[list[str]]:
         if tokens[place].text == mark:
             parts.append([])
         else:
-            parts[-1] += [it.text for it in tokens[place:close + 1]]
+            parts[-1] += [it.text for it in tokens[place : close + 1]]
         place = close + 1
     return parts
 
@@ -265,8 +310,10 @@ def local_value(tokens: Tokens, at: int, name: str) -> str:
         if tokens[place].function != tokens[at].function:
             return ""
         if tokens[place].text == name and before(tokens, place) == ["let"]:
-            ends = next(end for end in range(place, len(tokens)) if tokens[end].text == ";")
-            return " ".join(token.text for token in tokens[place + 1:ends])
+            ends = next(
+                end for end in range(place, len(tokens)) if tokens[end].text == ";"
+            )
+            return " ".join(token.text for token in tokens[place + 1 : ends])
     return ""
 
 
@@ -279,13 +326,23 @@ def room_at(tokens: Tokens, at: int) -> str:
     if word == "vec" and next_words(tokens, at, 1) == ["!"]:
         parts = parts_of(tokens, at + 2, ";")
         sizes = parts[2:]
-    elif word in GROWTH and next_words(tokens, at, 1) == ["("]:
-        sizes = [part for part in parts_of(tokens, at + 1, ",") if part and part != ["alloc"]]
+    elif word in GROWTH and next_words(tokens, at, 1) != ["("]:
+        return f"{word} by its name"
+    elif word in GROWTH:
+        sizes = [
+            part for part in parts_of(tokens, at + 1, ",") if part and part != ["alloc"]
+        ]
     else:
         return ""
     size = [part for part in sizes[:1] for part in part]
-    names = dict.fromkeys(name for place, name in enumerate(size) if size[place - 1:place] != ["."])
-    values = [f"where {name} {value}" for name in names if (value := local_value(tokens, at, name))]
+    names = dict.fromkeys(
+        name for place, name in enumerate(size) if size[place - 1 : place] != ["."]
+    )
+    values = [
+        f"where {name} {value}"
+        for name in names
+        if (value := local_value(tokens, at, name))
+    ]
     return " ".join([word, *size, *values])
 
 
@@ -294,12 +351,24 @@ ALL = ("crn",)
 RUN = ("crn_run/src/",)
 # Stands for each call that asks for room.
 ROOM = "ROOM"
-GROWTH = ("with_capacity", "reserve", "reserve_exact", "try_reserve", "try_reserve_exact", "resize", "repeat")
+GROWTH = (
+    "with_capacity",
+    "reserve",
+    "reserve_exact",
+    "try_reserve",
+    "try_reserve_exact",
+    "resize",
+    "repeat",
+)
 NUMBERS = ("u8", "u16", "u32", "u64", "u128", "usize", "i64", "i128", "f64")
 # The function that reads a flag of the kit, which has no value to hand on, and the files that have one.
 CONVERTER = "refusal_of"
-CONVERTERS = ("crn_command_line/src/words.rt", "crn_rows/src/refusal.rt", "crn_scenario/src/read.rt",
-              "crnsim/src/main.rt")
+CONVERTERS = (
+    "crn_command_line/src/words.rt",
+    "crn_rows/src/refusal.rt",
+    "crn_scenario/src/read.rt",
+    "crnsim/src/main.rt",
+)
 # What makes a pause, by its name.
 PAUSES = {
     "Spin": "self . spinning . spin ( ) ;",
@@ -307,7 +376,10 @@ PAUSES = {
     "Sleep": "self . sleeper . park_timeout ( rt , time ) ;",
 }
 RULES: list[Rule] = [
-    *(Places(**rule) for rule in tomllib.loads((HERE / "places.toml").read_text("utf-8"))["rule"]),
+    *(
+        Places(**rule)
+        for rule in tomllib.loads((HERE / "places.toml").read_text("utf-8"))["rule"]
+    ),
     Forbidden("a failed allocation is made up", ALL, makes_want_of_memory),
     Forbidden("an error of the system is made up", ALL, makes_error_of_system),
     Forbidden("a write that took no byte is made up", ALL, tells_no_byte),

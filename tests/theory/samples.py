@@ -40,10 +40,15 @@ class Measured(NamedTuple):
     costs: list[float]
 
 
-def reports_of(program: Path, tree: Tree, numbers: Sequence[int]) -> list[list[dict[str, str]]]:
+def reports_of(
+    program: Path, tree: Tree, numbers: Sequence[int]
+) -> list[list[dict[str, str]]]:
     """Returns the rows of a setting's reports with the keys of these numbers."""
     text = tomlkit.dumps({"key": ["KEY", *["0" * 16] * 3], **tree})
-    shown = [run(program, [], text.replace("KEY", f"7e57{number:012x}").encode()) for number in numbers]
+    shown = [
+        run(program, [], text.replace("KEY", f"7e57{number:012x}").encode())
+        for number in numbers
+    ]
     assert [it.status for it in shown] == [0] * len(shown), shown[0].errors
     return [list(csv.DictReader(it.output.decode().splitlines())) for it in shown]
 
@@ -55,9 +60,15 @@ def sample_of(rows: list[dict[str, str]], replications: int) -> Sample:
     """
     first, sample = Fraction(rows[0]["cov"]), []
     for row in rows:
-        mean, difference = Fraction(row["total"]) / replications, Fraction(row["diff_mean"])
-        variance = replications * Fraction(row["diff_var"]) - first + 2 * Fraction(row["cov"])
-        sample.append(((mean, variance / replications), (difference, Fraction(row["diff_var"]))))
+        mean, difference = Fraction(row["total"]) / replications, Fraction(
+            row["diff_mean"]
+        )
+        variance = (
+            replications * Fraction(row["diff_var"]) - first + 2 * Fraction(row["cov"])
+        )
+        sample.append(
+            ((mean, variance / replications), (difference, Fraction(row["diff_var"])))
+        )
     return sample
 
 
@@ -66,7 +77,12 @@ def measured(program: Path, number: int) -> Measured:
     """Returns a setting with its samples and expected costs."""
     name, tree = SETTINGS[number]
     rows = reports_of(program, tree, range(KEYS * number, KEYS * (number + 1)))
-    return Measured(name, tree, [sample_of(it, tree["replications"]) for it in rows], expected_costs(tree))
+    return Measured(
+        name,
+        tree,
+        [sample_of(it, tree["replications"]) for it in rows],
+        expected_costs(tree),
+    )
 
 
 def expected_costs(tree: Tree, **wrong: bool) -> list[float]:
@@ -94,21 +110,33 @@ def zs_of(samples: list[Sample], costs: list[float]) -> tuple[list[float], list[
     levels: list[float] = []
     differences: list[float] = []
     for place, cost in enumerate(costs):
-        for kind, expected, zs in ((0, cost, levels), (1, cost - costs[0], differences))[:1 + (place > 0)]:
-            variance = sum((sample[place][kind][1] for sample in samples), Fraction(0)) / len(samples)
-            zs += [z_of(sample[place][kind][0], variance, expected) for sample in samples]
+        for kind, expected, zs in (
+            (0, cost, levels),
+            (1, cost - costs[0], differences),
+        )[: 1 + (place > 0)]:
+            variance = sum(
+                (sample[place][kind][1] for sample in samples), Fraction(0)
+            ) / len(samples)
+            zs += [
+                z_of(sample[place][kind][0], variance, expected) for sample in samples
+            ]
     return levels, differences
 
 
 def all_zs(program: Path) -> tuple[list[float], list[float]]:
     """Returns the z of each policy's mean cost with each key of all settings, and those of the differences."""
-    each = [zs_of(it.samples, it.costs) for it in (measured(program, number) for number in range(len(SETTINGS)))]
+    each = [
+        zs_of(it.samples, it.costs)
+        for it in (measured(program, number) for number in range(len(SETTINGS)))
+    ]
     return [z for it in each for z in it[0]], [z for it in each for z in it[1]]
 
 
 def main() -> None:
     """Draws the picture, and prints its caption."""
-    words = argparse.ArgumentParser(description=__doc__, formatter_class=argparse.RawDescriptionHelpFormatter)
+    words = argparse.ArgumentParser(
+        description=__doc__, formatter_class=argparse.RawDescriptionHelpFormatter
+    )
     words.add_argument("program", metavar="PROGRAM", type=os.path.abspath)
     words.add_argument("file", metavar="FILE")
     asked = words.parse_args()
@@ -116,7 +144,13 @@ def main() -> None:
         words.error(f"{asked.file}: give a file that ends in .svg or .png")
     every = [measured(Path(asked.program), number) for number in range(len(SETTINGS))]
     levels, _ = all_zs(Path(asked.program))
-    draw(asked.file, [it.samples for it in every], [it.costs for it in every], list(DEMANDS), levels)
+    draw(
+        asked.file,
+        [it.samples for it in every],
+        [it.costs for it in every],
+        list(DEMANDS),
+        levels,
+    )
     print(caption_of(levels))
 
 

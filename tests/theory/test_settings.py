@@ -30,29 +30,44 @@ KINDS = ("costs", "differences")
 def limits_of(kind: str, zs: list[float]) -> Iterator[tuple[str, bool]]:
     """Yields each limit for the z of all settings, and whether it is kept."""
     deviation = statistics.stdev(zs) if math.inf not in zs else math.inf
-    yield f"{kind}: the greatest |z| is {max(map(abs, zs)):.2f}", max(map(abs, zs)) < MOST_Z
-    yield f"{kind}: the mean of z is {statistics.fmean(zs):.3f}", abs(statistics.fmean(zs)) <= MOST_MEAN
+    yield f"{kind}: the greatest |z| is {max(map(abs, zs)):.2f}", max(
+        map(abs, zs)
+    ) < MOST_Z
+    yield f"{kind}: the mean of z is {statistics.fmean(zs):.3f}", abs(
+        statistics.fmean(zs)
+    ) <= MOST_MEAN
     yield f"{kind}: the deviation of z is {deviation:.3f}", LEAST_DEVIATION <= deviation <= MOST_DEVIATION
 
 
-@pytest.mark.parametrize("number", range(len(SETTINGS)), ids=[name for name, _ in SETTINGS])
+@pytest.mark.parametrize(
+    "number", range(len(SETTINGS)), ids=[name for name, _ in SETTINGS]
+)
 def test_setting(program: Path, number: int, check_all: Any) -> None:
     """No mean of a setting deviates by 4 standard errors."""
     its = measured(program, number)
     zs = zs_of(its.samples, its.costs)
     greatest = [max(map(abs, it)) for it in zs]
-    check_all((f"{kind}: z goes up to {it:.2f}", it < MOST_Z) for kind, it in zip(KINDS, greatest))
+    check_all(
+        (f"{kind}: z goes up to {it:.2f}", it < MOST_Z)
+        for kind, it in zip(KINDS, greatest)
+    )
 
 
 def test_all_settings(program: Path, check_all: Any) -> None:
     """The deviations of all settings are as chance allows."""
-    check_all(limit for kind, zs in zip(KINDS, all_zs(program)) for limit in limits_of(kind, zs))
+    check_all(
+        limit
+        for kind, zs in zip(KINDS, all_zs(program))
+        for limit in limits_of(kind, zs)
+    )
 
 
 def test_picture_has_the_figures_of_the_run(program: Path) -> None:
     """The stored picture says the figures of the run."""
     caption = caption_of(all_zs(program)[0])
-    assert caption in stored("docs/theory.svg").decode(), "draw it anew: python -m tests.theory.samples PROGRAM FILE"
+    assert (
+        caption in stored("docs/theory.svg").decode()
+    ), "draw it anew: python -m tests.theory.samples PROGRAM FILE"
 
 
 def with_later_point(tree: Tree) -> list[float]:
@@ -76,9 +91,23 @@ def with_common_words(tree: Tree) -> list[float]:
     return expected_costs(tree, common_words=True)
 
 
-@pytest.mark.parametrize("wrong", [with_later_point, with_longer_lead, with_common_words], ids=lambda it: it.__name__)
-def test_wrong_theory_is_found(program: Path, wrong: Callable[[Tree], list[float]], check_all: Any) -> None:
+@pytest.mark.parametrize(
+    "wrong",
+    [with_later_point, with_longer_lead, with_common_words],
+    ids=lambda it: it.__name__,
+)
+def test_wrong_theory_is_found(
+    program: Path, wrong: Callable[[Tree], list[float]], check_all: Any
+) -> None:
     """With a wrong theory some mean cost and some difference deviates by 4 standard errors or more."""
-    each = [zs_of(its.samples, wrong(its.tree)) for its in (measured(program, number) for number in FEW)]
-    greatest = [max(abs(z) for it in each for z in it[kind]) for kind in range(len(KINDS))]
-    check_all((f"{kind}: z goes up to {it:.2f} only", it >= MOST_Z) for kind, it in zip(KINDS, greatest))
+    each = [
+        zs_of(its.samples, wrong(its.tree))
+        for its in (measured(program, number) for number in FEW)
+    ]
+    greatest = [
+        max(abs(z) for it in each for z in it[kind]) for kind in range(len(KINDS))
+    ]
+    check_all(
+        (f"{kind}: z goes up to {it:.2f} only", it >= MOST_Z)
+        for kind, it in zip(KINDS, greatest)
+    )

@@ -1,4 +1,4 @@
-"""The theory is right: beside sums over all draws, beside its own shorter way, and beside published optima."""
+"""The theory is right: beside sums over all draws, and beside its own shorter way."""
 from __future__ import annotations
 
 import itertools
@@ -8,27 +8,34 @@ from typing import Any
 import pytest
 
 from tests.program import oracle
-from tests.theory.expected import Expected, best_policy, chances_of
+from tests.theory.expected import Expected, chances_of
 
 Table = tuple[list[int], list[int]]
 
-# Zheng and Federgruen, Finding optimal (s,S) policies is about as simple as evaluating a single policy, Operations
-# Research 39 (1991), table I: Poisson means with s, S and the cost. Orders arrive at once, setup costs 64, holding 1
-# and backlog 9. They order at s too, so their s is one below crnsim's.
-PUBLISHED = [(10, 6, 40, "35.022"), (15, 10, 49, "42.698"), (20, 14, 62, "49.173"), (25, 19, 56, "54.262")]
 # Small scenarios: values and weights of demands, lead times and returns, and the levels of a policy.
 SMALL: list[tuple[Table, Table, Table, tuple[int, int]]] = [
     (([0, 3], [2, 1]), ([1, 3], [1, 2]), ([0], [1]), (2, 5)),
     (([1, 4], [3, 1]), ([2], [1]), ([0, 2], [1, 1]), (4, 4)),
-    (([0, 2], [1, 1]), ([1, 2], [1, 1]), ([0, 1], [2, 1]), (3, 6))]
+    (([0, 2], [1, 1]), ([1, 2], [1, 1]), ([0, 1], [2, 1]), (3, 6)),
+]
 
 
-def small_tree(demand: Table, lead: Table, back: Table, levels: tuple[int, int], periods: int = 4) -> dict[str, Any]:
+def small_tree(
+    demand: Table, lead: Table, back: Table, levels: tuple[int, int], periods: int = 4
+) -> dict[str, Any]:
     """Returns a small scenario."""
     laws = {"demand": demand, "lead": lead, "returns": back}
-    tables = {name: {"values": values, "weights": weights} for name, (values, weights) in laws.items()}
-    return {"periods": periods, "initial": 3, "costs": {"setup": 7, "unit": 2, "holding": 1, "backlog": 4}, **tables,
-            "policy": [{"s": levels[0], "S": levels[1]}]}
+    tables = {
+        name: {"values": values, "weights": weights}
+        for name, (values, weights) in laws.items()
+    }
+    return {
+        "periods": periods,
+        "initial": 3,
+        "costs": {"setup": 7, "unit": 2, "holding": 1, "backlog": 4},
+        **tables,
+        "policy": [{"s": levels[0], "S": levels[1]}],
+    }
 
 
 class Drawn:
@@ -50,24 +57,22 @@ def sum_over_draws(tree: dict[str, Any]) -> float:
     return total
 
 
-@pytest.mark.parametrize("small", SMALL, ids=["orders overtake", "returns", "returns and two lead times"])
+@pytest.mark.parametrize(
+    "small", SMALL, ids=["orders overtake", "returns", "returns and two lead times"]
+)
 def test_sum_over_all_draws(small: Any) -> None:
     """The expected cost is the mean over all that the periods of a small scenario may draw."""
     tree = small_tree(*small)
-    assert Expected(tree, tree["policy"][0]).cost() == pytest.approx(sum_over_draws(tree), abs=1e-9)
+    assert Expected(tree, tree["policy"][0]).cost() == pytest.approx(
+        sum_over_draws(tree), abs=1e-9
+    )
 
 
 def test_one_lead_time_the_general_way() -> None:
     """The shorter way for one lead time gives what the general way gives."""
     tree = small_tree(*SMALL[1], periods=9)
     policy = Expected(tree, tree["policy"][0])
-    general = policy.cost(lambda reviews, position: policy.general_cost(reviews, position, 0))
+    general = policy.cost(
+        lambda reviews, position: policy.general_cost(reviews, position, 0)
+    )
     assert policy.cost() == pytest.approx(general, abs=1e-9)
-
-
-@pytest.mark.parametrize("mean, point, level, cost", PUBLISHED)
-def test_published_optimum(mean: int, point: int, level: int, cost: str) -> None:
-    """The best policy is the published one."""
-    poisson = {value: math.exp(value * math.log(mean) - mean - math.lgamma(value + 1)) for value in range(100)}
-    best = best_policy(poisson, (64, 1, 9), 80)
-    assert (f"{best[0]:.3f}", best[1] - 1, best[2]) == (cost, point, level)

@@ -7,7 +7,7 @@ import subprocess
 from dataclasses import dataclass
 from pathlib import Path
 
-from crnplan.caches import cache_folder
+from crnplan.store.caches import cache_folder
 
 SECONDS = 100
 Ran = subprocess.CompletedProcess[str]
@@ -56,7 +56,11 @@ class Machine:
 
     def environment(self, **more: str) -> dict[str, str]:
         """Returns the environment of a tool, in which crnplan finds the inner loops that this user has compiled."""
-        named = {"PATH": f"{self.folder}/bin:{PATH}", "HOME": str(self.folder), "LANG": "C.UTF-8"}
+        named = {
+            "PATH": f"{self.folder}/bin:{PATH}",
+            "HOME": str(self.folder),
+            "LANG": "C.UTF-8",
+        }
         loops = {"NUMBA_CACHE_DIR": str(own)} if (own := cache_folder()) else {}
         return {**named, **loops, "LOG": str(self.folder / "log"), **more}
 
@@ -64,13 +68,25 @@ class Machine:
         """Runs a command, whose name may be a path in the copy, to its end."""
         command = self.top / words[0]
         found = command if command.exists() else words[0]
-        return subprocess.run([os.fspath(found), *words[1:]], input=text, text=True, capture_output=True,
-                              env=self.environment(**more), timeout=SECONDS)
+        return subprocess.run(
+            [os.fspath(found), *words[1:]],
+            input=text,
+            text=True,
+            capture_output=True,
+            env=self.environment(**more),
+            timeout=SECONDS,
+        )
 
     def start(self, *words: str, **more: str) -> subprocess.Popen[str]:
         """Starts a command of the copy, with a pipe for its input and its output."""
-        return subprocess.Popen([self.top / words[0], *words[1:]], env=self.environment(**more), text=True,
-                                stdin=subprocess.PIPE, stdout=subprocess.PIPE, stderr=subprocess.DEVNULL)
+        return subprocess.Popen(
+            [self.top / words[0], *words[1:]],
+            env=self.environment(**more),
+            text=True,
+            stdin=subprocess.PIPE,
+            stdout=subprocess.PIPE,
+            stderr=subprocess.DEVNULL,
+        )
 
     def logged(self) -> list[str]:
         """Returns the lines that the fakes have written down."""

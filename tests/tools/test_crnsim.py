@@ -54,7 +54,9 @@ def crnsim(machine: Machine, *words: str, **more: str) -> Ran:
     return machine.run("tools/crnsim", *words, **more)
 
 
-def test_first_use_builds_and_prints_only_the_output_of_the_program(machine: Machine) -> None:
+def test_first_use_builds_and_prints_only_the_output_of_the_program(
+    machine: Machine,
+) -> None:
     ran = crnsim(machine, "leg", "a  b", text="input\n")
     assert ran.stdout == "word leg\nword a  b\ninput\n"
     assert "proving and building the program first" in ran.stderr
@@ -82,18 +84,27 @@ def test_a_link_to_the_tool_runs_the_program(machine: Machine) -> None:
 
 def test_closed_input_stays_closed(machine: Machine) -> None:
     crnsim(machine)
-    assert "Bad file descriptor" in machine.run("bash", "-c", f"'{machine.top}/tools/crnsim' <&-").stderr
+    assert (
+        "Bad file descriptor"
+        in machine.run("bash", "-c", f"'{machine.top}/tools/crnsim' <&-").stderr
+    )
 
 
 def test_build_that_fails_gives_its_output_and_no_program(machine: Machine) -> None:
     ran = crnsim(machine, text="input", FAILS="1")
     assert (ran.returncode, ran.stdout) == (125, "")
-    assert ran.stderr.endswith("crnsim: NOT PROVED in 2 s\ntools/crnsim: the program is not built\n")
+    assert ran.stderr.endswith(
+        "crnsim: NOT PROVED in 2 s\ntools/crnsim: the program is not built\n"
+    )
 
 
-def test_old_program_is_not_run_if_the_build_of_changed_sources_fails(machine: Machine) -> None:
+def test_old_program_is_not_run_if_the_build_of_changed_sources_fails(
+    machine: Machine,
+) -> None:
     crnsim(machine)
-    (machine.top / "crates" / "crnsim" / "src" / "main.rt").write_text("new\n", encoding="utf-8")
+    (machine.top / "crates" / "crnsim" / "src" / "main.rt").write_text(
+        "new\n", encoding="utf-8"
+    )
     for _ in range(2):
         ran = crnsim(machine, FAILS="1")
         assert (ran.returncode, ran.stdout) == (125, "")
@@ -116,15 +127,37 @@ def rewritten_with_its_old_time(path: Path) -> None:
     os.utime(path, ns=(had.st_atime_ns, had.st_mtime_ns))
 
 
-@pytest.mark.parametrize("change", [
-    pytest.param(lambda it: (it / "crates/crnsim/src/main.rt").write_text("new\n"), id="a text"),
-    pytest.param(lambda it: rewritten_with_its_old_time(it / "crates/crnsim/src/main.rt"), id="a text, time kept"),
-    pytest.param(lambda it: (it / "crates/crnsim/proofs/Main.antt").unlink(), id="a file less"),
-    pytest.param(lambda it: (it / "crates/crnsim/src/more.rt").touch(), id="a file more"),
-    pytest.param(lambda it: (it / "crates.txt").write_text("crnsim:\n"), id="the list of crates"),
-    pytest.param(lambda it: (it / "../kit/WHAT").write_text("two\n"), id="the kit"),
-    pytest.param(lambda it: (it / "crates/crnsim/out/crnsim").unlink(), id="the program")])
-def test_change_builds_once_more(machine: Machine, change: Callable[[Path], object]) -> None:
+@pytest.mark.parametrize(
+    "change",
+    [
+        pytest.param(
+            lambda it: (it / "crates/crnsim/src/main.rt").write_text("new\n"),
+            id="a text",
+        ),
+        pytest.param(
+            lambda it: rewritten_with_its_old_time(it / "crates/crnsim/src/main.rt"),
+            id="a text, time kept",
+        ),
+        pytest.param(
+            lambda it: (it / "crates/crnsim/proofs/Main.antt").unlink(),
+            id="a file less",
+        ),
+        pytest.param(
+            lambda it: (it / "crates/crnsim/src/more.rt").touch(), id="a file more"
+        ),
+        pytest.param(
+            lambda it: (it / "crates.txt").write_text("crnsim:\n"),
+            id="the list of crates",
+        ),
+        pytest.param(lambda it: (it / "../kit/WHAT").write_text("two\n"), id="the kit"),
+        pytest.param(
+            lambda it: (it / "crates/crnsim/out/crnsim").unlink(), id="the program"
+        ),
+    ],
+)
+def test_change_builds_once_more(
+    machine: Machine, change: Callable[[Path], object]
+) -> None:
     crnsim(machine)
     time.sleep(0.02)
     change(machine.top)
@@ -144,24 +177,34 @@ def test_change_during_the_build_builds_once_more(machine: Machine) -> None:
     with machine.start("tools/crnsim", LASTS="0.5") as running:
         while not machine.logged():
             time.sleep(0.01)
-        (machine.top / "crates" / "crnsim" / "src" / "main.rt").write_text("new\n", encoding="utf-8")
+        (machine.top / "crates" / "crnsim" / "src" / "main.rt").write_text(
+            "new\n", encoding="utf-8"
+        )
         running.communicate()
     crnsim(machine)
     assert machine.logged() == BUILT * 2
 
 
 def test_two_at_once_build_once_and_both_run(machine: Machine) -> None:
-    with (machine.start("tools/crnsim", "one", LASTS="0.5") as one,
-          machine.start("tools/crnsim", "two", LASTS="0.5") as two):
+    with (
+        machine.start("tools/crnsim", "one", LASTS="0.5") as one,
+        machine.start("tools/crnsim", "two", LASTS="0.5") as two,
+    ):
         assert one.communicate("1")[0] == "word one\n1"
         assert two.communicate("2")[0] == "word two\n2"
     assert machine.logged() == BUILT
 
 
 @pytest.mark.serial
-def test_wrapper_of_a_built_program_takes_under_a_tenth_of_a_second(machine: Machine, top: Path) -> None:
+def test_wrapper_of_a_built_program_takes_under_a_tenth_of_a_second(
+    machine: Machine, top: Path
+) -> None:
     for crate in (top / "crates").iterdir():
-        for path in (it for it in crate.rglob("*") if it.is_file() and "out" not in it.relative_to(crate).parts):
+        for path in (
+            it
+            for it in crate.rglob("*")
+            if it.is_file() and "out" not in it.relative_to(crate).parts
+        ):
             copied = machine.top / path.relative_to(top)
             copied.parent.mkdir(parents=True, exist_ok=True)
             copied.touch()

@@ -2,7 +2,9 @@
 from __future__ import annotations
 
 import re
+import tomllib
 from pathlib import Path
+from typing import Any
 
 import pytest
 
@@ -26,14 +28,21 @@ exit "$status"
 """
 PART = 'part={}; echo "$part: $*" >>"$LOG"' + SAYS
 # What each part says if all is well, and how it counts.
-WELL = {"setup": "tools/setup: all is there", "sources": "........\n8 passed in 1.20s",
-        "proofs": "proved\n20 passed, 0 failed", "types": "Success: no issues found in 40 source files",
-        "rounds": "4 passed, 0 failed (1 judged, 3 kept)",
-        "suites": "....\ntests/program: 300 cases\n100 passed, 3 deselected, 1 warning in 61.20s (0:01:01)",
-        "lines": "0 lines of crnplan are not run by any test; 0 faults",
-        "serial": "3 passed, 100 deselected in 2.10s"}
+WELL = {
+    "setup": "tools/setup: all is there",
+    "sources": "........\n8 passed in 1.20s",
+    "proofs": "proved\n20 passed, 0 failed",
+    "types": "Success: no issues found in 40 source files",
+    "rounds": "4 passed, 0 failed (1 judged, 3 kept)",
+    "suites": "....\ntests/program: 300 cases\n100 passed, 3 deselected, 1 warning in 61.20s (0:01:01)",
+    "lines": "0 lines of crnplan are not run by any test; 0 faults",
+    "serial": "3 passed, 100 deselected in 2.10s",
+}
 PASSED = 1 + 8 + 20 + 1 + 4 + 100 + 1 + 3
 PARTS = list(WELL)
+FAULTS = tomllib.loads(Path(__file__).with_name("gate.toml").read_text("utf-8"))[
+    "fault"
+]
 # What runs beside the part before or behind it.
 BESIDE = ("types", "rounds")
 
@@ -67,7 +76,9 @@ def test_counts_of_all_parts_are_summed(machine: Machine) -> None:
     ran = gate(machine)
     assert (last(ran), ran.stderr) == ((0, f"{PASSED} passed, 0 failed"), "")
     began = [it.split(":")[0] for it in machine.logged()]
-    assert [it for it in began if it not in BESIDE] == [it for it in PARTS if it not in BESIDE]
+    assert [it for it in began if it not in BESIDE] == [
+        it for it in PARTS if it not in BESIDE
+    ]
 
 
 def test_output_and_times_of_each_part_are_shown(machine: Machine) -> None:
@@ -76,12 +87,27 @@ def test_output_and_times_of_each_part_are_shown(machine: Machine) -> None:
     assert re.findall(r"^(\w+) +[\d.]+ +[\d.]+$", shown, re.MULTILINE) == PARTS
 
 
-def test_types_run_beside_the_proofs_and_the_suites_beside_the_rounds(machine: Machine) -> None:
-    changed(machine.top / ".venv" / "bin" / "python", "part=types", "part=types; sleep 0.5")
-    write_script(machine.top / "tools" / "rounds.py", "sleep 0.5\n" + PART.format("rounds"))
+def test_types_run_beside_the_proofs_and_the_suites_beside_the_rounds(
+    machine: Machine,
+) -> None:
+    changed(
+        machine.top / ".venv" / "bin" / "python", "part=types", "part=types; sleep 0.5"
+    )
+    write_script(
+        machine.top / "tools" / "rounds.py", "sleep 0.5\n" + PART.format("rounds")
+    )
     gate(machine)
     began = [it.split(":")[0] for it in machine.logged()]
-    assert began == ["setup", "sources", "proofs", "types", "suites", "lines", "rounds", "serial"]
+    assert began == [
+        "setup",
+        "sources",
+        "proofs",
+        "types",
+        "suites",
+        "lines",
+        "rounds",
+        "serial",
+    ]
 
 
 def test_tests_run_once_each(machine: Machine) -> None:
@@ -89,45 +115,44 @@ def test_tests_run_once_each(machine: Machine) -> None:
     words = dict(it.split(": ", 1) for it in machine.logged())
     suites, measured = words["suites"].split(" --lines ")
     folder, _, tested = measured.partition(" ")
-    assert suites.endswith(" -m not serial --ignore tests/sources") and tested == "tests planner/tests"
+    assert (
+        suites.endswith(" -m not serial --ignore tests/sources")
+        and tested == "tests planner/tests"
+    )
     assert words["lines"] == f"-m planner.lines {folder}"
     assert words["serial"].endswith(" -m serial --ignore tests/sources")
     assert " -n " in suites and " -n " not in words["serial"]
 
 
-@pytest.mark.parametrize("part, status, text, counts", [
-    pytest.param("types", 1, "x.py:1: error: no\nFound 1 error in 1 file", (PASSED - 1, 1), id="types are wrong"),
-    pytest.param("proofs", 1, "18 passed, 2 failed", (PASSED - 2, 2), id="a proof fails"),
-    pytest.param("rounds", 1, "3 passed, 1 failed (4 judged, 0 kept)", (PASSED - 1, 1), id="a round fails"),
-    pytest.param("sources", 1, "1 failed, 7 passed in 1.20s", (PASSED - 1, 1), id="a test fails"),
-    pytest.param("suites", 1, "98 passed, 2 errors in 1.20s", (PASSED - 2, 2), id="tests have errors"),
-    pytest.param("suites", 1, "2 failed, 97 passed, 1 error in 61.20s (0:01:01)", (PASSED - 3, 3), id="all kinds"),
-    pytest.param("suites", 0, "99 passed, 1 xfailed in 1.20s", (PASSED - 1, 1), id="a test is expected to fail"),
-    pytest.param("suites", 0, "99 passed, 1 xpassed in 1.20s", (PASSED - 1, 1), id="a test passes against expectation"),
-    pytest.param("rounds", 139, "4 passed, 0 failed", (PASSED, 1), id="counts are right and the status is not"),
-    pytest.param("lines", 1, "2 lines of crnplan are not run by any test; 2 faults", (PASSED - 1, 1),
-                 id="lines are not run"),
-    pytest.param("serial", 137, "..", (PASSED - 3, 1), id="tests are killed"),
-    pytest.param("serial", 5, "no tests ran in 0.01s", (PASSED - 3, 1), id="no test runs"),
-    pytest.param("serial", 0, "0 passed in 0.01s", (PASSED - 3, 1), id="nothing is counted"),
-    pytest.param("proofs", 0, "20 passed, 0 failed\nand more", (PASSED - 20, 1), id="the last line is another"),
-    pytest.param("suites", 0, "100 passed in 3.00s\nException ignored in: x", (PASSED, 0), id="more is said")])
-def test_faults_are_counted(machine: Machine, part: str, status: int, text: str, counts: tuple[int, int]) -> None:
-    ran = gate(machine, **{part: (status, text)})
-    assert last(ran) == (int(counts[1] > 0), f"{counts[0]} passed, {counts[1]} failed")
-    assert text in ran.stdout
+@pytest.mark.parametrize("case", FAULTS, ids=lambda it: it["id"])
+def test_faults_are_counted(machine: Machine, case: dict[str, Any]) -> None:
+    ran = gate(machine, **{case["part"]: (case["status"], case["text"])})
+    failed = case["failed"]
+    said = f"{PASSED - case['lost']} passed, {failed} failed"
+    assert last(ran) == (int(failed > 0), said)
+    assert case["text"] in ran.stdout
 
 
-@pytest.mark.parametrize("part, text", [("suites", "SKIPPED [1] test_a.py:3: no R\n99 passed, 1 skipped in 1.20s"),
-                                        ("proofs", "19 passed, 0 failed, 1 skipped")])
-def test_skipped_test_is_counted_and_fails(machine: Machine, part: str, text: str) -> None:
+@pytest.mark.parametrize(
+    "part, text",
+    [
+        ("suites", "SKIPPED [1] test_a.py:3: no R\n99 passed, 1 skipped in 1.20s"),
+        ("proofs", "19 passed, 0 failed, 1 skipped"),
+    ],
+)
+def test_skipped_test_is_counted_and_fails(
+    machine: Machine, part: str, text: str
+) -> None:
     ran = gate(machine, **{part: (0, text)})
     assert last(ran) == (1, f"{PASSED - 1} passed, 1 failed, 1 skipped")
     assert text in ran.stdout
 
 
 def test_set_up_that_fails_ends_the_gate(machine: Machine) -> None:
-    assert last(gate(machine, setup=(1, "tools/setup: no network"))) == (1, "0 passed, 1 failed")
+    assert last(gate(machine, setup=(1, "tools/setup: no network"))) == (
+        1,
+        "0 passed, 1 failed",
+    )
     assert len(machine.logged()) == 1
 
 
@@ -144,7 +169,11 @@ def test_rounds_may_read_no_kept_verdict(machine: Machine) -> None:
 def test_rounds_judge_over_libraries_that_are_proved(machine: Machine) -> None:
     library = machine.top / "crates" / "tiny" / "out" / "rlib" / "tiny.rlib"
     library.mkdir(parents=True)
-    machine.fake("rt", f'[[ -e "{library}" ]] && echo "rt finds a library" >>"$LOG"\n' + PART.format("proofs"))
+    machine.fake(
+        "rt",
+        f'[[ -e "{library}" ]] && echo "rt finds a library" >>"$LOG"\n'
+        + PART.format("proofs"),
+    )
     gate(machine)
     assert "rt finds a library" not in machine.logged()
 
@@ -159,6 +188,13 @@ def test_missing_command_is_a_failure(machine: Machine) -> None:
 def test_variables_that_change_tests_are_taken_away(machine: Machine) -> None:
     write_script(machine.top / "tools" / "setup", 'part=setup; env >"$LOG.env"' + SAYS)
     gate(machine)
-    machine.run(".ci/run", CRNSIM="/other", PYTEST_ADDOPTS="-k none", PYTHONPATH="/other")
-    names = {it.split("=")[0] for it in Path(f"{machine.folder}/log.env").read_text(encoding="utf-8").splitlines()}
+    machine.run(
+        ".ci/run", CRNSIM="/other", PYTEST_ADDOPTS="-k none", PYTHONPATH="/other"
+    )
+    names = {
+        it.split("=")[0]
+        for it in Path(f"{machine.folder}/log.env")
+        .read_text(encoding="utf-8")
+        .splitlines()
+    }
     assert not names & {"CRNSIM", "PYTEST_ADDOPTS", "PYTHONPATH"}

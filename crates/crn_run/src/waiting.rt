@@ -16,8 +16,8 @@ const LARGE_RING: u64 = 128;
 // How many waits in a row only spin on a smaller ring: its threads need one another after a few blocks.
 const SPINS: u32 = 4;
 
-// How many waits in a row yield there after that. If other work has the processors, a yield gives it a whole turn, so that
-// more of them would cost more than a sleep.
+// How many waits in a row snooze there after that: a thread's first seven snoozes spin, all later ones yield. If other work
+// has the processors, a yield gives it a whole turn, so that more of them would cost more than a sleep.
 const YIELDS: u32 = 16;
 
 // A reader sleeps a microsecond for so many slots, about as long as the producer takes to fill the ring.

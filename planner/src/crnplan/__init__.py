@@ -12,13 +12,23 @@ from typing import TYPE_CHECKING, Any
 __version__ = "0.1.0"
 
 if TYPE_CHECKING:
-    from .errors import (CrnplanError as CrnplanError, Failed as Failed, Fault as Fault, ProgramError as ProgramError,
-                         Refused as Refused, ScenarioError as ScenarioError)
+    from .errors import (
+        CrnplanError as CrnplanError,
+        Failed as Failed,
+        Fault as Fault,
+        ProgramError as ProgramError,
+        Refused as Refused,
+        ScenarioError as ScenarioError,
+    )
     from .scenario import Costs as Costs, Policy as Policy, Scenario as Scenario
     from .law import Law as Law
     from .crnsim.report import Report as Report
     from .crnsim.program import find_program as find_program
-    from .records import History as History, read_history as read_history, read_lead_times as read_lead_times
+    from .read import (
+        History as History,
+        read_history as read_history,
+        read_lead_times as read_lead_times,
+    )
     from .demand.checks import Checks as Checks, check_history as check_history
     from .demand.fitted import FittedLaw as FittedLaw
     from .demand.fitting import fit_demand as fit_demand, fit_lead as fit_lead
@@ -29,22 +39,34 @@ if TYPE_CHECKING:
     from .decide.sensitivity import sensitivity as sensitivity
     from .crnsim.sweep import sweep as sweep
     from .crnsim.trajectory import trajectories as trajectories
-    from .api import (Plan as Plan, PlannedItem as PlannedItem, open_plan as open_plan, plan as plan,
-                      plan_item as plan_item)
+    from .api import (
+        Plan as Plan,
+        PlannedItem as PlannedItem,
+        open_plan as open_plan,
+        plan as plan,
+        plan_item as plan_item,
+    )
     from .backtesting import Backtests as Backtests, backtest as backtest
     from .catalogues import Catalogue as Catalogue, read_catalogue as read_catalogue
     from .curve.exchange_curve import exchange_curve as exchange_curve
-    from .pages.catalogue_page import report as report
-    from .pages.today_tables import OrdersToday as OrdersToday
+    from .show.catalogue_page import report as report
+    from .show.today_tables import OrdersToday as OrdersToday
 
 # The public names by their modules. Checkers of types know them by the same imports above.
 _NAMES = {
-    "errors": ("CrnplanError", "Failed", "Fault", "ProgramError", "Refused", "ScenarioError"),
+    "errors": (
+        "CrnplanError",
+        "Failed",
+        "Fault",
+        "ProgramError",
+        "Refused",
+        "ScenarioError",
+    ),
     "scenario": ("Costs", "Policy", "Scenario"),
     "law": ("Law",),
     "crnsim.report": ("Report",),
     "crnsim.program": ("find_program",),
-    "records": ("History", "read_history", "read_lead_times"),
+    "read": ("History", "read_history", "read_lead_times"),
     "demand.checks": ("Checks", "check_history"),
     "demand.fitted": ("FittedLaw",),
     "demand.fitting": ("fit_demand", "fit_lead"),
@@ -59,8 +81,9 @@ _NAMES = {
     "backtesting": ("Backtests", "backtest"),
     "catalogues": ("Catalogue", "read_catalogue"),
     "curve.exchange_curve": ("exchange_curve",),
-    "pages.catalogue_page": ("report",),
-    "pages.today_tables": ("OrdersToday",)}
+    "show.catalogue_page": ("report",),
+    "show.today_tables": ("OrdersToday",),
+}
 _HOMES = {name: module for module, names in _NAMES.items() for name in names}
 __all__ = ["__version__", *_HOMES]
 

@@ -1,4 +1,4 @@
 """Runs the command: python -m crnplan."""
-from .commands import main
+from .cli import main
 
 main()

@@ -9,32 +9,40 @@ from functools import cached_property
 from pathlib import Path
 from typing import TYPE_CHECKING, Unpack
 
-from .catalogues import Catalogue, FileWords, Lost, ReadingWords, plan_catalogue, write_found
+from .catalogues import (
+    Catalogue,
+    FileWords,
+    Lost,
+    ReadingWords,
+    plan_catalogue,
+    write_found,
+)
 from .crnsim.program import find_program
 from .errors import Refused, argument
-from .files import Folder, Room, own_folder
+from .store.files import Folder, Room, own_folder
 from .items import plan_item as plan_one_item
-from .jobs import Scheduler
+from .store.clusters import Scheduler
+from .store.means import Means
 from .money import Amount
 from .options import with_words
-from .pages.catalogue_page import CATALOGUE_FILES, report
-from .pages.catalogue_tables import catalogue_summary, decisions_of, rejects_of
-from .pages.change_tables import change_lines, changes_of
-from .pages.lateness import lateness_of
-from .pages.today_tables import OrdersToday, orders_today
-from .pages.item_page import ItemWords, item_page, item_summary, policies_of
+from .show.catalogue_page import CATALOGUE_FILES, report
+from .show.catalogue_tables import catalogue_summary, decisions_of, rejects_of
+from .show.change_tables import change_lines, changes_of
+from .show.lateness import lateness_of
+from .show.today_tables import OrdersToday, orders_today
+from .show.item_page import ItemWords, item_page, item_summary, policies_of
 from .plan.catalogue import check_earlier, planned_folder
 from .plan.totals import Totals
 from .plan.item import Depth
 from .plan.question import Settings
 from .plan.survey import Survey
 from .plan.what_ifs import Moves
-from .records.catalogue_reading import CATALOGUE, READ, read_into
-from .records.defaults import Defaults
-from .records.items import Words
-from .records.opening import Table
-from .records.overriding import set_overrides
-from .records.told import made_from, words_of
+from .read.catalogue_reading import CATALOGUE, READ, read_into
+from .read.defaults import Defaults
+from .read.items import Words
+from .read.opening import Table
+from .read.overriding import set_overrides
+from .read.told import made_from, words_of
 from .remarks import Remark
 from .table import DataTable, Result, TextResult
 
@@ -84,7 +92,9 @@ class PlannedItem(Result):
     @property
     def notes(self) -> str:
         """Returns what was decided, in sentences."""
-        return "\n".join([self.words.headline, *self.words.said, *self.words.warnings, ""])
+        return "\n".join(
+            [self.words.headline, *self.words.said, *self.words.warnings, ""]
+        )
 
     def compare(self) -> Figures:
         """Returns all policies of the item: cost by theory and by crnsim, service, stock, orders, and the difference
@@ -102,9 +112,12 @@ class PlannedItem(Result):
 
     def plot(self) -> Figure:
         """Returns a picture of stock, position and orders of today's and the chosen policy in one run."""
-        from .pages.pictures import trajectories_picture
+        from .show.pictures import trajectories_picture
+
         drawn = self.words.depth.trajectory
-        policies = [policy for policy in self.words.depth.policies if policy.name in drawn]
+        policies = [
+            policy for policy in self.words.depth.policies if policy.name in drawn
+        ]
         runs = [drawn[policy.name] for policy in policies]
         start = next(iter(drawn.values()))[0]
         initial = start.position + start.net_demand - start.ordered
@@ -125,7 +138,8 @@ class TodayWords(FileWords, total=False):
 @dataclass(frozen=True)
 class Plan(TextResult):
     """The plan of a catalogue. `frame` and `decisions` have a row for each item, unrounded; `text` says what it comes
-    to. What was planned is in a folder that goes with the plan, or stays where `out` said."""
+    to. What was planned is in a folder that goes with the plan, or stays where `out` said.
+    """
 
     path: Path
     learned: tuple[Remark, ...] = field(default=(), repr=False)
@@ -160,14 +174,16 @@ class Plan(TextResult):
     @cached_property
     def changes(self) -> pd.DataFrame:
         """Returns a row for each item of this plan and of the earlier one: what has moved, why, what that gains, and
-        how the earlier policy did since. It has no rows without `after`. docs/TABLES.md has all columns."""
+        how the earlier policy did since. It has no rows without `after`. docs/TABLES.md has all columns.
+        """
         with planned_folder(self.path) as folder:
             return changes_of(folder).frame
 
     @cached_property
     def lateness(self) -> pd.DataFrame:
         """Returns a row for each supplier with receipts, the latest first: the stated lead time, what receipts took in the
-        mean and at the 90% quantile (days), and the share that took longer than stated."""
+        mean and at the 90% quantile (days), and the share that took longer than stated.
+        """
         with planned_folder(self.path) as folder:
             return lateness_of(folder.read).frame
 
@@ -181,27 +197,53 @@ class Plan(TextResult):
     def text(self) -> str:
         """Returns what became of all rows and items, and the totals."""
         with planned_folder(self.path) as folder:
-            return catalogue_summary(folder, self.totals, self.learned, change_lines(folder))
+            return catalogue_summary(
+                folder, self.totals, self.learned, change_lines(folder)
+            )
 
     def item(self, name: str) -> PlannedItem:
         """Returns the plan of an item, with what else can be asked of it. Raises Refused if it is not there, or left
         out, and says why."""
         with planned_folder(self.path) as folder:
             item, answer = folder.item(name)
-            depth = Depth(folder.question(item), answer, str(find_program(self.program)))
+            depth = Depth(
+                folder.question(item), answer, str(find_program(self.program))
+            )
             return PlannedItem(ItemWords(depth, folder.every, folder.currency))
 
-    def curve(self, *, stock_value: float | None = None, fill: float | None = None, orders: float | None = None,
-              confirm: int = 0, jobs: int | None = None, cluster: Scheduler | None = None) -> Drawn:
+    def curve(
+        self,
+        *,
+        stock_value: float | None = None,
+        fill: float | None = None,
+        orders: float | None = None,
+        confirm: int = 0,
+        jobs: int | None = None,
+        cluster: Scheduler | None = None,
+    ) -> Drawn:
         """Returns how much service the whole stock can give for its value: see `exchange_curve`. `policies` has the
         policy of each item for the budget."""
         from .curve.exchange_curve import exchange_curve
-        return exchange_curve(self.path, stock_value=stock_value, fill=fill, orders=orders, jobs=jobs, cluster=cluster,
-                              program=self.program, confirm=confirm)
+
+        return exchange_curve(
+            self.path,
+            stock_value=stock_value,
+            fill=fill,
+            orders=orders,
+            jobs=jobs,
+            cluster=cluster,
+            program=self.program,
+            confirm=confirm,
+        )
 
     @with_words(TodayWords, Words, Defaults)
-    def orders_today(self, stock: Table | None = None, on_order: Table | None = None,
-                     date: datetime.date | str | None = None, **words: Unpack[TodayWords]) -> OrdersToday:
+    def orders_today(
+        self,
+        stock: Table | None = None,
+        on_order: Table | None = None,
+        date: datetime.date | str | None = None,
+        **words: Unpack[TodayWords],
+    ) -> OrdersToday:
         """Returns what to order on a date, by default today, what lies too long, and what is owed. Nothing is planned
         again.
 
@@ -211,32 +253,59 @@ class Plan(TextResult):
         read as those of the plan were, unless a word says otherwise. Raises Refused for what can't be read or meant, and if the plan is not as the rows that were
         read last.
         """
-        return orders_today(self.path, {"stock": stock, "on_order": on_order}, words_of(words), date)
+        return orders_today(
+            self.path, {"stock": stock, "on_order": on_order}, words_of(words), date
+        )
 
     def to_excel(self, path: str | Path, orders: OrdersToday | None = None) -> None:
         """Writes the plan as a workbook: its summary, decisions, the `orders` that `orders_today` gave, what is left
         out, the curve if it was drawn, classes, and what each column means. Without `orders` those of today by the stock
-        of the masters are written, if these have one, as orders without what is on order. Raises Refused."""
-        from .pages.workbook import write_workbook
+        of the masters are written, if these have one, as orders without what is on order. Raises Refused.
+        """
+        from .show.workbook import write_workbook
+
         write_workbook(self.path, Path(path), orders)
 
-    def report(self, items: Iterable[str] = (), *, orders: OrdersToday | None = None, jobs: int | None = None,
-               cluster: Scheduler | None = None) -> Path:
+    def report(
+        self,
+        items: Iterable[str] = (),
+        *,
+        orders: OrdersToday | None = None,
+        jobs: int | None = None,
+        cluster: Scheduler | None = None,
+    ) -> Path:
         """Writes report.html, and pages of `items`, into the folder of the plan, and returns the path: see `report`."""
-        return report(self.path, items, orders=orders, jobs=jobs, cluster=cluster, program=self.program)
+        return report(
+            self.path,
+            items,
+            orders=orders,
+            jobs=jobs,
+            cluster=cluster,
+            program=self.program,
+        )
 
 
 def check_masters(sales: Table | Catalogue, masters: Table | None) -> None:
     """Raises Refused if a table of sales has no masters beside it."""
     if not isinstance(sales, Catalogue) and masters is None:
-        raise Refused(f"{argument('masters')} is missing", "give a table with a row for each item")
+        raise Refused(
+            f"{argument('masters')} is missing", "give a table with a row for each item"
+        )
 
 
-def take_tables(folder: Folder, sales: Table | Catalogue, masters: Table | None, orders: Table | None,
-                words: Words, jobs: int | None) -> None:
+def take_tables(
+    folder: Folder,
+    sales: Table | Catalogue,
+    masters: Table | None,
+    orders: Table | None,
+    words: Words,
+    jobs: int | None,
+) -> None:
     """Reads a catalogue into a folder by so many processes, or copies one that was read elsewhere."""
     if not isinstance(sales, Catalogue):
-        read_into(folder, {"demand": sales, "items": masters, "orders": orders}, words, jobs)
+        read_into(
+            folder, {"demand": sales, "items": masters, "orders": orders}, words, jobs
+        )
     elif sales.path.resolve() != folder.store(READ).resolve():
         part = folder.room() / Path(READ).name
         shutil.copyfile(sales.path, part)
@@ -262,11 +331,21 @@ class PlanWords(ReadingWords, total=False):
 
 
 @with_words(PlanWords, Words, Defaults, Settings)
-def plan(sales: str | Path | pd.DataFrame | Catalogue, masters: str | Path | pd.DataFrame | None = None,
-         orders: str | Path | pd.DataFrame | None = None, *, out: str | Path | None = None,
-         overrides: Table | None = None, after: str | Path | None = None, jobs: int | None = None,
-         cluster: Scheduler | None = None, program: str | Path | None = None, learn_again: bool = False,
-         progress: bool = False, **words: Unpack[PlanWords]) -> Plan:
+def plan(
+    sales: str | Path | pd.DataFrame | Catalogue,
+    masters: str | Path | pd.DataFrame | None = None,
+    orders: str | Path | pd.DataFrame | None = None,
+    *,
+    out: str | Path | None = None,
+    overrides: Table | None = None,
+    after: str | Path | None = None,
+    jobs: int | None = None,
+    cluster: Scheduler | None = None,
+    program: str | Path | None = None,
+    learn_again: bool = False,
+    progress: bool = False,
+    **words: Unpack[PlanWords],
+) -> Plan:
     """Plans all items of a catalogue, and returns the plan. Nothing is written unless `out` names a folder.
 
         plan = crn.plan(sales, masters)
@@ -328,8 +407,8 @@ def plan(sales: str | Path | pd.DataFrame | Catalogue, masters: str | Path | pd.
         take_tables(folder, sales, masters, orders, reading, jobs)
         set_overrides(folder, overrides, reading, earlier)
         write_found(folder, Catalogue(folder.path / READ), settings)
-        done = plan_catalogue(folder, settings, after=earlier, jobs=jobs, address=cluster, program=program,
-                              again=learn_again, shown=progress)
+        means = Means(jobs, cluster, program, progress)
+        done = plan_catalogue(folder, settings, means, earlier, learn_again)
     if done.missing:
         raise Lost("; ".join(done.missing))
     return Plan(path, done.learned, program, room)
@@ -343,8 +422,13 @@ def open_plan(folder: str | Path, *, program: str | Path | None = None) -> Plan:
     return Plan(Path(folder), (), program)
 
 
-def plan_item(history: str | Path, settings: str | Path, *, out: str | Path | None = None,
-              program: str | Path | None = None) -> PlannedItem:
+def plan_item(
+    history: str | Path,
+    settings: str | Path,
+    *,
+    out: str | Path | None = None,
+    program: str | Path | None = None,
+) -> PlannedItem:
     """Plans one item from a history and settings, as `crnplan item` does, and returns the plan.
 
     `history` is a CSV file, `settings` a TOML file. With `out`, all tables and the page are written into that folder.

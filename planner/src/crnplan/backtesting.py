@@ -6,20 +6,32 @@ import tempfile
 from collections.abc import Sequence
 from dataclasses import dataclass, field
 from pathlib import Path
-from typing import TYPE_CHECKING
+from typing import TYPE_CHECKING, TypedDict, Unpack
 
 from .api import Roles, check_masters, take_tables
 from .catalogues import Catalogue
-from .files import Folder, own_folder
-from .jobs import Scheduler
-from .pages.backtest_page import backtest_page
-from .pages.backtest_tables import (BACKTEST, PAGE, SUMMARY, SUMS, VERDICTS, backtest_of, backtest_summary, first_line,
-                                    sums_table)
+from .options import with_words
+from .store.files import Folder, own_folder
+from .store.clusters import Scheduler
+from .store.means import Means
+from .show.backtest_page import backtest_page
+from .show.backtest_tables import (
+    BACKTEST,
+    PAGE,
+    SUMMARY,
+    SUMS,
+    VERDICTS,
+    backtest_of,
+    backtest_summary,
+    first_line,
+    sums_table,
+)
 from .plan.backtest.catalogue import Tested, backtest_into
 from .plan.backtest.one import Walk
 from .plan.question import Settings
-from .records.catalogue_reading import CATALOGUE
-from .records.told import words_of
+from .read.catalogue_reading import CATALOGUE
+from .read.items import Words
+from .read.told import made_from, words_of
 from .table import DataTable, TextResult
 
 if TYPE_CHECKING:
@@ -60,10 +72,11 @@ class Backtests(TextResult):
         return backtest_page(self.tested)
 
 
-def write_backtest(folder: Folder, settings: Settings, walk: Walk, *, jobs: int | None = None,
-                   address: Scheduler | None = None, shown: bool = False) -> Backtests:
+def write_backtest(
+    folder: Folder, settings: Settings, walk: Walk, means: Means
+) -> Backtests:
     """Tests the catalogue that was read into a folder, and writes its tables and its summary there."""
-    tests = Backtests(backtest_into(folder, settings, walk, jobs=jobs, address=address, shown=shown))
+    tests = Backtests(backtest_into(folder, settings, walk, means))
     folder.write(BACKTEST, tests.table.lines)
     folder.write(SUMS, sums_table(tests.tested).lines)
     folder.write(SUMMARY, tests.text)
@@ -71,13 +84,37 @@ def write_backtest(folder: Folder, settings: Settings, walk: Walk, *, jobs: int 
     return tests
 
 
-def backtest(sales: str | Path | pd.DataFrame | Catalogue, masters: str | Path | pd.DataFrame | None = None,
-             orders: str | Path | pd.DataFrame | None = None, *, record: int = 52, every: int = 13, window: int = 52,
-             least_gain: float | None = None, out: str | Path | None = None, period: str = "week",
-             columns: Roles | None = None, units: Roles | None = None, start: datetime.date | str | None = None,
-             end: datetime.date | str | None = None, date_formats: Sequence[str] = (), fit: str = "auto",
-             borrow: str | None = None, confidence: float | None = None, seed: str | int = "crnplan",
-             jobs: int | None = None, cluster: Scheduler | None = None, progress: bool = False) -> Backtests:
+class BacktestWords(TypedDict, total=False):
+    """How the tables of a catalogue are read, and how its items are planned: see `backtest`."""
+
+    columns: Roles | None
+    units: Roles | None
+    start: datetime.date | str | None
+    end: datetime.date | str | None
+    date_formats: Sequence[str]
+    fit: str
+    borrow: str | None
+    confidence: float | None
+    seed: str | int
+
+
+@with_words(BacktestWords, Words, Settings)
+def backtest(
+    sales: str | Path | pd.DataFrame | Catalogue,
+    masters: str | Path | pd.DataFrame | None = None,
+    orders: str | Path | pd.DataFrame | None = None,
+    *,
+    record: int = 52,
+    every: int = 13,
+    window: int = 52,
+    least_gain: float | None = None,
+    out: str | Path | None = None,
+    period: str = "week",
+    jobs: int | None = None,
+    cluster: Scheduler | None = None,
+    progress: bool = False,
+    **words: Unpack[BacktestWords],
+) -> Backtests:
     """Tests plans on a catalogue's own past: what they would have promised, and what came.
 
         tests = crn.backtest(sales, masters)
@@ -99,10 +136,14 @@ def backtest(sales: str | Path | pd.DataFrame | Catalogue, masters: str | Path |
 
     Raises Refused (a ValueError) for what can't be read or meant.
     """
-    settings, walk = Settings(str(seed), fit, borrow, confidence), Walk(record, every, window, least_gain)
-    words = words_of({"every": period, "columns": columns, "units": units, "start": start, "end": end,
-                      "date_formats": date_formats})
+    seed = str(words.get("seed", Settings.seed))
+    settings = made_from(Settings, {**words, "seed": seed})
+    reading = words_of({**words, "every": period})
+    means = Means(jobs, cluster, shown=progress)
+    walk = Walk(record, every, window, least_gain)
     check_masters(sales, masters)
-    with tempfile.TemporaryDirectory(prefix="crnplan-") as room, own_folder(Path(out or room), CATALOGUE) as folder:
-        take_tables(folder, sales, masters, orders, words, jobs)
-        return write_backtest(folder, settings, walk, jobs=jobs, address=cluster, shown=progress)
+    with tempfile.TemporaryDirectory(prefix="crnplan-") as room, own_folder(
+        Path(out or room), CATALOGUE
+    ) as folder:
+        take_tables(folder, sales, masters, orders, reading, jobs)
+        return write_backtest(folder, settings, walk, means)

@@ -8,25 +8,25 @@ from pathlib import Path
 from typing import TYPE_CHECKING, Any, TypedDict, Unpack, cast
 
 from .errors import Failed, argument, worded
-from .files import Folder, Room
-from .jobs import Scheduler
+from .store.files import Folder, Room
+from .store.means import Means
 from .money import Amount, Number
 from .options import with_words
-from .pages.catalogue_page import FOUND, write_catalogue, write_tables
-from .pages.catalogue_tables import REJECTS, rejects_of
-from .pages.control_tables import controls_of
-from .pages.page import rendered
+from .show.catalogue_page import FOUND, write_catalogue, write_tables
+from .show.catalogue_tables import REJECTS, rejects_of
+from .show.control_tables import controls_of
+from .show.page import rendered
 from .plan.catalogue import planning
 from .plan.question import Settings
 from .plan.totals import Totals
-from .records.catalogue_reading import Catalogued, defaulted, missing_of, read_alone
-from .records.choosing import Where
-from .records.defaults import Defaults
-from .records.items import Counts, Words
-from .records.lateness import receipt_remarks
-from .records.observed import Day
-from .records.opening import Table
-from .records.told import merged, told_of, words_of
+from .read.catalogue_reading import Catalogued, defaulted, missing_of, read_alone
+from .read.choosing import Where
+from .read.defaults import Defaults
+from .read.items import Counts, Words
+from .read.lateness import receipt_remarks
+from .read.observed import Day
+from .read.opening import Table
+from .read.told import merged, told_of, words_of
 from .remarks import Remark
 from .table import Json
 from .words import advised
@@ -71,7 +71,11 @@ class Catalogue:
         """Returns what is to be said of the files, as units that were converted, where defaults hold, and which receipts
         are not used or late."""
         with self.opened() as read:
-            remarks = [*read.remarks(), *defaulted(read.fact("sources")), *receipt_remarks(read)]
+            remarks = [
+                *read.remarks(),
+                *defaulted(read.fact("sources")),
+                *receipt_remarks(read),
+            ]
             return [*read.fact("said"), *map(advised, remarks)]
 
     @property
@@ -85,7 +89,9 @@ class Catalogue:
         """Returns rows, sums, value and dates of each file and of what is used, to tick off against the source:
         docs/TABLES.md has all columns."""
         with self.opened() as read:
-            return controls_of(read.controls(), read.fact("decimals"), read.fact("currency")).frame
+            return controls_of(
+                read.controls(), read.fact("decimals"), read.fact("currency")
+            ).frame
 
     @property
     def rejects(self) -> pd.DataFrame:
@@ -100,11 +106,19 @@ def stated_of(catalogue: Catalogue, more: Mapping[str, Any]) -> str:
     with catalogue.opened() as read:
         facts, told = read.fact("found"), read.fact("told") | more
     named = {table["kind"] for table in facts["tables"]}
-    told = {name: value for name, value in told.items() if name not in ("every", *named)}
+    told = {
+        name: value for name, value in told.items() if name not in ("every", *named)
+    }
     words = {name: value for name, value in told.items() if not isinstance(value, dict)}
-    groups = {name: value for name, value in merged(told, facts["stated"]).items() if isinstance(value, dict)}
+    groups = {
+        name: value
+        for name, value in merged(told, facts["stated"]).items()
+        if isinstance(value, dict)
+    }
     formats = worded(argument("date_formats"))
-    return rendered("found.toml", {**facts, "formats": formats, "words": words, "groups": groups})
+    return rendered(
+        "found.toml", {**facts, "formats": formats, "words": words, "groups": groups}
+    )
 
 
 class FileWords(TypedDict, total=False):
@@ -146,8 +160,14 @@ class ReadingWords(FileWords, total=False):
 
 
 @with_words(ReadingWords, Words, Defaults)
-def read_catalogue(demand: Table, items: Table, orders: Table | None = None, *, jobs: int | None = None,
-                   **words: Unpack[ReadingWords]) -> Catalogue:
+def read_catalogue(
+    demand: Table,
+    items: Table,
+    orders: Table | None = None,
+    *,
+    jobs: int | None = None,
+    **words: Unpack[ReadingWords],
+) -> Catalogue:
     """Reads a catalogue from CSV files of any size, also gzipped, sheets of workbooks (FILE.xlsx!SHEET) or DataFrames. Of
     demand and orders there may be several files with one heading, as "demand-2026-*.csv".
 
@@ -175,7 +195,9 @@ def read_catalogue(demand: Table, items: Table, orders: Table | None = None, *, 
     Raises Refused and RefusedFaults for files that can't be read. Rows and items with faults are in `rejects`.
     """
     reading, room = words_of(words), Room()
-    path = read_alone(room.path, {"demand": demand, "items": items, "orders": orders}, reading, jobs)
+    path = read_alone(
+        room.path, {"demand": demand, "items": items, "orders": orders}, reading, jobs
+    )
     return Catalogue(path, room)
 
 
@@ -200,15 +222,21 @@ class Done:
     summary: str
 
 
-def plan_catalogue(folder: Folder, settings: Settings, *, after: Path | None = None, jobs: int | None = None,
-                   address: Scheduler | None = None, program: str | Path | None = None, again: bool = False,
-                   shown: bool = False) -> Done:
+def plan_catalogue(
+    folder: Folder,
+    settings: Settings,
+    means: Means = Means(),
+    after: Path | None = None,
+    again: bool = False,
+) -> Done:
     """Plans the catalogue that was read into a folder, and writes its tables and pages: see `plan`."""
-    with planning(folder, settings, after=after, jobs=jobs, address=address, program=program, again=again,
-                  shown=shown) as run:
-        folder.write(REJECTS, rejects_of(run.planned.read.rejects()).lines)
-        survey = write_tables(folder, run.planned, run.answers)
+    with planning(folder, settings, means, after, again) as run:
+        planned, work, learned = run.planned, run.work, run.remarks
+        folder.write(REJECTS, rejects_of(planned.read.rejects()).lines)
+        survey = write_tables(folder, planned, run.answers)
         run.keep_changes(folder)
-        missing = missing_of(run.planned.counts, survey.totals.answered)
-        summary = write_catalogue(folder, run.planned, survey, run.learned, missing)
-        return Done(run.work.now, run.work.kept, run.has_learned, survey.totals, run.learned, missing, summary)
+        totals = survey.totals
+        missing = missing_of(planned.counts, totals.answered)
+        summary = write_catalogue(folder, planned, survey, learned, missing)
+        is_kept = run.learned.is_kept
+        return Done(work.now, work.kept, is_kept, totals, learned, missing, summary)

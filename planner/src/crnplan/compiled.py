@@ -16,7 +16,7 @@ from typing import Any, TypeVar
 
 from numba import __version__, config, njit
 
-from .caches import cache_folder, is_own
+from .store.caches import cache_folder, is_own
 
 Loop = TypeVar("Loop", bound=Callable[..., Any])
 
@@ -24,10 +24,17 @@ Loop = TypeVar("Loop", bound=Callable[..., Any])
 def traits(code: CodeType, names: Mapping[str, Any]) -> tuple[Any, ...]:
     """Returns what decides what code is compiled to, if it finds names in a module: its text and that of functions in
     it, and the numbers and the loops that it names."""
-    constants = [traits(constant, names) if isinstance(constant, CodeType) else constant for constant in code.co_consts]
+    constants = [
+        traits(constant, names) if isinstance(constant, CodeType) else constant
+        for constant in code.co_consts
+    ]
     values = [names[name] for name in code.co_names if name in names]
     numbers = [value for value in values if isinstance(value, (int, float, tuple))]
-    loops = [traits(value.py_func.__code__, value.py_func.__globals__) for value in values if hasattr(value, "py_func")]
+    loops = [
+        traits(value.py_func.__code__, value.py_func.__globals__)
+        for value in values
+        if hasattr(value, "py_func")
+    ]
     return code.co_code, constants, code.co_names, code.co_varnames, numbers, loops
 
 
@@ -35,12 +42,20 @@ def kept_in(folder: Path, loop: Callable[..., Any]) -> FunctionType:
     """Returns a loop that numba keeps in a folder: by the path, time and size of the file that it seems to stand in. An
     empty file stands for it, whose name has the digest of its traits."""
     code, names = loop.__code__, loop.__globals__
-    digest = hashlib.sha256(repr((__version__, traits(code, names))).encode()).hexdigest()
+    digest = hashlib.sha256(
+        repr((__version__, traits(code, names))).encode()
+    ).hexdigest()
     path = folder / f"{Path(code.co_filename).stem}-{digest}.py"
     if not path.exists():
         path.touch()
         os.utime(path, (0, 0))
-    return FunctionType(code.replace(co_filename=str(path)), names, loop.__name__, loop.__defaults__, loop.__closure__)
+    return FunctionType(
+        code.replace(co_filename=str(path)),
+        names,
+        loop.__name__,
+        loop.__defaults__,
+        loop.__closure__,
+    )
 
 
 def compiled(loop: Loop) -> Loop:
@@ -83,7 +98,9 @@ def compile_all() -> None:
     remarks_of(counts, season=12)
     demand = fit_demand(counts)
     for lead, returns in (([2], None), ([1, 3], None), ([1, 3], [0, 0, 0, 0, 1])):
-        scenario = Scenario.of(demand, lead, returns=returns, setup=20, holding=1, backlog=9, today=(3, 9))
+        scenario = Scenario.of(
+            demand, lead, returns=returns, setup=20, holding=1, backlog=9, today=(3, 9)
+        )
         theory, _ = theories_of(scenario)
         theory.best(0.9)
         theory.figures(3, 9)

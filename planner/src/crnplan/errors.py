@@ -18,7 +18,9 @@ from .remarks import Remark
 MARK, VALUE = "\x1f", "\x1e"
 # What a terminal would obey, or TOML forbids: control characters but for ends of lines and tabs, parts of characters,
 # and changes of the direction of writing.
-UNSHOWN = re.compile(r"[\x00-\x08\x0b-\x1f\x7f-\x9f\ud800-\udfff\u2028-\u202e\u2066-\u2069]")
+UNSHOWN = re.compile(
+    r"[\x00-\x08\x0b-\x1f\x7f-\x9f\ud800-\udfff\u2028-\u202e\u2066-\u2069]"
+)
 
 
 def escaped(text: str) -> str:
@@ -127,6 +129,7 @@ class Fault:
         if isinstance(self.said, str):
             return self.said
         from .words import message
+
         return message(self.said)
 
     @property

@@ -52,8 +52,10 @@ def _key(stated: dict[str, Any]) -> Key:
 
 def _pattern(characters: list[str], least: int, most: int) -> re.Pattern[str]:
     """Returns what a name matches: so many of some characters and of their ranges, as A-Z."""
-    signs = [re.escape(sign) if len(sign) == 1 else sign for sign in characters]
-    return re.compile(f"[{''.join(signs)}]{{{least},{most}}}")
+    signs = ""
+    for sign in characters:
+        signs += re.escape(sign) if len(sign) == 1 else sign
+    return re.compile(f"[{signs}]{{{least},{most}}}")
 
 
 def _named(kind: str) -> tuple[str, ...]:
@@ -73,13 +75,17 @@ COSTS: tuple[str, ...] = tuple(key.name for key in KEYS if key.table == "costs")
 # The keys of the document, tables among them, in order, each with the first version that has it.
 SINCE: dict[str, int] = {key.table or key.name: key.since for key in KEYS}
 POLICIES: tuple[int, int] = (_SCENARIO["policies"][0], _SCENARIO["policies"][1])
-WEIGHT_SUMS: tuple[int, int] = (int(_RANGES["demand", "weights"][1][0]), _RANGES["demand", "weights"][1][1])
+WEIGHT_SUMS: tuple[int, int] = (
+    int(_RANGES["demand", "weights"][1][0]),
+    _RANGES["demand", "weights"][1][1],
+)
 WORDS_OF_KEY: int = _SCENARIO["words_of_key"]
 DIGITS_OF_WORD: int = _SCENARIO["digits_of_word"]
 WORD = re.compile(f"[0-9a-f]{{{DIGITS_OF_WORD}}}")
 NAME = _pattern(_SCENARIO["name_characters"], *limits("policy", "name"))
 _LEAST_RING, _MOST_RING = limits("", "ring")
-RING_SIZES: tuple[int, ...] = tuple(2**power for power in range(64) if _LEAST_RING <= 2**power <= _MOST_RING)
+_POWERS = range(_LEAST_RING.bit_length() - 1, _MOST_RING.bit_length())
+RING_SIZES: tuple[int, ...] = tuple(2**power for power in _POWERS)
 MOST_LEVELS: int = _SCENARIO["most_levels"]
 MOST_BYTES: int = _SCENARIO["most_bytes"]
 MOST_PERIODS = limits("", "periods")[1]
@@ -101,8 +107,12 @@ WHOLE, FRACTIONS = _named("whole"), _named("fraction")
 # Checkpoints: the versions, rising; the fields of each row by its kind, and the kinds with a value and its weight, in
 # order.
 CHECKPOINT_VERSIONS: tuple[int, ...] = tuple(_CHECKPOINT["versions"])
-ROWS: dict[str, tuple[str, ...]] = {kind: tuple(fields) for kind, *fields in _CHECKPOINT["rows"]}
-DRAW_ROWS: tuple[str, ...] = tuple(kind for kind, fields in ROWS.items() if fields[:2] == ("value", "weight"))
+ROWS: dict[str, tuple[str, ...]] = {
+    kind: tuple(fields) for kind, *fields in _CHECKPOINT["rows"]
+}
+DRAW_ROWS: tuple[str, ...] = tuple(
+    kind for kind, fields in ROWS.items() if fields[:2] == ("value", "weight")
+)
 MOST_CHECKPOINT_BYTES: int = _CHECKPOINT["most_bytes"]
 MOST_COST: int = _CHECKPOINT["most_cost"]
 

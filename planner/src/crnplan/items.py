@@ -3,16 +3,26 @@ from __future__ import annotations
 
 from collections.abc import Callable, Iterable, Mapping
 from fractions import Fraction
+from operator import attrgetter
 from pathlib import Path
 
 from .crnsim.program import find_program
 from .demand.checks import check_history
 from .errors import Fault
-from .files import own_folder
+from .store.files import own_folder
 from .money import Currency
-from .pages.catalogue_tables import EXACT, exact_of
-from .pages.item_page import (ItemWords, coming_of, demand_of, item_page, item_summary, laws_of, periods_of, policies_of,
-                              scenario_text)
+from .show.catalogue_tables import EXACT, exact_of
+from .show.item_page import (
+    ItemWords,
+    coming_of,
+    demand_of,
+    item_page,
+    item_summary,
+    laws_of,
+    periods_of,
+    policies_of,
+    scenario_text,
+)
 from .plan.item import Facts, planned, read_item
 from .remarks import Remark
 from .table import DataTable, whole
@@ -38,16 +48,6 @@ def exact_answer_of(words: ItemWords) -> DataTable:
     return exact_of([(words.item, words.answer)])
 
 
-def doubt_of(words: ItemWords) -> DataTable:
-    """Returns what each policy costs under the laws that the history allows."""
-    return words.doubt
-
-
-def moves_of(words: ItemWords) -> DataTable:
-    """Returns how the best policy moves if a cost, the demand or the lead time differs."""
-    return words.depth.moves.table
-
-
 def notes_of(words: ItemWords) -> str:
     """Returns what is to be said of the item, a line each."""
     return "".join(f"{note}\n" for note in words.notes)
@@ -60,20 +60,22 @@ ITEM_FILES: Mapping[str, Callable[[ItemWords], Part]] = {
     "laws.csv": single_laws_of,
     "policies.csv": policies_of,
     EXACT: exact_answer_of,
-    "doubt.csv": doubt_of,
-    "sensitivity.csv": moves_of,
+    "doubt.csv": attrgetter("doubt"),
+    "sensitivity.csv": attrgetter("depth.moves.table"),
     "trajectory.csv": periods_of,
     "coming.csv": coming_of,
     "scenario.toml": scenario_text,
     "notes.txt": notes_of,
     "summary.txt": item_summary,
-    "summary.html": item_page}
+    "summary.html": item_page,
+}
 
 
 def decimals_of(costs: Iterable[Fraction | None]) -> int:
     """Returns how many decimals costs need, at least 2 and at most 6."""
+    exact = [*filter(None, costs)]
     for digits in range(2, MOST_DECIMALS):
-        if all((cost * 10**digits).denominator == 1 for cost in costs if cost is not None):
+        if all(10**digits % cost.denominator == 0 for cost in exact):
             return digits
     return MOST_DECIMALS
 
@@ -91,15 +93,23 @@ def words_of(facts: Facts, program: str | Path | None) -> ItemWords:
     if facts.leads:
         heard += facts.leads.notes
     heard += check_history(facts.history, season=record["season"]).unknown
-    return ItemWords(depth, record["every"] or "period", Currency("", decimals), coming, heard)
+    return ItemWords(
+        depth, record["every"] or "period", Currency("", decimals), coming, heard
+    )
 
 
 def unheard(name: str) -> None:
     """Says nothing of a part."""
 
 
-def plan_item(history: str | Path, settings: str | Path, out: str | Path | None = None, *,
-              program: str | Path | None = None, told: Callable[[str], None] = unheard) -> ItemWords:
+def plan_item(
+    history: str | Path,
+    settings: str | Path,
+    out: str | Path | None = None,
+    *,
+    program: str | Path | None = None,
+    told: Callable[[str], None] = unheard,
+) -> ItemWords:
     """Plans an item, writes all of it into a folder if `out` names one, and returns the words on it.
 
     `history` is a CSV file, `settings` a TOML file. All of it is computed each time; nothing that is in the folder is

@@ -28,7 +28,10 @@ class Law:
     def of(cls, weights: Mapping[int, int]) -> Law:
         """Makes a law from a mapping of values to weights. Weights of 0 are left out."""
         kept = sorted(value for value in weights if weights[value])
-        return Law(tuple(int(value) for value in kept), tuple(int(weights[value]) for value in kept))
+        return Law(
+            tuple(int(value) for value in kept),
+            tuple(int(weights[value]) for value in kept),
+        )
 
     @classmethod
     def of_numbers(cls, numbers: Iterable[int]) -> Law:
@@ -44,6 +47,7 @@ class Law:
         greatest value of a scenario counts there.
         """
         import numpy as np
+
         law = np.append(chances[:MOST_DEMAND], chances[MOST_DEMAND:].sum())
         at_least = np.append(np.cumsum(law[::-1])[::-1] / law.sum(), 0.0)
         weights = -np.diff(np.rint(MOST_WEIGHT * at_least)).astype(int)
@@ -62,7 +66,9 @@ class Law:
 
     def toml(self, name: str) -> str:
         """Returns the table of a scenario as TOML, under this name."""
-        return f"[{name}]\nvalues = {list(self.values)}\nweights = {list(self.weights)}\n"
+        return (
+            f"[{name}]\nvalues = {list(self.values)}\nweights = {list(self.weights)}\n"
+        )
 
     @property
     def table(self) -> Law:
@@ -82,10 +88,17 @@ class Law:
     def draws(self, random: np.random.Generator, count: int) -> list[int]:
         """Returns so many random values."""
         import numpy as np
-        numbers: list[int] = random.choice(self.values, count, p=np.array(self.weights) / self.size).tolist()
+
+        numbers: list[int] = random.choice(
+            self.values, count, p=np.array(self.weights) / self.size
+        ).tolist()
         return numbers
 
     @property
     def chances(self) -> dict[int, float]:
         """Returns the chance of each value that has one."""
-        return {value: weight / self.size for value, weight in zip(self.values, self.weights) if weight}
+        return {
+            value: weight / self.size
+            for value, weight in zip(self.values, self.weights)
+            if weight
+        }

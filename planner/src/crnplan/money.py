@@ -18,13 +18,20 @@ Amount = SupportsFloat | str
 # Costs are scaled by a power of ten from -8 to 8, the nearest to 0 that can be.
 MOST_DECIMALS = 8
 MOST_DIGITS = 15  # of an amount before the decimal sign
-SCALES = [Fraction(10)**power for power in sorted(range(-MOST_DECIMALS, MOST_DECIMALS + 1), key=abs)]
+SCALES = [
+    Fraction(10) ** power
+    for power in sorted(range(-MOST_DECIMALS, MOST_DECIMALS + 1), key=abs)
+]
 # The power of ten at the end of a number; that of the smallest float, and the greatest float.
 EXPONENT = re.compile(r"e([-+]?\d[\d_]*)\s*$", re.IGNORECASE)
 MOST_EXPONENT, GREATEST = 324, Fraction(sys.float_info.max)
 # The decimals of currencies that don't have two. Source: ISO 4217, table A.1, minor units.
-PLACES = {**dict.fromkeys(("CLP", "ISK", "JPY", "KRW", "PYG", "UGX", "VND", "XAF", "XOF", "XPF"), 0),
-          **dict.fromkeys(("BHD", "IQD", "JOD", "KWD", "LYD", "OMR", "TND"), 3)}
+PLACES = {
+    **dict.fromkeys(
+        ("CLP", "ISK", "JPY", "KRW", "PYG", "UGX", "VND", "XAF", "XOF", "XPF"), 0
+    ),
+    **dict.fromkeys(("BHD", "IQD", "JOD", "KWD", "LYD", "OMR", "TND"), 3),
+}
 
 
 @dataclass(frozen=True)
@@ -81,7 +88,9 @@ def whole(value: Any, name: str) -> int:
         return value
     number = None if isinstance(value, str) else exact(value)
     if number is None or number.denominator != 1:
-        raise Refused(f"{name}: {shown(value)} is not a whole number; round it, or count in a smaller unit")
+        raise Refused(
+            f"{name}: {shown(value)} is not a whole number; round it, or count in a smaller unit"
+        )
     return int(number)
 
 
@@ -94,7 +103,9 @@ def _beyond(amounts: Mapping[str, Fraction], scale: Fraction) -> str:
     return ""
 
 
-def rounded_costs(costs: Mapping[str, Fraction], exact_one: str) -> tuple[dict[str, int], Fraction, float]:
+def rounded_costs(
+    costs: Mapping[str, Fraction], exact_one: str
+) -> tuple[dict[str, int], Fraction, float]:
     """Returns costs as the program's whole numbers, what one unit of money counts in them, and the greatest relative
     error of their rounding.
 
@@ -104,15 +115,25 @@ def rounded_costs(costs: Mapping[str, Fraction], exact_one: str) -> tuple[dict[s
     try:
         return *scaled_costs(costs), 0.0
     except Refused:
-        most = min(formats.limits("costs", name)[1] / amount for name, amount in costs.items() if amount)
+        most = min(
+            formats.limits("costs", name)[1] / amount
+            for name, amount in costs.items()
+            if amount
+        )
     times = int(most * costs[exact_one])
     if times < 1:
         named = ", ".join(f"{name} {float(amount):g}" for name, amount in costs.items())
-        raise Refused(f"costs: these are too far apart: {named}; {exact_one} would count less than 1 in the program's "
-                      "whole numbers")
+        raise Refused(
+            f"costs: these are too far apart: {named}; {exact_one} would count less than 1 in the program's "
+            "whole numbers"
+        )
     scale = times / costs[exact_one]
     whole_ones = {name: round(amount * scale) for name, amount in costs.items()}
-    errors = [abs(whole_ones[name] / (amount * scale) - 1) for name, amount in costs.items() if amount]
+    errors = [
+        abs(whole_ones[name] / (amount * scale) - 1)
+        for name, amount in costs.items()
+        if amount
+    ]
     return whole_ones, scale, float(max(errors))
 
 
@@ -132,9 +153,13 @@ def scaled_costs(costs: Mapping[str, Amount]) -> tuple[dict[str, int], Fraction]
     for name, cost in costs.items():
         amount = exact(cost)
         if amount is None:
-            raise Refused(f"costs: {name}: {shown(cost)} is not an amount; write it as 12.50")
+            raise Refused(
+                f"costs: {name}: {shown(cost)} is not an amount; write it as 12.50"
+            )
         if 10**MOST_DECIMALS % amount.denominator:
-            raise Refused(f"costs: {name}: {shown(cost)} has more than {MOST_DECIMALS} decimals; round it")
+            raise Refused(
+                f"costs: {name}: {shown(cost)} has more than {MOST_DECIMALS} decimals; round it"
+            )
         amounts[name] = amount
     scale = _scale_of(amounts, costs)
     return {name: int(amount * scale) for name, amount in amounts.items()}, scale
@@ -147,11 +172,17 @@ def _scale_of(amounts: Mapping[str, Fraction], costs: Mapping[str, Amount]) -> F
         if not _beyond(amounts, scale):
             return scale
     finest = max(amounts, key=lambda name: amounts[name].denominator)
-    scale = next(scale for scale in SCALES
-                 if scale >= 1 and all((amount * scale).denominator == 1 for amount in amounts.values()))
+    scale = next(
+        scale
+        for scale in SCALES
+        if scale >= 1
+        and all((amount * scale).denominator == 1 for amount in amounts.values())
+    )
     if scale > 1:
         name = _beyond(amounts, scale)
         most = formats.limits("costs", name)[1]
-        raise Refused(f"costs: {finest} = {costs[finest]} is whole only if all costs count {int(scale):,} times; "
-                      f"then {name} is {int(amounts[name] * scale):,}, above {most:,}; round {finest}")
+        raise Refused(
+            f"costs: {finest} = {costs[finest]} is whole only if all costs count {int(scale):,} times; "
+            f"then {name} is {int(amounts[name] * scale):,}, above {most:,}; round {finest}"
+        )
     return scale

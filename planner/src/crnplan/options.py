@@ -59,13 +59,20 @@ class Option:
     def check(self, value: Any) -> None:
         """Raises Refused for a value that is none of the choices, no share, or out of the range."""
         if self.kind == "choice" and value not in self.choices:
-            raise Refused(f"{argument(self.name, str(value))} is not one of {', '.join(self.choices)}")
+            raise Refused(
+                f"{argument(self.name, str(value))} is not one of {', '.join(self.choices)}"
+            )
         if self.kind in ("share", "percent") and not 0 < value < 1:
-            raise Refused(f"{argument(self.name, f'{value:g}')} is not between 0 and 1", f"write {self.example}")
+            raise Refused(
+                f"{argument(self.name, f'{value:g}')} is not between 0 and 1",
+                f"write {self.example}",
+            )
         if self.kind == "whole":
             least, most = self.range
             if not least <= value <= most:
-                raise Refused(f"{argument(self.name, str(value))} is not from {least} to {most:,}")
+                raise Refused(
+                    f"{argument(self.name, str(value))} is not from {least} to {most:,}"
+                )
 
 
 @functools.cache
@@ -129,14 +136,28 @@ def key_of(name: str) -> str:
 
 def with_words(words: type, *homes: type) -> Callable[[Call], Call]:
     """Returns a decorator that shows the words of a TypedDict as arguments of a function, each with its default in one of
-    some classes, for help and completion. A word that is none of them raises TypeError."""
+    some classes, for help and completion. A word that is none of them raises TypeError.
+    """
+
     def made(function: Call) -> Call:
         signature = inspect.signature(function)
-        parameters = [part for part in signature.parameters.values() if part.kind is not part.VAR_KEYWORD]
+        parameters = [
+            part
+            for part in signature.parameters.values()
+            if part.kind is not part.VAR_KEYWORD
+        ]
         for name, hint in words.__annotations__.items():
-            default = next((getattr(home, name) for home in homes if hasattr(home, name)), None)
-            parameters.append(inspect.Parameter(name, inspect.Parameter.KEYWORD_ONLY, default=default,
-                                                annotation=hint.__forward_arg__))
+            default = next(
+                (getattr(home, name) for home in homes if hasattr(home, name)), None
+            )
+            parameters.append(
+                inspect.Parameter(
+                    name,
+                    inspect.Parameter.KEYWORD_ONLY,
+                    default=default,
+                    annotation=hint.__forward_arg__,
+                )
+            )
         signature = signature.replace(parameters=parameters)
 
         @functools.wraps(function)
@@ -146,8 +167,10 @@ def with_words(words: type, *homes: type) -> Callable[[Call], Call]:
             except TypeError as why:
                 raise TypeError(f"{function.__name__}() {why}") from None
             return function(*values, **named)
+
         setattr(called, "__signature__", signature)
         return cast(Call, called)
+
     return made
 
 

@@ -16,7 +16,7 @@ from pathlib import Path
 from typing import TYPE_CHECKING, Any
 
 from . import formats
-from .digests import sha256
+from .store.digests import sha256
 from .toml.documents import check_size, read_bytes, shown, text_of_document
 from .toml.scenarios import checked_tree, error_of, plain_text, read_scenario, toml_text
 from .errors import Refused
@@ -52,7 +52,11 @@ class Policy:
     def of_levels(cls, s: int, S: int, name: str = "") -> Policy:
         """Makes a policy. Its name is by default s1_S2, or s1S2 if that is too long."""
         own = f"s{s}_S{S}"
-        return cls(name or (own if len(own) <= formats.MOST_LETTERS else own.replace("_", "")), s, S)
+        return cls(
+            name or (own if len(own) <= formats.MOST_LETTERS else own.replace("_", "")),
+            s,
+            S,
+        )
 
 
 @dataclass(frozen=True)
@@ -89,18 +93,33 @@ class Scenario:
     def of_tree(cls, tree: Mapping[str, object], source: str | None = None) -> Scenario:
         """Makes a scenario from a tree as tomllib gives it, which is known to have no fault."""
         fields: Tree = {**tree}
-        fields |= {name: Law.of_tree(fields[name]) for name in formats.DRAWS if name in fields}
+        fields |= {
+            name: Law.of_tree(fields[name]) for name in formats.DRAWS if name in fields
+        }
         fields |= {"key": tuple(fields["key"]), "costs": Costs(**fields["costs"])}
-        return cls(policies=tuple(Policy(**policy) for policy in fields.pop("policy")), source=source, **fields)
+        return cls(
+            policies=tuple(Policy(**policy) for policy in fields.pop("policy")),
+            source=source,
+            **fields,
+        )
 
     @property
     def tree(self) -> dict[str, Json]:
         """Returns the tree that tomllib would read: a new dict of str, int and list."""
         returns = {"returns": self.returns.tree} if self.returns else {}
-        return {"version": self.version, "key": list(self.key), "periods": self.periods,
-                "replications": self.replications, "initial": self.initial, "ring": self.ring,
-                "costs": {**vars(self.costs)}, "demand": self.demand.tree, "lead": self.lead.tree, **returns,
-                "policy": [{**vars(policy)} for policy in self.policies]}
+        return {
+            "version": self.version,
+            "key": list(self.key),
+            "periods": self.periods,
+            "replications": self.replications,
+            "initial": self.initial,
+            "ring": self.ring,
+            "costs": {**vars(self.costs)},
+            "demand": self.demand.tree,
+            "lead": self.lead.tree,
+            **returns,
+            "policy": [{**vars(policy)} for policy in self.policies],
+        }
 
     @classmethod
     def read(cls, path: str | Path) -> Scenario:
@@ -120,9 +139,22 @@ class Scenario:
         return cls.of_tree(tree, text_of_document(data))
 
     @classmethod
-    def of(cls, demand: Chances, lead: Chances, *, setup: Amount, holding: Amount, backlog: Amount, unit: Amount = 0,
-           returns: Chances | None = None, today: tuple[int, int], initial: int | None = None, periods: int = 104,
-           replications: int = 64, key: str | Sequence[str] = "crnsim") -> Scenario:
+    def of(
+        cls,
+        demand: Chances,
+        lead: Chances,
+        *,
+        setup: Amount,
+        holding: Amount,
+        backlog: Amount,
+        unit: Amount = 0,
+        returns: Chances | None = None,
+        today: tuple[int, int],
+        initial: int | None = None,
+        periods: int = 104,
+        replications: int = 64,
+        key: str | Sequence[str] = "crnsim",
+    ) -> Scenario:
         """Makes a scenario from laws, tables, mappings or observed whole numbers.
 
         `demand`, `lead` and `returns` are each a `Law`, a mapping of values to weights, or observed whole numbers:
@@ -131,23 +163,53 @@ class Scenario:
         of that name. `initial` is in items, by default halfway between s and S. `key` has four words of 16 digits of
         0-9a-f, or is any text from which they follow. Raises Refused, and ScenarioError with all faults.
         """
-        costs, scale = scaled_costs({"setup": setup, "unit": unit, "holding": holding, "backlog": backlog})
+        costs, scale = scaled_costs(
+            {"setup": setup, "unit": unit, "holding": holding, "backlog": backlog}
+        )
         low, high = _levels(today, "today")
         made = cls.of_laws(
-            _table(demand, "demand"), _table(lead, "lead"), None if returns is None else _table(returns, "returns"),
-            Costs(**costs), (low, high), (low + high) // 2 if initial is None else whole(initial, "initial"),
-            whole(periods, "periods"), whole(replications, "replications"), key)
+            _table(demand, "demand"),
+            _table(lead, "lead"),
+            None if returns is None else _table(returns, "returns"),
+            Costs(**costs),
+            (low, high),
+            (low + high) // 2 if initial is None else whole(initial, "initial"),
+            whole(periods, "periods"),
+            whole(replications, "replications"),
+            key,
+        )
         checked_tree(made.tree)
         return dataclasses.replace(made, scale=scale)
 
     @classmethod
-    def of_laws(cls, demand: Law, lead: Law, returns: Law | None, costs: Costs, today: tuple[int, int] | None,
-                initial: int, periods: int, replications: int, key: str | Sequence[str]) -> Scenario:
+    def of_laws(
+        cls,
+        demand: Law,
+        lead: Law,
+        returns: Law | None,
+        costs: Costs,
+        today: tuple[int, int] | None,
+        initial: int,
+        periods: int,
+        replications: int,
+        key: str | Sequence[str],
+    ) -> Scenario:
         """Makes a scenario without a check. Without levels of today it has no policy."""
         version = formats.version_with(["returns"] if returns else [])
         policies = (Policy("today", *today),) if today else ()
-        return cls(version, tuple(key_words(key)), periods, replications, initial, formats.RING_SIZES[-1], costs,
-                   demand.table, lead.table, policies, returns and returns.table)
+        return cls(
+            version,
+            tuple(key_words(key)),
+            periods,
+            replications,
+            initial,
+            formats.RING_SIZES[-1],
+            costs,
+            demand.table,
+            lead.table,
+            policies,
+            returns and returns.table,
+        )
 
     def changed(self, **changes: object) -> Scenario:
         """Returns the scenario with changed fields, checked. Raises Refused, and ScenarioError with all faults.
@@ -159,9 +221,13 @@ class Scenario:
         given: Tree = changes
         for name, value in given.items():
             if name not in CHANGEABLE:
-                raise Refused(f"a scenario has no field {name!r}; it has {', '.join(CHANGEABLE)}")
+                raise Refused(
+                    f"a scenario has no field {name!r}; it has {', '.join(CHANGEABLE)}"
+                )
             if name == "policies":
-                tree["policy"] = [dataclasses.asdict(policy) for policy in policies_of(value)]
+                tree["policy"] = [
+                    dataclasses.asdict(policy) for policy in policies_of(value)
+                ]
             elif name == "costs":
                 costs = vars(value) if isinstance(value, Costs) else value
                 for cost, amount in costs.items():
@@ -176,7 +242,9 @@ class Scenario:
                 tree[name] = whole(value, name)
         if "returns" in changes and "version" not in changes:
             tree["version"] = formats.version_with(tree)
-        return dataclasses.replace(Scenario.of_tree(checked_tree(tree), self.source), scale=self.scale)
+        return dataclasses.replace(
+            Scenario.of_tree(checked_tree(tree), self.source), scale=self.scale
+        )
 
     def with_policies(self, policies: Iterable[Policy]) -> Scenario:
         """Returns the scenario with these policies in place of its own, unchecked."""
@@ -186,23 +254,31 @@ class Scenario:
         """Returns the scenario as the program reads it: with the comments of its source, if it has one."""
         if self.source is not None:
             return toml_text(self.tree, self.source)
-        return f"# Costs: {self.scale} for one unit of money\n\n" * (self.scale != 1) + plain_text(self.tree)
+        return f"# Costs: {self.scale} for one unit of money\n\n" * (
+            self.scale != 1
+        ) + plain_text(self.tree)
 
     def suggest(self) -> Suggestions:
         """Returns suggested policies with exact long-run figures, today's first: policy, s, S (items), cost (money a
         period, without `unit`), fill (the share of demand met at once), short (the share of periods that end with items
-        owed), stock (items), orders (a period), and the reasons for each. Raises NoTheory."""
+        owed), stock (items), orders (a period), and the reasons for each. Raises NoTheory.
+        """
         from .theory.suggestions import suggestions_of
+
         return suggestions_of(self)
 
     def _with_base(self, policies: Policies) -> Scenario:
         """Returns the scenario with its first policy and then these, each pair of levels once unless it is named."""
         base = self.policies[0]
         unnamed = Policy.of_levels(base.s, base.S)
-        others = (policy for policy in policies_of(policies) if policy not in (base, unnamed))
+        others = (
+            policy for policy in policies_of(policies) if policy not in (base, unnamed)
+        )
         return self.with_policies(dict.fromkeys([base, *others]))
 
-    def run(self, policies: Policies | None = None, *, program: str | Path | None = None) -> Report:
+    def run(
+        self, policies: Policies | None = None, *, program: str | Path | None = None
+    ) -> Report:
         """Runs crnsim on any number of policies and returns the exact report. The base is the scenario's first policy.
 
         `policies` are the others, by default the scenario's own: Policy objects, pairs (s, S), a mapping of names to
@@ -210,10 +286,18 @@ class Scenario:
         runs with the base in each. Raises Refused, ScenarioError with all faults, and ProgramError.
         """
         from .crnsim.report import report_of
-        return report_of(self if policies is None else self._with_base(policies), program)
 
-    def long_run(self, policies: Policies | None = None, *, keys: int = 48,
-                 program: str | Path | None = None) -> LongRunReport:
+        return report_of(
+            self if policies is None else self._with_base(policies), program
+        )
+
+    def long_run(
+        self,
+        policies: Policies | None = None,
+        *,
+        keys: int = 48,
+        program: str | Path | None = None,
+    ) -> LongRunReport:
         """Runs crnsim on any number of policies, and takes what the start adds to their costs out, by theory.
 
         Each of the `keys`, 2 to 256, is a replication of 1,024 periods. All policies start with the mean position of
@@ -222,7 +306,10 @@ class Scenario:
         run, or if the numbers of the scenario are too far apart.
         """
         from .decide.long_run import long_run_of
-        return long_run_of(self if policies is None else self._with_base(policies), keys, program)
+
+        return long_run_of(
+            self if policies is None else self._with_base(policies), keys, program
+        )
 
 
 def key_words(key: str | Sequence[str]) -> list[str]:
@@ -230,7 +317,10 @@ def key_words(key: str | Sequence[str]) -> list[str]:
     if not isinstance(key, str):
         return list(key)
     digits, length = sha256(key), formats.DIGITS_OF_WORD
-    return [digits[place:place + length] for place in range(0, formats.WORDS_OF_KEY * length, length)]
+    return [
+        digits[place : place + length]
+        for place in range(0, formats.WORDS_OF_KEY * length, length)
+    ]
 
 
 def _table(law: Any, name: str) -> Law:
@@ -241,9 +331,21 @@ def _table(law: Any, name: str) -> Law:
         # An array or a Series, as Python's numbers; or any iterable.
         numbers = law.tolist() if hasattr(law, "tolist") else law
         if not isinstance(numbers, Iterable):
-            raise Refused(f"{name}: {type(law).__name__} is not a law; fit one, or give observed whole numbers")
-        law = Counter(whole(number, f"{name}: entry {place}") for place, number in enumerate(numbers, 1))
-    return Law.of({whole(value, f"{name}: value"): whole(law[value], f"{name}: weight of {value}") for value in law})
+            raise Refused(
+                f"{name}: {type(law).__name__} is not a law; fit one, or give observed whole numbers"
+            )
+        law = Counter(
+            whole(number, f"{name}: entry {place}")
+            for place, number in enumerate(numbers, 1)
+        )
+    return Law.of(
+        {
+            whole(value, f"{name}: value"): whole(
+                law[value], f"{name}: weight of {value}"
+            )
+            for value in law
+        }
+    )
 
 
 def _levels(pair: Any, name: str) -> tuple[int, int]:
@@ -251,7 +353,9 @@ def _levels(pair: Any, name: str) -> tuple[int, int]:
     try:
         low, high = pair
     except (TypeError, ValueError):
-        raise Refused(f"{name}: {shown(pair)} is not a pair (s, S); give two levels in items") from None
+        raise Refused(
+            f"{name}: {shown(pair)} is not a pair (s, S); give two levels in items"
+        ) from None
     return whole(low, f"{name}: s"), whole(high, f"{name}: S")
 
 
@@ -261,20 +365,31 @@ def policies_of(given: Policies) -> list[Policy]:
     if hasattr(policies, "columns"):
         return _policies_of_table(policies)
     if isinstance(policies, Mapping):
-        return [Policy.of_levels(*_levels(pair, f"policies: {name}"), name) for name, pair in policies.items()]
-    return [one if isinstance(one, Policy) else Policy.of_levels(*_levels(one, "policies")) for one in policies]
+        return [
+            Policy.of_levels(*_levels(pair, f"policies: {name}"), name)
+            for name, pair in policies.items()
+        ]
+    return [
+        one if isinstance(one, Policy) else Policy.of_levels(*_levels(one, "policies"))
+        for one in policies
+    ]
 
 
 def _policies_of_table(policies: Any) -> list[Policy]:
     """Returns the policies of a DataFrame. Their names are its column `policy`, or an index of that name or of texts."""
     if not {"s", "S"} <= {*policies.columns}:
-        raise Refused("policies: the table lacks the column s or S; name them policy, s and S")
+        raise Refused(
+            "policies: the table lacks the column s or S; name them policy, s and S"
+        )
     table = policies.set_index("policy") if "policy" in policies else policies
     names = [""] * len(table)
     if table.index.name == "policy" or table.index.dtype == object:
         names = [str(name) for name in table.index]
     pairs = zip(table["s"], table["S"])
-    return [Policy.of_levels(*_levels(pair, "policies"), name) for name, pair in zip(names, pairs)]
+    return [
+        Policy.of_levels(*_levels(pair, "policies"), name)
+        for name, pair in zip(names, pairs)
+    ]
 
 
 def read_policies(word: str) -> list[Policy]:
@@ -291,7 +406,9 @@ def read_policies(word: str) -> list[Policy]:
     try:
         return [*_policies_of_rows(data.decode("utf-8-sig"), word)]
     except (UnicodeDecodeError, csv.Error) as fault:
-        raise Refused(f"{word}: this is no table of policies: {fault}; save it as CSV in UTF-8") from fault
+        raise Refused(
+            f"{word}: this is no table of policies: {fault}; save it as CSV in UTF-8"
+        ) from fault
 
 
 def _policies_of_rows(text: str, place: str) -> Iterator[Policy]:
@@ -299,11 +416,15 @@ def _policies_of_rows(text: str, place: str) -> Iterator[Policy]:
     rows = csv.DictReader(io.StringIO(text, newline=""))
     missing = [name for name in "sS" if name not in (rows.fieldnames or [])]
     if missing:
-        raise Refused(f"{place}:1: there is no column {' and no column '.join(missing)}; name them policy, s and S")
+        raise Refused(
+            f"{place}:1: there is no column {' and no column '.join(missing)}; name them policy, s and S"
+        )
     for row in rows:
         for name in "sS":
             level = row[name] or ""
             if not re.fullmatch("[0-9]{1,9}", level):
-                raise Refused(f"{place}:{rows.line_num}: column {name}: {shown(level)} is not a whole number; write the "
-                              "level in items")
+                raise Refused(
+                    f"{place}:{rows.line_num}: column {name}: {shown(level)} is not a whole number; write the "
+                    "level in items"
+                )
         yield Policy.of_levels(int(row["s"]), int(row["S"]), row.get("policy") or "")

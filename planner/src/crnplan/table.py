@@ -26,9 +26,12 @@ Kind = Literal["text", "name", "whole", "number", "exact", "fraction"]
 MONEY = "money"
 TYPES = {"whole": "Int64", "number": float}
 # Units that name money or a period, with a currency and the name of a period in their place.
-NAMED_UNITS = {"money": "{money}", "periods": "{period}s",
-               **{f"{what} a period": f"{what} a {{period}}" for what in ("items", "orders")},
-               "money a period": "{money} a {period}"}
+NAMED_UNITS = {
+    "money": "{money}",
+    "periods": "{period}s",
+    **{f"{what} a period": f"{what} a {{period}}" for what in ("items", "orders")},
+    "money a period": "{money} a {period}",
+}
 # How a text begins that a spreadsheet would run, unless it is a number or a mark for no figure.
 RUN = re.compile(r"[=@\t\r]|[+-](?![0-9.,]*$)")
 
@@ -88,9 +91,13 @@ class Column:
 
     def unit_in(self, currency: str, every: str) -> str:
         """Returns the unit in a currency and for periods, each of which may be empty: EUR a week."""
-        return NAMED_UNITS.get(self.unit, self.unit).format(money=currency or "money", period=every or "period")
+        return NAMED_UNITS.get(self.unit, self.unit).format(
+            money=currency or "money", period=every or "period"
+        )
 
-    def speller(self, decimals: int, missing: str, is_shown: bool = False) -> Callable[[Cell], str]:
+    def speller(
+        self, decimals: int, missing: str, is_shown: bool = False
+    ) -> Callable[[Cell], str]:
         """Returns the function that spells a cell. Money has so many decimals; `missing` stands for no figure."""
         style = self.shown if is_shown and self.shown else self.written
         if style == MONEY:
@@ -98,31 +105,29 @@ class Column:
         if style.endswith(("f", "%")):  # no zero has a sign
             style = f"+z{style[1:]}" if style.startswith("+") else f"z{style}"
 
-        def spell_number(value: Any) -> str:
-            return missing if value is None or value != value else format(float(value), style)
+        def spelt_number(value: Any) -> str:
+            return format(float(value), style)
 
-        def spell_fraction(value: Cell) -> str:
-            return missing if value is None else str(plain(value))
+        spell: Callable[[Any], str] = str
+        if self.kind == "number" and style:
+            spell = spelt_number
+        elif self.kind == "text" and not is_shown:
+            spell = unrun
+        elif self.kind == "fraction" and not is_shown:
+            spell = fraction_text
 
-        def spell_unrun(value: Cell) -> str:
-            return missing if value is None else unrun(str(value))
+        def spelt(value: Cell) -> str:
+            return missing if is_missing(value) else spell(value)
 
-        def spell_text(value: Cell) -> str:
-            return missing if value is None else str(value)
-
-        def spell_other(value: Cell) -> str:
-            return missing if is_missing(value) else str(value)
-        if self.is_text:
-            return spell_text if is_shown or self.kind == "name" else spell_unrun
-        if self.kind == "fraction" and not is_shown:
-            return spell_fraction
-        return spell_number if self.kind == "number" and style else spell_other
+        return spelt
 
 
 # Columns of rounded numbers, of whole ones, of whole numbers and fractions; of fractions and of names as crnsim writes
 # them.
-number, whole, exact = Column, partial(Column, kind="whole"), partial(Column, kind="exact")
-fraction, name = partial(Column, kind="fraction"), partial(Column, unit="text", kind="name")
+number = Column
+whole, exact = partial(Column, kind="whole"), partial(Column, kind="exact")
+fraction = partial(Column, kind="fraction")
+name = partial(Column, unit="text", kind="name")
 
 
 def text(name: str, meaning: str) -> Column:
@@ -139,8 +144,12 @@ def at(path: str) -> Callable[[Any], Any]:
         for name in names:
             if thing is None:
                 break
-            thing = thing.get(name) if isinstance(thing, Mapping) else getattr(thing, name)
+            if isinstance(thing, Mapping):
+                thing = thing.get(name)
+            else:
+                thing = getattr(thing, name)
         return thing
+
     return fact
 
 
@@ -149,10 +158,15 @@ def is_missing(value: Cell) -> bool:
     return value is None or isinstance(value, float) and math.isnan(value)
 
 
+def fraction_text(number: int | Fraction) -> str:
+    """Returns a fraction as crnsim writes it, 1/1 for a whole one."""
+    return f"{number.numerator}/{number.denominator}"
+
+
 def plain(cell: Cell) -> str | int | float | None:
     """Returns a cell as plain data: a fraction as a text, None for no figure."""
     if isinstance(cell, Fraction):
-        return f"{cell.numerator}/{cell.denominator}"
+        return fraction_text(cell)
     return None if is_missing(cell) else cell
 
 
@@ -167,7 +181,8 @@ def unrun(cell: str) -> str:
 @dataclass(frozen=True)
 class DataTable:
     """Rows under declared columns. Money has `decimals`, `missing` stands for no figure, and `index` names the column
-    by which a frame is indexed. Units are in a `currency` and for periods of `every`, if these are known."""
+    by which a frame is indexed. Units are in a `currency` and for periods of `every`, if these are known.
+    """
 
     columns: Sequence[Column]
     rows: Iterable[Sequence[Cell]]
@@ -178,11 +193,24 @@ class DataTable:
     every: str = ""
 
     @classmethod
-    def of(cls, columns: Sequence[Column], things: Iterable[object], *words: Any, **named: Any) -> DataTable:
+    def of(
+        cls,
+        columns: Sequence[Column],
+        things: Iterable[object],
+        *words: Any,
+        **named: Any,
+    ) -> DataTable:
         """Returns the table with a row for each thing; of an iterator, rows are made as they are needed. Further words
         are those of a table."""
-        rows = ([column.cell(thing) for column in columns] for thing in things)
-        return cls(columns, [*rows] if isinstance(things, Sequence) else rows, *words, **named)
+
+        def rows() -> Iterator[list[Cell]]:
+            for thing in things:
+                yield [column.cell(thing) for column in columns]
+
+        made: Iterable[list[Cell]] = rows()
+        if isinstance(things, Sequence):
+            made = [*made]
+        return cls(columns, made, *words, **named)
 
     @property
     def names(self) -> list[str]:
@@ -191,28 +219,37 @@ class DataTable:
     def with_columns(self, names: Iterable[str]) -> DataTable:
         """Returns the table with the named columns alone, in their order."""
         places = [self.names.index(name) for name in names]
-        return replace(self, columns=[self.columns[place] for place in places],
-                       rows=[[row[place] for place in places] for row in self.rows])
+        return replace(
+            self,
+            columns=[self.columns[place] for place in places],
+            rows=[[row[place] for place in places] for row in self.rows],
+        )
 
     def without_empty(self, names: Collection[str]) -> DataTable:
         """Returns the table without those of the named columns in which no row has a figure."""
-        kept = []
-        for place, name in enumerate(self.names):
-            if name not in names or not all(is_missing(row[place]) for row in self.rows):
-                kept.append(name)
-        return self.with_columns(kept)
+        filled = set[str]()
+        for row in self.rows:
+            for name, cell in zip(self.names, row):
+                if not is_missing(cell):
+                    filled.add(name)
+        return self.with_columns(
+            name for name in self.names if name not in names or name in filled
+        )
 
     def spelt(self, is_shown: bool = False) -> Iterator[list[str]]:
         """Yields the heading and the rows as texts: as a file has them, or as they are shown to a reader."""
-        spell = [column.speller(self.decimals, self.missing, is_shown) for column in self.columns]
+        spellers = list[Callable[[Cell], str]]()
+        for column in self.columns:
+            spellers.append(column.speller(self.decimals, self.missing, is_shown))
         yield self.names
         for row in self.rows:
-            yield [function(cell) for function, cell in zip(spell, row, strict=True)]
+            yield [spell(cell) for spell, cell in zip(spellers, row, strict=True)]
 
     def cells(self, is_shown: bool = False) -> Iterator[dict[str, str]]:
         """Yields the rows by column: each cell as a file has it, or as it is shown to a reader."""
         heading, *rows = self.spelt(is_shown)
-        yield from (dict(zip(heading, row)) for row in rows)
+        for row in rows:
+            yield dict(zip(heading, row))
 
     @property
     def lines(self) -> Iterator[str]:
@@ -225,12 +262,13 @@ class DataTable:
             # It quotes a lone carriage return if it ends lines by one.
             csv.writer(line, delimiter=delimiter).writerow(row)
             return line.getvalue().removesuffix("\r\n") + "\n"
+
         rows = self.spelt()
         yield mark + line_of(next(rows))
-        figures = [place for place, column in enumerate(self.columns) if not column.is_text]
         for row in rows:
-            for place in figures:
-                row[place] = row[place].replace(".", decimal)
+            for place, column in enumerate(self.columns):
+                if not column.is_text:
+                    row[place] = row[place].replace(".", decimal)
             yield line_of(row)
 
     @property
@@ -240,23 +278,29 @@ class DataTable:
     @property
     def records(self) -> list[dict[str, Json]]:
         """Returns the rows as plain data, unrounded: fractions as texts, None for no figure."""
-        return [dict(zip(self.names, map(plain, row), strict=True)) for row in self.rows]
+        names = self.names
+        return [dict(zip(names, map(plain, row), strict=True)) for row in self.rows]
 
     @property
     def units(self) -> dict[str, str]:
         """Returns the unit of each column that has one."""
-        return {column.name: column.unit_in(self.currency, self.every) for column in self.columns if column.unit}
+        units = dict[str, str]()
+        for column in self.columns:
+            if column.unit:
+                units[column.name] = column.unit_in(self.currency, self.every)
+        return units
 
     @property
     def frame(self) -> pd.DataFrame:
         """Returns the rows unrounded, as typed columns: texts, whole numbers, floats and fractions. Its `attrs` have
         the units of columns."""
         import pandas as pd
-        rows = list(self.rows)
-        cells = {}
+
+        rows, columns = list(self.rows), dict[str, pd.Series]()
         for place, column in enumerate(self.columns):
-            cells[column.name] = pd.Series([row[place] for row in rows], dtype=TYPES.get(column.kind, object))
-        frame = pd.DataFrame(cells)
+            cells, kind = [row[place] for row in rows], TYPES.get(column.kind, object)
+            columns[column.name] = pd.Series(cells, dtype=kind)
+        frame = pd.DataFrame(columns)
         frame.attrs["units"] = self.units
         return frame.set_index(self.index) if self.index else frame
 
@@ -270,18 +314,20 @@ class DataTable:
     def html(self) -> str:
         """Returns the table as HTML. Each heading has the meaning of its column, and its unit, as its title."""
         heading, *rows = self.spelt(True)
-        units = self.units
-        styles = ["left" if column.is_text else "right" for column in self.columns]
-        parts = ["<table>\n<thead><tr>"]
-        for name, style, column in zip(heading, styles, self.columns):
-            title = f"{units[column.name]}: {column.meaning}" if column.unit else column.meaning
-            parts.append(f'<th scope="col" style="text-align: {style}" title="{html.escape(title)}">'
-                         f"{html.escape(name)}</th>")
+        styles, parts = list[str](), ["<table>\n<thead><tr>"]
+        for name, column in zip(heading, self.columns):
+            styles.append("text-align: left" if column.is_text else "text-align: right")
+            title = column.meaning
+            if column.unit:
+                title = f"{self.units[column.name]}: {title}"
+            parts.append(
+                f'<th scope="col" style="{styles[-1]}" title="{html.escape(title)}">{html.escape(name)}</th>'
+            )
         parts.append("</tr></thead>\n<tbody>\n")
         for row in rows:
             parts.append("<tr>")
             for cell, style in zip(row, styles):
-                parts.append(f'<td style="text-align: {style}">{html.escape(cell)}</td>')
+                parts.append(f'<td style="{style}">{html.escape(cell)}</td>')
             parts.append("</tr>\n")
         parts.append("</tbody>\n</table>\n")
         return "".join(parts)
@@ -317,8 +363,11 @@ class Result(ABC):
 
     def _repr_html_(self) -> str:
         """Shows the table and the notes in a notebook."""
-        notes = [f"<p>{html.escape(line)}</p>\n" for line in self.notes.splitlines() if line]
-        return self.table.html + "".join(notes)
+        parts = [self.table.html]
+        for line in self.notes.splitlines():
+            if line:
+                parts.append(f"<p>{html.escape(line)}</p>\n")
+        return "".join(parts)
 
 
 class TextResult(Result):
@@ -334,8 +383,9 @@ def aligned(rows: Sequence[Sequence[str]], left: Collection[int] = (0,)) -> str:
     widths = [max(map(len, column)) for column in zip(*rows)]
     lines = []
     for row in rows:
-        cells = [cell.ljust(width) if place in left else cell.rjust(width)
-                 for place, (cell, width) in enumerate(zip(row, widths))]
+        cells = []
+        for place, (cell, width) in enumerate(zip(row, widths)):
+            cells.append(cell.ljust(width) if place in left else cell.rjust(width))
         lines.append("  ".join(cells).rstrip() + "\n")
     return "".join(lines)
 

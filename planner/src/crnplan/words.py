@@ -38,7 +38,11 @@ def listed(parts: Iterable[str], last: str) -> str:
 
 def exactness(step: int | None) -> str:
     """Returns how exact theory's figures are on a lattice of so many items; None if that is exact."""
-    return "exact but for rounding" if step is None else f"rounded to steps of {step} items"
+    return (
+        "exact but for rounding"
+        if step is None
+        else f"rounded to steps of {step} items"
+    )
 
 
 def _templates(file: str) -> dict[str, tuple[Say, Say]]:
@@ -48,7 +52,10 @@ def _templates(file: str) -> dict[str, tuple[Say, Say]]:
 
     def marked(text: str) -> str:
         whole = re.sub("<[+](.*?)>", lambda part: parts[part[1]], text)
-        return re.sub("<(.*?)(?:=(.*?))?>", lambda name: argument(name[1], name[2] or ""), whole)
+        return re.sub(
+            "<(.*?)(?:=(.*?))?>", lambda name: argument(name[1], name[2] or ""), whole
+        )
+
     pairs: dict[str, tuple[Say, Say]] = {}
     for code, said in table.items():
         what, advice = (said, "") if isinstance(said, str) else said
@@ -58,12 +65,18 @@ def _templates(file: str) -> dict[str, tuple[Say, Say]]:
 
 def _several(which: int) -> Say:
     """Returns the function that gives what is wrong with several cells of a row, or what to do about them."""
+
     def said(facts: Facts) -> str:
         words: dict[str, None] = {}
         for place in filter(str.isdecimal, facts):
-            own = {name.removeprefix(f"{place} "): value for name, value in facts.items() if name != place}
+            own = {
+                name.removeprefix(f"{place} "): value
+                for name, value in facts.items()
+                if name != place
+            }
             words[_said(WORDS[facts[place]][which], own)] = None
         return " and ".join(filter(None, words))
+
     return said
 
 
@@ -89,15 +102,28 @@ def _no_interval(facts: Facts) -> str:
 
 
 def _not_reached(facts: Facts) -> str:
-    return "is best" if facts["fill"] is None else f"meets {facts['fill']:g} of demand at once"
+    return (
+        "is best"
+        if facts["fill"] is None
+        else f"meets {facts['fill']:g} of demand at once"
+    )
 
 
-# What follows from the facts of a catalogue (records/defaults.py, plan/catalogue.py).
-SOURCES = {"masters": "the masters", "class": "the class", "orders": "receipts of orders", "default": "the default"}
+# What follows from the facts of a catalogue (read/defaults.py, plan/catalogue.py).
+SOURCES = {
+    "masters": "the masters",
+    "class": "the class",
+    "orders": "receipts of orders",
+    "default": "the default",
+}
 
 
 def _sources(facts: Facts) -> str:
-    parts = [f"{counted(facts[source], 'item')} by {words}" for source, words in SOURCES.items() if facts[source]]
+    parts = [
+        f"{counted(facts[source], 'item')} by {words}"
+        for source, words in SOURCES.items()
+        if facts[source]
+    ]
     return ", ".join(parts)
 
 
@@ -126,7 +152,9 @@ def _moved(facts: Facts) -> str:
     for fact in facts:
         name = fact.removesuffix(" after")
         if name != fact:
-            moves.append(f"{name} {_spelt(facts[f'{name} before'])} to {_spelt(facts[fact])}")
+            moves.append(
+                f"{name} {_spelt(facts[f'{name} before'])} to {_spelt(facts[fact])}"
+            )
     return ", ".join(moves)
 
 
@@ -138,9 +166,25 @@ def _policy_today(facts: Facts) -> str:
 
 
 # What follows from the facts of the checks of a history (demand/checks.py).
-STUDIED = {"steady": "Poisson, mean 10", "erratic": "negative binomial, mean 3, variance 9"}
-WEEKDAYS = ("Monday", "Tuesday", "Wednesday", "Thursday", "Friday", "Saturday", "Sunday")
-QUARTERS = ("January to March", "April to June", "July to September", "October to December")
+STUDIED = {
+    "steady": "Poisson, mean 10",
+    "erratic": "negative binomial, mean 3, variance 9",
+}
+WEEKDAYS = (
+    "Monday",
+    "Tuesday",
+    "Wednesday",
+    "Thursday",
+    "Friday",
+    "Saturday",
+    "Sunday",
+)
+QUARTERS = (
+    "January to March",
+    "April to June",
+    "July to September",
+    "October to December",
+)
 
 
 def _compared(change: float) -> str:
@@ -150,13 +194,17 @@ def _compared(change: float) -> str:
 def _trend(facts: Facts) -> str:
     if facts["change"] is None:
         return "the first third has no demand"
-    return f"the mean of the last third is {_compared(facts['change'])} that of the first"
+    return (
+        f"the mean of the last third is {_compared(facts['change'])} that of the first"
+    )
 
 
 def _shift(facts: Facts) -> str:
     if facts["change"] is None:
         return f"there is no demand before {facts['name']}"
-    return f"from {facts['name']} on the mean is {_compared(facts['change'])} that before"
+    return (
+        f"from {facts['name']} on the mean is {_compared(facts['change'])} that before"
+    )
 
 
 def _part(facts: Facts, name: str) -> str:
@@ -172,7 +220,9 @@ def _part(facts: Facts, name: str) -> str:
 
 def _season(facts: Facts) -> str:
     most, least = _part(facts, "most"), _part(facts, "least")
-    return f"{facts['most']:.2g} times the mean {most}, {facts['least']:.2g} times {least}"
+    return (
+        f"{facts['most']:.2g} times the mean {most}, {facts['least']:.2g} times {least}"
+    )
 
 
 def _autocorrelation(facts: Facts) -> str:
@@ -185,7 +235,11 @@ def _autocorrelation(facts: Facts) -> str:
 def _since(facts: Facts) -> str:
     """Returns how a plan is made from a shift on: by the argument if the record has dates."""
     since = facts.get("since")
-    return argument("start", since) if since else f"leave out the rows before {facts.get('name')}"
+    return (
+        argument("start", since)
+        if since
+        else f"leave out the rows before {facts.get('name')}"
+    )
 
 
 def _unheeded(facts: Facts) -> str:
@@ -195,10 +249,17 @@ def _unheeded(facts: Facts) -> str:
         effect = f"autocorrelation {facts['effect_size'] / 100:g}"
     elif facts["effect"] == "season":
         effect = f"season of \u00b1{facts['effect_size']}% in {facts['effect_length']} periods"
-    regret, promise, level = (_percent(facts[name]) for name in ("regret", "promise", "level"))
-    side, error = "higher" if facts["level"] >= 0 else "lower", "low" if facts["promise"] < 0 else "high"
-    return (f". In a study ({STUDIED[facts['study']]}; {effect}) such a plan cost {regret} more than the best policy, "
-            f"whose S was {level} {side}, and promised a cost {promise} too {error}")
+    regret, promise, level = (
+        _percent(facts[name]) for name in ("regret", "promise", "level")
+    )
+    side, error = (
+        "higher" if facts["level"] >= 0 else "lower",
+        "low" if facts["promise"] < 0 else "high",
+    )
+    return (
+        f". In a study ({STUDIED[facts['study']]}; {effect}) such a plan cost {regret} more than the best policy, "
+        f"whose S was {level} {side}, and promised a cost {promise} too {error}"
+    )
 
 
 def _percent(value: float) -> str:
@@ -208,15 +269,33 @@ def _percent(value: float) -> str:
 
 # What is found by each test, what follows from that in words, and what to do about it.
 TESTS = {
-    "trend": ("demand has a trend", _trend, "Plan from the part of the record that is like what you expect "
-              f"({argument('start')}, or fewer rows)"),
-    "shift": ("the level of demand has changed", _shift,
-              "If that is for good, plan from the record since then ({since})"),
-    "season": ("demand has a season", _season,
-               "Plan each part of the season from its own periods, with levels of its own"),
-    "weekday": ("demand follows the weekdays", _season, f"Take weeks ({argument('every', 'week')})"),
-    "autocorrelation": ("periods are not independent", _autocorrelation,
-                        "Ask what comes in runs (projects, campaigns, one customer), and plan that apart")}
+    "trend": (
+        "demand has a trend",
+        _trend,
+        "Plan from the part of the record that is like what you expect "
+        f"({argument('start')}, or fewer rows)",
+    ),
+    "shift": (
+        "the level of demand has changed",
+        _shift,
+        "If that is for good, plan from the record since then ({since})",
+    ),
+    "season": (
+        "demand has a season",
+        _season,
+        "Plan each part of the season from its own periods, with levels of its own",
+    ),
+    "weekday": (
+        "demand follows the weekdays",
+        _season,
+        f"Take weeks ({argument('every', 'week')})",
+    ),
+    "autocorrelation": (
+        "periods are not independent",
+        _autocorrelation,
+        "Ask what comes in runs (projects, campaigns, one customer), and plan that apart",
+    ),
+}
 
 
 def _heeded(name: str, facts: Facts) -> str:
@@ -230,7 +309,9 @@ def _heeded(name: str, facts: Facts) -> str:
 
 def _largest(facts: Facts) -> str:
     ranks = [rank for rank in range(1, 4) if f"demand_{rank}" in facts]
-    return ", ".join(f"{facts[f'demand_{rank}']} in {facts[f'period_{rank}']}" for rank in ranks)
+    return ", ".join(
+        f"{facts[f'demand_{rank}']} in {facts[f'period_{rank}']}" for rank in ranks
+    )
 
 
 def _effect(name: str, size: float) -> str:
@@ -266,7 +347,11 @@ def _untested(facts: Facts) -> str:
 # What follows from the facts of suggestions (theory/suggestions.py).
 def _lacking_laws(facts: Facts) -> str:
     lacking = facts["lacking"]
-    return f"; {lacking} of the laws have no long run, and keep no promise" if lacking else ""
+    return (
+        f"; {lacking} of the laws have no long run, and keep no promise"
+        if lacking
+        else ""
+    )
 
 
 def _side(facts: Facts) -> str:
@@ -275,14 +360,28 @@ def _side(facts: Facts) -> str:
 
 # What follows from facts, by its name in the tables of words.
 DERIVED: dict[str, Derive] = {
-    "owner of the law": _owner, "allowed fill": _allowed_fill, "how it is known": _how_known,
-    "periods with demand": lambda facts: counted(facts["demands"], "period"), "reason of no interval": _no_interval,
-    "what is not reached": _not_reached, "most items": lambda facts: f"{MOST_ITEMS:,}", "sources": _sources,
-    "for a reason": _reason, "and classes": _and_classes, "in rows": _in_rows, "moves": _moved,
-    "policy today": _policy_today, "largest": _largest, "seen effects": _seen_effects, "what is untested": _untested,
-    "exactness": lambda facts: exactness(facts["step"]), "lacking laws": _lacking_laws,
-    "far": lambda facts: abs(facts["today"] - facts["mean"]), "side": _side,
-    **{f"found {name}": found for name, (_, found, advice) in TESTS.items()}}
+    "owner of the law": _owner,
+    "allowed fill": _allowed_fill,
+    "how it is known": _how_known,
+    "periods with demand": lambda facts: counted(facts["demands"], "period"),
+    "reason of no interval": _no_interval,
+    "what is not reached": _not_reached,
+    "most items": lambda facts: f"{MOST_ITEMS:,}",
+    "sources": _sources,
+    "for a reason": _reason,
+    "and classes": _and_classes,
+    "in rows": _in_rows,
+    "moves": _moved,
+    "policy today": _policy_today,
+    "largest": _largest,
+    "seen effects": _seen_effects,
+    "what is untested": _untested,
+    "exactness": lambda facts: exactness(facts["step"]),
+    "lacking laws": _lacking_laws,
+    "far": lambda facts: abs(facts["today"] - facts["mean"]),
+    "side": _side,
+    **{f"found {name}": found for name, (_, found, advice) in TESTS.items()},
+}
 
 
 class _Known(dict[str, Any]):
@@ -320,7 +419,10 @@ class _Blanked(dict[str, Any]):
 
 # What is said of a code, and what to do about it.
 WORDS: dict[str, tuple[Say, Say]] = {
-    **_templates("words.toml"), **_templates("record_words.toml"), "several": (_several(0), _several(1))}
+    **_templates("words.toml"),
+    **_templates("record_words.toml"),
+    "several": (_several(0), _several(1)),
+}
 for _name in TESTS:
     _title, _found = TESTS[_name][0], f"{{found {_name}}}"
     WORDS[f"found {_name}"] = _found, ""
@@ -357,7 +459,9 @@ def advice(remark: Remark) -> str:
 def message(remark: Remark, sign: str = "; ") -> str:
     """Returns what is said of a remark, and what to do about it, before arguments are spelt."""
     what, advice = WORDS[remark.code]
-    return sign.join(filter(None, [_said(what, remark.facts), _said(advice, remark.facts)]))
+    return sign.join(
+        filter(None, [_said(what, remark.facts), _said(advice, remark.facts)])
+    )
 
 
 def advised(remark: Remark) -> str:

@@ -9,26 +9,26 @@ from collections.abc import Mapping
 from pathlib import Path
 from typing import Any
 
+import numpy as np
 import pytest
 
 import crnplan as package
 from crnplan.demand.learning import Prior
-from crnplan.files import own_folder
-from crnplan.pages.backtest_tables import BACKTEST_COLUMNS, SUM_COLUMNS, VERDICTS
+from crnplan.store.files import own_folder
+from crnplan.show.backtest_tables import BACKTEST_COLUMNS, SUM_COLUMNS, VERDICTS
 from crnplan.plan.backtest.catalogue import TESTS
 from crnplan.plan.backtest.one import Backtest, Walk, backtest_one
 from crnplan.plan.backtest.sums import TIME
 from crnplan.plan.question import NONE, Settings
-from crnplan.records.catalogue_reading import CATALOGUE
-from crnplan.records.item import Item
-from crnplan.plan.backtest.one import Backtest
-from crnplan.stored import Store
+from crnplan.read.catalogue_reading import CATALOGUE
+from crnplan.read.item import Item
+from crnplan.store.stored import Store
 from planner.tests.conftest import Command, rows_of
-from planner.tests.pages.page_reader import Page
-from planner.tests.plan.items import several
+from planner.tests.show.page_reader import Page
+from planner.tests.plan.items import START, several, tables_of
 
-ITEMS, START = 14, datetime.date(2024, 1, 1)  # a Monday
-WORDS = "--record", "40", "--every", "10", "--window", "30"
+ITEMS = 14
+WORDS = "--record 40 --every 10 --window 30".split()
 WALK: dict[str, Any] = {"record": 40, "every": 10, "window": 30, "jobs": 1}
 FILES = "backtest.csv", "backtest_sums.csv", "backtest.txt", "backtest.html"
 
@@ -37,24 +37,16 @@ def write(folder: Path, items: Mapping[str, Item], later: int = 1) -> list[Path]
     """Writes the two tables of items into a folder, with so many times the demand from week 40 on. Item I-013 comes in
     week 30."""
     folder.mkdir(parents=True, exist_ok=True)
-    with (folder / "demand.csv").open("w", newline="") as file:
-        rows = csv.writer(file)
-        rows.writerow(("item", "date", "quantity", "returned"))
-        for item in items.values():
-            for week, asked in enumerate(item.counts):
-                if item.name == "I-013" and week < 30:
-                    continue
-                returned = item.returns[week] if item.returns else 0
-                asked *= later if week >= 40 else 1
-                if asked or returned:
-                    rows.writerow((item.name, START + datetime.timedelta(7 * week), asked, returned))
-    with (folder / "items.csv").open("w", newline="") as file:
-        rows = csv.writer(file)
-        rows.writerow(("item", "class", "setup", "holding", "backlog", "fill", "lead (weeks)", "s", "S"))
-        rows.writerows((it.name, "ab"[place % 2], float(it.setup), float(it.holding),
-                        "" if it.backlog is None else float(it.backlog), "" if it.fill is None else float(it.fill),
-                        " ".join(map(str, it.leads)), *it.levels) for place, it in enumerate(items.values()))
-    return [folder / "demand.csv", folder / "items.csv"]
+    written = list[Item]()
+    for item in items.values():
+        counts = np.array(item.counts)
+        counts[40:] *= later
+        counts[: 30 if item.name == "I-013" else 0] = 0
+        written.append(dataclasses.replace(item, counts=tuple(counts.tolist())))
+    paths = [folder / "demand.csv", folder / "items.csv"]
+    for path, table in zip(paths, tables_of(written)):
+        table.to_csv(path, index=False)
+    return paths
 
 
 @pytest.fixture(scope="module")
@@ -83,19 +75,27 @@ def room(made: Path, tmp_path: Path, monkeypatch: pytest.MonkeyPatch) -> Path:
 
 def test_same_bytes_whatever_the_workers(room: Path, crnplan: Command) -> None:
     """The command writes with two processes what Python does with one, and prints the summary."""
-    answer = crnplan("backtest", room / "demand.csv", room / "items.csv", *WORDS, "--out", room / "two", "--jobs", 2)
-    assert answer.status == 0 and answer.output == (room / "out/backtest.txt").read_text("utf-8")
+    tables = room / "demand.csv", room / "items.csv"
+    out = "--out", room / "two", "--jobs", 2
+    answer = crnplan("backtest", *tables, *WORDS, *out)
+    assert answer.status == 0
+    assert answer.output == (room / "out/backtest.txt").read_text("utf-8")
     assert read(room / "two") == read(room / "out")
 
 
 def test_only_what_has_changed_is_tested_again(room: Path, crnplan: Command) -> None:
     """Tested again, nothing is tested; after a change of a master, its item is."""
-    words = "backtest", room / "demand.csv", room / "items.csv", *WORDS, "--out", room / "out", "--jobs", 1
+    tables, out = [room / "demand.csv", room / "items.csv"], room / "out"
+    words = "backtest", *tables, *WORDS, "--out", out, "--jobs", 1
     before, files = rows_of(room / "out/backtest.csv"), read(room / "out")
     again = crnplan(*words)
-    assert again.status == 0 and read(room / "out") == files and "of 14 items" not in again.errors
+    assert again.status == 0
+    assert read(room / "out") == files
+    assert "of 14 items" not in again.errors
     text = (room / "items.csv").read_text("utf-8")
-    (room / "items.csv").write_text(text.replace("I-004,a,24.0", "I-004,a,25.0"), "utf-8")
+    (room / "items.csv").write_text(
+        text.replace("I-004,a,24.0", "I-004,a,25.0"), "utf-8"
+    )
     assert "14 of 14 items (13 kept)" in crnplan(*words).errors
     after = rows_of(room / "out/backtest.csv")
     assert [name for name in before if before[name] != after[name]] == ["I-004"]
@@ -107,46 +107,66 @@ def test_rows_are_those_of_each_item(made: Path, items: Mapping[str, Item]) -> N
     assert rows.keys() == items.keys()
     assert [*rows["I-001"]] == [column.name for column in BACKTEST_COLUMNS]
     assert {name for name, row in rows.items() if row["left_out"]} == {"I-013"}
-    assert rows["I-013"]["left_out"] == "it has 30 periods, and a test needs 50. test it with a shorter record"
+    said = "it has 30 periods, and a test needs 50. test it with a shorter record"
+    assert rows["I-013"]["left_out"] == said
+    own, walk = Settings(borrow=NONE, every="week"), Walk(40, 10, 30)
     for name in ("I-002", "I-003"):
-        test = backtest_one(items[name], Settings(borrow=NONE, every="week"), Prior(NONE), Walk(40, 10, 30))
+        test = backtest_one(items[name], own, Prior(NONE), walk)
         for policy in ("today", "kept", "refitted", "smoothed", "shuffled"):
             outcome = getattr(test, policy)
-            assert rows[name][f"s_{policy}"] == str(outcome.point) and rows[name][f"S_{policy}"] == str(outcome.level)
-            assert float(rows[name][f"cost_{policy}"]) == pytest.approx(outcome.cost, abs=0.006)
-            assert float(rows[name][f"fill_{policy}"]) == pytest.approx(outcome.fill, abs=6e-5)
+            row = {
+                it: rows[name][f"{it}_{policy}"] for it in ("s", "S", "cost", "fill")
+            }
+            assert (int(row["s"]), int(row["S"])) == (outcome.point, outcome.level)
+            assert float(row["cost"]) == pytest.approx(outcome.cost, abs=0.006)
+            assert float(row["fill"]) == pytest.approx(outcome.fill, abs=6e-5)
 
 
 def test_values_of_a_notebook(room: Path) -> None:
     """A Catalogue that was read gives the same value: rows, sums, text and page."""
     catalogue = package.read_catalogue(room / "demand.csv", room / "items.csv")
     tests = package.backtest(catalogue, out=room / "out", **WALK)
-    assert tests.tested.now == 0 and tests.tested.kept == ITEMS
+    assert tests.tested.now == 0
+    assert tests.tested.kept == ITEMS
     assert tests.table.csv.encode() == (room / "out/backtest.csv").read_bytes()
     assert tests.text == tests.notes == (room / "out/backtest.txt").read_text("utf-8")
     assert tests.page == (room / "out/backtest.html").read_text("utf-8")
     assert [*tests.sums] == [column.name for column in SUM_COLUMNS]
-    assert tests.sums["class"].tolist() == ["", "a", "b"] and tests.verdict in VERDICTS.values()
+    assert tests.sums["class"].tolist() == ["", "a", "b"]
+    assert tests.verdict in VERDICTS.values()
 
 
 def test_page(made: Path) -> None:
     """The page says what the text says, has a row for each class, and asks for no other file."""
-    page, text = Page(made / "out/backtest.html"), (made / "out/backtest.txt").read_text("utf-8")
+    page, text = Page(made / "out/backtest.html"), (
+        made / "out/backtest.txt"
+    ).read_text("utf-8")
     page.check_alone()
     assert text.splitlines()[0] in page.words
     sums = page.tables["Sums of all items and of each class"]
     assert [row[0] for row in sums] == ["class", "all", "a", "b"]
-    rows, written = rows_of(made / "out/backtest.csv"), rows_of(made / "out/backtest_sums.csv", "class")
+    rows, written = rows_of(made / "out/backtest.csv"), rows_of(
+        made / "out/backtest_sums.csv", "class"
+    )
     for row in sums[1:]:
         own = written[row[0].replace("all", "")]
         assert row[1:4] == [own["verdict"], own["items"], own["broken"]]
-        assert float(row[4].rstrip("%")) == pytest.approx(100 * float(own["promised_fill"]), abs=0.06)
+        assert float(row[4].rstrip("%")) == pytest.approx(
+            100 * float(own["promised_fill"]), abs=0.06
+        )
         fills = dict(zip(sums[0][5:], row[5:], strict=True))
         for policy, shown in fills.items():
-            value, error = (100 * float(own[f"fill_{policy}{end}"]) for end in ("", "_error"))
-            assert [float(word) for word in shown.rstrip("%").split(" ± ")] == pytest.approx([value, error], abs=0.06)
+            value, error = (
+                100 * float(own[f"fill_{policy}{end}"]) for end in ("", "_error")
+            )
+            assert [
+                float(word) for word in shown.rstrip("%").split(" ± ")
+            ] == pytest.approx([value, error], abs=0.06)
     worst = page.tables["The items that missed most"][1:]
-    assert worst and {row[0] for row in worst} <= {name for name, row in rows.items() if not row["left_out"]}
+    assert worst
+    assert {row[0] for row in worst} <= {
+        name for name, row in rows.items() if not row["left_out"]
+    }
     assert worst[0][2] == f"{float(rows[worst[0][0]]['promised_fill_kept']):.1%}"
 
 
@@ -159,57 +179,97 @@ def test_level_shift_is_seen(items: Mapping[str, Item], tmp_path: Path) -> None:
 def test_no_item_in_sums(items: Mapping[str, Item], tmp_path: Path) -> None:
     """An item of which all demand is in the record has a test, but none in a random order that puts it all after it.
     Nobody has asked for the other one, which has none either."""
-    ended = dataclasses.replace(items["I-000"], counts=(0, 9, 0, 0, 9) + (0,) * 495, returns=())
+    ended = dataclasses.replace(
+        items["I-000"], counts=(0, 9, 0, 0, 9) + (0,) * 495, returns=()
+    )
     nothing = dataclasses.replace(items["I-001"], counts=(0,) * 500, returns=())
     tables = write(tmp_path, {"I-000": ended, "I-001": nothing})
-    tests = package.backtest(*tables, start=START, end=START + datetime.timedelta(7 * 500 - 1), **WALK)
-    assert tests.verdict == tests.text.splitlines()[0] == "No item has a test on its own past."
-    assert "items: 2 named = 1 tested + 1 without a test" in tests.text and "0 that can't be planned" in tests.text
-    assert tests.frame.set_index("item").left_out["I-001"].startswith("nothing was asked for in 500 periods")
+    tests = package.backtest(
+        *tables, start=START, end=START + datetime.timedelta(7 * 500 - 1), **WALK
+    )
+    assert (
+        tests.verdict
+        == tests.text.splitlines()[0]
+        == "No item has a test on its own past."
+    )
+    assert "items: 2 named = 1 tested + 1 without a test" in tests.text
+    assert "0 that can't be planned" in tests.text
+    assert (
+        tests.frame.set_index("item")
+        .left_out["I-001"]
+        .startswith("nothing was asked for in 500 periods")
+    )
     row, _ = csv.DictReader(tests.table.csv.splitlines())
-    assert row["item"] == "I-000" and float(row["cost_kept"]) > 0 and row["S_shuffled"] == row["cost_shuffled"] == ""
-    assert "No item has a test" in tests.page and "Met at once in time" not in tests.page
+    assert row["item"] == "I-000"
+    assert float(row["cost_kept"]) > 0
+    assert row["S_shuffled"] == row["cost_shuffled"] == ""
+    assert "No item has a test" in tests.page
+    assert "Met at once in time" not in tests.page
 
 
-def test_planned_folder(items: Mapping[str, Item], tmp_path: Path, crnplan: Command, program: Path) -> None:
+def test_planned_folder(
+    items: Mapping[str, Item], tmp_path: Path, crnplan: Command, program: Path
+) -> None:
     """A folder of crnplan catalogue is tested with the settings of its plan, and keeps its plan."""
-    tables, out = write(tmp_path, {name: items[name] for name in ("I-000", "I-001")}), tmp_path / "plan"
-    crnplan("catalogue", *tables, "--out", out, "--seed", "other", "--jobs", 1, "--program", program)
+    tables, out = (
+        write(tmp_path, {name: items[name] for name in ("I-000", "I-001")}),
+        tmp_path / "plan",
+    )
+    words = f"--out {out} --seed other --jobs 1 --program {program}"
+    crnplan("catalogue", *tables, *words.split())
     plan = (out / "decisions.csv").read_bytes()
     assert crnplan("backtest", out, *WORDS, "--jobs", 1).status == 0
     assert (out / "decisions.csv").read_bytes() == plan
-    assert package.backtest(*tables, seed="other", **WALK).table.csv.encode() == (out / "backtest.csv").read_bytes()
+    assert (
+        package.backtest(*tables, seed="other", **WALK).table.csv.encode()
+        == (out / "backtest.csv").read_bytes()
+    )
 
 
-def test_line_on_the_page_of_the_plan(items: Mapping[str, Item], tmp_path: Path, crnplan: Command,
-                                      program: Path) -> None:
+def test_line_on_the_page_of_the_plan(
+    items: Mapping[str, Item], tmp_path: Path, crnplan: Command, program: Path
+) -> None:
     """The page of a plan says how to get the line of its past, has that of the test in its folder, and says if that is
     of other rows."""
     tables, out, name = write(tmp_path, items), tmp_path / "plan", "report.html"
     plan = "catalogue", *tables, "--out", out, "--jobs", 2, "--program", program
-    (tmp_path / "crnplan.toml").write_text("[catalogue]\nperiods = 64\nreplications = 4\n", "utf-8")
+    (tmp_path / "crnplan.toml").write_text(
+        "[catalogue]\nperiods = 64\nreplications = 4\n", "utf-8"
+    )
     crnplan(*plan, "--config", tmp_path / "crnplan.toml")
     assert "is said by crnplan backtest FOLDER" in Page(out / name).words
     with own_folder(out, CATALOGUE) as folder:
-        Store(folder.store(TESTS), Backtest).close()  # a test that was broken off at once
+        Store(
+            folder.store(TESTS), Backtest
+        ).close()  # a test that was broken off at once
     crnplan("report", out)
     assert "is said by crnplan backtest FOLDER" in Page(out / name).words
     crnplan("backtest", out, *WORDS, "--jobs", 1)
     crnplan("report", out)
     line = (out / "backtest.txt").read_text("utf-8").splitlines()[0]
-    assert line.startswith("On your own past a promised ") and line in Page(out / name).words
+    assert line.startswith("On your own past a promised ")
+    assert line in Page(out / name).words
     again = (out / name).read_bytes()
     crnplan(*plan, "--config", tmp_path / "crnplan.toml")
     assert (out / name).read_bytes() == again
-    tables[1].write_text(tables[1].read_text("utf-8").replace("I-004,a,24.0", "I-004,a,25.0"), "utf-8")
+    tables[1].write_text(
+        tables[1].read_text("utf-8").replace("I-004,a,24.0", "I-004,a,25.0"), "utf-8"
+    )
     crnplan(*plan, "--config", tmp_path / "crnplan.toml")
     words = Page(out / name).words
-    assert "The test on your own past is not of this plan." in words and line not in words
+    assert "The test on your own past is not of this plan." in words
+    assert line not in words
 
 
-@pytest.mark.parametrize("given, said", [
-    (["plan"], "no plan is in it"), (["demand.csv", "items.csv"], "two tables and --out"),
-    (["plan", "--out", "other"], "leave them out")])
+@pytest.mark.parametrize(
+    "given, said",
+    [
+        (["plan"], "no plan is in it"),
+        (["demand.csv", "items.csv"], "two tables and --out"),
+        (["plan", "--out", "other"], "leave them out"),
+    ],
+)
 def test_words_that_are_refused(crnplan: Command, given: list[str], said: str) -> None:
     answer = crnplan("backtest", *given)
-    assert answer.status == 2 and said in answer.errors
+    assert answer.status == 2
+    assert said in answer.errors

@@ -13,12 +13,20 @@ import pytest
 from crnplan.demand.learning import Prior
 from crnplan.errors import Refused
 from crnplan.plan.answer import Answer
-from crnplan.plan.backtest.one import SHORT_RECORD, Backtest, Walk, Walked, backtest_item, backtest_one, shuffled
+from crnplan.plan.backtest.one import (
+    SHORT_RECORD,
+    Backtest,
+    Walk,
+    Walked,
+    backtest_item,
+    backtest_one,
+    shuffled,
+)
 from crnplan.plan.one import plan_one
 from crnplan.plan.question import NONE, Settings, question_of
-from crnplan.records.item import Item
+from crnplan.read.item import Item
 from crnplan.remarks import Remark
-from planner.tests.catalogue.test_after import costed
+from planner.tests.catalogue.test_damping import costed
 from planner.tests.plan.items import alone, item_of, several
 
 WALK = Walk(record=40, every=7, window=30)
@@ -58,19 +66,27 @@ def test_plan_is_that_of_its_record(place: int, program: Path) -> None:
 def test_no_policy_today() -> None:
     """Without today's levels the test is the same but for today's policy, which it lacks."""
     item = item_of()
-    assert past_of(dataclasses.replace(item, levels=None)) == dataclasses.replace(past_of(item), today=None)
+    assert past_of(dataclasses.replace(item, levels=None)) == dataclasses.replace(
+        past_of(item), today=None
+    )
 
 
 def test_refits_are_plans_of_their_windows(program: Path) -> None:
     """The promise of refitted plans is the mean of theirs over the periods of each."""
     item = item_of(3)
-    plans = [(planned(item.part(start, origin), program).chosen, end - origin)
-             for start, origin, end in WALK.stretches(len(item.counts))]
+    plans = [
+        (planned(item.part(start, origin), program).chosen, end - origin)
+        for start, origin, end in WALK.stretches(len(item.counts))
+    ]
     periods = sum(weight for _, weight in plans)
     assert len({policy.levels for policy, _ in plans}) > 1
     refitted = past_of(item).refitted
-    assert refitted.promised_cost == pytest.approx(sum(plan.cost * weight for plan, weight in plans) / periods)
-    assert refitted.promised_fill == pytest.approx(sum(plan.fill * weight for plan, weight in plans) / periods)
+    assert refitted.promised_cost == pytest.approx(
+        sum(plan.cost * weight for plan, weight in plans) / periods
+    )
+    assert refitted.promised_fill == pytest.approx(
+        sum(plan.fill * weight for plan, weight in plans) / periods
+    )
 
 
 def test_window_of_the_plan_counts_for_all(program: Path) -> None:
@@ -79,17 +95,25 @@ def test_window_of_the_plan_counts_for_all(program: Path) -> None:
     test = backtest_one(item, settings, OWN, WALK)
     kept = planned(item.part(15, 40), program).chosen
     assert (test.kept.point, test.kept.level) == kept.levels != past_of(item).kept.point
-    plans = [(planned(item.part(origin - 25, origin), program).chosen, end - origin)
-             for _, origin, end in WALK.stretches(len(item.counts))]
+    plans = [
+        (planned(item.part(origin - 25, origin), program).chosen, end - origin)
+        for _, origin, end in WALK.stretches(len(item.counts))
+    ]
     costs = sum(plan.cost * weight for plan, weight in plans)
-    assert test.refitted.promised_cost == pytest.approx(costs / sum(weight for _, weight in plans))
+    assert test.refitted.promised_cost == pytest.approx(
+        costs / sum(weight for _, weight in plans)
+    )
 
 
 @pytest.mark.parametrize("least", [0.02, 0.3])
 def test_damped_refits(least: float, program: Path) -> None:
     """A refit changes levels if and only if that gains this share of their cost, or they miss a wanted fill rate: by
     plans of each window, and costs and fill rates of a Markov chain."""
-    settings, walk, seen = alone(fit="empirical"), dataclasses.replace(WALK, least_gain=least), set[bool]()
+    settings, walk, seen = (
+        alone(fit="empirical"),
+        dataclasses.replace(WALK, least_gain=least),
+        set[bool](),
+    )
     for item in itertools.islice(several(8), 0, 8, 2):
         used = list[tuple[int, int]]()
         for start, origin, end in walk.stretches(len(item.counts)):
@@ -100,9 +124,14 @@ def test_damped_refits(least: float, program: Path) -> None:
             seen |= {moves} if used and used[-1] != best.levels else set()
             used += [best.levels if moves or not used else used[-1]] * (end - origin)
         test = backtest_one(item, settings, OWN, walk)
-        assert test.damped and test.damped.changes == sum(old != new for old, new in itertools.pairwise(used))
+        assert test.damped
+        assert test.damped.changes == sum(
+            old != new for old, new in itertools.pairwise(used)
+        )
         assert test.damped == Walked(item, settings, OWN, walk).happened.outcome(
-            [used[0]] * 40 + used, [(test.damped.promised_cost or 0, test.damped.promised_fill or 0)])
+            [used[0]] * 40 + used,
+            [(test.damped.promised_cost or 0, test.damped.promised_fill or 0)],
+        )
         assert test.refitted == backtest_one(item, settings, OWN, WALK).refitted
     assert seen == {False, True}
 
@@ -110,11 +139,17 @@ def test_damped_refits(least: float, program: Path) -> None:
 def test_no_later_period_is_seen() -> None:
     """Other later periods change nothing of what was planned, nor the first period after the record."""
     item = item_of(4)
-    other = dataclasses.replace(item, counts=(*item.counts[:41], *(9 * it + 5 for it in item.counts[41:])))
+    other = dataclasses.replace(
+        item, counts=(*item.counts[:41], *(9 * it + 5 for it in item.counts[41:]))
+    )
     for policy in ("today", "kept", "smoothed"):
         first, second = (getattr(past_of(it), policy) for it in (item, other))
         assert first.costs[0] == second.costs[0]
-        assert (first.point, first.level, first.promised_cost) == (second.point, second.level, second.promised_cost)
+        assert (first.point, first.level, first.promised_cost) == (
+            second.point,
+            second.level,
+            second.promised_cost,
+        )
         assert first.costs[1:] != second.costs[1:]
 
 
@@ -124,18 +159,33 @@ def test_steady_item() -> None:
     item = item_of(counts=(6,) * 60, leads=(1,), setup=Fraction(0), levels=(12, 12))
     test = backtest_one(item, Settings(fit="empirical", borrow=NONE), OWN, WALK)
     for outcome in (test.today, test.kept, test.refitted, test.shuffled):
-        assert outcome and (outcome.cost, outcome.fill, outcome.stock, outcome.orders) == (0, 1, 0, 1)
+        assert outcome
+        assert (
+            outcome.cost,
+            outcome.fill,
+            outcome.stock,
+            outcome.orders,
+        ) == (0, 1, 0, 1)
     # The rule of thumb has S = 18: it orders 12 in every second period, and 6 of them are left in stock for one.
     rule = test.smoothed
-    assert (rule.cost, rule.fill, rule.stock, rule.orders) == (pytest.approx(3 * 0.55), 1, 3, 0.5)
-    assert test.above == test.shuffled_above == 1 and test.mean == 6
+    assert (rule.cost, rule.fill, rule.stock, rule.orders) == (
+        pytest.approx(3 * 0.55),
+        1,
+        3,
+        0.5,
+    )
+    assert test.above == test.shuffled_above == 1
+    assert test.mean == 6
 
 
 def test_promise_holds_where_the_law_is_known() -> None:
-    """With a long record of independent demand, cost, fill, stock and orders of a long time after it are as promised.
-    """
+    """With a long record of independent demand, cost, fill, stock and orders of a long time after it are as promised."""
     source = np.random.default_rng(7)
-    item = item_of(counts=tuple(source.poisson(3, 50_000).tolist()), leads=(1, 2, 4), setup=Fraction(30))
+    item = item_of(
+        counts=tuple(source.poisson(3, 50_000).tolist()),
+        leads=(1, 2, 4),
+        setup=Fraction(30),
+    )
     walk = Walk(record=25_000, every=25_000)
     walked = Walked(item, Settings(fit="empirical", borrow=NONE), OWN, walk)
     kept, figures = walked.kept(), walked.plan
@@ -149,8 +199,12 @@ def test_shuffled_has_the_same_periods() -> None:
     """A random order keeps the demand of each period with what came back, and follows from the seed."""
     item = item_of(4, returns=tuple(range(60)))
     other = shuffled(item, 1)
-    assert sorted(zip(other.counts, other.returns)) == sorted(zip(item.counts, item.returns))
-    assert other.counts != item.counts and other == shuffled(item, 1) and other != shuffled(item, 2)
+    assert sorted(zip(other.counts, other.returns)) == sorted(
+        zip(item.counts, item.returns)
+    )
+    assert other.counts != item.counts
+    assert other == shuffled(item, 1)
+    assert other != shuffled(item, 2)
 
 
 def test_no_test() -> None:

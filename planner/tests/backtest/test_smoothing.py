@@ -6,13 +6,22 @@ from fractions import Fraction
 
 import pytest
 
-from crnplan.plan.backtest.smoothing import (FIRST, MOST_FACTOR, loss, safety_factor, smoothed, smoothed_levels,
-                                             wanted_share)
+from crnplan.plan.backtest.smoothing import (
+    FIRST,
+    MOST_FACTOR,
+    loss,
+    safety_factor,
+    smoothed,
+    smoothed_levels,
+    wanted_share,
+)
 from planner.tests.plan.items import item_of
 
 
-@pytest.mark.parametrize("factor, expected", [(0.0, 0.3989), (0.5, 0.1978), (1.0, 0.08332), (2.0, 0.008491),
-                                              (-1.0, 1.08332)])
+@pytest.mark.parametrize(
+    "factor, expected",
+    [(0.0, 0.3989), (0.5, 0.1978), (1.0, 0.08332), (2.0, 0.008491), (-1.0, 1.08332)],
+)
 def test_loss(factor: float, expected: float) -> None:
     """The loss of a standard normal number is that of the tables in books on inventory."""
     assert loss(factor) == pytest.approx(expected, abs=6e-5)
@@ -23,19 +32,23 @@ def test_loss(factor: float, expected: float) -> None:
 def test_safety_factor_meets_the_share(share: float, quantity: float) -> None:
     """Integrates the chance that a standard normal demand is above the position, over all positions of a cycle."""
     factor, cells = safety_factor(share, quantity), 20_000
-    chances = [math.erfc((factor + quantity * (place + 0.5) / cells) / math.sqrt(2)) / 2 for place in range(cells)]
+    chances = [
+        math.erfc((factor + quantity * (place + 0.5) / cells) / math.sqrt(2)) / 2
+        for place in range(cells)
+    ]
     assert sum(chances) / cells == pytest.approx(1 - share, abs=1e-5)
 
 
 def test_safety_factor_has_ends() -> None:
     """A share that no factor reaches gets the largest, or the least."""
-    assert safety_factor(1.0, 1.0) == MOST_FACTOR and safety_factor(0.0, 1.0) == -MOST_FACTOR
+    assert safety_factor(1.0, 1.0) == MOST_FACTOR
+    assert safety_factor(0.0, 1.0) == -MOST_FACTOR
 
 
 def test_smoothing_by_hand() -> None:
     """After periods of 10, a demand of 20 moves the mean by a tenth of 10, and the squared error by a tenth of 100."""
     steps = [*smoothed([10] * FIRST + [20, 10])]
-    assert steps[:FIRST + 1] == [(10, 0)] * (FIRST + 1)
+    assert steps[: FIRST + 1] == [(10, 0)] * (FIRST + 1)
     assert steps[FIRST + 1] == pytest.approx((11, 10))
 
 

@@ -20,11 +20,12 @@ COMMANDS = ("chromium", "chromedriver", "pdftotext")
 # A loaded machine may need this long for a page or a script, in seconds.
 LONGEST = 100
 # If the driver is killed, its pipe closes and the browser ends. No name is resolved, so nothing leaves the machine.
-SWITCHES = ("--headless=new", "--no-sandbox", "--disable-gpu", "--disable-dev-shm-usage", "--remote-debugging-pipe",
-            "--no-first-run", "--no-default-browser-check", "--disable-extensions", "--disable-breakpad",
-            "--disable-background-networking", "--disable-component-update", "--disable-default-apps",
-            "--disable-domain-reliability", "--disable-sync", "--no-pings", "--host-resolver-rules=MAP * ~NOTFOUND",
-            "--hide-scrollbars", "--force-color-profile=srgb", "--lang=en-US")
+SWITCHES = """--headless=new --no-sandbox --disable-gpu --disable-dev-shm-usage --remote-debugging-pipe --no-first-run
+    --no-default-browser-check --disable-extensions --disable-breakpad --disable-background-networking
+    --disable-component-update --disable-default-apps --disable-domain-reliability --disable-sync --no-pings
+    --hide-scrollbars --force-color-profile=srgb --lang=en-US""".split() + [
+    "--host-resolver-rules=MAP * ~NOTFOUND"
+]
 
 
 @dataclass(frozen=True)
@@ -44,8 +45,14 @@ class Form:
 # The width of A4 between the margins of print, in CSS pixels, upright; and a height that whole pages have room in.
 PAPER, TALL = 718, 12_000
 WIDE = Form(1280)
-FORMS = (*(Form(width, scheme, height=TALL) for width in (1280, 390) for scheme in ("light", "dark")),
-         *(Form(PAPER, scheme, "print", TALL) for scheme in ("light", "dark")))
+FORMS = (
+    *(
+        Form(width, scheme, height=TALL)
+        for width in (1280, 390)
+        for scheme in ("light", "dark")
+    ),
+    *(Form(PAPER, scheme, "print", TALL) for scheme in ("light", "dark")),
+)
 
 
 def commands() -> dict[str, str]:
@@ -53,7 +60,9 @@ def commands() -> dict[str, str]:
     paths = {name: shutil.which(name) for name in COMMANDS}
     missing = [name for name, path in paths.items() if path is None]
     if missing:
-        raise FileNotFoundError(f"these commands are missing: {', '.join(missing)}; run tools/setup")
+        raise FileNotFoundError(
+            f"these commands are missing: {', '.join(missing)}; run tools/setup"
+        )
     return {name: path for name, path in paths.items() if path is not None}
 
 
@@ -67,9 +76,13 @@ class Browser:
         options.binary_location = paths["chromium"]
         for switch in (*SWITCHES, f"--user-data-dir={folder}"):
             options.add_argument(switch)
-        options.set_capability("goog:loggingPrefs", {"browser": "ALL", "performance": "ALL"})
+        options.set_capability(
+            "goog:loggingPrefs", {"browser": "ALL", "performance": "ALL"}
+        )
         options.ignore_local_proxy_environment_variables()
-        service = Service(paths["chromedriver"], env={**os.environ, "HOME": str(folder)})
+        service = Service(
+            paths["chromedriver"], env={**os.environ, "HOME": str(folder)}
+        )
         self.driver = webdriver.Chrome(service=service, options=options)
         self.driver.set_page_load_timeout(LONGEST)
         self.driver.set_script_timeout(LONGEST)
@@ -89,11 +102,19 @@ class Browser:
 
     def show(self, form: Form) -> None:
         """Shows the page in another form."""
-        self.command("Emulation.setDeviceMetricsOverride", width=form.width, height=form.height, deviceScaleFactor=1,
-                     mobile=False)
+        self.command(
+            "Emulation.setDeviceMetricsOverride",
+            width=form.width,
+            height=form.height,
+            deviceScaleFactor=1,
+            mobile=False,
+        )
         # A page that is set to the medium screen would be printed so, too.
-        self.command("Emulation.setEmulatedMedia", media=form.medium.removeprefix("screen"),
-                     features=[{"name": "prefers-color-scheme", "value": form.scheme}])
+        self.command(
+            "Emulation.setEmulatedMedia",
+            media=form.medium.removeprefix("screen"),
+            features=[{"name": "prefers-color-scheme", "value": form.scheme}],
+        )
 
     def open(self, page: Path, form: Form = WIDE) -> None:
         """Loads a page in a form. What the page before has printed and requested is forgotten."""
@@ -127,15 +148,31 @@ class Browser:
     def _read(self) -> None:
         """Reads what the page has printed and requested since the last time."""
         self._messages += [it["message"] for it in self.driver.get_log("browser")]
-        events = (json.loads(it["message"])["message"] for it in self.driver.get_log("performance"))
-        sent = (it["params"] for it in events if it["method"] == "Network.requestWillBeSent")
+        events = (
+            json.loads(it["message"])["message"]
+            for it in self.driver.get_log("performance")
+        )
+        sent = (
+            it["params"] for it in events if it["method"] == "Network.requestWillBeSent"
+        )
         self._requests += [it["request"]["url"] for it in sent]
 
     def printed(self, landscape: bool = False) -> list[str]:
         """Prints the page on A4 and returns the text of each sheet."""
-        printed = self.command("Page.printToPDF", landscape=landscape, printBackground=True, preferCSSPageSize=True,
-                               paperWidth=8.27, paperHeight=11.69)
+        printed = self.command(
+            "Page.printToPDF",
+            landscape=landscape,
+            printBackground=True,
+            preferCSSPageSize=True,
+            paperWidth=8.27,
+            paperHeight=11.69,
+        )
         command = [self._pdftotext, "-layout", "-enc", "UTF-8", "-", "-"]
-        text = subprocess.run(command, input=base64.b64decode(printed["data"]), capture_output=True, check=True,
-                              timeout=LONGEST).stdout.decode("utf-8")
+        text = subprocess.run(
+            command,
+            input=base64.b64decode(printed["data"]),
+            capture_output=True,
+            check=True,
+            timeout=LONGEST,
+        ).stdout.decode("utf-8")
         return text.removesuffix("\f").split("\f")

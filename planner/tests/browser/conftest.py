@@ -6,27 +6,39 @@ import random
 from collections.abc import Callable, Iterator
 from dataclasses import replace
 from pathlib import Path
+from typing import Any
 
 import pandas as pd
 import pytest
 
 from crnplan import Plan, plan
-from crnplan.pages.catalogue_page import ROWS_A_GROUP, file_of, report
+from crnplan.show.catalogue_page import ROWS_A_GROUP, file_of, report
 from crnplan.items import plan_item
 from planner.tests.browser.browser import Browser
 from planner.tests.catalogue.conftest import SETTINGS
 from planner.tests.conftest import shared
 from planner.tests.item.conftest import furnished
-from planner.tests.pages.made_catalogue import Pair, made_folder, made_pair
+from planner.tests.show.made_catalogue import Pair, made_folder, made_pair
 
 # Names of items that are markup, a formula, a path, written from the right, or that no line has room for.
 MARKUP, ARABIC, WIDE = "<img src=x onerror=alert(1)>", "قطعة غيار 12", "W" * 300
-HOSTILE = (MARKUP, ARABIC, WIDE, "</script><script>alert(2)</script>", "\"quoted\" 'twice' & &amp;", "=1+1",
-           "  leading blanks", "50%/../x?#", "long " * 59 + "names")
+HOSTILE = (
+    MARKUP,
+    ARABIC,
+    WIDE,
+    "</script><script>alert(2)</script>",
+    "\"quoted\" 'twice' & &amp;",
+    "=1+1",
+    "  leading blanks",
+    "50%/../x?#",
+    "long " * 59 + "names",
+)
 PLANNED = (MARKUP, ARABIC, WIDE)
-MASTERS = ("item", "description", "setup", "holding", "backlog", "fill", "lead (weeks)", "s", "S", "stock", "price")
+MASTERS = "item description setup holding backlog fill".split()
+MASTERS += ["lead (weeks)", "s", "S", "stock", "price"]
 MONDAY = datetime.date(2025, 1, 6)
 LARGE = 10**12  # of money
+PAGE = "report.html"
 Pages = Callable[[str], Path]
 
 
@@ -42,27 +54,41 @@ def browser(tmp_path_factory: pytest.TempPathFactory) -> Iterator[Browser]:
 
 
 @pytest.fixture(scope="session")
-def pages(tmp_path_factory: pytest.TempPathFactory, request: pytest.FixtureRequest, top: Path) -> Pages:
+def pages(
+    tmp_path_factory: pytest.TempPathFactory, request: pytest.FixtureRequest, top: Path
+) -> Pages:
     """Returns a function that makes a page of some name, once in a session, and returns its path."""
+
     def program() -> Path:
         """Returns the program, for the pages that need it."""
         found: Path = request.getfixturevalue("program")
         return found
+
+    def catalogue(items: int, **more: Any) -> Callable[[Path], object]:
+        """Returns what makes the page of a catalogue."""
+        return lambda folder: made_folder(folder, items, **more)
+
+    plan, hostile = "plan/report.html", {"names": HOSTILE}
+    two_groups = catalogue(ROWS_A_GROUP + 30, **hostile)
+    large = catalogue(12, has_curve=False, change=large_money(), currency="JPY")
     makers: dict[str, tuple[str, Callable[[Path], object]]] = {
-        "catalogue": ("report.html", lambda folder: report(made_folder(folder, 40, HOSTILE))),
-        "catalogue of large money": ("report.html", lambda folder: report(made_folder(
-            folder, 12, has_curve=False, change=large_money(), currency="JPY"))),
-        "catalogue without a curve": ("report.html", lambda folder: report(made_folder(folder, 12, has_curve=False))),
-        "catalogue of two groups": ("report.html",
-                                    lambda folder: report(made_folder(folder, ROWS_A_GROUP + 30, HOSTILE))),
-        "catalogue of hundreds": ("report.html", lambda folder: report(made_folder(folder, 300, HOSTILE, currency="EUR"))),
-        "catalogue of a thousand": ("report.html", lambda folder: report(made_folder(folder, 1_000, HOSTILE))),
-        "catalogue of thousands": ("report.html",
-                                   lambda folder: repeat_rows(page("catalogue of a thousand"), folder, 3)),
-        "catalogue with orders": ("report.html", lambda folder: with_orders(made_folder(folder, 40, HOSTILE, currency="EUR"))),
-        "planned catalogue": ("plan/report.html",
-                              lambda folder: report(planned(folder, program()), PLANNED, program=program())),
-        "item": ("plan/summary.html", lambda folder: planned_item(furnished(folder, top, program())))}
+        "catalogue": (PAGE, catalogue(40, **hostile)),
+        "catalogue of large money": (PAGE, large),
+        "catalogue without a curve": (PAGE, catalogue(12, has_curve=False)),
+        "catalogue of two groups": (PAGE, two_groups),
+        "catalogue of hundreds": (PAGE, catalogue(300, **hostile, currency="EUR")),
+        "catalogue of a thousand": (PAGE, catalogue(1_000, **hostile)),
+        "catalogue of thousands": (
+            PAGE,
+            lambda folder: repeat_rows(page("catalogue of a thousand"), folder, 3),
+        ),
+        "catalogue with orders": (PAGE, with_orders),
+        "planned catalogue": (plan, lambda folder: planned(folder, program())),
+        "item": (
+            "plan/summary.html",
+            lambda folder: planned_item(furnished(folder, top, program())),
+        ),
+    }
     made: dict[str, Path] = {}
 
     def page(name: str) -> Path:
@@ -73,23 +99,31 @@ def pages(tmp_path_factory: pytest.TempPathFactory, request: pytest.FixtureReque
             place, make = makers[name]
             made[name] = shared(tmp_path_factory, name, make) / place
         return made[name]
+
     return page
 
 
 def with_orders(folder: Path) -> None:
-    """Writes the page of a planned folder with orders of a day, of items that have nothing and whose orders are late."""
-    made = Plan(folder)
-    names = made.decisions.item
-    stock, late = ({"item": names, name: 0 if name == "stock" else 1} for name in ("stock", "quantity"))
-    made.report(orders=made.orders_today(pd.DataFrame(stock), pd.DataFrame({**late, "due": "2026-11-02"}), "2026-11-27"))
+    """Makes a page with orders of a day, of items that have nothing and whose orders are late."""
+    made = Plan(made_folder(folder, 40, HOSTILE, currency="EUR"))
+    names = {"item": made.decisions.item}
+    stock = pd.DataFrame(names | {"stock": 0})
+    late = pd.DataFrame(names | {"quantity": 1, "due": "2026-11-02"})
+    made.report(orders=made.orders_today(stock, late, "2026-11-27"))
 
 
 def large_money() -> Pair:
     """Returns an item whose costs and prices are as large as they may be."""
     item, answer = made_pair(random.Random(1), "large")
-    today, chosen = (replace(figures, cost=LARGE * figures.cost) for figures in (answer.today, answer.chosen) if figures)
-    costs = {"cost_today": today.cost, "cost_chosen": chosen.cost, "saving": today.cost - chosen.cost}
-    return replace(item, price=9 * LARGE), replace(answer, today=today, chosen=chosen, **costs)
+    today, chosen = (
+        replace(figures, cost=LARGE * figures.cost)
+        for figures in (answer.today, answer.chosen)
+        if figures
+    )
+    costs = {"cost_today": today.cost, "cost_chosen": chosen.cost}
+    saving = today.cost - chosen.cost
+    answer = replace(answer, today=today, chosen=chosen, saving=saving, **costs)
+    return replace(item, price=9 * LARGE), answer
 
 
 def repeat_rows(page: Path, folder: Path, times: int) -> None:
@@ -101,18 +135,29 @@ def repeat_rows(page: Path, folder: Path, times: int) -> None:
 
 
 def planned_item(folder: Path) -> None:
-    plan_item(folder / "history.csv", folder / "settings.toml", folder / "plan", program=folder / "program")
+    plan_item(
+        folder / "history.csv",
+        folder / "settings.toml",
+        folder / "plan",
+        program=folder / "program",
+    )
 
 
-def planned(folder: Path, program: Path) -> Path:
-    """Plans a catalogue of few items with hostile names, and returns its folder."""
-    source = random.Random(1)
-    demand = [(name, MONDAY + datetime.timedelta(weeks=week), source.choice((0, 0, 1, 2, 5)))
-              for name in PLANNED for week in range(60)]
-    wanted = {name: ("", 0.95) if name == ARABIC else (9, "") for name in PLANNED}
-    masters = [(name, "of a shelf", 45, 0.6, *wanted[name], 2, 6, 20, 9, 30) for name in PLANNED[1:]]
+def planned(folder: Path, program: Path) -> None:
+    """Plans a catalogue of few items with hostile names, and makes its page and theirs."""
+    source, demand = random.Random(1), list[tuple[object, ...]]()
+    for name in PLANNED:
+        for week in range(60):
+            day = MONDAY + datetime.timedelta(weeks=week)
+            demand.append((name, day, source.choice((0, 0, 1, 2, 5))))
     # One item has costs and a price as large as they may be.
-    masters.append((PLANNED[0], "of gold", 99_999_999, 9_999, 9_999, "", 2, 6, 20, 9, 99 * LARGE))
-    plan(pd.DataFrame(demand, columns=["item", "date", "quantity"]), pd.DataFrame(masters, columns=MASTERS),
-         out=folder / "plan", jobs=1, program=program, **SETTINGS)
-    return folder / "plan"
+    gold = "of gold", 99_999_999, 9_999, 9_999, "", 2, 6, 20, 9, 99 * LARGE
+    masters = [
+        (ARABIC, "of a shelf", 45, 0.6, "", 0.95, 2, 6, 20, 9, 30),
+        (WIDE, "of a shelf", 45, 0.6, 9, "", 2, 6, 20, 9, 30),
+        (PLANNED[0], *gold),
+    ]
+    sales = pd.DataFrame(demand, columns=["item", "date", "quantity"])
+    items, out = pd.DataFrame(masters, columns=MASTERS), folder / "plan"
+    plan(sales, items, out=out, jobs=1, program=program, **SETTINGS)
+    report(out, PLANNED, program=program)

@@ -10,7 +10,7 @@ from selenium.webdriver.remote.webelement import WebElement
 from selenium.webdriver.support.ui import Select
 
 from planner.tests.browser.browser import Browser
-from planner.tests.pages.page_reader import Row
+from planner.tests.show.page_reader import Row
 
 # A text that Python puts into the same order as the collation of Unicode: it begins with a letter of ASCII.
 PLAIN = re.compile(r"[A-Za-z][ -~]*")
@@ -24,7 +24,9 @@ return new Promise((done) => requestAnimationFrame(() => requestAnimationFrame((
 
 def order_of(text: str) -> list[str | int]:
     """Returns what orders a plain text: numbers in it by their value, and letters without their case."""
-    return [int(it) if it.isdigit() else it.casefold() for it in re.split(r"(\d+)", text)]
+    return [
+        int(it) if it.isdigit() else it.casefold() for it in re.split(r"(\d+)", text)
+    ]
 
 
 def is_number(text: str) -> bool:
@@ -37,7 +39,9 @@ def in_order(cells: Sequence[str], descends: bool) -> list[str]:
     if all(map(is_number, filled)):
         ordered = sorted(filled, key=Decimal, reverse=descends)
     else:
-        ordered = sorted((it for it in filled if PLAIN.fullmatch(it)), key=order_of, reverse=descends)
+        ordered = sorted(
+            (it for it in filled if PLAIN.fullmatch(it)), key=order_of, reverse=descends
+        )
     return ordered + [""] * (len(cells) - len(filled))
 
 
@@ -48,14 +52,19 @@ class Items:
         """Takes the page that is shown."""
         self.browser, self.driver = browser, browser.driver
         self.columns: list[str] = browser.run(
-            "return [...document.querySelectorAll('#items thead th')].map((it) => it.dataset.name);")
+            "return [...document.querySelectorAll('#items thead th')].map((it) => it.dataset.name);"
+        )
 
     def button(self, column: str) -> WebElement:
-        return self.driver.find_element(By.CSS_SELECTOR, f"#items thead th[data-name='{column}'] button")
+        return self.driver.find_element(
+            By.CSS_SELECTOR, f"#items thead th[data-name='{column}'] button"
+        )
 
     def orders(self) -> dict[str, str]:
         """Returns the order that each heading says it has, if it says one."""
-        orders = self.browser.run("return [...document.querySelectorAll('#items thead th')].map((it) => it.ariaSort);")
+        orders = self.browser.run(
+            "return [...document.querySelectorAll('#items thead th')].map((it) => it.ariaSort);"
+        )
         return {column: order for column, order in zip(self.columns, orders) if order}
 
     def shown(self) -> list[Row]:

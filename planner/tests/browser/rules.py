@@ -18,9 +18,11 @@ Rule = Callable[[Browser], Faults]
 
 def by_script(name: str) -> Rule:
     """Returns the rule of this name of rules.js."""
+
     def judge(browser: Browser) -> Faults:
         found: list[str] = browser.run(f"return rules.{name}();")
         return found
+
     return judge
 
 
@@ -31,7 +33,11 @@ def console(browser: Browser) -> Faults:
 
 def requests(browser: Browser) -> Faults:
     """Yields each request but that of the page itself."""
-    yield from (f"the page requests {it}" for it in browser.requests if it != browser.driver.current_url)
+    yield from (
+        f"the page requests {it}"
+        for it in browser.requests
+        if it != browser.driver.current_url
+    )
 
 
 def names(browser: Browser) -> Faults:
@@ -57,16 +63,40 @@ def keyboard(browser: Browser) -> Faults:
 
 
 RULES: dict[str, Rule] = {
-    "console": console, "requests": requests, "names": names, "roles": roles, "keyboard": keyboard,
-    **{it: by_script(it) for it in ("overflow", "clipped", "overlaps", "cards", "contrast", "tables", "headings", "page",
-                                    "policy", "regions")}}
+    "console": console,
+    "requests": requests,
+    "names": names,
+    "roles": roles,
+    "keyboard": keyboard,
+    **{
+        it: by_script(it)
+        for it in (
+            "overflow",
+            "clipped",
+            "overlaps",
+            "cards",
+            "contrast",
+            "tables",
+            "headings",
+            "page",
+            "policy",
+            "regions",
+        )
+    },
+}
 
 
 def rules_of(form: Form) -> list[str]:
     """Returns the names of the rules whose verdict may differ in a form: a name and a role have no colour."""
-    return [name for name in RULES if form.scheme == "light" or name not in ("names", "roles")]
+    return [
+        name
+        for name in RULES
+        if form.scheme == "light" or name not in ("names", "roles")
+    ]
 
 
 def faults_of(browser: Browser, *names: str) -> list[str]:
     """Returns the faults of the page that is shown, each after the name of its rule; by default of all rules."""
-    return [f"{name}: {fault}" for name in names or RULES for fault in RULES[name](browser)]
+    return [
+        f"{name}: {fault}" for name in names or RULES for fault in RULES[name](browser)
+    ]

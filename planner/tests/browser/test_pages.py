@@ -10,40 +10,61 @@ from selenium.webdriver.common.action_chains import ActionChains
 from selenium.webdriver.common.by import By
 from selenium.webdriver.common.keys import Keys
 
-from crnplan.pages.catalogue_page import ROWS_A_GROUP
+from crnplan.show.catalogue_page import ROWS_A_GROUP
 from planner.tests.browser.browser import FORMS, PAPER, TALL, WIDE, Browser, Form
 from planner.tests.browser.conftest import MARKUP, PLANNED, Pages
 from planner.tests.browser.items import PLAIN, Items, in_order, is_number
 from planner.tests.browser.rules import faults_of, rules_of
-from planner.tests.pages.page_reader import Row, rows_of
+from planner.tests.show.page_reader import Row, rows_of
 
-NAMES = ("catalogue", "catalogue without a curve", "planned catalogue", "catalogue with orders", "item",
-         *PLANNED)
+NAMES = (
+    "catalogue",
+    "catalogue without a curve",
+    "planned catalogue",
+    "catalogue with orders",
+    "item",
+    *PLANNED,
+)
 IDS = [*NAMES[:5], "item of markup", "item in Arabic", "item of a long name"]
 INJECTED = Path(__file__).with_name("injected.js").read_text("utf-8")
 
 
 # Colours do not depend on the name of an item.
-@pytest.mark.parametrize("name, form", [
-    pytest.param(name, form, id=f"{said}-{form}") for name, said in zip(NAMES, IDS) for form in FORMS
-    if name not in PLANNED or form.scheme == "light"])
-def test_page_has_no_fault(browser: Browser, pages: Pages, name: str, form: Form) -> None:
+@pytest.mark.parametrize(
+    "name, form",
+    [
+        pytest.param(name, form, id=f"{said}-{form}")
+        for name, said in zip(NAMES, IDS)
+        for form in FORMS
+        if name not in PLANNED or form.scheme == "light"
+    ],
+)
+def test_page_has_no_fault(
+    browser: Browser, pages: Pages, name: str, form: Form
+) -> None:
     browser.open(pages(name), form)
     assert faults_of(browser, *rules_of(form)) == []
 
 
-@pytest.mark.parametrize("form", [Form(1440), Form(1280), Form(1200), Form(1100), Form(768), Form(390),
-                                  Form(PAPER, medium="print")], ids=str)
-@pytest.mark.parametrize("name", ["catalogue of large money", MARKUP], ids=["catalogue", "item"])
-def test_large_money_stays_in_its_card(browser: Browser, pages: Pages, name: str, form: Form) -> None:
+@pytest.mark.parametrize(
+    "name", ["catalogue of large money", MARKUP], ids=["catalogue", "item"]
+)
+def test_large_money_stays_in_its_card(
+    browser: Browser, pages: Pages, name: str
+) -> None:
     """However large an amount is, each word of it is on one line within its card, and no table widens the page."""
-    browser.open(pages(name), form)
+    browser.open(pages(name))
     assert len(browser.driver.find_elements(By.CSS_SELECTOR, ".card")) > 4
-    assert faults_of(browser, "cards", "overflow", "clipped") == []
+    forms = [Form(width) for width in (1440, 1280, 1200, 1100, 768, 390)]
+    for form in (*forms, Form(PAPER, medium="print")):
+        browser.show(form)
+        assert faults_of(browser, "cards", "overflow", "clipped") == [], form
 
 
 @pytest.mark.parametrize("form", [WIDE, Form(390)], ids=str)
-def test_page_of_thousands_has_no_fault(browser: Browser, pages: Pages, form: Form) -> None:
+def test_page_of_thousands_has_no_fault(
+    browser: Browser, pages: Pages, form: Form
+) -> None:
     """Thousands of items print nothing on the console, ask for nothing and stay within the page."""
     browser.open(pages("catalogue of a thousand"), form)
     assert faults_of(browser, "console", "requests", "overflow") == []
@@ -52,23 +73,38 @@ def test_page_of_thousands_has_no_fault(browser: Browser, pages: Pages, form: Fo
 def test_first_screen(browser: Browser, pages: Pages) -> None:
     """What a board reads stands on the first screen as a whole, with its picture. On a phone none of it scrolls."""
     browser.open(pages("catalogue of hundreds"), Form(1440, height=900))
-    assert browser.run("return document.getElementById('board').getBoundingClientRect().bottom;") <= 900
-    assert browser.run("return document.querySelectorAll('#board .pairs circle').length;") > 4
+    assert (
+        browser.run(
+            "return document.getElementById('board').getBoundingClientRect().bottom;"
+        )
+        <= 900
+    )
+    assert (
+        browser.run("return document.querySelectorAll('#board .pairs circle').length;")
+        > 4
+    )
     browser.show(Form(390))
     assert faults_of(browser, "overflow") == []
-    assert browser.run("return document.querySelectorAll('#board .scroll').length;") == 0
+    assert (
+        browser.run("return document.querySelectorAll('#board .scroll').length;") == 0
+    )
 
 
 def test_sheets(browser: Browser, pages: Pages) -> None:
     """The first screen is the first sheet. 300 items have five sheets at most, each of which says something."""
     browser.open(pages("catalogue of hundreds"))
     first, *others = browser.printed(landscape=True)
-    assert "saved a year" in first and "What was left out" in first and "Service that the stock can give" in others[0]
-    assert len(others) <= 4 and min(len(sheet.split()) for sheet in others) > 60
+    assert "saved a year" in first
+    assert "What was left out" in first
+    assert "Service that the stock can give" in others[0]
+    assert len(others) <= 4
+    assert min(len(sheet.split()) for sheet in others) > 60
 
 
 @pytest.mark.parametrize("name", NAMES, ids=IDS)
-def test_script_of_another_is_refused(browser: Browser, pages: Pages, name: str) -> None:
+def test_script_of_another_is_refused(
+    browser: Browser, pages: Pages, name: str
+) -> None:
     """The policy refuses scripts, handlers and pictures that are put into the page."""
     browser.open(pages(name), WIDE)
     ran, refused = browser.run(INJECTED)
@@ -77,9 +113,8 @@ def test_script_of_another_is_refused(browser: Browser, pages: Pages, name: str)
 
 
 SEARCHED = ("item", "description", "class", "warnings")
-COLUMNS = ("item", "description", "class", "verdict", "s_today", "S_today", "s_chosen", "S_chosen", "cost_today",
-           "cost_chosen", "saving", "by", "run_saving", "run_low", "run_high", "fill_today", "fill_chosen",
-           "value_today", "value_chosen", "warnings")
+COLUMNS = """item description class verdict s_today S_today s_chosen S_chosen cost_today cost_chosen saving by run_saving run_low
+    run_high fill_today fill_chosen value_today value_chosen warnings""".split()
 # Seconds in which thousands of items are sorted on a quiet machine.
 LONGEST_SORT = 0.3
 MOST_LAYOUTS = 100
@@ -108,7 +143,7 @@ def by_item(rows: list[Row]) -> dict[str, Row]:
 
 def test_cells_are_those_of_the_file(items: Items, decisions: list[Row]) -> None:
     """The page shows each cell as the file spells it, also markup and Arabic, the greatest saving first."""
-    assert tuple(items.columns) == COLUMNS
+    assert items.columns == COLUMNS
     assert by_item(items.shown()) == by_item(decisions)
     savings = [row["saving"] for row in decisions]
     assert [row["saving"] for row in items.shown()] == in_order(savings, descends=True)
@@ -123,14 +158,23 @@ def sorts(items: Items, decisions: list[Row], column: str) -> bool:
     for order in ("ascending", "descending"):
         button.click()
         shown = items.shown()
-        judged = [it for it in (row[column] for row in shown) if numbers or it == "" or PLAIN.fullmatch(it)]
-        if not (items.orders() == {column: order} and judged == in_order(cells, descends=order == "descending")
-                and by_item(shown) == by_item(decisions)):
+        judged = [
+            it
+            for it in (row[column] for row in shown)
+            if numbers or it == "" or PLAIN.fullmatch(it)
+        ]
+        if not (
+            items.orders() == {column: order}
+            and judged == in_order(cells, descends=order == "descending")
+            and by_item(shown) == by_item(decisions)
+        ):
             return False
     return True
 
 
-def test_click_on_a_heading_sorts(items: Items, decisions: list[Row], check_all: Check) -> None:
+def test_click_on_a_heading_sorts(
+    items: Items, decisions: list[Row], check_all: Check
+) -> None:
     check_all((column, sorts(items, decisions, column)) for column in COLUMNS)
 
 
@@ -144,13 +188,30 @@ def test_heading_is_pressed_by_keyboard(items: Items, key: str) -> None:
         assert items.driver.switch_to.active_element == button
 
 
-def test_search_shows_the_rows_that_have_a_text(items: Items, decisions: list[Row], check_all: Check) -> None:
+def test_search_shows_the_rows_that_have_a_text(
+    items: Items, decisions: list[Row], check_all: Check
+) -> None:
     def shows(text: str) -> bool:
-        wanted = [row for row in decisions if any(text.lower() in row[name].lower() for name in SEARCHED)]
+        wanted = [
+            row
+            for row in decisions
+            if any(text.lower() in row[name].lower() for name in SEARCHED)
+        ]
         items.search(text)
-        return by_item(items.shown()) == by_item(wanted) and items.count() == f"{len(wanted)} of {len(decisions)}"
-    check_all((text, shows(text)) for text in ("bearing", "P0001", "UNLIKE the", "<img", "\"quoted\"", "قطعة", "=1+1",
-                                               "  lead", "x y z"))
+        return (
+            by_item(items.shown()) == by_item(wanted)
+            and items.count() == f"{len(wanted)} of {len(decisions)}"
+        )
+
+    searched = "bearing", "P0001", "UNLIKE the", "<img", '"quoted"', "قطعة", "=1+1"
+    check_all((text, shows(text)) for text in (*searched, "  lead", "x y z"))
+
+
+def has_warning(row: Row, choice: str) -> bool:
+    """Returns whether a row is shown by a choice of warnings."""
+    if choice in ("with", "without"):
+        return (row["warnings"] != "") == (choice == "with")
+    return choice == "" or "few demands" in row["codes"].split("; ")
 
 
 def test_lists_show_the_rows_of_a_choice(items: Items, decisions: list[Row]) -> None:
@@ -159,9 +220,11 @@ def test_lists_show_the_rows_of_a_choice(items: Items, decisions: list[Row]) -> 
         items.choose("verdict", verdict)
         for warning in ("is few demands", "with", "without", ""):
             items.choose("warning", warning)
-            wanted = [row for row in decisions if row["verdict"] == verdict
-                      and {"": True, "with": row["warnings"] != "", "without": row["warnings"] == ""}.get(
-                          warning, "few demands" in row["codes"].split("; "))]
+            wanted = [
+                row
+                for row in decisions
+                if row["verdict"] == verdict and has_warning(row, warning)
+            ]
             assert by_item(items.shown()) == by_item(wanted)
             assert items.count() == f"{len(wanted)} of {len(decisions)}"
     items.button("s_today").click()
@@ -179,14 +242,23 @@ def test_print_has_the_rows_that_are_shown(items: Items, decisions: list[Row]) -
     for row in decisions:
         if row["item"].startswith("P"):
             assert (row["item"] in table) == (row["item"] in shown), row["item"]
-    assert all("verdict" in sheet for sheet in table.split("\f") if "P0" in sheet)
-    assert "item, description, class or warning" not in table and "second click" not in table
+    for sheet in table.split("\f"):
+        if "P0" in sheet:
+            assert "verdict" in sheet
+    assert "item, description, class or warning" not in table
+    assert "second click" not in table
 
 
 @pytest.mark.parametrize("name", PLANNED, ids=["markup", "arabic", "long"])
-def test_link_leads_to_the_page_of_the_item(browser: Browser, pages: Pages, name: str) -> None:
+def test_link_leads_to_the_page_of_the_item(
+    browser: Browser, pages: Pages, name: str
+) -> None:
     browser.open(pages("planned catalogue"), Form(1280, height=TALL))
-    (link,) = (it for it in browser.driver.find_elements(By.CSS_SELECTOR, "#items a") if it.text == name)
+    (link,) = (
+        it
+        for it in browser.driver.find_elements(By.CSS_SELECTOR, "#items a")
+        if it.text == name
+    )
     link.click()
     assert browser.driver.current_url == pages(name).as_uri()
     assert name in browser.driver.find_element(By.TAG_NAME, "main").text
@@ -197,15 +269,21 @@ def test_thousands(browser: Browser, pages: Pages) -> None:
     browser.open(pages("catalogue of a thousand"))
     items = Items(browser)
     items.search("P0020")
-    assert sorted(row["item"] for row in items.shown()) == [f"P0020{it}" for it in range(10)]
-    heights = browser.run("const rows = [...document.querySelectorAll('#items tr')].filter((it) => !it.hidden);"
-                          "return [document.getElementById('items').offsetHeight,"
-                          "rows.reduce((sum, it) => sum + it.offsetHeight, 0)];")
+    assert sorted(row["item"] for row in items.shown()) == [
+        f"P0020{it}" for it in range(10)
+    ]
+    heights = browser.run(
+        "const rows = [...document.querySelectorAll('#items tr')].filter((it) => !it.hidden);"
+        "return [document.getElementById('items').offsetHeight,"
+        "rows.reduce((sum, it) => sum + it.offsetHeight, 0)];"
+    )
     assert heights[0] == pytest.approx(heights[1], abs=2)
+
     def layouts() -> float:
         """Returns how often the page has been laid out so far."""
         metrics = browser.command("Performance.getMetrics")["metrics"]
         return next(float(it["value"]) for it in metrics if it["name"] == "LayoutCount")
+
     browser.command("Performance.enable")
     browser.open(pages("catalogue of a thousand"))
     before = layouts()
@@ -218,7 +296,9 @@ def test_thousands(browser: Browser, pages: Pages) -> None:
 def test_thousands_are_sorted_at_once(browser: Browser, pages: Pages) -> None:
     """A click on a heading and the layout after it take a short time, in the median over the headings."""
     browser.open(pages("catalogue of thousands"))
-    times = browser.run("return [...document.querySelectorAll('#items thead button')].map((button) => {"
-                        "const began = performance.now(); button.click(); document.body.offsetHeight;"
-                        "return performance.now() - began; });")
+    times = browser.run(
+        "return [...document.querySelectorAll('#items thead button')].map((button) => {"
+        "const began = performance.now(); button.click(); document.body.offsetHeight;"
+        "return performance.now() - began; });"
+    )
     assert statistics.median(times) / 1000 < LONGEST_SORT, times

@@ -35,7 +35,10 @@ def test_sound_page_has_no_fault(browser: Browser, form: Form) -> None:
 
 @pytest.mark.parametrize("plant", PLANTS, ids=[it["what"] for it in PLANTS])
 def test_planted_fault_is_found(browser: Browser, tmp_path: Path, plant: Plant) -> None:
-    browser.open(planted(tmp_path, plant), Form(plant.get("width", 1280), plant.get("scheme", "light")))
+    browser.open(
+        planted(tmp_path, plant),
+        Form(plant.get("width", 1280), plant.get("scheme", "light")),
+    )
     faults = faults_of(browser, plant["rule"])
     assert any(plant["says"] in it for it in faults), faults
 
@@ -44,11 +47,16 @@ def test_each_rule_has_a_plant() -> None:
     assert {it["rule"] for it in PLANTS} == set(RULES)
 
 
-def test_missing_browser_is_said_in_one_line(tmp_path: Path, monkeypatch: pytest.MonkeyPatch) -> None:
+def test_missing_browser_is_said_in_one_line(
+    tmp_path: Path, monkeypatch: pytest.MonkeyPatch
+) -> None:
     """Where there is no Chromium, the tests of pages fail with what to do."""
     monkeypatch.setenv("PATH", str(tmp_path))
-    with pytest.raises(FileNotFoundError, match="^these commands are missing: chromium, chromedriver, pdftotext; run "
-                                                "tools/setup$"):
+    with pytest.raises(
+        FileNotFoundError,
+        match="^these commands are missing: chromium, chromedriver, pdftotext; run "
+        "tools/setup$",
+    ):
         commands()
 
 

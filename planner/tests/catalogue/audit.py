@@ -21,11 +21,17 @@ class Audit:
 
     read: int = 0
     taken: Counter[str] = field(default_factory=Counter)
-    asked: defaultdict[str, Counter[Week]] = field(default_factory=lambda: defaultdict(Counter))
-    back: defaultdict[str, Counter[Week]] = field(default_factory=lambda: defaultdict(Counter))
+    asked: defaultdict[str, Counter[Week]] = field(
+        default_factory=lambda: defaultdict(Counter)
+    )
+    back: defaultdict[str, Counter[Week]] = field(
+        default_factory=lambda: defaultdict(Counter)
+    )
 
 
-def day_of(text: str, first: datetime.date, last: datetime.date) -> datetime.date | None:
+def day_of(
+    text: str, first: datetime.date, last: datetime.date
+) -> datetime.date | None:
     """Returns the day of a text between two days; None if there is none."""
     for form in FORMS:
         with contextlib.suppress(ValueError):
@@ -43,7 +49,13 @@ def audit(path: Path, above: int, first: datetime.date, last: datetime.date) -> 
                 continue
             found.read += 1
             day = day_of(row[2], first, last)
-            if len(row) == 5 and row[1] and day and row[3].isdigit() and row[4].isdigit():
+            if (
+                len(row) == 5
+                and row[1]
+                and day
+                and row[3].isdigit()
+                and row[4].isdigit()
+            ):
                 week = day.isocalendar()[:2]
                 found.taken[row[1]] += 1
                 found.asked[row[1]][week] += int(row[3])

@@ -3,96 +3,49 @@ from __future__ import annotations
 
 import contextlib
 import dataclasses
-import datetime
 import fcntl
-import itertools
 import json
 import math
-import shutil
 from collections.abc import Mapping
 from fractions import Fraction
 from pathlib import Path
-from typing import Any
 
 import pandas as pd
 import pytest
 
 import crnplan as crn
-from crnplan.demand.learning import Prior
-from crnplan.files import MARKER
-from crnplan.plan.after import CHANGES, PLAN, common_changes, taken
+from crnplan.plan.after import CHANGES, PLAN, common_changes
 from crnplan.plan.aims import Aims
 from crnplan.plan.catalogue import planned_folder
 from crnplan.plan.changes import Change, rows_of
-from crnplan.plan.choice import allowed_by
-from crnplan.plan.one import plan_one
-from crnplan.plan.question import Levels, Settings, question_of
-from crnplan.records.item import Item
+from crnplan.plan.question import Levels
+from crnplan.read.item import Item
 from crnplan.remarks import Remark
-from crnplan.scenario import Policy
-from crnplan.stored import Store
-from crnplan.theory.many_laws import figures_of_laws
-from planner.tests.backtest.test_catalogue import START, write
+from crnplan.store.stored import Store
+from planner.tests.catalogue.months import (
+    BEFORE,
+    ITEMS,
+    LEVELS,
+    WEEKS,
+    Month,
+    day,
+    of_frame,
+)
 from planner.tests.conftest import Command
-from planner.tests.pages.page_reader import Page
-from planner.tests.plan.items import SHORT, alone, item_of, several
-from planner.tests.theory.chain import by_chain
+from planner.tests.show.page_reader import Page
+from planner.tests.plan.items import item_of
 
-ITEMS, BEFORE, WEEKS = 12, 52, 60
-LEVELS = ["s_chosen", "S_chosen"]
 FILES = "decisions.csv", "exact.csv", "changes.csv", "summary.txt", "report.html"
-OWN = Prior("none")
-
-
-def day(week: int) -> datetime.date:
-    """Returns the Monday of a week."""
-    return START + datetime.timedelta(7 * week)
-
-
-@dataclasses.dataclass
-class Month:
-    """The tables of a catalogue some weeks after an earlier plan, the folder of that, and the words of both."""
-
-    sales: pd.DataFrame
-    masters: pd.DataFrame
-    before: Path
-    words: dict[str, Any]
-
-    def until(self, week: int) -> dict[str, Any]:
-        """Returns the sales before a week, with the masters and the words of a plan of them."""
-        sales = self.sales[self.sales.date < pd.Timestamp(day(week))]
-        return {**self.words, "sales": sales, "masters": self.masters, "end": day(week) - datetime.timedelta(1)}
-
-    def plan(self, **words: Any) -> crn.Plan:
-        """Plans all weeks after the earlier plan."""
-        return crn.plan(**{**self.until(WEEKS), "after": self.before, **words})
-
-
-@pytest.fixture(scope="module")
-def items() -> Mapping[str, Item]:
-    return {item.name: item for item in several(ITEMS)}
-
-
-@pytest.fixture(scope="module")
-def month(items: Mapping[str, Item], tmp_path_factory: pytest.TempPathFactory, program: Path) -> Month:
-    """Returns eight weeks after a plan of 52, which nobody changes."""
-    room = tmp_path_factory.mktemp("months")
-    demand, masters = write(room, items)
-    words = {**SHORT, "fit": "empirical", "borrow": "none", "jobs": 1, "program": program}
-    month = Month(pd.read_csv(demand, parse_dates=["date"]), pd.read_csv(masters), room / "before", words)
-    crn.plan(out=month.before, **month.until(BEFORE))
-    return month
 
 
 def state(folder: Path) -> dict[str, tuple[bytes, int]]:
     """Returns the bytes of all files of a folder, and when they and the folder were changed last."""
-    files = {path.name: (path.read_bytes(), path.stat().st_mtime_ns) for path in folder.rglob("*") if path.is_file()}
+    files = {
+        path.name: (path.read_bytes(), path.stat().st_mtime_ns)
+        for path in folder.rglob("*")
+        if path.is_file()
+    }
     return files | {"": (b"", folder.stat().st_mtime_ns)}
-
-
-def of_frame(frame: pd.DataFrame) -> pd.DataFrame:
-    """Returns rows by their item."""
-    return frame.set_index("item")
 
 
 def test_nothing_has_changed(month: Month) -> None:
@@ -100,44 +53,72 @@ def test_nothing_has_changed(month: Month) -> None:
     before = state(month.before)
     again = month.plan(**month.until(BEFORE))
     assert state(month.before) == before
-    pd.testing.assert_frame_equal(again.decisions, crn.open_plan(month.before).decisions)
+    pd.testing.assert_frame_equal(
+        again.decisions, crn.open_plan(month.before).decisions
+    )
     changes = again.changes
-    assert set(changes.change) == {"same"} and set(changes.why) == {""} and set(changes.gain) == {0.0}
+    assert (
+        set(changes.change) == {"same"}
+        and set(changes.why) == {""}
+        and set(changes.gain) == {0.0}
+    )
     assert changes.periods_since.isna().all() and len(changes) == ITEMS
     assert f"{ITEMS} same, 0 moved, 0 damped, 0 new, 0 gone" in again.text
 
 
-def test_unchanged_items_are_not_planned(month: Month, tmp_path: Path, crnplan: Command,
-                                         monkeypatch: pytest.MonkeyPatch) -> None:
+def test_unchanged_items_are_not_planned(
+    month: Month, tmp_path: Path, crnplan: Command, monkeypatch: pytest.MonkeyPatch
+) -> None:
     """By the command, only the item whose master has changed is planned; the others are taken over."""
     monkeypatch.chdir(tmp_path)
-    (tmp_path / "crnplan.toml").write_text("[catalogue]\nfit = 'empirical'\nborrow = 'none'\nperiods = 64\n"
-                                           "replications = 4\n", "utf-8")
+    (tmp_path / "crnplan.toml").write_text(
+        "[catalogue]\nfit = 'empirical'\nborrow = 'none'\nperiods = 64\n"
+        "replications = 4\n",
+        "utf-8",
+    )
     words = month.until(BEFORE)
     masters = words["masters"].copy()
     masters.loc[3, "setup"] *= 10
     words["sales"].to_csv("demand.csv", index=False)
     masters.to_csv("items.csv", index=False)
-    answer = crnplan("catalogue", "demand.csv", "items.csv", "--to", words["end"], "--after", month.before, "--out",
-                     "plan", "--jobs", 1, "--program", words["program"])
-    assert answer.status == 0 and f"1 items planned, {ITEMS - 1} kept from before" in answer.errors
+    answer = crnplan(
+        "catalogue",
+        "demand.csv",
+        "items.csv",
+        "--to",
+        words["end"],
+        "--after",
+        month.before,
+        "--out",
+        "plan",
+        "--jobs",
+        1,
+        "--program",
+        words["program"],
+    )
+    assert (
+        answer.status == 0
+        and f"1 items planned, {ITEMS - 1} kept from before" in answer.errors
+    )
     changes = of_frame(crn.open_plan("plan").changes)
     assert changes.codes[changes.codes != ""].to_dict() == {"I-003": "other master"}
-    assert changes.why["I-003"] == "setup 23 to 230" and changes.change["I-003"] == "moved"
+    assert (
+        changes.why["I-003"] == "setup 23 to 230" and changes.change["I-003"] == "moved"
+    )
 
 
 def test_levels_are_those_of_both_plans(month: Month) -> None:
     """Without damping, policies are those of a plan that knows of no earlier one, and before stand those of that."""
-    after, alone_now = month.plan(), crn.plan(**month.until(WEEKS))
-    pd.testing.assert_frame_equal(after.decisions, alone_now.decisions)
-    old, new, changes = (of_frame(frame) for frame in (crn.open_plan(month.before).decisions, after.decisions,
-                                                       after.changes))
-    for name, row in changes.iterrows():
-        assert (row.s_before, row.S_before) == tuple(old.loc[name, LEVELS])
-        assert (row.s_after, row.S_after) == tuple(new.loc[name, LEVELS])
-        assert row.change == ("same" if (row.s_before, row.S_before) == (row.s_after, row.S_after) else "moved")
-        assert row.mean_before == old.demand[name] and row.mean_after == new.demand[name]
-    assert {"same", "moved"} == set(changes.change)
+    after, alone_now = month.planned().decisions, crn.plan(**month.until(WEEKS))
+    pd.testing.assert_frame_equal(after, alone_now.decisions)
+    old, new, changes = month.earlier, of_frame(after), month.changes()
+    for table, when in ((old, "before"), (new, "after")):
+        names = [f"s_{when}", f"S_{when}", f"mean_{when}"]
+        wanted = table.loc[changes.index, [*LEVELS, "demand"]]
+        assert changes[names].to_numpy().tolist() == wanted.to_numpy().tolist()
+    moved = (old[LEVELS] != new[LEVELS]).any(axis=1)
+    kinds = moved.map({False: "same", True: "moved"})[changes.index]
+    assert changes.change.tolist() == kinds.tolist() and {*kinds} == {"same", "moved"}
 
 
 def test_reasons(month: Month) -> None:
@@ -154,27 +135,43 @@ def test_reasons(month: Month) -> None:
     since = sales[sales.date >= pd.Timestamp(day(BEFORE))].groupby("item").quantity
     for name in ("I-000", "I-002", "I-003"):
         rows, amount = int(since.count().get(name, 0)), int(since.sum().get(name, 0))
-        assert changes.why[name].startswith(f"8 new periods with {amount} item{'s' * (amount != 1)} in {rows} "
-                                            f"row{'s' * (rows != 1)}; mean ")
+        assert changes.why[name].startswith(
+            f"8 new periods with {amount} item{'s' * (amount != 1)} in {rows} "
+            f"row{'s' * (rows != 1)}; mean "
+        )
     assert "holding 0.55 to 0.6; mean lead time 2 to 2.667" in changes.why["I-001"]
     assert "class a to c; today's policy is (1, 99)" in changes.why["I-004"]
     assert "1 earlier periods have other rows, +7 items" in changes.why["I-006"]
     assert changes.change["I-012"] == "new" and changes.change["I-005"] == "gone"
-    assert changes.why["I-005"] == "there is no master of this item" and pd.isna(changes.s_after["I-005"])
+    assert changes.why["I-005"] == "there is no master of this item" and pd.isna(
+        changes.s_after["I-005"]
+    )
 
 
-def test_an_item_that_the_earlier_plan_has_dropped(month: Month, tmp_path: Path) -> None:
+def test_an_item_that_the_earlier_plan_has_dropped(
+    month: Month, tmp_path: Path
+) -> None:
     """An answer that is left in the folder of the earlier plan, of an item that it no longer has, does not count."""
     words, changes = month.until(BEFORE), of_frame(month.plan(least_gain=0.9).changes)
     name = changes.index[changes.change == "damped"][0]
     crn.plan(out=tmp_path / "before", **words)
-    crn.plan(out=tmp_path / "before", **{**words, "masters": month.masters[month.masters["item"] != name]})
-    row = of_frame(month.plan(after=tmp_path / "before", least_gain=0.9).changes).loc[name]
+    crn.plan(
+        out=tmp_path / "before",
+        **{**words, "masters": month.masters[month.masters["item"] != name]},
+    )
+    row = of_frame(month.plan(after=tmp_path / "before", least_gain=0.9).changes).loc[
+        name
+    ]
     best = changes.loc[name]
-    assert row.change == "new" and (row.s_after, row.S_after) == (best.s_best, best.S_best)
+    assert row.change == "new" and (row.s_after, row.S_after) == (
+        best.s_best,
+        best.S_best,
+    )
 
 
-def simulated(item: Item, levels: Levels, start: int, since: int) -> tuple[float, float]:
+def simulated(
+    item: Item, levels: Levels, start: int, since: int
+) -> tuple[float, float]:
     """Returns the mean cost and the share of demand met at once of the last periods, by a program of its own: for an
     item with one lead time and no returns."""
     (lead,), (s, S), stock, arriving = item.leads, levels, start, dict[int, int]()
@@ -187,139 +184,80 @@ def simulated(item: Item, levels: Levels, start: int, since: int) -> tuple[float
         served = min(demand, max(stock, 0))
         stock -= demand
         if period >= len(item.counts) - since:
-            cost += item.setup * (ordered > 0) + item.holding * max(stock, 0) + (item.backlog or 0) * max(-stock, 0)
+            cost += (
+                item.setup * (ordered > 0)
+                + item.holding * max(stock, 0)
+                + (item.backlog or 0) * max(-stock, 0)
+            )
             met, asked = met + served, asked + demand
     return float(cost / since), met / asked if asked else math.nan
 
 
-def test_what_came_of_the_earlier_plan(month: Month, items: Mapping[str, Item]) -> None:
+def test_what_came_of_the_earlier_plan(month: Month, dozen: Mapping[str, Item]) -> None:
     """Cost and fill of the earlier policies on the weeks since are those of a second program, from some stock between
     s and S at the beginning; what they promised is what the earlier plan says."""
-    old, changes, tested = of_frame(crn.open_plan(month.before).decisions), of_frame(month.plan().changes), 0
-    for name, row in changes.iterrows():
-        item, levels = items[str(name)], (int(row.s_before), int(row.S_before))
-        assert row.periods_since == WEEKS - BEFORE and row.demand_since == sum(item.counts[BEFORE:])
-        assert row.promised_cost == pytest.approx(old.cost_chosen[name]) and row.promised_fill == old.fill_chosen[name]
+    old, since, tested = month.earlier, WEEKS - BEFORE, 0
+    for name, row in month.changes().iterrows():
+        item, (s, S) = dozen[str(name)], (int(row.s_before), int(row.S_before))
+        assert row.periods_since == since
+        assert row.demand_since == sum(item.counts[BEFORE:])
+        assert row.promised_cost == pytest.approx(old.cost_chosen[name])
+        assert row.promised_fill == old.fill_chosen[name]
         if len(item.leads) == 1 and not item.returns:
-            came = {simulated(item, levels, start, WEEKS - BEFORE) for start in range(levels[0], levels[1] + 1)}
-            assert any((row.cost_since, row.fill_since) == pytest.approx(one, nan_ok=True) for one in came)
+            came = [simulated(item, (s, S), start, since) for start in range(s, S + 1)]
+            found = pytest.approx((row.cost_since, row.fill_since), nan_ok=True)
+            assert any(one == found for one in came)
             tested += 1
     assert tested >= 6
 
 
-def test_sums_and_page(month: Month, items: Mapping[str, Item], tmp_path: Path) -> None:
+def test_sums_and_page(month: Month, dozen: Mapping[str, Item], tmp_path: Path) -> None:
     """Summary and page have the sums of the table: kinds, gains, and what was promised and came, in which all items
     weigh alike but for costs. The page lists the items that move most."""
     plan = month.plan(out=tmp_path / "plan", least_gain=0.1)
     changes = of_frame(plan.changes)
-    asked = changes.demand_since / [sum(items[str(name)].counts) / WEEKS for name in changes.index]
+    asked = changes.demand_since / [
+        sum(dozen[str(name)].counts) / WEEKS for name in changes.index
+    ]
     promised = (asked * changes.promised_fill).sum() / asked.sum()
     came = (asked * changes.fill_since.fillna(0)).sum() / asked.sum()
     dearer = changes.cost_since.sum() / changes.promised_cost.sum() - 1
-    moved = changes[changes.change == "moved"].sort_values("gain", key=abs, ascending=False)
-    kinds = [f"{(changes.change == kind).sum()} {kind}" for kind in ("same", "moved", "damped", "new", "gone")]
+    moved = changes[changes.change == "moved"].sort_values(
+        "gain", key=abs, ascending=False
+    )
+    kinds = [
+        f"{(changes.change == kind).sum()} {kind}"
+        for kind in ("same", "moved", "damped", "new", "gone")
+    ]
     page = Page(tmp_path / "plan/report.html")
-    for line in (f"olicies since the earlier plan: {', '.join(kinds)} (changes.csv says why)",
-                 f"he moved policies change the cost of a week by {-moved.gain.sum():+.2f}, by the new laws",
-                 f"he earlier plan on the 8 weeks since: {100 * promised:.1f}% promised and {100 * came:.1f} ± ",
-                 f"met at once; it cost {100 * dearer:+.1f} ± "):
+    for line in (
+        f"olicies since the earlier plan: {', '.join(kinds)} (changes.csv says why)",
+        f"he moved policies change the cost of a week by {-moved.gain.sum():+.2f}, by the new laws",
+        f"he earlier plan on the 8 weeks since: {100 * promised:.1f}% promised and {100 * came:.1f} ± ",
+        f"met at once; it cost {100 * dearer:+.1f} ± ",
+    ):
         assert line in plan.text and line in page.words
     shown = page.tables["The items that move most"][1:]
     assert [row[0] for row in shown] == [*moved.index]
-    assert [row[1:3] for row in shown] == [[f"{row.s_before}, {row.S_before}", f"{row.s_after}, {row.S_after}"]
-                                           for row in moved.itertuples()]
-
-
-def costed(item: Item, settings: Settings, levels: Levels) -> tuple[float, float]:
-    """Returns cost, in money, and fill of a policy by the law of an item, by a Markov chain: without a backlog cost,
-    setup and holding alone."""
-    question = question_of(item, settings, OWN)
-    backlog = question.rates.get("backlog", 0)
-    cost, fill, _, stock, orders, _ = by_chain(question.scenario(backlog).with_policies([Policy("p", *levels)]))
-    return cost / float(question.scale), fill
-
-
-@pytest.mark.parametrize("least", [0.001, 0.01, 0.1])
-def test_damping_rule(month: Month, items: Mapping[str, Item], least: float) -> None:
-    """A policy stays if and only if the best one costs less by under this share of its cost, and it keeps the wanted
-    fill rate: by costs and fill rates of a Markov chain. All else is as without."""
-    best, damped = month.plan(), month.plan(least_gain=least)
-    rows, changes, settings = of_frame(best.changes), of_frame(damped.changes), alone(fit="empirical", every="week")
-    given_up = 0.0
-    for name, row in rows.iterrows():
-        item = dataclasses.replace(items[str(name)])
-        before, after = ((int(row[f"s_{when}"]), int(row[f"S_{when}"])) for when in ("before", "after"))
-        (old_cost, old_fill), (new_cost, _) = (costed(item, settings, levels) for levels in (before, after))
-        stays = before != after and old_cost - new_cost < least * old_cost and old_fill >= (item.fill or 0)
-        now = changes.loc[name]
-        assert now.change == ("damped" if stays else row.change)
-        assert (now.s_after, now.S_after) == (before if stays else after)
-        if stays:
-            assert (now.s_best, now.S_best) == after and now.gain == pytest.approx(old_cost - new_cost, abs=1e-6)
-            given_up += old_cost - new_cost
-    count = (changes.change == "damped").sum()
-    assert f"gains less than {100 * least:g}%: {count}, which costs {given_up:.2f} a week" in damped.text
-    codes = of_frame(damped.decisions).codes
-    assert set(codes[codes.str.contains("damped")].index) == set(changes[changes.change == "damped"].index)
-
-
-def test_damping_happens_and_spares_wanted_fills(month: Month) -> None:
-    """In these tables some policies stay, and some with a wanted fill rate move since they no longer keep it."""
-    changes, wanted = of_frame(month.plan(least_gain=0.1).changes), month.masters.set_index("item").fill
-    assert {"damped", "moved"} <= set(changes.change)
-    moved = changes[(changes.change == "moved") & wanted.reindex(changes.index).notna()]
-    assert len(moved) and (moved.fill_before < wanted[moved.index]).all()
-
-
-def test_a_confidence_is_kept(month: Month, items: Mapping[str, Item]) -> None:
-    """With a confidence a policy stays only if it keeps the wanted fill rate under this share of the laws too, counted
-    law by law. Without a backlog cost these are counted in steps, and a policy between two steps may move."""
-    confidence, kinds = 0.7, set[str]()
-    changes = of_frame(month.plan(least_gain=0.9, confidence=confidence).changes)
-    for name, row in changes[changes.change != "same"].iterrows():
-        question = question_of(items[str(name)], alone(fit="empirical", every="week", confidence=confidence), OWN)
-        if question.item.fill is not None:
-            demands, leads = allowed_by(question)
-            laws = [*zip(demands, leads or itertools.repeat(question.lead))]
-            policy = Policy("p", int(row.s_before), int(row.S_before))
-            fills = figures_of_laws(question.scenario(), laws, [policy]).fill[:, 0]
-            keeps = row.fill_before >= question.item.fill and (fills >= float(question.item.fill)).mean() >= confidence
-            assert keeps if row.change == "damped" else not keeps or not question.has_backlog
-            kinds.add(str(row.change))
-    assert kinds == {"damped", "moved"}
-
-
-@pytest.mark.parametrize("least", [None, 0.2])
-def test_taken_over_is_what_would_be_planned(least: float | None, program: Path) -> None:
-    """An answer that is taken over is the one that the item would get if it was planned after its own plan."""
-    settings = alone(least_gain=least)
-    for item in several(8):
-        first = plan_one(question_of(item, settings, OWN), str(program))
-        higher = first.chosen.point + 1, first.chosen.level + 1
-        for before in (first.chosen.levels, higher):
-            earlier = plan_one(question_of(item, settings, OWN, before), str(program))
-            again = plan_one(question_of(item, settings, OWN, earlier.chosen.levels), str(program))
-            assert again == taken(earlier)
-
-
-def test_damped_policies_are_taken_over_by_the_same_gain_alone(month: Month, tmp_path: Path) -> None:
-    """A policy that stayed stays if nothing changes, and is planned anew with another least gain."""
-    first = month.plan(least_gain=0.1, out=tmp_path / "first")
-    same = month.plan(after=tmp_path / "first", least_gain=0.1)
-    pd.testing.assert_frame_equal(first.decisions[LEVELS], same.decisions[LEVELS])
-    assert (of_frame(same.changes).change == "damped").sum() == (of_frame(first.changes).change == "damped").sum() > 0
-    free = month.plan(after=tmp_path / "first")
-    pd.testing.assert_frame_equal(free.decisions[LEVELS], month.plan().decisions[LEVELS])
+    assert [row[1:3] for row in shown] == [
+        [f"{row.s_before}, {row.S_before}", f"{row.s_after}, {row.S_after}"]
+        for row in moved.itertuples()
+    ]
 
 
 def test_order_changes_nothing(month: Month, tmp_path: Path) -> None:
     """The order of rows, of items and the number of processes change no byte of what has changed."""
     words = month.until(WEEKS)
-    mixed = {name: words[name].sample(frac=1, random_state=5).reset_index(drop=True) for name in ("sales", "masters")}
+    mixed = {
+        name: words[name].sample(frac=1, random_state=5).reset_index(drop=True)
+        for name in ("sales", "masters")
+    }
     month.plan(out=tmp_path / "one", least_gain=0.01)
     month.plan(out=tmp_path / "two", least_gain=0.01, **mixed, jobs=2)
     for name in FILES:
-        assert (tmp_path / "one" / name).read_bytes() == (tmp_path / "two" / name).read_bytes()
+        assert (tmp_path / "one" / name).read_bytes() == (
+            tmp_path / "two" / name
+        ).read_bytes()
 
 
 def test_planned_alone_again(month: Month, tmp_path: Path) -> None:
@@ -331,18 +269,43 @@ def test_planned_alone_again(month: Month, tmp_path: Path) -> None:
     assert "earlier plan" not in alone_now.text
 
 
-@pytest.mark.parametrize("old, new, reasons", [
-    (item_of(counts=(1, 2, 3), first=5, rows=3), item_of(counts=(1, 2, 3, 4), first=5, rows=4),
-     [Remark("new rows", {"periods": 1, "rows": 1, "items": 4})]),
-    (item_of(counts=(1, 2, 3), first=5, rows=3), item_of(counts=(2, 9, 4, 0), first=6, rows=3),
-     [Remark("new rows", {"periods": 2, "rows": None, "items": 4}), Remark("changed rows", {"periods": 1, "items": 6}),
-      Remark("other first period", {"periods": 1})]),
-    (item_of(counts=(1, 2, 3), first=5), item_of(counts=(1, 2, 3, 0), returns=(0, 0, 0, 1), first=5),
-     [Remark("new rows", {"periods": 1, "rows": 0, "items": 0})]),
-    (item_of(counts=(1, 2, 3), first=5), item_of(counts=(1, 2, 3), returns=(0, 1, 0), first=5),
-     [Remark("changed rows", {"periods": 1, "items": 0})]),
-    (item_of(counts=(1, 2, 3), first=5), item_of(counts=(7, 7), first=11),
-     [Remark("new rows", {"periods": 2, "rows": None, "items": 14}), Remark("other first period", {"periods": 6})])])
+@pytest.mark.parametrize(
+    "old, new, reasons",
+    [
+        (
+            item_of(counts=(1, 2, 3), first=5, rows=3),
+            item_of(counts=(1, 2, 3, 4), first=5, rows=4),
+            [Remark("new rows", {"periods": 1, "rows": 1, "items": 4})],
+        ),
+        (
+            item_of(counts=(1, 2, 3), first=5, rows=3),
+            item_of(counts=(2, 9, 4, 0), first=6, rows=3),
+            [
+                Remark("new rows", {"periods": 2, "rows": None, "items": 4}),
+                Remark("changed rows", {"periods": 1, "items": 6}),
+                Remark("other first period", {"periods": 1}),
+            ],
+        ),
+        (
+            item_of(counts=(1, 2, 3), first=5),
+            item_of(counts=(1, 2, 3, 0), returns=(0, 0, 0, 1), first=5),
+            [Remark("new rows", {"periods": 1, "rows": 0, "items": 0})],
+        ),
+        (
+            item_of(counts=(1, 2, 3), first=5),
+            item_of(counts=(1, 2, 3), returns=(0, 1, 0), first=5),
+            [Remark("changed rows", {"periods": 1, "items": 0})],
+        ),
+        (
+            item_of(counts=(1, 2, 3), first=5),
+            item_of(counts=(7, 7), first=11),
+            [
+                Remark("new rows", {"periods": 2, "rows": None, "items": 14}),
+                Remark("other first period", {"periods": 6}),
+            ],
+        ),
+    ],
+)
 def test_rows_by_hand(old: Item, new: Item, reasons: list[Remark]) -> None:
     """The earlier record ends before period 8."""
     assert [*rows_of(old, new, 8)] == reasons
@@ -350,8 +313,21 @@ def test_rows_by_hand(old: Item, new: Item, reasons: list[Remark]) -> None:
 
 def test_least_gain_that_may_be_either(crnplan: Command) -> None:
     """A share is written with a percent sign, or as a decimal below 1."""
-    answer = crnplan("catalogue", "demand.csv", "items.csv", "--after", "one", "--out", "two", "--least-gain", "2")
-    assert answer.status == 2 and "--least-gain '2' may be 2% or 2 as a share; write 2% or" in answer.errors
+    answer = crnplan(
+        "catalogue",
+        "demand.csv",
+        "items.csv",
+        "--after",
+        "one",
+        "--out",
+        "two",
+        "--least-gain",
+        "2",
+    )
+    assert (
+        answer.status == 2
+        and "--least-gain '2' may be 2% or 2 as a share; write 2% or" in answer.errors
+    )
 
 
 def test_what_is_refused(month: Month, tmp_path: Path) -> None:
@@ -367,25 +343,22 @@ def test_what_is_refused(month: Month, tmp_path: Path) -> None:
         month.plan(**month.until(BEFORE - 4))
     with (month.before / "crnplan-folder.txt").open("r+") as marker:
         fcntl.flock(marker, fcntl.LOCK_EX)
-        with pytest.raises(crn.Refused, match="another run of crnplan works in this folder"):
+        with pytest.raises(
+            crn.Refused, match="another run of crnplan works in this folder"
+        ):
             month.plan()
     assert state(month.before) == before
 
 
-@pytest.mark.parametrize("marker", [None, "crnplan item, version 1\n"])
-def test_folders_that_are_no_plans(marker: str | None, month: Month, tmp_path: Path) -> None:
-    """A folder without the marker of a catalogue is none, whatever files are in it."""
-    other = Path(shutil.copytree(month.before, tmp_path / "other"))
-    (other / MARKER).unlink()
-    if marker:
-        (other / MARKER).write_text(marker, "utf-8")
-    with pytest.raises(crn.Refused, match="this is no folder of crnplan catalogue"):
-        month.plan(after=other)
-
-
 def test_other_periods_are_refused(month: Month) -> None:
-    with pytest.raises(crn.Refused, match="its periods are weeks, and these are months"):
-        month.plan(every="month", least=10, units={"items": dict.fromkeys(("holding", "backlog", "lead"), "month")})
+    with pytest.raises(
+        crn.Refused, match="its periods are weeks, and these are months"
+    ):
+        month.plan(
+            every="month",
+            least=10,
+            units={"items": dict.fromkeys(("holding", "backlog", "lead"), "month")},
+        )
 
 
 def test_changes_of_another_plan(month: Month, tmp_path: Path) -> None:
@@ -394,7 +367,9 @@ def test_changes_of_another_plan(month: Month, tmp_path: Path) -> None:
     assert len(changed.changes) == ITEMS
     with contextlib.closing(Store(tmp_path / "plan" / CHANGES, Change)) as store:
         store.keep_facts({PLAN: "another"})
-    with pytest.raises(crn.Refused, match="what has changed since the earlier plan is not known"):
+    with pytest.raises(
+        crn.Refused, match="what has changed since the earlier plan is not known"
+    ):
         crn.open_plan(tmp_path / "plan").changes
 
 
@@ -403,7 +378,15 @@ def test_what_has_changed_for_all_items(month: Month) -> None:
     with planned_folder(month.before) as folder:
         planned = folder.planned
     assert [*common_changes(planned, planned)] == []
-    learned = dataclasses.replace(planned, settings=dataclasses.replace(planned.settings, aims=Aims(1.0, ())))
-    assert [remark.code for remark in common_changes(planned, learned)] == ["other learning"]
-    program = dataclasses.replace(planned, base=json.dumps(["another", *json.loads(planned.base)[1:]]))
-    assert [remark.code for remark in common_changes(planned, program)] == ["other program"]
+    learned = dataclasses.replace(
+        planned, settings=dataclasses.replace(planned.settings, aims=Aims(1.0, ()))
+    )
+    assert [remark.code for remark in common_changes(planned, learned)] == [
+        "other learning"
+    ]
+    program = dataclasses.replace(
+        planned, base=json.dumps(["another", *json.loads(planned.base)[1:]])
+    )
+    assert [remark.code for remark in common_changes(planned, program)] == [
+        "other program"
+    ]

@@ -2,171 +2,254 @@
 the rows."""
 from __future__ import annotations
 
-import datetime
+from datetime import date
 from fractions import Fraction
 from pathlib import Path
+from types import SimpleNamespace
 from typing import Any
 
 import pandas as pd
 import pytest
 
 import crnplan as crn
-from crnplan.pages.control_tables import controls_of
-from crnplan.records.blocks import Sizes
-from crnplan.records.catalogue_reading import read_alone
-from crnplan.records.controls import Control, Controls, controls_in, together, tree_of
-from crnplan.records.items import Words
-from crnplan.records.stock import read_holdings
+from crnplan.show.control_tables import controls_of
+from crnplan.read.blocks import Sizes
+from crnplan.read.catalogue_reading import read_alone
+from crnplan.read.controls import (
+    Control,
+    Controls,
+    controls_in,
+    names_of_files,
+    together,
+    tree_of,
+)
+from crnplan.read.items import Words
+from crnplan.read.stock import read_holdings
 from crnplan.catalogues import Catalogue, read_catalogue
 from planner.tests.conftest import Command, rows_of
+from planner.tests.read.catalogues import TODAY
 
-TODAY = datetime.date(2026, 11, 26)
+USED, LEFT_OUT, REJECTED, OTHER = (
+    "used",
+    "left out with their item",
+    "rejected",
+    "other rows",
+)
 # What each planted row becomes.
-BAD = [("A", "2026-02-30", "4", "Main", "rejected"), ("A", "2026-03-02", "2.5", "Main", "rejected"),
-       ("B", "2026-03-02", "n/a", "Main", "rejected"), ("", "2026-03-02", "3", "Main", "rejected"),
-       ("A", "2027-05-03", "6", "Main", "rejected"), ("Z", "2026-03-03", "7", "Main", "left out with their item"),
-       ("A", "2025-01-01", "1000", "North", "other rows")]
+BAD = [
+    ("A", "2026-02-30", "4", "Main", REJECTED),
+    ("A", "2026-03-02", "2.5", "Main", REJECTED),
+    ("B", "2026-03-02", "n/a", "Main", REJECTED),
+    ("", "2026-03-02", "3", "Main", REJECTED),
+    ("A", "2027-05-03", "6", "Main", REJECTED),
+    ("Z", "2026-03-03", "7", "Main", LEFT_OUT),
+    ("A", "2025-01-01", "1000", "North", OTHER),
+]
 PRICES = {"A": Fraction("2.5"), "B": Fraction("0.3")}
+MASTERS = "item,setup,holding (per week),backlog (per week),lead (weeks),price,stock\n"
+WEEKS = pd.date_range("2026-01-05", periods=30, freq="7D").strftime("%Y-%m-%d")
 
 
+@pytest.fixture(scope="module")
 def source() -> pd.DataFrame:
     """Returns movements of two items in one place, with rows that are not used, and what becomes of each."""
-    days = [str(day.date()) for day in pd.date_range("2026-01-05", periods=150)]
-    good = [("AB"[place % 2], day, str(1 + place % 5), "Main", "used") for place, day in enumerate(days)]
-    return pd.DataFrame([*good, *BAD], columns=["item", "date", "quantity", "Location", "rows_are"])
+    days = pd.date_range("2026-01-05", periods=150).strftime("%Y-%m-%d")
+    rows = [*BAD]
+    for place, day in enumerate(days):
+        rows.append(("AB"[place % 2], day, str(1 + place % 5), "Main", USED))
+    columns = ["item", "date", "quantity", "Location", "rows_are"]
+    return pd.DataFrame(rows, columns=columns)
 
 
-def write(folder: Path, frame: pd.DataFrame) -> dict[str, Path]:
-    """Writes the tables of a catalogue, of which that of demand is in two files, and returns them by kind."""
-    rows = frame.drop(columns="rows_are")
-    for name, part in (("demand-1.csv", rows[::2]), ("demand-2.csv", rows[1::2])):
-        part.to_csv(folder / name, index=False)
-    (folder / "items.csv").write_text(
-        "item,setup,holding (per week),backlog (per week),lead (weeks),price,stock\n"
-        "A,20,0.06,0.9,2,2.5,12\nB,20,0.06,0.9,2,0.3,7.5\nC,,0.06,0.9,2,100,9\n", "utf-8")
-    (folder / "orders.csv").write_text("item,ordered,received\nA,2026-02-02,2026-02-17\nA,2026-03-02,bad\n", "utf-8")
-    return {"demand": folder / "demand-*.csv", "items": folder / "items.csv", "orders": folder / "orders.csv"}
+@pytest.fixture
+def tables(tmp_path: Path, source: pd.DataFrame) -> dict[str, Path]:
+    """Returns the tables of a catalogue, of which that of demand is in two files."""
+    rows = source.drop(columns="rows_are")
+    for place in range(2):
+        rows[place::2].to_csv(tmp_path / f"demand-{place}.csv", index=False)
+    rows_of_masters = (
+        "A,20,0.06,0.9,2,2.5,12\nB,20,0.06,0.9,2,0.3,7.5\nC,,0.06,0.9,2,100,9\n"
+    )
+    (tmp_path / "items.csv").write_text(MASTERS + rows_of_masters, "utf-8")
+    orders = "item,ordered,received\nA,2026-02-02,2026-02-17\nA,2026-03-02,bad\n"
+    (tmp_path / "orders.csv").write_text(orders, "utf-8")
+    names = {"demand": "demand-*.csv", "items": "items.csv", "orders": "orders.csv"}
+    return {kind: tmp_path / name for kind, name in names.items()}
 
 
-def sums(frame: pd.DataFrame) -> list[Any]:
-    """Returns rows, units, value and dates of rows of the source, by pandas."""
-    units = pd.to_numeric(frame.quantity, errors="coerce")
-    days = pd.to_datetime(frame.date, errors="coerce").dropna().dt.strftime("%Y-%m-%d")
-    values = [float(PRICES[item]) * unit for item, unit in zip(frame.item, units) if item in PRICES and unit == unit]
-    return [len(frame), units.sum(), pytest.approx(sum(values)) if values else None, days.min(), days.max()]
+def sums(
+    frame: pd.DataFrame, amounts: str = "quantity", dates: str = "date"
+) -> dict[str, list[Any]]:
+    """Returns rows, units, value and dates of rows of the source by pandas: of all, and by what they are."""
+    units = pd.to_numeric(frame[amounts], errors="coerce")
+    days = pd.to_datetime(frame[dates], errors="coerce").dt.strftime("%Y-%m-%d")
+    value = units * frame.item.map(PRICES).astype(float)
+    found = {}
+    for name, rows in {"read": frame.index, **frame.groupby("rows_are").groups}.items():
+        known, seen = value[rows].dropna(), days[rows].dropna()
+        total = pytest.approx(known.sum()) if len(known) else None
+        ends = [seen.min(), seen.max()] if len(seen) else [None, None]
+        found[str(name)] = [len(rows), units[rows].sum(), total, *ends]
+    return found
 
 
 def rows_in(controls: pd.DataFrame, file: str) -> dict[str, list[Any]]:
     """Returns rows, units, value and dates of a file, by what its rows are; None for no figure."""
-    table = controls[controls.file == file].set_index("rows_are")[["rows", "units", "value", "first", "last"]]
-    return {str(name): [None if cell is None or cell != cell else cell for cell in row]
-            for name, row in zip(table.index, table.itertuples(index=False, name=None))}
+    names = ["rows", "units", "value", "first", "last"]
+    table = controls[controls.file == file].set_index("rows_are")[names].astype(object)
+    return table.where(table.notna(), None).T.to_dict("list")
 
 
-@pytest.mark.parametrize("sizes", [Sizes(), Sizes(1_000, 500, plain=0)], ids=["one part", "parts"])
-def test_controls_of_a_catalogue(tmp_path: Path, sizes: Sizes) -> None:
+@pytest.mark.parametrize(
+    "sizes", [Sizes(), Sizes(1_000, 500, plain=0)], ids=["one part", "parts"]
+)
+def test_controls_of_a_catalogue(
+    tmp_path: Path, tables: dict[str, Path], source: pd.DataFrame, sizes: Sizes
+) -> None:
     """What was read and what became of it is what pandas sums in the source, in one part or in several."""
-    frame = source()
     words = Words(today=TODAY, where=("Location=Main",))
-    catalogue = Catalogue(read_alone(tmp_path / "read", write(tmp_path, frame), words, 1, sizes))
+    catalogue = Catalogue(read_alone(tmp_path / "read", tables, words, 1, sizes))
     controls = catalogue.controls
-    assert rows_in(controls, "demand-1.csv") == {"read": sums(frame[::2])}
-    assert rows_in(controls, "demand-2.csv") == {"read": sums(frame[1::2])}
-    demand = rows_in(controls, "demand, all files")
-    assert demand == {"read": sums(frame)} | {name: sums(part) for name, part in frame.groupby("rows_are")}
+    for place in range(2):
+        read = sums(source[place::2])["read"]
+        assert rows_in(controls, f"demand-{place}.csv") == {"read": read}
+    assert rows_in(controls, "demand, all files") == sums(source)
+    used = pytest.approx(12 * 2.5 + 7.5 * 0.3)
     assert rows_in(controls, "items.csv") == {
         "read": [3, 28.5, pytest.approx(12 * 2.5 + 7.5 * 0.3 + 900), None, None],
-        "used": [2, 19.5, pytest.approx(12 * 2.5 + 7.5 * 0.3), None, None],
-        "left out with their item": [1, 9, 900, None, None]}
+        USED: [2, 19.5, used, None, None],
+        LEFT_OUT: [1, 9, 900, None, None],
+    }
     assert rows_in(controls, "orders.csv") == {
-        "read": [2, None, None, "2026-02-02", "2026-03-02"], "used": [1, None, None, "2026-02-02", "2026-02-02"],
-        "rejected": [1, None, None, "2026-03-02", "2026-03-02"]}
-    assert {**catalogue.counts["files"]["demand"], "name": ""} == {
-        "name": "", "read": len(frame), "blank": 0, "used": 150, "rejected": 5, "with_item": 1, "other": 1}
+        "read": [2, None, None, "2026-02-02", "2026-03-02"],
+        USED: [1, None, None, "2026-02-02", "2026-02-02"],
+        REJECTED: [1, None, None, "2026-03-02", "2026-03-02"],
+    }
+    counts = dict(catalogue.counts["files"]["demand"])
+    names = "read", "blank", "used", "rejected", "with_item", "other"
+    assert [counts[name] for name in names] == [len(source), 0, 150, 5, 1, 1]
     assert "returned" not in controls
 
 
-def test_units_as_they_stand_and_values_in_items(tmp_path: Path) -> None:
+def controls_by(demand: pd.DataFrame, price: object, **words: Any) -> pd.DataFrame:
+    """Returns the controls of demand of item A by what its rows are."""
+    cells = ["A", 20, 0.06, 0.9, 2, price, 0]
+    masters = pd.DataFrame([cells], columns=MASTERS.strip().split(","))
+    controls = read_catalogue(demand, masters, today=TODAY, **words).controls
+    return controls[controls.file == "demand"].set_index("rows_are")
+
+
+def test_units_as_they_stand_and_values_in_items() -> None:
     """Packs and units of measure count for the value alone; the sum of returns has a column of its own."""
-    weeks = pd.date_range("2026-01-05", periods=30, freq="7D")
-    frame = pd.DataFrame([("A", day.date(), 1 + place % 4, place % 2, ["PCE", "KAR"][place % 2])
-                          for place, day in enumerate(weeks)],
-                         columns=["item", "date", "quantity (pack of 6)", "returned", "unit of measure"])
-    masters = pd.DataFrame({"item": ["A"], "setup": [20], "holding (per week)": [0.06], "backlog (per week)": [0.9],
-                            "lead (weeks)": [2], "price": [0.1]})
-    controls = read_catalogue(frame, masters, today=TODAY, factors={"KAR": 10, "PCE": 1}).controls
-    used = controls[(controls.file == "demand") & (controls.rows_are == "used")].iloc[0]
-    counts = frame["quantity (pack of 6)"] * 6 * frame["unit of measure"].map({"KAR": 10, "PCE": 1})
-    assert (used.units, used.returned) == (frame["quantity (pack of 6)"].sum(), frame.returned.sum())
+    factors, packs = {"PCE": 1, "KAR": 10}, "quantity (pack of 6)"
+    demand = pd.DataFrame({"item": "A", "date": WEEKS})
+    demand[packs] = 1 + demand.index % 4
+    demand["returned"] = demand.index % 2
+    demand["unit of measure"] = demand.returned.map(dict(enumerate(factors)))
+    used = controls_by(demand, 0.1, factors=factors).loc[USED]
+    counts = 6 * demand[packs] * demand["unit of measure"].map(factors)
+    assert (used.units, used.returned) == (demand[packs].sum(), demand.returned.sum())
     assert used.value == pytest.approx(counts.sum() * 0.1)
+
+
+def test_huge_amounts() -> None:
+    """Amounts whose sums pass 64 bits have an exact value."""
+    amount = 900_000_000_000_000
+    demand = pd.DataFrame(
+        {"item": "A", "date": WEEKS, "quantity": amount}, dtype=object
+    )
+    demand.loc[0, "quantity"] = "0.00001"
+    read = controls_by(demand, 2).loc["read"]
+    assert read.units == 29 * amount and read.value == 2 * read.units
 
 
 def test_sums_are_exact() -> None:
     """Sums of parts are exact, are kept as such, and no rows come to nothing."""
-    third = Control(1, {"quantity": Fraction(1, 3)}, Fraction(10**20) + Fraction(1, 7), datetime.date(2026, 1, 2),
-                    datetime.date(2026, 1, 3))
-    controls: Controls = {("demand", "a", "used"): third}
-    whole = together([controls, controls, controls, {("demand", "a", "used"): Control()}])
-    assert whole["demand", "a", "used"] == Control(3, {"quantity": Fraction(1)}, 3 * (Fraction(10**20) + Fraction(1, 7)),
-                                                   third.first, third.last)
+    value, days = 10**20 + Fraction(1, 7), (date(2026, 1, 2), date(2026, 1, 3))
+    key = "demand", "a", USED
+    third = Control(1, {"quantity": Fraction(1, 3)}, value, *days)
+    controls: Controls = {key: third}
+    whole = together([controls, controls, controls, {key: Control()}])
+    assert whole[key] == Control(3, {"quantity": Fraction(1)}, 3 * value, *days)
     assert controls_in(tree_of(whole)) == whole
-    empty = controls_of({("demand", "a", "used"): Control()}, 2, "")
-    assert [row[:4] for row in empty.rows] == [["a", "read", 0, None], ["a", "used", 0, None]]
+    empty = controls_of({key: Control()}, 2, "").rows
+    assert [row[:4] for row in empty] == [["a", "read", 0, None], ["a", USED, 0, None]]
 
 
-def test_huge_amounts(tmp_path: Path) -> None:
-    """Amounts whose sums pass 64 bits have an exact value."""
-    weeks = pd.date_range("2026-01-05", periods=30, freq="7D")
-    frame = pd.DataFrame({"item": "A", "date": weeks.strftime("%Y-%m-%d"), "quantity": 900_000_000_000_000})
-    frame.loc[0, "quantity"] = "0.00001"
-    masters = pd.DataFrame({"item": ["A"], "setup": [20], "holding (per week)": [0.06], "backlog (per week)": [0.9],
-                            "lead (weeks)": [2], "price": [2]})
-    frame.to_csv(tmp_path / "demand.csv", index=False)
-    controls = read_catalogue(tmp_path / "demand.csv", masters, today=TODAY).controls
-    read = controls[(controls.file == "demand.csv") & (controls.rows_are == "read")].iloc[0]
-    assert read.units == 29 * 900_000_000_000_000 and read.value == 2 * read.units
-
-
-def test_controls_are_said(tmp_path: Path, crnplan: Command, program: Path, monkeypatch: pytest.MonkeyPatch) -> None:
+def test_controls_are_said(
+    tmp_path: Path,
+    tables: dict[str, Path],
+    source: pd.DataFrame,
+    crnplan: Command,
+    program: Path,
+    monkeypatch: pytest.MonkeyPatch,
+) -> None:
     """The summary, the page and Python have the same table."""
     monkeypatch.chdir(tmp_path)
-    write(tmp_path, source())
-    (tmp_path / "crnplan.toml").write_text('[catalogue]\nfit = "empirical"\nborrow = "none"\nperiods = 16\n', "utf-8")
-    answer = crnplan("catalogue", "demand-*.csv", "items.csv", "--where", "Location=Main", "--out", "plan", "--currency",
-                     "EUR", "--program", program)
+    settings = '[catalogue]\nfit = "empirical"\nborrow = "none"\nperiods = 16\n'
+    (tmp_path / "crnplan.toml").write_text(settings, "utf-8")
+    words = "--where Location=Main --out plan --currency EUR --program".split()
+    answer = crnplan("catalogue", "demand-*.csv", "items.csv", *words, program)
     assert answer.status == 0, answer
     lines = [line.split() for line in answer.output.splitlines()]
-    frame = source()
-    units = pd.to_numeric(frame.quantity, errors="coerce")
-    assert ["file", "rows_are", "rows", "units", "value", "first", "last"] in lines
-    assert next(line for line in lines if line[:3] == ["demand,", "all", "files"])[3:6] == [
-        "read", str(len(frame)), f"{units.sum():,.15g}"]
+    heading = ["file", "rows_are", "rows", "units", "value", "first", "last"]
+    count, units, *_ = sums(source)["read"]
+    total = ["demand,", "all", "files", "read", str(count), f"{units:,.15g}"]
+    assert heading in lines and total in [line[:6] for line in lines]
     page = (tmp_path / "plan/report.html").read_text("utf-8")
-    assert "Control totals" in page and f">{units.sum():,.15g}</td>" in page
+    assert "Control totals" in page and f">{units:,.15g}</td>" in page
     controls = crn.open_plan(tmp_path / "plan").controls
-    assert controls.units.tolist()[2] == units.sum() and controls.attrs["units"]["value"] == "EUR"
+    assert controls.units[2] == units
+    assert controls.attrs["units"]["value"] == "EUR"
     assert rows_of(tmp_path / "plan/decisions.csv").keys() == {"A", "B"}
 
 
 def test_controls_of_today(tmp_path: Path) -> None:
     """Tables of today come to what pandas sums in them, by what became of their rows."""
-    used, left_out, rejected = "used", "left out with their item", "rejected"
-    stock = pd.DataFrame([("A", "12", "0", used), ("B", "7.5", "2", left_out), ("A", "3", "1", used), ("Z", "9", "0", left_out),
-                          ("B", "n/a", "0", rejected), ("C", "4", "0", used)], columns=["item", "stock", "owed", "rows_are"])
-    due = pd.DataFrame([("A", "20", "2026-12-07", used), ("A", "5", "2026-12-01", used), ("B", "6", "soon", rejected)],
-                       columns=["item", "quantity", "due", "rows_are"])
-    tables = {"stock": tmp_path / "stock.csv", "on_order": tmp_path / "due.csv"}
-    stock.drop(columns="rows_are").to_csv(tables["stock"], index=False)
-    due.drop(columns="rows_are").to_csv(tables["on_order"], index=False)
-    controls = controls_of(read_holdings(tables, Words(), {**PRICES, "C": None}).controls, 2, "EUR").frame
-    for file, source, role in (("stock.csv", stock, "stock"), ("due.csv", due, "quantity")):
-        amounts = source.assign(units=pd.to_numeric(source[role], errors="coerce").fillna(0))
-        amounts["value"] = amounts.units * amounts["item"].map({name: float(price) for name, price in PRICES.items()})
-        days = pd.to_datetime(source.get("due"), errors="coerce").dt.strftime("%Y-%m-%d") if role == "quantity" else None
-        parts = {"read": amounts.index, **amounts.groupby("rows_are").groups}
-        wanted = {name: [len(rows), amounts.units[rows].sum(), pytest.approx(amounts.value[rows].sum()),
-                         *([None, None] if days is None else [days[rows].dropna().min(), days[rows].dropna().max()])]
-                  for name, rows in parts.items()}
-        assert rows_in(controls, file) == {name: [None if cell != cell else cell for cell in row]
-                                           for name, row in wanted.items()}
+    stock = [
+        ("A", "12", "0", USED),
+        ("B", "7.5", "2", LEFT_OUT),
+        ("A", "3", "1", USED),
+        ("Z", "9", "0", LEFT_OUT),
+        ("B", "n/a", "0", REJECTED),
+        ("C", "4", "0", USED),
+    ]
+    due = [
+        ("A", "20", "2026-12-07", USED),
+        ("A", "5", "2026-12-01", USED),
+        ("B", "6", "soon", REJECTED),
+    ]
+    frames = {
+        "stock": pd.DataFrame(stock, columns=["item", "stock", "owed", "rows_are"]),
+        "on_order": pd.DataFrame(due, columns=["item", "quantity", "due", "rows_are"]),
+    }
+    for kind, frame in frames.items():
+        frame.drop(columns="rows_are").to_csv(tmp_path / f"{kind}.csv", index=False)
+    tables = {kind: tmp_path / f"{kind}.csv" for kind in frames}
+    read = read_holdings(tables, Words(), {**PRICES, "C": None})
+    controls = controls_of(read.controls, 2, "EUR").frame
+    on_order = sums(frames["on_order"], dates="due")
+    assert rows_in(controls, "on_order.csv") == {
+        **on_order,
+        REJECTED: [1, 6, 1.8, None, None],
+    }
+    undated = frames["stock"].assign(date="")
+    found, wanted = rows_in(controls, "stock.csv"), sums(undated, "stock")
+    # A row without an amount is worth nothing.
+    wanted[REJECTED] = [1, 0, 0, None, None]
+    assert found == wanted
     assert controls.owed[controls.file == "stock.csv"].tolist() == [3, 1, 0, 2]
+
+
+@pytest.mark.parametrize(
+    "paths, names",
+    [
+        (["a/x.csv", "a/y.csv"], ["x.csv", "y.csv"]),
+        (["a/x.csv", "b/x.csv"], ["a/x.csv", "b/x.csv"]),
+    ],
+)
+def test_files_of_one_name(paths: list[str], names: list[str]) -> None:
+    """Files of a table are named with their folders if two have one name."""
+    files = [SimpleNamespace(name=path, file_name=Path(path).name) for path in paths]
+    sheet: Any = SimpleNamespace(files=files)
+    assert names_of_files(sheet) == names

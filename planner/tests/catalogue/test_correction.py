@@ -1,7 +1,6 @@
 """Tests plans that aim at fill rates by the past: which policies they choose, what is said, and resuming."""
 from __future__ import annotations
 
-import csv
 import dataclasses
 import datetime
 import re
@@ -11,6 +10,7 @@ from pathlib import Path
 from typing import Any
 
 import numpy as np
+import pandas as pd
 import pytest
 
 import crnplan as crn
@@ -20,12 +20,12 @@ from crnplan.plan.answer import Answer
 from crnplan.plan.catalogue import PlannedFolder, planned_folder
 from crnplan.plan.one import plan_one
 from crnplan.plan.question import NONE, question_of
-from crnplan.records.item import Item
+from crnplan.read.item import Item
 from planner.tests.conftest import Command, rows_of
-from planner.tests.pages.page_reader import Page
+from planner.tests.show.page_reader import Page
 from planner.tests.plan.items import SHORT
 
-ITEMS, WEEKS, START = 34, 26, datetime.date(2026, 1, 5)  # a Monday
+COUNT, ITEMS, WEEKS, START = 45, 34, 26, datetime.date(2026, 1, 5)  # a Monday
 WANTED = {0: "0.95", 1: "0.95", 2: "0.9", 3: ""}
 SETTINGS: dict[str, Any] = {"fit": "empirical", "borrow": NONE, "jobs": 1, **SHORT}
 WORDS = "--fit", "empirical", "--borrow", "none"
@@ -35,25 +35,29 @@ FILES = "decisions.csv", "summary.txt", "report.html"
 def write(folder: Path, items: int = ITEMS) -> list[Path]:
     """Writes the tables of items of which three quarters want a fill rate, the others have a backlog cost. Their weeks
     are too few for their large demands."""
-    random, paths = np.random.default_rng(1), [folder / "demand.csv", folder / "items.csv"]
-    with paths[0].open("w", newline="") as demand, paths[1].open("w", newline="") as masters:
-        rows, facts = csv.writer(demand), csv.writer(masters)
-        rows.writerow(("item", "date", "quantity"))
-        facts.writerow(("item", "setup", "holding", "backlog", "fill", "lead (weeks)", "s", "S"))
-        for place in range(items):
-            counts = 1 + random.negative_binomial(1, 1 / (2 + place % 7), WEEKS)
-            rows.writerows((f"I-{place:02}", START + datetime.timedelta(7 * week), count)
-                           for week, count in enumerate(counts.tolist()))
-            wanted = WANTED[place % 4]
-            facts.writerow((f"I-{place:02}", 9.25, 1, "" if wanted else 9, wanted, 2, 9, 30))
-    return paths
+    random, rows, masters = np.random.default_rng(1), [], []
+    days = [START + datetime.timedelta(7 * week) for week in range(WEEKS)]
+    for place in range(items):
+        name, wanted = f"I-{place:02}", WANTED[place % 4]
+        counts = 1 + random.negative_binomial(1, 1 / (2 + place % 7), WEEKS)
+        rows += [(name, *row) for row in zip(days, counts.tolist())]
+        masters.append((name, 9.25, 1, "" if wanted else 9, wanted, 2, 9, 30))
+    columns = "item,setup,holding,backlog,fill,lead (weeks),s,S".split(",")
+    tables = {
+        "demand": pd.DataFrame(rows, columns=["item", "date", "quantity"]),
+        "items": pd.DataFrame(masters, columns=columns),
+    }
+    for kind, table in tables.items():
+        table.to_csv(folder / f"{kind}.csv", index=False)
+    return [folder / f"{kind}.csv" for kind in tables]
 
 
 @pytest.fixture(scope="module")
 def made(tmp_path_factory: pytest.TempPathFactory, program: Path) -> Path:
     """Returns a folder with the two tables and corrected plans in `plan`, which nobody changes."""
     room = tmp_path_factory.mktemp("correction")
-    crn.plan(*write(room, 4 * ITEMS // 3), out=room / "plan", correct=True, program=program, **SETTINGS)
+    words: Any = {**SETTINGS, "correct": True, "program": program}
+    crn.plan(*write(room, COUNT), out=room / "plan", **words)
     return room
 
 
@@ -70,7 +74,11 @@ def read(folder: Path) -> dict[str, bytes]:
 
 def answered(plan: PlannedFolder) -> dict[str, tuple[Item, Answer]]:
     """Returns the items of a planned folder with their answers."""
-    return {item.name: (item, answer) for item, answer in plan.answers() if isinstance(answer, Answer)}
+    return {
+        item.name: (item, answer)
+        for item, answer in plan.answers()
+        if isinstance(answer, Answer)
+    }
 
 
 def test_plans_aim_by_the_past(made: Path, program: Path) -> None:
@@ -78,18 +86,35 @@ def test_plans_aim_by_the_past(made: Path, program: Path) -> None:
     wants beside. One with a backlog cost alone is left as it is."""
     with planned_folder(made / "plan") as plan:
         aims, answers = plan.settings.aims, answered(plan)
-    assert aims and all(tried.items >= 15 for tried in aims.classes) and len(answers) == 4 * ITEMS // 3
+    assert (
+        aims
+        and all(tried.items >= 15 for tried in aims.classes)
+        and len(answers) == COUNT
+    )
     for item, answer in [*answers.values()][:8]:
         wanted = None if item.fill is None else aims.aim(item.counts, float(item.fill))
-        as_wanted, as_aimed = (plan_one(question_of(
-            dataclasses.replace(item, fill=fill), dataclasses.replace(plan.settings, aims=None)), str(program))
-            for fill in (item.fill, None if wanted is None else Fraction(wanted)))
+        as_wanted, as_aimed = (
+            plan_one(
+                question_of(
+                    dataclasses.replace(item, fill=fill),
+                    dataclasses.replace(plan.settings, aims=None),
+                ),
+                str(program),
+            )
+            for fill in (item.fill, None if wanted is None else Fraction(wanted))
+        )
         assert (answer.chosen, answer.verdict) == (as_aimed.chosen, as_aimed.verdict)
         if wanted is None:
             assert answer.correction is None
         else:
-            assert answer.correction and answer.correction.aim == wanted > float(item.fill or 1)
-            assert answer.correction.plain_stock == as_wanted.chosen.stock < answer.chosen.stock
+            assert answer.correction and answer.correction.aim == wanted > float(
+                item.fill or 1
+            )
+            assert (
+                answer.correction.plain_stock
+                == as_wanted.chosen.stock
+                < answer.chosen.stock
+            )
 
 
 def test_what_is_said(room: Path) -> None:
@@ -97,45 +122,70 @@ def test_what_is_said(room: Path) -> None:
     rows = rows_of(room / "plan/decisions.csv").values()
     corrected = [row for row in rows if row["fill_aimed"]]
     assert len(corrected) == sum(row["fill_wanted"] != "" for row in rows) < len(rows)
-    held, plain = (sum(float(row[name]) for row in corrected) for name in ("stock_chosen", "stock_uncorrected"))
+    held, plain = (
+        sum(float(row[name]) for row in corrected)
+        for name in ("stock_chosen", "stock_uncorrected")
+    )
     summary = (room / "plan/summary.txt").read_text("utf-8")
-    said = re.search(r"past: (\d+) items, whose stock costs (.+) a week to hold, and (.+) without, by theory", summary)
-    assert said and [*map(float, said.groups())] == pytest.approx([len(corrected), held, plain], abs=0.02)
+    said = re.search(
+        r"past: (\d+) items, whose stock costs (.+) a week to hold, and (.+) without, by theory",
+        summary,
+    )
+    assert said and [*map(float, said.groups())] == pytest.approx(
+        [len(corrected), held, plain], abs=0.02
+    )
     with planned_folder(room / "plan") as plan:
         aims = plan.settings.aims
     assert aims
     for wanted in (0.9, 0.95):
         for name, tried in zip(("slow", "fast"), aims.classes):
-            line = [f"{wanted:.2%}", name, f"{tried.aim(wanted):.2%}", f"{tried.met(tried.aim(wanted)):.2%}",
-                    str(tried.items), str(tried.items * WEEKS)]
+            line = [
+                f"{wanted:.2%}",
+                name,
+                f"{tried.aim(wanted):.2%}",
+                f"{tried.met(tried.aim(wanted)):.2%}",
+                str(tried.items),
+                str(tried.items * WEEKS),
+            ]
             assert line in [row.split() for row in summary.splitlines()]
     assert "Corrected fill rates" in Page(room / "plan/report.html").words
 
 
-def test_same_bytes_whatever_the_workers(room: Path, crnplan: Command, program: Path) -> None:
+def plan_again(room: Path, out: str) -> list[Any]:
+    """Returns the words that plan the tables of a room as its settings say."""
+    settings = "[catalogue]\nperiods = 64\nreplications = 4\ncorrect = true\n"
+    (room / "crnplan.toml").write_text(settings)
+    common = ["--out", room / out, "--config", room / "crnplan.toml", *WORDS]
+    return ["catalogue", room / "demand.csv", room / "items.csv", *common]
+
+
+def test_same_bytes_whatever_the_workers(
+    room: Path, crnplan: Command, program: Path
+) -> None:
     """The command writes with two processes what Python does with one; run again, it plans and learns nothing."""
-    (room / "crnplan.toml").write_text("[catalogue]\nperiods = 64\nreplications = 4\ncorrect = true\n")
-    words = "catalogue", *(room / name for name in ("demand.csv", "items.csv")), *WORDS, "--program", program
-    told = crnplan(*words, "--out", room / "other", "--jobs", "2", "--config", room / "crnplan.toml")
+    words = [*plan_again(room, "other"), "--program", program, "--jobs"]
+    told = crnplan(*words, "2")
     assert told.status == 0 and read(room / "other") == read(room / "plan")
-    told = crnplan(*words, "--out", room / "other", "--jobs", "1", "--config", room / "crnplan.toml")
-    assert told.status == 0 and " 0 items planned" in told.errors and "trials" not in told.errors
+    told = crnplan(*words, "1")
+    assert told.status == 0 and " 0 items planned" in told.errors
+    assert "trials" not in told.errors
 
 
 def test_learned_again_on_request(room: Path, crnplan: Command, program: Path) -> None:
     """New rows change the plan of their item alone, until it is to be learned again. Then only its trial is new."""
     with (room / "demand.csv").open("a") as file:
         file.write(f"I-00,{START},500\n")
-    words = ("catalogue", room / "demand.csv", room / "items.csv", *WORDS, "--program", program, "--jobs", "1", "--out",
-             room / "plan", "--correct", "--far", "keep", "--config", room / "crnplan.toml")
-    (room / "crnplan.toml").write_text("[catalogue]\nperiods = 64\nreplications = 4\n")
+    words = [*plan_again(room, "plan"), "--program", program, "--jobs", "1"]
+    words += ["--far", "keep"]
     before = aims_in(room)
     told = crnplan(*words)
     assert " 1 items planned" in told.errors and aims_in(room) == before
     told = crnplan(*words, "--learn-again")
-    assert f" {4 * ITEMS // 3} items planned" in told.errors and aims_in(room) != before
-    kept = len([row for row in rows_of(room / "plan/decisions.csv").values() if row["fill_wanted"]]) - 1
-    assert f"{kept} of {kept + 1} trials ({kept} kept)" in told.errors
+    assert f" {COUNT} items planned" in told.errors and aims_in(room) != before
+    rows = rows_of(room / "plan/decisions.csv").values()
+    wanted = sum(bool(row["fill_wanted"]) for row in rows)
+    said = f"{wanted - 1} of {wanted} trials ({wanted - 1} kept)"
+    assert said in told.errors
 
 
 def aims_in(room: Path) -> Aims | None:
@@ -151,10 +201,15 @@ def test_few_items_are_refused(tmp_path: Path, program: Path) -> None:
 def test_backtests_do_not_see_what_came(room: Path, crnplan: Command) -> None:
     """What was learned is from all periods, so a folder is tested as if nothing was."""
     (room / "crnplan.toml").write_text("")
-    walk = {"record": 13, "every": 13, "window": 13}
-    told = crnplan("backtest", room / "plan", *(f"--{name}={number}" for name, number in walk.items()), "--jobs", "1")
-    plain = crn.backtest(room / "demand.csv", room / "items.csv", fit="empirical", borrow=NONE, jobs=1, **walk)
+    walk = "--record 13 --every 13 --window 13 --jobs 1".split()
+    told = crnplan("backtest", room / "plan", *walk)
+    words: Any = {"fit": "empirical", "borrow": NONE, "jobs": 1}
+    words |= {"record": 13, "every": 13, "window": 13}
+    plain = crn.backtest(room / "demand.csv", room / "items.csv", **words)
     assert told.output == plain.text
     crnplan("report", room / "plan")
     line = told.output.splitlines()[0]
-    assert f"{line} That is without the correction." in Page(room / "plan/report.html").words
+    assert (
+        f"{line} That is without the correction."
+        in Page(room / "plan/report.html").words
+    )

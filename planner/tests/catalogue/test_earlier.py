@@ -15,9 +15,9 @@ import pytest
 
 import crnplan as crn
 from crnplan.errors import CrnplanError, Failed, Refused
-from crnplan.files import MARKER
+from crnplan.store.files import MARKER
 from crnplan.plan.catalogue import ANSWERS
-from crnplan.records.catalogue_reading import READ
+from crnplan.read.catalogue_reading import READ
 from planner.tests.conftest import shared
 from planner.tests.test_folders import DAMAGES
 
@@ -28,29 +28,53 @@ TODAY = FIRST + datetime.timedelta(7 * WEEKS)
 
 def sales_of(names: Sequence[str]) -> pd.DataFrame:
     draws = {name: random.Random(name) for name in names}
-    return pd.DataFrame([{"item": name, "date": str(FIRST + datetime.timedelta(7 * week)), "quantity": draw.randrange(4)}
-                         for name, draw in draws.items() for week in range(WEEKS)])
+    return pd.DataFrame(
+        [
+            {
+                "item": name,
+                "date": str(FIRST + datetime.timedelta(7 * week)),
+                "quantity": draw.randrange(4),
+            }
+            for name, draw in draws.items()
+            for week in range(WEEKS)
+        ]
+    )
 
 
 def plan(names: Sequence[str] = NAMES, **words: Any) -> crn.Plan:
     """Plans a small catalogue of some items."""
-    masters = pd.DataFrame({"item": names, "setup": 20, "holding": 1, "backlog": 9, "lead (weeks)": 2})
-    return crn.plan(sales_of(names), masters, periods=64, replications=2, jobs=1, fit="empirical", borrow="none",
-                    today=TODAY, **words)
+    masters = pd.DataFrame(
+        {"item": names, "setup": 20, "holding": 1, "backlog": 9, "lead (weeks)": 2}
+    )
+    return crn.plan(
+        sales_of(names),
+        masters,
+        periods=64,
+        replications=2,
+        jobs=1,
+        fit="empirical",
+        borrow="none",
+        today=TODAY,
+        **words,
+    )
 
 
 @pytest.fixture
 def earlier(tmp_path_factory: pytest.TempPathFactory, program: Path) -> Path:
     """Returns the folder of an earlier plan."""
-    return shared(tmp_path_factory, "earlier", lambda place: plan(out=place, program=program))
+    return shared(
+        tmp_path_factory, "earlier", lambda place: plan(out=place, program=program)
+    )
 
 
 def by_sql(store: str, statement: str) -> Callable[[Path], None]:
     """Returns what changes a store as a program would."""
+
     def damage(folder: Path) -> None:
         with sqlite3.connect(folder / store) as base:
             base.execute(statement)
         base.close()
+
     return damage
 
 
@@ -62,25 +86,58 @@ def pipe_in_place(folder: Path) -> None:
 # What changes a store as a program would.
 STATEMENTS = {
     ANSWERS: [
-        "DELETE FROM answers", "DELETE FROM answers WHERE item = 'I03'", "UPDATE answers SET item = 'I0x' WHERE item = 'I03'",
-        "UPDATE answers SET chosen_cost = 2 * chosen_cost", "UPDATE answers SET seal = NULL", "DROP TABLE answers",
+        "DELETE FROM answers",
+        "DELETE FROM answers WHERE item = 'I03'",
+        "UPDATE answers SET item = 'I0x' WHERE item = 'I03'",
+        "UPDATE answers SET chosen_cost = 2 * chosen_cost",
+        "UPDATE answers SET seal = NULL",
+        "DROP TABLE answers",
         "UPDATE answers SET digest = (SELECT digest FROM asked WHERE item = 'I04') WHERE item = 'I03'",
-        "DELETE FROM asked", "DELETE FROM asked WHERE item = 'I03'", "UPDATE asked SET digest = 'x'", "DROP TABLE asked",
-        "DROP TABLE facts", "DELETE FROM facts", "UPDATE facts SET value = 'null' WHERE name = 'planned'",
-        "UPDATE facts SET value = '[]' WHERE name = 'planned'", "UPDATE facts SET value = CAST(x'ff' AS TEXT)"],
+        "DELETE FROM asked",
+        "DELETE FROM asked WHERE item = 'I03'",
+        "UPDATE asked SET digest = 'x'",
+        "DROP TABLE asked",
+        "DROP TABLE facts",
+        "DELETE FROM facts",
+        "UPDATE facts SET value = 'null' WHERE name = 'planned'",
+        "UPDATE facts SET value = '[]' WHERE name = 'planned'",
+        "UPDATE facts SET value = CAST(x'ff' AS TEXT)",
+    ],
     READ: [
-        "DELETE FROM items", "DELETE FROM items WHERE name = 'I03'", "DROP TABLE items", "UPDATE items SET counts = 'x'",
-        "UPDATE items SET counts = CAST(x'ff' AS TEXT)", "DROP TABLE facts", "DELETE FROM facts",
-        "UPDATE facts SET value = 'x'", "UPDATE facts SET value = 'null'"]}
+        "DELETE FROM items",
+        "DELETE FROM items WHERE name = 'I03'",
+        "DROP TABLE items",
+        "UPDATE items SET counts = 'x'",
+        "UPDATE items SET counts = CAST(x'ff' AS TEXT)",
+        "DROP TABLE facts",
+        "DELETE FROM facts",
+        "UPDATE facts SET value = 'x'",
+        "UPDATE facts SET value = 'null'",
+    ],
+}
 DAMAGED: dict[str, Callable[[Path], object]] = {
     "answers are a pipe": pipe_in_place,
-    **{f"{statement} in {store}": by_sql(store, statement)
-       for store, statements in STATEMENTS.items() for statement in statements},
-    **{f"{name} in {store}": (lambda folder, store=store, damage=damage: damage(folder / store))
-       for store in STATEMENTS for name, damage in {
-           **DAMAGES, "nothing": lambda path: path.write_bytes(b""), "no file": lambda path: path.unlink()}.items()},
+    **{
+        f"{statement} in {store}": by_sql(store, statement)
+        for store, statements in STATEMENTS.items()
+        for statement in statements
+    },
+    **{
+        f"{name} in {store}": (
+            lambda folder, store=store, damage=damage: damage(folder / store)
+        )
+        for store in STATEMENTS
+        for name, damage in {
+            **DAMAGES,
+            "nothing": lambda path: path.write_bytes(b""),
+            "no file": lambda path: path.unlink(),
+        }.items()
+    },
     "marker missing": lambda folder: (folder / MARKER).unlink(),
-    "marker of other bytes": lambda folder: (folder / MARKER).write_bytes(b"\xff\xfe" * 99)}
+    "marker of other bytes": lambda folder: (folder / MARKER).write_bytes(
+        b"\xff\xfe" * 99
+    ),
+}
 
 
 @pytest.mark.parametrize("name", DAMAGED)
@@ -96,10 +153,14 @@ def test_a_damaged_plan(earlier: Path, program: Path, name: str) -> None:
 @pytest.mark.parametrize("place", range(3))
 def test_changed_bytes(earlier: Path, program: Path, place: int) -> None:
     """Whatever bytes of a plan are changed, it is refused, or the outcome is that of the sound one."""
-    draw, kept = random.Random(place), {path: path.read_bytes() for path in earlier.rglob("*") if path.is_file()}
+    draw, kept = random.Random(place), {
+        path: path.read_bytes() for path in earlier.rglob("*") if path.is_file()
+    }
     sound = plan(after=earlier, program=program)
     for _ in range(12):
-        path = draw.choice([path for path in kept if path.suffix == ".sqlite" or path.name == MARKER])
+        path = draw.choice(
+            [path for path in kept if path.suffix == ".sqlite" or path.name == MARKER]
+        )
         data = bytearray(kept[path])
         for _ in range(draw.choice([1, 5, 50])):
             data[draw.randrange(len(data))] = draw.randrange(256)
@@ -117,14 +178,21 @@ def test_plans_of_others(earlier: Path, tmp_path: Path, program: Path) -> None:
     """A plan of other items, of other periods, a folder of another kind and a plan of another version are refused."""
     with pytest.raises(Refused, match="none of its items is in these tables"):
         plan(["X1", "X2"], after=earlier, program=program)
-    assert set(plan([*NAMES[5:], "X1"], after=earlier, program=program).changes.change) == {"same", "new", "gone"}
+    assert set(
+        plan([*NAMES[5:], "X1"], after=earlier, program=program).changes.change
+    ) == {"same", "new", "gone"}
     by_sql(ANSWERS, "ALTER TABLE answers RENAME COLUMN verdict TO outcome")(earlier)
-    with pytest.raises(Refused, match="another version of crnplan has planned it; run crnplan catalogue again"):
+    with pytest.raises(
+        Refused,
+        match="another version of crnplan has planned it; run crnplan catalogue again",
+    ):
         plan(after=earlier, program=program)
     shutil.copytree(earlier, tmp_path / "copy")
     marker = tmp_path / "copy" / MARKER
     for old, new in (("catalogue", "item"), ("version 1", "version 2")):
-        marker.write_text((earlier / MARKER).read_text("utf-8").replace(old, new, 1), "utf-8")
+        marker.write_text(
+            (earlier / MARKER).read_text("utf-8").replace(old, new, 1), "utf-8"
+        )
         with pytest.raises(Refused, match="this is no folder of crnplan catalogue"):
             plan(after=tmp_path / "copy", program=program)
 

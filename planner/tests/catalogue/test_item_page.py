@@ -14,23 +14,34 @@ from hypothesis import example, given, strategies as st
 import crnplan
 from crnplan import plan
 from crnplan.errors import CrnplanError, Refused
-from crnplan.pages.catalogue_page import file_name, file_of, report
+from crnplan.show.catalogue_page import file_name, file_of, report
 from crnplan.catalogues import read_catalogue
 from crnplan.plan.catalogue import ANSWERS
-from crnplan.records.catalogue_reading import READ
+from crnplan.read.catalogue_reading import READ
 from planner.tests.catalogue.conftest import FILES
 from planner.tests.catalogue.made import IDLE, NO_PLAN, TODAY, made, teaching
 from planner.tests.conftest import rows_of, script, shared
-from planner.tests.pages.page_reader import Page
+from planner.tests.show.page_reader import Page
 
 PAIRS = "Today's and the chosen policy, as in decisions.csv"
 EXACT = "The run's exact figures, as in exact.csv"
 ALL = "All policies in the long run"
 # The rows of the table of both policies, and the columns of decisions.csv without the policy's name.
-COLUMNS = {"s": "s", "S": "S", "cost a week": "cost", "met at once": "fill", "mean stock": "stock",
-           "value of the mean stock": "value", "orders a week": "orders"}
-SAVINGS = {"saving a week": "saving", "saving a week, by crnsim": "run_saving", "its low end": "run_low",
-           "its high end": "run_high"}
+COLUMNS = {
+    "s": "s",
+    "S": "S",
+    "cost a week": "cost",
+    "met at once": "fill",
+    "mean stock": "stock",
+    "value of the mean stock": "value",
+    "orders a week": "orders",
+}
+SAVINGS = {
+    "saving a week": "saving",
+    "saving a week, by crnsim": "run_saving",
+    "its low end": "run_low",
+    "its high end": "run_high",
+}
 
 NAMES = st.text(st.characters(blacklist_categories=["Cs"]), min_size=1, max_size=60)
 # Names that a careless spelling would give one file, or a file elsewhere.
@@ -43,7 +54,9 @@ def plain(text: str) -> str:
 
 
 def negated(text: str) -> str:
-    return text.lstrip("-") if text.startswith("-") or not text.strip("0.") else f"-{text}"
+    return (
+        text.lstrip("-") if text.startswith("-") or not text.strip("0.") else f"-{text}"
+    )
 
 
 def spoken(text: str) -> str:
@@ -67,7 +80,11 @@ def names(folder: Path) -> list[str]:
     """Returns an item of each verdict, with and without a backlog cost, with returns, and with several lead times."""
     rows = rows_of(folder / "decisions.csv")
     special = [name for name in ("A-000", "A-005", "A-006") if name in rows]
-    kinds = {(rows[name]["verdict"], bool(rows[name]["fill_wanted"])): name for name in [*rows, *special] if name != IDLE}
+    kinds = {
+        (rows[name]["verdict"], bool(rows[name]["fill_wanted"])): name
+        for name in [*rows, *special]
+        if name != IDLE
+    }
     return sorted({*kinds.values(), *special})
 
 
@@ -80,13 +97,22 @@ def test_figures_are_those_of_the_tables(folder: Path, pages: dict[str, Page]) -
     """All figures of the tables are there to the digit. A cost by crnsim is in the middle of its interval."""
     decisions, exact = rows_of(folder / "decisions.csv"), rows_of(folder / "exact.csv")
     for name, page in pages.items():
-        row, shown, words = decisions[name], {it[0]: it for it in page.tables[ALL]}, plain(page.words)
-        wanted = [[words, row[f"{it}_today"] or "-", row[f"{it}_chosen"] or "-"] for words, it in COLUMNS.items()]
+        row, shown, words = (
+            decisions[name],
+            {it[0]: it for it in page.tables[ALL]},
+            plain(page.words),
+        )
+        wanted = [
+            [words, row[f"{it}_today"] or "-", row[f"{it}_chosen"] or "-"]
+            for words, it in COLUMNS.items()
+        ]
         wanted += [[words, "", row[it] or "-"] for words, it in SAVINGS.items()]
         assert page.tables[PAIRS][1:] == wanted
         assert page.tables[EXACT][1:] == [[*it] for it in exact[name].items()]
         version = 2 if name == "A-006" else 1  # This item alone has returns.
-        assert f"Key {exact[name]['key']}; scenario of version {version}. " in page.words
+        assert (
+            f"Key {exact[name]['key']}; scenario of version {version}. " in page.words
+        )
         assert f"Written by crnplan {crnplan.__version__}." in page.words
         assert f"Below {row['s_chosen']} order up to {row['S_chosen']}: " in words
         for policy in ("today", "chosen") if row["verdict"] != "same" else ("today",):
@@ -96,9 +122,17 @@ def test_figures_are_those_of_the_tables(folder: Path, pages: dict[str, Page]) -
         if row["verdict"] != "same":
             assert f"policy costs {spoken(row['saving'])} a week than today's " in words
         if row["verdict"] != "same" and row["run_low"]:
-            mean, low, high = (negated(row[it]) for it in ("saving", "run_high", "run_low"))
-            assert any(plain(it).startswith(f"chosen: {mean} from {low} to {high} ") for it in page.pictures)
-            assert f"from {spoken(row['run_low'])} to {spoken(row['run_high'])} at 95%" in words
+            mean, low, high = (
+                negated(row[it]) for it in ("saving", "run_high", "run_low")
+            )
+            assert any(
+                plain(it).startswith(f"chosen: {mean} from {low} to {high} ")
+                for it in page.pictures
+            )
+            assert (
+                f"from {spoken(row['run_low'])} to {spoken(row['run_high'])} at 95%"
+                in words
+            )
         for *_, cost, ends in page.tables[ALL][1:]:
             if "-" not in plain(ends).split(" to ")[0]:
                 low, high = (float(plain(it)) for it in ends.split(" to "))
@@ -112,12 +146,33 @@ def forget(folder: Path) -> None:
 
 
 REFUSED: dict[str, tuple[str, Callable[[Path], object], str]] = {
-    "no such item": ("A-04", lambda folder: None, "there is no item 'A-04'; did you mean 'A-0"),
-    "left out": ("A-031", lambda folder: None, "item 'A-031' is left out: Artikel.csv:"),
-    "not planned": (NO_PLAN, lambda folder: None, "it could not be planned: costs: these are too far apart"),
-    "changed": ("A-040", forget, "its plan is not as the rows that were read last; run crnplan catalogue again"),
-    "no plan": ("A-040", lambda folder: (folder / ANSWERS).unlink(), "no plan is in it; run crnplan "),
-    "no folder": ("A-040", shutil.rmtree, "no plan is in it; run crnplan catalogue")}
+    "no such item": (
+        "A-04",
+        lambda folder: None,
+        "there is no item 'A-04'; did you mean 'A-0",
+    ),
+    "left out": (
+        "A-031",
+        lambda folder: None,
+        "item 'A-031' is left out: Artikel.csv:",
+    ),
+    "not planned": (
+        NO_PLAN,
+        lambda folder: None,
+        "it could not be planned: costs: these are too far apart",
+    ),
+    "changed": (
+        "A-040",
+        forget,
+        "its plan is not as the rows that were read last; run crnplan catalogue again",
+    ),
+    "no plan": (
+        "A-040",
+        lambda folder: (folder / ANSWERS).unlink(),
+        "no plan is in it; run crnplan ",
+    ),
+    "no folder": ("A-040", shutil.rmtree, "no plan is in it; run crnplan catalogue"),
+}
 
 
 @pytest.mark.parametrize("case", REFUSED)
@@ -128,13 +183,24 @@ def test_refused(case: str, planned: Path, tmp_path: Path, program: Path) -> Non
     change(folder)
     with pytest.raises(Refused) as refused:
         item_page(folder, name, program)
-    assert part in str(refused.value) and str(folder) in str(refused.value) and "\n" not in str(refused.value)
+    assert (
+        part in str(refused.value)
+        and str(folder) in str(refused.value)
+        and "\n" not in str(refused.value)
+    )
     assert not (folder / "items").exists()
 
 
-def test_other_program(folder: Path, names: list[str], tmp_path: Path, program: Path) -> None:
-    other = script(tmp_path / "other", f"{program} \"$@\" | sed 's/^\\(today,[^,]*,[^,]*,\\)/\\11/'")
-    with pytest.raises(CrnplanError, match="gives other totals than the plan has|total"):
+def test_other_program(
+    folder: Path, names: list[str], tmp_path: Path, program: Path
+) -> None:
+    other = script(
+        tmp_path / "other",
+        f"{program} \"$@\" | sed 's/^\\(today,[^,]*,[^,]*,\\)/\\11/'",
+    )
+    with pytest.raises(
+        CrnplanError, match="gives other totals than the plan has|total"
+    ):
         item_page(folder, names[0], other)
 
 
@@ -149,31 +215,55 @@ def parts_of(page: Page) -> tuple[str, str]:
 @pytest.fixture(scope="module")
 def learned(tmp_path_factory: pytest.TempPathFactory, program: Path) -> Path:
     """Returns a planned folder whose items learn from one another. Few of them have a plan."""
+
     def make(place: Path) -> None:
         source = teaching(made(), ("A-034", "A-035", "A-036", "A-038"))
         read = read_catalogue(*(source.write(place) / it for it in FILES), today=TODAY)
         words = {"borrow": "all", "periods": 16, "replications": 2, "confidence": 0.8}
         plan(read, out=place / "plan", jobs=1, program=program, **words)
+
     return shared(tmp_path_factory, "learned", make) / "plan"
 
 
 def test_learned_law_stands_beside_the_items_own(learned: Path, program: Path) -> None:
     """The page names the learned law, and has that of the item alone in table and picture."""
     rows = rows_of(learned / "decisions.csv")
-    name = next(it for it, row in rows.items() if row["law"] == "borrowed" and row["s_alone"] and row["fill_wanted"])
+    name = next(
+        it
+        for it, row in rows.items()
+        if row["law"] == "borrowed" and row["s_alone"] and row["fill_wanted"]
+    )
     page = Page(item_page(learned, name, program))
     laws = [row[1] for row in page.tables["Figures of the laws"][1:]]
     assert laws[:3][1].startswith("the law learned from all items of the catalogue")
     assert laws[2] == "the law of this item alone"
-    picture = next(text for title, text in page.pictures.items() if title.startswith("In how many weeks"))
+    picture = next(
+        text
+        for title, text in page.pictures.items()
+        if title.startswith("In how many weeks")
+    )
     assert "the law of this item alone: " in picture
     open_words, folded = parts_of(page)
-    assert "Demand is planned by a law that was learned from all items of the catalogue" in open_words
-    assert "10^" in folded and "10^" not in open_words and "guard" not in open_words.casefold()
-    assert "Learned from the whole catalogue" in folded and "without a confidence" in page.words
+    assert (
+        "Demand is planned by a law that was learned from all items of the catalogue"
+        in open_words
+    )
+    assert (
+        "10^" in folded
+        and "10^" not in open_words
+        and "guard" not in open_words.casefold()
+    )
+    assert (
+        "Learned from the whole catalogue" in folded
+        and "without a confidence" in page.words
+    )
     row = rows[name]
-    levels = [f"({row[f's_{it}']}, {row[f'S_{it}']})" for it in ("today", "chosen", "alone")]
-    assert len({*levels}) < 3 or [row["s_alone"], row["S_alone"]] in [it[1:3] for it in page.tables[ALL]]
+    levels = [
+        f"({row[f's_{it}']}, {row[f'S_{it}']})" for it in ("today", "chosen", "alone")
+    ]
+    assert len({*levels}) < 3 or [row["s_alone"], row["S_alone"]] in [
+        it[1:3] for it in page.tables[ALL]
+    ]
     assert re.search(r"A fill rate of \d+(\.\d+)?% is wanted", page.words)
 
 
@@ -184,7 +274,10 @@ def test_names_that_differ_have_files_that_differ(names: list[str]) -> None:
     """Each item has a file of its own, of plain ASCII, also where the case of letters is ignored."""
     files = [file_name(it) for it in names]
     assert len({it.lower() for it in files}) == len(files)
-    assert all(re.fullmatch("[A-Za-z0-9_%-][A-Za-z0-9_.%~-]*[.]html", it) and len(it) <= 200 for it in files)
+    assert all(
+        re.fullmatch("[A-Za-z0-9_%-][A-Za-z0-9_.%~-]*[.]html", it) and len(it) <= 200
+        for it in files
+    )
 
 
 @given(NAMES | LIKE)
@@ -193,9 +286,19 @@ def test_file_stands_in_its_folder(name: str) -> None:
     assert file_of(folder, name).resolve().parent == folder / "items"
 
 
-@pytest.mark.parametrize("name, wanted", [
-    ("P01118", "P01118.html"), ("A-1_2.5", "A-1_2.5.html"), ("M8/40", "M8%2F40.html"), ("Ä", "%C3%84.html"),
-    ("../B", "%2E.%2FB.html"), ("Ab", "Ab~2.html"), ("ab", "ab~3.html"), ("A~", "A%7E.html")])
+@pytest.mark.parametrize(
+    "name, wanted",
+    [
+        ("P01118", "P01118.html"),
+        ("A-1_2.5", "A-1_2.5.html"),
+        ("M8/40", "M8%2F40.html"),
+        ("Ä", "%C3%84.html"),
+        ("../B", "%2E.%2FB.html"),
+        ("Ab", "Ab~2.html"),
+        ("ab", "ab~3.html"),
+        ("A~", "A%7E.html"),
+    ],
+)
 def test_spelling(name: str, wanted: str) -> None:
     """An item number in capitals stays as it is."""
     assert file_name(name) == wanted

@@ -8,7 +8,6 @@ import subprocess
 import sys
 import threading
 import time
-from collections.abc import Sequence
 from pathlib import Path
 from unittest.mock import Mock
 
@@ -17,9 +16,9 @@ import pytest
 from crnplan.crnsim import program as module
 from crnplan.crnsim.program import run_all, run_program
 from crnplan.errors import ProgramFailed
-from crnplan.interrupts import heeding_interrupts, interrupted_later
-from crnplan.processes import end_with_programs
-from planner.tests.conftest import Command, heed_interrupts, script
+from crnplan.store.interrupts import heeding_interrupts, interrupted_later
+from crnplan.store.processes import end_with_programs
+from planner.tests.conftest import Command, heed_interrupts, script, write_inputs
 
 TOP = Path(__file__).resolve().parents[3]
 SCENARIO = str(TOP / "examples/two_policies.toml")
@@ -28,19 +27,20 @@ WAYS = {"waits": "exec sleep 1000", "is busy": "while :; do :; done"}
 HANGING = 'trap "" INT TERM\necho $$ >> "{taken}"\n{way}'
 # A command waits for its end at most so many seconds here, and the system's own work for any.
 SHORT, LONG = 0.5, 60
-COMMANDS = {"run": ["run", SCENARIO], "trajectory": ["trajectory", SCENARIO, "A", "B"], "where": ["where"],
-            "check": ["check", SCENARIO, "A", "--replications", "2", "--out", "kept"],
-            "sweep": ["sweep", SCENARIO, "--s", "18", "24", "1", "--S", "40", "44", "1", "--jobs", "2"],
-            "catalogue": ["catalogue", "demand.csv", "items.csv", "--jobs", "2", "--out", "plan"]}
+COMMANDS = {
+    "run": f"run {SCENARIO}",
+    "trajectory": f"trajectory {SCENARIO} A B",
+    "where": "where",
+    "check": f"check {SCENARIO} A --replications 2 --out kept",
+    "sweep": f"sweep {SCENARIO} --s 18 24 1 --S 40 44 1 --jobs 2",
+    "catalogue": "catalogue demand.csv items.csv --jobs 2 --out plan",
+}
 
 
 @pytest.fixture(autouse=True)
 def room(tmp_path: Path, monkeypatch: pytest.MonkeyPatch) -> Path:
     """Returns a folder with inputs of all commands, in which the test runs."""
-    days = [f"{item},2026-{month:02}-{day:02},{day % 4}\n" for item in "AB" for month in range(1, 7) for day in (2, 9, 16, 23)]
-    (tmp_path / "demand.csv").write_text("item,date,quantity\n" + "".join(days), "utf-8")
-    (tmp_path / "items.csv").write_text("item,setup,holding,backlog,lead (weeks),s,S\nA,20,1,9,1,5,20\nB,20,1,9,1,5,20\n",
-                                        "utf-8")
+    write_inputs(tmp_path, "AB")
     monkeypatch.chdir(tmp_path)
     return tmp_path
 
@@ -52,59 +52,90 @@ def hanging(room: Path, way: str) -> Path:
 
 def begun(room: Path) -> list[int]:
     """Returns the numbers of the programs that were begun."""
-    return [*map(int, (room / "taken").read_text("utf-8").split())] if (room / "taken").exists() else []
+    return (
+        [*map(int, (room / "taken").read_text("utf-8").split())]
+        if (room / "taken").exists()
+        else []
+    )
 
 
 def living(room: Path) -> list[int]:
     """Returns those that go on, once the system has had the time to end all."""
     latest = time.monotonic() + LONG
-    while (left := [it for it in begun(room) if os.path.exists(f"/proc/{it}")]) and time.monotonic() < latest:
+    while (
+        left := [it for it in begun(room) if os.path.exists(f"/proc/{it}")]
+    ) and time.monotonic() < latest:
         time.sleep(0.05)
     return left
 
 
 @pytest.mark.parametrize("way", WAYS)
-def test_a_run_that_hangs(room: Path, monkeypatch: pytest.MonkeyPatch, way: str) -> None:
+def test_a_run_that_hangs(
+    room: Path, monkeypatch: pytest.MonkeyPatch, way: str
+) -> None:
     """A run that has not ended in time is ended, and named; so are several at once."""
     monkeypatch.setattr(module, "RUN_SECONDS", SHORT)
     path = hanging(room, way)
     for run in (lambda: run_program(path, ""), lambda: run_all(path, [("",)] * 9)):
-        with pytest.raises(ProgramFailed, match="hanging: a run has not ended in 0.5 seconds, and was ended; look for"):
+        with pytest.raises(
+            ProgramFailed,
+            match="hanging: a run has not ended in 0.5 seconds, and was ended; look for",
+        ):
             run()
         assert living(room) == []
     assert 2 <= len(begun(room)) < 10
 
 
 @pytest.mark.parametrize("name", COMMANDS)
-def test_commands_whose_program_hangs(room: Path, crnplan: Command, monkeypatch: pytest.MonkeyPatch, name: str) -> None:
+def test_commands_whose_program_hangs(
+    room: Path, crnplan: Command, monkeypatch: pytest.MonkeyPatch, name: str
+) -> None:
     """Each command ends with status 3, and leaves no program behind."""
     monkeypatch.setattr(module, "RUN_SECONDS", SHORT)
-    told = crnplan(*COMMANDS[name], "--program", hanging(room, "waits"))
-    assert told.status == 3 and "a run has not ended in 0.5 seconds" in told.errors and "Traceback" not in told.errors, told
-    assert begun(room) and living(room) == []
+    told = crnplan(*COMMANDS[name].split(), "--program", hanging(room, "waits"))
+    assert (
+        told.status == 3
+        and "a run has not ended in 0.5 seconds" in told.errors
+        and "Traceback" not in told.errors
+    ), told
+    assert begun(room)
+    assert living(room) == []
 
 
 @pytest.mark.parametrize("name", ["run", "check", "sweep", "catalogue"])
 def test_interrupted_while_a_program_hangs(room: Path, name: str) -> None:
     """An interrupt that only crnplan gets ends it at once, and the programs with it."""
-    words: Sequence[str] = [*COMMANDS[name], "--program", str(hanging(room, "waits"))]
-    with subprocess.Popen([sys.executable, "-m", "crnplan", *words], stdout=subprocess.DEVNULL, stderr=subprocess.PIPE,
-                          stdin=subprocess.DEVNULL, preexec_fn=heed_interrupts) as command:
+    words = f"{COMMANDS[name]} --program {hanging(room, 'waits')}".split()
+    with subprocess.Popen(
+        [sys.executable, "-m", "crnplan", *words],
+        stdout=subprocess.DEVNULL,
+        stderr=subprocess.PIPE,
+        stdin=subprocess.DEVNULL,
+        preexec_fn=heed_interrupts,
+    ) as command:
         latest = time.monotonic() + LONG
         while not begun(room) and time.monotonic() < latest and command.poll() is None:
             time.sleep(0.05)
         assert begun(room)
         command.send_signal(signal.SIGINT)
         _, errors = command.communicate(timeout=LONG)
-    assert command.returncode == 130 and b"crnplan: interrupted" in errors and b"Traceback" not in errors, errors
+    assert (
+        command.returncode == 130
+        and b"crnplan: interrupted" in errors
+        and b"Traceback" not in errors
+    ), errors
     assert living(room) == []
 
 
 def test_a_worker_whose_command_was_killed(room: Path) -> None:
     """Workers end with the process that they work for, and so do the programs that they run."""
-    words: Sequence[str] = [*COMMANDS["sweep"], "--program", str(hanging(room, "waits"))]
-    with subprocess.Popen([sys.executable, "-m", "crnplan", *words], stdout=subprocess.DEVNULL, stderr=subprocess.DEVNULL,
-                          stdin=subprocess.DEVNULL) as command:
+    words = f"{COMMANDS['sweep']} --program {hanging(room, 'waits')}".split()
+    with subprocess.Popen(
+        [sys.executable, "-m", "crnplan", *words],
+        stdout=subprocess.DEVNULL,
+        stderr=subprocess.DEVNULL,
+        stdin=subprocess.DEVNULL,
+    ) as command:
         latest = time.monotonic() + LONG
         while len(begun(room)) < 2 and time.monotonic() < latest:
             time.sleep(0.05)
@@ -119,9 +150,13 @@ def begin_programs(program: Path) -> None:
         subprocess.Popen([program], stdin=subprocess.DEVNULL)
 
 
-def test_a_worker_that_begins_programs(room: Path, monkeypatch: pytest.MonkeyPatch) -> None:
+def test_a_worker_that_begins_programs(
+    room: Path, monkeypatch: pytest.MonkeyPatch
+) -> None:
     """A worker goes on until the signal to stop has reached it; what it has begun meanwhile is ended too."""
-    worker = multiprocessing.get_context("fork").Process(target=begin_programs, args=(hanging(room, "waits"),))
+    worker = multiprocessing.get_context("fork").Process(
+        target=begin_programs, args=(hanging(room, "waits"),)
+    )
     worker.start()
     while not begun(room):
         time.sleep(0.01)
@@ -132,6 +167,7 @@ def test_a_worker_that_begins_programs(room: Path, monkeypatch: pytest.MonkeyPat
             threading.Timer(SHORT, kill, (process, number)).start()
         else:
             kill(process, number)
+
     monkeypatch.setattr(os, "kill", kill_later)
     end_with_programs([worker])
     assert living(room) == []
@@ -139,9 +175,11 @@ def test_a_worker_that_begins_programs(room: Path, monkeypatch: pytest.MonkeyPat
 
 def test_an_old_kernel(room: Path, monkeypatch: pytest.MonkeyPatch) -> None:
     """Where the system can't tell of an end by itself, runs are looked at from time to time, with the same outcome."""
-    monkeypatch.setattr(os, "pidfd_open", Mock(side_effect=OSError(38, "Function not implemented")))
-    monkeypatch.setattr(module, "RUN_SECONDS", SHORT)
+    monkeypatch.setattr(
+        os, "pidfd_open", Mock(side_effect=OSError(38, "Function not implemented"))
+    )
     assert run_program(script(room / "answers", "cat"), "text") == "text"
+    monkeypatch.setattr(module, "RUN_SECONDS", SHORT)
     with pytest.raises(ProgramFailed, match="a run has not ended in 0.5 seconds"):
         run_program(hanging(room, "waits"), "")
     assert living(room) == []
@@ -161,7 +199,7 @@ def test_interrupted_while_a_run_begins() -> None:
 
 LOSING = """
 import ctypes, time
-from crnplan.interrupts import heed_interrupt, heeding_interrupts
+from crnplan.store.interrupts import heed_interrupt, heeding_interrupts
 with heeding_interrupts():
     ctypes.CFUNCTYPE(None)(lambda: int("another error"))()
     try:
@@ -176,13 +214,20 @@ with heeding_interrupts():
 
 def test_an_interrupt_that_is_lost() -> None:
     """It comes again until it is heeded, and nothing is said of those that are lost, but of other errors."""
-    with subprocess.Popen([sys.executable, "-c", LOSING], stdout=subprocess.PIPE, stderr=subprocess.PIPE,
-                          preexec_fn=heed_interrupts) as process:
-        assert process.stdout and process.stdout.readline() == b"works\n"
+    with subprocess.Popen(
+        [sys.executable, "-c", LOSING],
+        stdout=subprocess.PIPE,
+        stderr=subprocess.PIPE,
+        preexec_fn=heed_interrupts,
+    ) as process:
+        assert process.stdout
+        assert process.stdout.readline() == b"works\n"
         process.send_signal(signal.SIGINT)
         output, errors = process.communicate(timeout=LONG)
-    assert output.endswith(b"heeded\n") and process.returncode == 0
-    assert b"another error" in errors and b"KeyboardInterrupt" not in errors
+    assert output.endswith(b"heeded\n")
+    assert process.returncode == 0
+    assert b"another error" in errors
+    assert b"KeyboardInterrupt" not in errors
     usual = signal.signal(signal.SIGINT, signal.SIG_IGN)
     with heeding_interrupts():  # It stays ignored if it is.
         assert signal.getsignal(signal.SIGINT) is signal.SIG_IGN

@@ -4,7 +4,6 @@ from __future__ import annotations
 
 import math
 import random
-import subprocess
 from collections.abc import Callable, Iterator
 from dataclasses import replace
 from pathlib import Path
@@ -12,29 +11,54 @@ from pathlib import Path
 import numpy as np
 import pytest
 
-from crnplan.crnsim.report import read_rows, report_of
+from crnplan.crnsim.report import report_of
 from crnplan.decide.long_run import long_run_of
 from crnplan.errors import ProgramError, Refused
 from crnplan.law import Law
 from crnplan.scenario import Costs, Policy, Scenario
 from planner.studies import own_starts
-from planner.studies.own_starts import (KEYS, OWN_PERIODS, OWN_STREAMS, START_STREAM, State, checkpoint_text, drawn,
-                                        keys_of, own_starts_of, places_of, resume_all, settled, stream_words,
-                                        words_of_keys)
+from planner.studies.own_starts import (
+    KEYS,
+    OWN_PERIODS,
+    OWN_STREAMS,
+    START_STREAM,
+    keys_of,
+    places_of,
+    own_starts_of,
+    settled,
+    words_of_keys,
+)
 from planner.tests.conftest import script
-from planner.tests.crnsim.slow import History, draws_of, key_words, simulate, spread
+from planner.tests.crnsim.slow import History, draws_of, key_words, simulate
 from planner.tests.theory.chain import by_chain
 from tests.program import oracle
 
 KEY = ("0123456789abcdef", "fedcba9876543210", "00000000ffffffff", "ffffffff00000000")
-PLAIN = Scenario(1, KEY, 5, 3, 20, 8, Costs(50, 3, 1, 9), Law((0, 1, 4), (5, 3, 1)), Law((1, 3, 6), (2, 2, 1)),
-                 (Policy("today", 6, 14), Policy("more", 9, 20), Policy("each", 8, 8)))
-SCENARIOS = {"several lead times": PLAIN,
-             "returns": replace(PLAIN, version=2, returns=Law((0, 1), (9, 1))),
-             "one lead time": replace(PLAIN, lead=Law((2, 5), (1, 0))),
-             "few orders": replace(PLAIN, demand=Law((0, 1), (400, 1)),
-                                   policies=(Policy("a", 1, 9), Policy("b", 0, 5))),
-             "stock far below 0": replace(PLAIN, demand=Law((0, 9_000), (1, 1)), lead=Law((30, 32), (1, 1)))}
+PLAIN = Scenario(
+    1,
+    KEY,
+    5,
+    3,
+    20,
+    8,
+    Costs(50, 3, 1, 9),
+    Law((0, 1, 4), (5, 3, 1)),
+    Law((1, 3, 6), (2, 2, 1)),
+    (Policy("today", 6, 14), Policy("more", 9, 20), Policy("each", 8, 8)),
+)
+SCENARIOS = {
+    "several lead times": PLAIN,
+    "returns": replace(PLAIN, version=2, returns=Law((0, 1), (9, 1))),
+    "one lead time": replace(PLAIN, lead=Law((2, 5), (1, 0))),
+    "few orders": replace(
+        PLAIN,
+        demand=Law((0, 1), (400, 1)),
+        policies=(Policy("a", 1, 9), Policy("b", 0, 5)),
+    ),
+    "stock far below 0": replace(
+        PLAIN, demand=Law((0, 9_000), (1, 1)), lead=Law((30, 32), (1, 1))
+    ),
+}
 
 
 @pytest.fixture(params=SCENARIOS)
@@ -42,39 +66,18 @@ def scenario(request: pytest.FixtureRequest) -> Scenario:
     return SCENARIOS[request.param]
 
 
-def numbers(count: int) -> list[int]:
-    """Returns numbers of 64 bits: at the ends, and random ones."""
-    its = random.Random(1)
-    return [0, 1, 2**32 - 1, 2**32, 2**63, 2**64 - 1, *(its.getrandbits(64) for _ in range(count))]
-
-
-def test_words_are_those_of_an_independent_cipher(program: Path) -> None:
-    keys = [KEY, ("0" * 16,) * 4, ("f" * 16,) * 4]
-    for stream in (0, 1, 2, *OWN_STREAMS, START_STREAM):
-        wanted = [[word for block in range(70) for word in oracle.threefry(key_words(key), [block, stream, 0, 0])]
-                  for key in keys]
-        assert stream_words(words_of_keys(keys), 70, stream).tolist() == wanted
-    assert len({0, 1, 2, *OWN_STREAMS, START_STREAM}) == 3 + 3 + 1
-    ran = subprocess.run([program, "words", *KEY, "69"], capture_output=True, text=True, check=True)
-    for stream, line in enumerate(ran.stdout.splitlines()):
-        found = stream_words(words_of_keys([KEY]), 70, stream)[0, -4:]
-        assert [f"{int(word):016x}" for word in found] == line.split()[1:]
-
-
 @pytest.mark.parametrize("count", [1, 2, 7, 65_536, 1_000_001])
 def test_places(count: int) -> None:
-    words = numbers(2000)
-    assert places_of(np.array(words, np.uint64), count).tolist() == [word * count >> 64 for word in words]
+    source = random.Random(1)
+    words = [0, 1, 2**32 - 1, 2**32, 2**63, 2**64 - 1]
+    words += [source.getrandbits(64) for _ in range(2_000)]
+    found = places_of(np.array(words, np.uint64), count)
+    assert found.tolist() == [word * count >> 64 for word in words]
 
 
-@pytest.mark.parametrize("law", [Law((0, 3, 9), (1, 0, 5)), Law((2, 4, 6), (0, 3, 0)), Law((5,), (65_536,)),
-                                 Law(tuple(range(0, 2000, 3)), tuple(it % 7 for it in range(667)))], ids=str)
-def test_draws(law: Law) -> None:
-    words, values = numbers(2000), spread(law)
-    assert drawn(np.array(words, np.uint64), law).tolist() == [oracle.pick(values, word) for word in words]
-
-
-def histories(scenario: Scenario, key: tuple[str, ...]) -> Iterator[tuple[Policy, History]]:
+def histories(
+    scenario: Scenario, key: tuple[str, ...]
+) -> Iterator[tuple[Policy, History]]:
     """Yields each policy with its history in our own periods of a key, by the slow simulation."""
     draws = draws_of(scenario, key, OWN_PERIODS, OWN_STREAMS)
     number = oracle.threefry(key_words(key), [0, START_STREAM, 0, 0])[0]
@@ -83,24 +86,20 @@ def histories(scenario: Scenario, key: tuple[str, ...]) -> Iterator[tuple[Policy
         yield policy, simulate(scenario, policy, History(first), draws)
 
 
-def test_own_periods_are_those_of_a_slow_simulation(scenario: Scenario) -> None:
-    keys = keys_of(scenario.key, 3)
-    found = settled(scenario, words_of_keys(keys))
-    for number, key in enumerate(keys):
-        for place, (_, history) in enumerate(histories(scenario, key)):
-            due = found.due[:, number, place]
-            assert found.stocks[number, place] == history.stock()
-            assert {int(age): int(due[age]) for age in np.flatnonzero(due)} == history.due()
-            assert found.orders[number, place] == len(history.orders)
-
-
-def test_costs_are_those_of_a_slow_simulation(scenario: Scenario, program: Path) -> None:
+def test_costs_are_those_of_a_slow_simulation(
+    scenario: Scenario, program: Path
+) -> None:
     """Only stocks that a checkpoint may not have at block 1 lead to a later one: most runs count 1,020 periods."""
     asked = replace(scenario, costs=replace(scenario.costs, unit=0))
     found = own_starts_of(scenario, 2, program)
-    for key, costs in zip(keys_of(scenario.key, 2), found.costs):
-        draws = draws_of(asked, key, 1024)[1024 - found.periods:]
-        for (policy, history), cost in zip(histories(asked, key), costs, strict=True):
+    settled_orders = settled(scenario, words_of_keys(keys_of(scenario.key, 2))).orders
+    for key, orders, costs in zip(
+        keys_of(scenario.key, 2), settled_orders.tolist(), found.costs
+    ):
+        draws = draws_of(asked, key, 1024)[1024 - found.periods :]
+        pairs = [*histories(asked, key)]
+        assert [len(history.orders) for _, history in pairs] == orders
+        for (policy, history), cost in zip(pairs, costs, strict=True):
             simulate(asked, policy, history, draws)
             assert cost == sum(history.costs[OWN_PERIODS:])
     far = scenario is SCENARIOS["stock far below 0"]
@@ -110,21 +109,29 @@ def test_costs_are_those_of_a_slow_simulation(scenario: Scenario, program: Path)
 def means(samples: np.ndarray) -> Iterator[tuple[float, float]]:
     """Yields the mean of each column with its standard error, and then those of differences from the first column."""
     for columns in (samples, samples - samples[:, :1]):
-        yield from zip(columns.mean(axis=0), columns.std(axis=0, ddof=1) / math.sqrt(len(samples)))
+        yield from zip(
+            columns.mean(axis=0), columns.std(axis=0, ddof=1) / math.sqrt(len(samples))
+        )
 
 
-CHAINS = {"several lead times": replace(PLAIN, lead=Law((1, 3), (2, 1))),
-          "one lead time": replace(PLAIN, lead=Law((2,), (1,))),
-          "returns": replace(SCENARIOS["returns"], lead=Law((1, 2), (1, 1)))}
+CHAINS = {
+    "several lead times": replace(PLAIN, lead=Law((1, 3), (2, 1))),
+    "one lead time": replace(PLAIN, lead=Law((2,), (1,))),
+    "returns": replace(SCENARIOS["returns"], lead=Law((1, 2), (1, 1))),
+}
 
 
 @pytest.mark.parametrize("scenario", CHAINS.values(), ids=CHAINS)
 def test_mean_costs_are_those_of_a_chain(scenario: Scenario, program: Path) -> None:
     """The mean of each cost, and of each difference, lies within 4 standard errors of a Markov chain's."""
-    exact = [by_chain(scenario.with_policies([policy]))[0] for policy in scenario.policies]
+    exact = [
+        by_chain(scenario.with_policies([policy]))[0] for policy in scenario.policies
+    ]
     wanted = [*exact, *(cost - exact[0] for cost in exact)]
     found = own_starts_of(scenario, KEYS, program)
-    for (mean, error), cost in zip(means(np.array(found.costs) / found.periods), wanted, strict=True):
+    for (mean, error), cost in zip(
+        means(np.array(found.costs) / found.periods), wanted, strict=True
+    ):
         assert abs(mean - cost) <= 4 * error
 
 
@@ -136,7 +143,9 @@ def test_long_run_is_that_of_own_starts(name: str, program: Path) -> None:
     found = long_run_of(scenario, KEYS, program).estimates
     figures = [(estimate.cost, estimate.own_error or 0.0) for estimate in found]
     figures += [(estimate.difference, estimate.error or 0.0) for estimate in found]
-    for (mean, error), (cost, run_error) in zip(means(np.array(own.costs) / own.periods), figures, strict=True):
+    for (mean, error), (cost, run_error) in zip(
+        means(np.array(own.costs) / own.periods), figures, strict=True
+    ):
         assert abs(mean - cost) <= 4 * math.hypot(error, run_error)
 
 
@@ -145,25 +154,46 @@ def test_more_policies_than_a_run_takes(program: Path) -> None:
     whole = PLAIN.with_policies([Policy.of_levels(*pair) for pair in pairs])
     found = long_run_of(whole, 2, program)
     assert [(row.s, row.S) for row in found.rows] == pairs
-    halves = (long_run_of(whole.with_policies([whole.policies[0], *half]), 2, program)
-              for half in (whole.policies[1:15], whole.policies[15:]))
+    halves = (
+        long_run_of(whole.with_policies([whole.policies[0], *half]), 2, program)
+        for half in (whole.policies[1:15], whole.policies[15:])
+    )
     alone = {row.policy: row for half in halves for row in half.rows}
     assert [alone[row.policy] for row in found.rows] == [*found.rows]
 
 
-@pytest.mark.parametrize("run", [report_of, lambda scenario, program: long_run_of(scenario, 2, program)],
-                         ids=["report", "long run"])
-def test_a_program_whose_base_differs(run: Callable[[Scenario, Path], object], program: Path, tmp_path: Path) -> None:
+@pytest.mark.parametrize(
+    "run",
+    [report_of, lambda scenario, program: long_run_of(scenario, 2, program)],
+    ids=["report", "long run"],
+)
+def test_a_program_whose_base_differs(
+    run: Callable[[Scenario, Path], object], program: Path, tmp_path: Path
+) -> None:
     """A program is refused that has for the base's total how many lines it writes: 17 and 3."""
-    other = script(tmp_path / "other", f"""lines=$("{program}" "$@")
-echo "$lines" | sed "2s/^\\([^,]*,[^,]*,[^,]*\\),[^,]*/\\1,$(echo "$lines" | wc -l)/" """)
-    with pytest.raises(ProgramError, match="other: the base has not the same .* name crnsim with"):
-        run(PLAIN.with_policies([Policy.of_levels(6, 14 + place) for place in range(17)]), other)
+    other = script(
+        tmp_path / "other",
+        f"""lines=$("{program}" "$@")
+echo "$lines" | sed "2s/^\\([^,]*,[^,]*,[^,]*\\),[^,]*/\\1,$(echo "$lines" | wc -l)/" """,
+    )
+    with pytest.raises(
+        ProgramError, match="other: the base has not the same .* name crnsim with"
+    ):
+        run(
+            PLAIN.with_policies(
+                [Policy.of_levels(6, 14 + place) for place in range(17)]
+            ),
+            other,
+        )
 
 
 def test_keys_and_their_starts(monkeypatch: pytest.MonkeyPatch) -> None:
     """Keys follow from all words of a key, and each has a start of its own."""
-    keys = {key for word in range(4) for key in keys_of([*KEY[:word], "0" * 16, *KEY[word + 1:]], 48)}
+    keys = {
+        key
+        for word in range(4)
+        for key in keys_of([*KEY[:word], "0" * 16, *KEY[word + 1 :]], 48)
+    }
     assert len(keys | set(keys_of(KEY, 48))) == 5 * 48
     monkeypatch.setattr(own_starts, "OWN_PERIODS", 0)
     wide = PLAIN.with_policies([Policy("wide", 0, 1_000_000)])
@@ -172,58 +202,21 @@ def test_keys_and_their_starts(monkeypatch: pytest.MonkeyPatch) -> None:
     assert abs(starts.mean() - 500_000) < 4 * 1_000_000 / math.sqrt(12 * 48)
 
 
-@pytest.mark.parametrize("scenario, keys, message", [
-    (PLAIN, 1, "keys=1: the long run takes 2 to 256 keys"), (PLAIN, 257, "keys=257"),
-    (replace(PLAIN, ring=3), 2, "ring"),
-    (replace(PLAIN, version=2, returns=PLAIN.demand), 2, "nothing to order in the long run"),
-    (replace(PLAIN, demand=Law((0,), (1,))), 2, "no item is ever asked for")],
-    ids=["one key", "many keys", "no ring", "as much comes back", "no demand"])
+@pytest.mark.parametrize(
+    "scenario, keys, message",
+    [
+        (PLAIN, 1, "keys=1: the long run takes 2 to 256 keys"),
+        (PLAIN, 257, "keys=257"),
+        (replace(PLAIN, ring=3), 2, "ring"),
+        (
+            replace(PLAIN, version=2, returns=PLAIN.demand),
+            2,
+            "nothing to order in the long run",
+        ),
+        (replace(PLAIN, demand=Law((0,), (1,))), 2, "no item is ever asked for"),
+    ],
+    ids=["one key", "many keys", "no ring", "as much comes back", "no demand"],
+)
 def test_refusals(scenario: Scenario, keys: int, message: str, program: Path) -> None:
     with pytest.raises(Refused, match=message):
         long_run_of(scenario, keys, program)
-
-
-ZERO = "0000000000000000"
-CUT = Scenario(1, (ZERO, ZERO, ZERO, "0123456789abcdef"), 22, 3, 20, 8, Costs(7, 2, 1, 4), Law((0, 2, 5), (1, 2, 3)),
-               Law((1, 4), (3, 1)), (Policy("A", 8, 20), Policy("B", 12, 15)))
-BOTH_CUT = pytest.mark.parametrize("cut", [CUT, replace(CUT, version=2, returns=Law((0, 1, 3), (5, 2, 1)))],
-                                   ids=["without returns", "with returns"])
-
-
-@BOTH_CUT
-@pytest.mark.parametrize("block", [0, 1, 5, 6, 11, 18])
-def test_texts_are_those_of_an_independent_program(cut: Scenario, block: int) -> None:
-    text, run = oracle.checkpoint(cut.toml(), block), oracle.run_of(cut.toml())
-    states = [State(stock, cost, dict(due), tuple(costs)) for stock, cost, due, costs in (
-        run.state(place, block) for place in range(2))]
-    assert checkpoint_text(cut, block, states) == text
-
-
-def made(scenario: Scenario, seed: int) -> tuple[Scenario, list[State]]:
-    """Returns a scenario of one replication, and a state of its own for each policy before block 1."""
-    its = random.Random(seed)
-    states = [State(its.randint(-30, 40), due={4 + age: its.randint(1, 30) for age in its.sample(range(32), 3)})
-              for _ in scenario.policies]
-    return replace(scenario, replications=1, periods=60, ring=1024), states
-
-
-@BOTH_CUT
-@pytest.mark.parametrize("seed", range(4))
-def test_resumed_runs_cost_what_a_slow_simulation_does(cut: Scenario, seed: int, program: Path) -> None:
-    asked, states = made(cut, seed)
-    report, = resume_all(program, [(asked.toml(), checkpoint_text(asked, 1, states))])
-    draws = draws_of(asked, asked.key, 60)
-    for row, policy, state in zip(read_rows(report), asked.policies, states):
-        placed = [(amount, period) for period, amount in state.due.items()]
-        history = History(state.stock, [*placed, *[(0, 0)] * (4 - len(placed))], [0] * 4)
-        assert row.total == sum(simulate(asked, policy, history, draws[4:]).costs)
-
-
-@BOTH_CUT
-def test_the_program_judges_made_texts(cut: Scenario, program: Path, tmp_path: Path) -> None:
-    """`migrate` says 5 for a text of the newest version, and 1 for one that is none."""
-    asked, (state, other) = made(cut, 0)
-    for its, number in ((state, 5), (replace(state, stock=-40_001), 1), (replace(state, due={36: 1}), 1)):
-        (tmp_path / "it.csv").write_text(checkpoint_text(asked, 1, [its, other]))
-        ran = subprocess.run([program, "migrate", tmp_path / "it.csv"], capture_output=True, text=True)
-        assert ran.stderr == f"crnsim: checkpoint {number}\n"

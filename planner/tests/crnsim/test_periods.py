@@ -6,58 +6,42 @@ from itertools import repeat
 from pathlib import Path
 from typing import Any
 
+import numpy as np
 import pytest
-from hypothesis import given, settings
-from hypothesis import strategies as st
+from hypothesis import given, settings, strategies as st
 
 from crnplan.crnsim.periods import Past, Rates, periods_of
 from crnplan.crnsim.report import report_of
-from crnplan.law import Law
-from crnplan.scenario import Costs, Policy, Scenario
+from crnplan.scenario import Scenario
+from planner.tests.crnsim.slow import scenarios
 from tests.program import oracle
 
 STEADY = Past([3] * 4, [0] * 4, [1] * 4)  # as in the checkpoint of docs/FORMATS.md
 
 
-def laws(most: int, least: int = 0) -> st.SearchStrategy[Law]:
-    """Draws laws of a few values."""
-    values = st.integers(least, most)
-    return st.dictionaries(values, st.integers(1, 9), min_size=1, max_size=5).map(Law.of)
-
-
-@st.composite
-def scenarios(draw: st.DrawFn) -> Scenario:
-    """Draws scenarios with returns, lead times that let orders overtake, and all costs."""
-    rate = st.integers(0, 50)
-    costs = Costs(draw(st.integers(0, 2_000)), draw(rate), draw(rate), draw(rate))
-    points = draw(st.lists(st.tuples(st.integers(0, 60), st.integers(0, 60)), min_size=1, max_size=4))
-    policies = [Policy(f"P{place}", s, s + gap) for place, (s, gap) in enumerate(points)]
-    key = tuple(f"{draw(st.integers(0, 2**64 - 1)):016x}" for _ in range(4))
-    return Scenario(2, key, draw(st.integers(1, 30)), draw(st.integers(2, 3)), draw(st.integers(0, 80)), 1024, costs,
-                    draw(laws(30)), draw(laws(9, 1)), tuple(policies), draw(laws(6)))
-
-
-def pasts(scenario: Scenario) -> Iterator[Past]:
-    """Yields what each replication of a scenario draws, by the second program of the tests."""
+def pasts(scenario: Scenario, box: int) -> Iterator[Past]:
+    """Yields what each replication of a scenario draws, by the second program of the tests, in boxes."""
     drawn = oracle.Scenario(scenario.toml())
     for replication in range(scenario.replications):
-        demands, leads, returns = (drawn.draws(replication, stream) for stream in ("demand", "lead", "returns"))
-        yield Past(demands, returns, leads)
+        demands, leads, returns = (
+            np.array(drawn.draws(replication, stream))
+            for stream in ("demand", "lead", "returns")
+        )
+        back = returns if scenario.returns else 0 * demands
+        yield Past((box * demands).tolist(), (box * back).tolist(), leads.tolist())
 
 
 def totals(scenario: Scenario, box: int = 1) -> list[Any]:
     """Returns the total cost of each policy if `box` items are counted as one, as the box of its rates costs."""
-    costs = scenario.costs
+    costs, found = scenario.costs, list[Any]()
     rates = Rates(costs.setup, costs.unit, costs.holding, costs.backlog)
-    found = []
     for policy in scenario.policies:
+        levels = [(box * policy.s, box * policy.S)] * scenario.periods
         total: Any = 0
-        for past in pasts(scenario):
-            items = Past([box * it for it in past.demands], [box * it for it in past.returns], past.leads)
-            for period in periods_of(items, repeat((box * policy.s, box * policy.S), scenario.periods),
-                                     box * scenario.initial):
-                boxes = period._replace(ordered=period.ordered // box, stock=period.stock // box)
-                total += boxes.cost(rates)
+        for past in pasts(scenario, box):
+            for period in periods_of(past, levels, box * scenario.initial):
+                ordered, stock = period.ordered // box, period.stock // box
+                total += period._replace(ordered=ordered, stock=stock).cost(rates)
         found.append(total)
     return found
 
@@ -70,9 +54,16 @@ def test_total_is_that_of_crnsim(program: Path, scenario: Scenario, box: int) ->
     assert totals(scenario, box) == [row.total for row in report.rows]
 
 
-@pytest.mark.parametrize("levels, stocks, ordered, cost", [
-    ((5, 10), [7, 4, 1, 4], [0, 0, 6, 0], 35), ((4, 10), [7, 4, 1, -2], [0, 0, 0, 9], 45)])
-def test_periods_of_the_page(levels: tuple[int, int], stocks: list[int], ordered: list[int], cost: int) -> None:
+@pytest.mark.parametrize(
+    "levels, stocks, ordered, cost",
+    [
+        ((5, 10), [7, 4, 1, 4], [0, 0, 6, 0], 35),
+        ((4, 10), [7, 4, 1, -2], [0, 0, 0, 9], 45),
+    ],
+)
+def test_periods_of_the_page(
+    levels: tuple[int, int], stocks: list[int], ordered: list[int], cost: int
+) -> None:
     """From a stock of 10, 3 are taken in each period. The costs are those of the checkpoint in docs/FORMATS.md."""
     periods = periods_of(STEADY, repeat(levels, 4), 10)
     assert [period.stock for period in periods] == stocks
@@ -87,7 +78,11 @@ def test_unmet_demand() -> None:
     left to sell, and 4 of a demand of 5 are unmet.
     """
     past = Past([3, 4, 5], [0, 0, 6], [9, 9, 9])
-    assert [period.unmet for period in periods_of(past, repeat((0, 0), 3), 2)] == [1, 4, 4]
+    assert [period.unmet for period in periods_of(past, repeat((0, 0), 3), 2)] == [
+        1,
+        4,
+        4,
+    ]
 
 
 def test_levels_may_change() -> None:

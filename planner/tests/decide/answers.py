@@ -14,7 +14,9 @@ from planner.tests.conftest import Command
 
 
 @pytest.fixture
-def room(tmp_path: Path, top: Path, program: Path, monkeypatch: pytest.MonkeyPatch) -> Path:
+def room(
+    tmp_path: Path, top: Path, program: Path, monkeypatch: pytest.MonkeyPatch
+) -> Path:
     """Returns a new folder, the working one, with the examples below `examples`. The program is the tested one."""
     (tmp_path / "examples").symlink_to(top / "examples")
     monkeypatch.chdir(tmp_path)
@@ -42,12 +44,17 @@ def priced(path: Path, unit: int) -> str:
 
 def report_of(program: Path, text: str, *words: str) -> str:
     """Returns what the program writes about a scenario."""
-    return subprocess.run([program, *words], input=text, capture_output=True, text=True, check=True).stdout
+    return subprocess.run(
+        [program, *words], input=text, capture_output=True, text=True, check=True
+    ).stdout
 
 
 def pairs_sum(first: Sequence[int], second: Sequence[int]) -> int:
     """Returns the sum over pairs of replications by which docs/FORMATS.md defines variances and covariances."""
-    return sum((first[i] - first[j]) * (second[i] - second[j]) for i, j in combinations(range(len(first)), 2))
+    return sum(
+        (first[i] - first[j]) * (second[i] - second[j])
+        for i, j in combinations(range(len(first)), 2)
+    )
 
 
 def rows_of_costs(costs: Mapping[str, Sequence[int]], periods: int) -> list[Row]:
@@ -58,8 +65,21 @@ def rows_of_costs(costs: Mapping[str, Sequence[int]], periods: int) -> list[Row]
         differences = [a - b for a, b in zip(own, base)]
         variance = covariance = None
         if count > 1:
-            variance = Fraction(pairs_sum(differences, differences), count**2 * (count - 1))
+            variance = Fraction(
+                pairs_sum(differences, differences), count**2 * (count - 1)
+            )
             covariance = Fraction(pairs_sum(own, base), count * (count - 1))
-        rows.append(Row(name, place, place + 2, sum(own), Fraction(sum(own), count * periods), sum(differences),
-                        Fraction(sum(differences), count), variance, covariance))
+        rows.append(
+            Row(
+                name,
+                place,
+                place + 2,
+                sum(own),
+                Fraction(sum(own), count * periods),
+                sum(differences),
+                Fraction(sum(differences), count),
+                variance,
+                covariance,
+            )
+        )
     return rows

@@ -20,7 +20,13 @@ import pytest
 from hypothesis import assume, given, strategies as st
 from scipy import stats
 
-from crnplan.decide.verdicts import check_replications, estimates_of, own_variance, t_quantile, with_intervals
+from crnplan.decide.verdicts import (
+    check_replications,
+    estimates_of,
+    own_variance,
+    t_quantile,
+    with_intervals,
+)
 from crnplan.errors import Refused
 from crnplan.scenario import Scenario
 from crnplan.theory.run_effects import end_effects
@@ -32,24 +38,19 @@ CASES = tomllib.loads((HERE / "decisions.toml").read_text("utf-8"))
 COMMANDS = CASES["commands"]
 # Changes of the report of examples/spare_part.toml, by the name of the file.
 PARTS: dict[str, Callable[[list[str]], list[str]]] = {
-    "longer": lambda rows: [*rows, changed(rows[4], "both", "more")], "shorter": lambda rows: rows[:4],
+    "longer": lambda rows: [*rows, changed(rows[4], "both", "more")],
+    "shorter": lambda rows: rows[:4],
     "turned": lambda rows: [rows[0], *reversed(rows[1:])],
     "turned_end": lambda rows: [*rows[:3], rows[4], rows[3]],
-    "another_s": lambda rows: [it.replace("lower,7", "lower,8") for it in rows],
-    "another_name": lambda rows: [it.replace("both", "each") for it in rows],
-    "no_fraction": lambda rows: [*rows[:2], changed(rows[2], "1729205/336", "1e9")],
     "one_alone": lambda rows: rows[:2],
     "huge": lambda rows: [*rows[:2], changed(rows[2], "202390", "9" * 5000)],
-    "no_bytes": lambda rows: [*rows[:2], "\u00ff\n"], "empty": lambda rows: [],
-    "free": lambda rows: [rows[0], changed(rows[1], "207110,103555/3328", "0,0/1", "2175953/144", "0/1")]}
-
-
-# Changes of that example itself.
-SCENARIOS = {"below": ["initial = 12", "initial = -1"], "comma": ["initial = 12", "initial = 1,200"],
-             "free": ["holding = 2", "holding = 0"], "no_table": ["[lead]", "lead"], "named": ['"today"', '"s1_S9"'],
-             "nothing": ["[0, 1, 2, 3, 4, 5, 8]", "[0]", "[8, 14, 22, 24, 18, 10, 4]", "[1]"],
-             "apart": ["version = 1", "version = 2", "[0, 1, 2, 3, 4, 5, 8]", "[0, 1]", "[8, 14, 22, 24, 18, 10, 4]",
-                       "[30000, 30001]", "[lead]", "[returns]\nvalues = [0, 1]\nweights = [1, 1]\n\n[lead]"]}
+    "no_bytes": lambda rows: [*rows[:2], "\u00ff\n"],
+    "empty": lambda rows: [],
+    "free": lambda rows: [
+        rows[0],
+        changed(rows[1], "207110,103555/3328", "0,0/1", "2175953/144", "0/1"),
+    ],
+}
 # The costs of each policy in each replication.
 Costs = Mapping[str, Sequence[int]]
 
@@ -59,17 +60,21 @@ def write_priced(room: Path, program: Path) -> Callable[[str, str], None]:
     def write(name: str, text: str) -> None:
         (room / f"{name}.toml").write_text(text, "utf-8")
         (room / f"{name}.csv").write_text(report_of(program, text), "utf-8")
+
     return write
 
 
 @pytest.fixture
 def cases_room(room: Path, write_priced: Callable[[str, str], None]) -> Path:
-    rows = (room / "examples/spare_part.csv").read_text("utf-8").splitlines(keepends=True)
+    rows = (
+        (room / "examples/spare_part.csv").read_text("utf-8").splitlines(keepends=True)
+    )
     for name, part in PARTS.items():
         (room / f"{name}.csv").write_text("".join(part(rows)), "latin-1")
     text = (room / "examples/spare_part.toml").read_text("utf-8")
-    for name, pairs in SCENARIOS.items():
-        (room / f"{name}.toml").write_text(changed(text, *pairs), "utf-8")
+    for kind, whole in (("csv", "".join(rows)), ("toml", text)):
+        for name, pairs in CASES["changes"][kind].items():
+            (room / f"{name}.{kind}").write_text(changed(whole, *pairs), "utf-8")
     only = text.partition("[[policy]]")[0] + '[[policy]]\nname = "only"\ns = 1\nS = 2\n'
     (room / "only.toml").write_text(only, "utf-8")
     (room / "demand.csv").write_text("period,demand\n1,0\n2,3\n", "utf-8")
@@ -80,98 +85,170 @@ def cases_room(room: Path, write_priced: Callable[[str, str], None]) -> Path:
     return room
 
 
-@pytest.mark.parametrize(("words", "status", "part"), COMMANDS, ids=[f"{it[0]}: {it[2][:40]}" for it in COMMANDS])
-def test_prints_or_refuses(cases_room: Path, crnplan: Command, words: str | list[str], status: int, part: str) -> None:
+@pytest.mark.parametrize(
+    ("words", "status", "part"),
+    COMMANDS,
+    ids=[f"{it[0]}: {it[2][:40]}" for it in COMMANDS],
+)
+def test_prints_or_refuses(
+    cases_room: Path, crnplan: Command, words: str | list[str], status: int, part: str
+) -> None:
     """Checks the status and a part of what is printed. A refusal has one line, or one for each fault."""
-    told = crnplan(*words.replace("SPARE", "examples/spare_part").split() if isinstance(words, str) else words)
-    assert told.status == status and part in told.output + told.errors
-    assert status == 0 or told.output == "" and (told.errors.count("\n") == 1 or part.startswith("fault "))
+    told = crnplan(
+        *words.replace("SPARE", "examples/spare_part").split()
+        if isinstance(words, str)
+        else words
+    )
+    assert told.status == status
+    assert part in told.output + told.errors
+    assert (
+        status == 0
+        or told.output == ""
+        and (told.errors.count("\n") == 1 or part.startswith("fault "))
+    )
 
 
 def test_standard_input_is_a_report(room: Path, crnplan: Command) -> None:
-    given = crnplan("decide", "-", "--replications", "64", data=(room / "examples/spare_part.csv").read_bytes())
-    assert given == crnplan("decide", "examples/spare_part.csv", "--replications", "64") and given.status == 0
-    empty = crnplan("decide", "-", "--replications", "64")
+    words = "--replications", "64"
+    data = (room / "examples/spare_part.csv").read_bytes()
+    given = crnplan("decide", "-", *words, data=data)
+    assert given.status == 0
+    assert given == crnplan("decide", "examples/spare_part.csv", *words)
+    empty = crnplan("decide", "-", *words)
     assert empty.errors.startswith("crnplan: standard input:1: this is no report")
 
 
-@pytest.mark.parametrize(("option", "count"), [(["--csv"], 122), (["--all"], 122), ([], 21)], ids=str)
+@pytest.mark.parametrize(
+    ("option", "count"), [(["--csv"], 122), (["--all"], 122), ([], 21)], ids=str
+)
 def test_lists_so_many_rows(crnplan: Command, option: list[str], count: int) -> None:
     told = crnplan("decide", "examples/case/sweep.csv", "--replications", "64", *option)
-    lines = [line for line in told.output.split("\n\n")[0].splitlines() if "not listed" not in line]
-    assert len(lines) == count and "\ntoday" in told.output
+    lines = [
+        line
+        for line in told.output.split("\n\n")[0].splitlines()
+        if "not listed" not in line
+    ]
+    assert len(lines) == count
+    assert "\ntoday" in told.output
 
 
-@pytest.mark.parametrize("words", [
-    "decide examples/case/sweep.csv --replications 64 --level 0.9",
-    "decide priced.csv --scenario priced.toml --long-run", "run SPARE.toml --long-run --keys 5",
-    "check SPARE.toml both --key 00000000000000a1 --replications 4",
-    "sensitivity SPARE.toml", "doubt SPARE.toml demand.csv --times 10"], ids=lambda it: it.split()[0])
-def test_json_has_the_figures_of_csv(cases_room: Path, crnplan: Command, words: str) -> None:
+@pytest.mark.parametrize("words", CASES["forms"], ids=lambda it: it.split()[0])
+def test_json_has_the_figures_of_csv(
+    cases_room: Path, crnplan: Command, words: str
+) -> None:
     asked = words.replace("SPARE", "examples/spare_part").split()
     heading, *rows = csv.reader(crnplan(*asked, "--csv").output.splitlines())
     data = json.loads(crnplan(*asked, "--json").output)
-    assert rows and data.get("level", 0.95) == (0.9 if "0.9" in asked else 0.95)
+    assert rows
+    assert data.get("level", 0.95) == (0.9 if "0.9" in asked else 0.95)
     for row, record in zip(rows, data["policies"], strict=True):
         assert list(record) == heading
         for text, value in zip(row, record.values()):
             digits = len(text.partition(".")[2])
-            assert text == ("-" if value is None else f"{value:.{digits}f}" if isinstance(value, float) else str(value))
+            assert text == (
+                "-"
+                if value is None
+                else f"{value:.{digits}f}"
+                if isinstance(value, float)
+                else str(value)
+            )
 
 
 @pytest.mark.parametrize(("name", "unit"), [("spare_part", 5), ("mail_order", 20)])
-def test_warns_of_end_effects_as_counted(room: Path, program: Path, write_priced: Callable[[str, str], None],
-                                         crnplan: Command, name: str, unit: int) -> None:
+def test_warns_of_end_effects_as_counted(
+    room: Path,
+    program: Path,
+    write_priced: Callable[[str, str], None],
+    crnplan: Command,
+    name: str,
+    unit: int,
+) -> None:
     """Compares end effects with the items that the program orders in long replications, and looks at the warning."""
     text = priced(room / f"examples/{name}.toml", unit)
     write_priced("priced", text)
     tree = tomllib.loads(text)
     for cost, rate in tree["costs"].items():
-        text = text.replace(f"\n{cost} = {rate}\n", f"\n{cost} = {int(cost == 'unit')}\n")
+        text = text.replace(
+            f"\n{cost} = {rate}\n", f"\n{cost} = {int(cost == 'unit')}\n"
+        )
     for key, value in (("replications", 256), ("periods", 1024)):
         text = changed(text, f"\n{key} = {tree[key]}\n", f"\n{key} = {value}\n")
     counting = Scenario.of_tree(tomllib.loads(text))
     effects = end_effects(counting, counting.policies)
-    assert effects is not None and len(effects) == 4
-    for effect, row in zip(effects, csv.DictReader(report_of(program, text).splitlines()), strict=True):
-        mean, variance = (int(num) / int(den) for num, den in (row[it].split("/") for it in ("diff_mean", "diff_var")))
+    assert effects is not None
+    assert len(effects) == 4
+    for effect, row in zip(
+        effects, csv.DictReader(report_of(program, text).splitlines()), strict=True
+    ):
+        mean, variance = (
+            int(num) / int(den)
+            for num, den in (row[it].split("/") for it in ("diff_mean", "diff_var"))
+        )
         assert abs(effect - mean) <= 4 * variance**0.5
     assert effects[1] < 0
     for words, place in ((["--csv"], 2), ([], 1)):
         shown = crnplan("decide", "priced.csv", "--scenario", "priced.toml", *words)
-        assert f"By this alone diff_mean is from about {unit * min(effects):,.0f} (" in shown[place]
+        assert (
+            f"By this alone diff_mean is from about {unit * min(effects):,.0f} ("
+            in shown[place]
+        )
         assert "WARNING" not in shown[3 - place]
 
 
-def test_warnings_without_unit_or_number(crnplan: Command, room: Path,
-                                         write_priced: Callable[[str, str], None]) -> None:
-    shown = crnplan("decide", "examples/spare_part.csv", "--scenario", "examples/spare_part.toml")
-    assert shown.status == 0 and "unit" not in shown.output + shown.errors
-    write_priced("more_back", changed(priced(room / "examples/mail_order.toml", 20), "[0, 1, 2, 3, 4, 6]",
-                                      "[10, 11, 12, 13, 14, 16]"))
+def test_warnings_without_unit_or_number(
+    crnplan: Command, room: Path, write_priced: Callable[[str, str], None]
+) -> None:
+    shown = crnplan(
+        "decide", "examples/spare_part.csv", "--scenario", "examples/spare_part.toml"
+    )
+    assert shown.status == 0
+    assert "unit" not in shown.output + shown.errors
+    write_priced(
+        "more_back",
+        changed(
+            priced(room / "examples/mail_order.toml", 20),
+            "[0, 1, 2, 3, 4, 6]",
+            "[10, 11, 12, 13, 14, 16]",
+        ),
+    )
     shown = crnplan("decide", "more_back.csv", "--scenario", "more_back.toml")
-    assert shown.status == 0 and "is not known here.\n" in shown.output
+    assert shown.status == 0
+    assert "is not known here.\n" in shown.output
 
 
-def costs(replications: st.SearchStrategy[int], least: int = 0) -> st.SearchStrategy[Costs]:
+def costs(
+    replications: st.SearchStrategy[int], least: int = 0
+) -> st.SearchStrategy[Costs]:
     """Returns a strategy for the costs of two to five policies in so many replications."""
+
     def of_shape(shape: tuple[int, int]) -> st.SearchStrategy[Costs]:
         policies, count = shape
-        its = st.lists(st.integers(least, 10**6) | st.integers(least, 3 + least), min_size=count, max_size=count)
+        its = st.lists(
+            st.integers(least, 10**6) | st.integers(least, 3 + least),
+            min_size=count,
+            max_size=count,
+        )
         return st.fixed_dictionaries({f"p{number}": its for number in range(policies)})
+
     return st.tuples(st.integers(2, 5), replications).flatmap(of_shape)
 
 
 @pytest.mark.parametrize(("probability", "degrees", "printed"), CASES["quantiles"])
-def test_quantile_is_as_tables_print_it(probability: float, degrees: int, printed: str) -> None:
+def test_quantile_is_as_tables_print_it(
+    probability: float, degrees: int, printed: str
+) -> None:
     assert f"{t_quantile(2 * (1 - probability), degrees):.3f}" == printed
 
 
 @given(st.floats(1e-12, 0.9))
 def test_quantile_is_exact_for_few_degrees(tails: float) -> None:
     """Compares quantiles with closed forms, which only one and two degrees of freedom have."""
-    assert t_quantile(tails, 1) == pytest.approx(1 / math.tan(math.pi * tails / 2), rel=1e-12)
-    assert t_quantile(tails, 2) == pytest.approx((1 - tails) * math.sqrt(2 / (tails * (2 - tails))), rel=1e-12)
+    assert t_quantile(tails, 1) == pytest.approx(
+        1 / math.tan(math.pi * tails / 2), rel=1e-12
+    )
+    assert t_quantile(tails, 2) == pytest.approx(
+        (1 - tails) * math.sqrt(2 / (tails * (2 - tails))), rel=1e-12
+    )
 
 
 def rounding(ends: list[float]) -> float:
@@ -183,21 +260,35 @@ def near(ends: list[float]) -> object:
     return pytest.approx(ends, rel=0, abs=rounding(ends))
 
 
-@given(costs(st.integers(2, 12)), st.integers(1, 9), st.sampled_from([0.5, 0.9, 0.95, 0.99]))
-def test_intervals_are_those_of_the_costs_themselves(drawn: Costs, periods: int, level: float) -> None:
+@given(
+    costs(st.integers(2, 12)),
+    st.integers(1, 9),
+    st.sampled_from([0.5, 0.9, 0.95, 0.99]),
+)
+def test_intervals_are_those_of_the_costs_themselves(
+    drawn: Costs, periods: int, level: float
+) -> None:
     count, base, rows = len(drawn["p0"]), drawn["p0"], rows_of_costs(drawn, periods)
     for row in rows:
-        assert own_variance(row, rows[0], count) == statistics.variance(map(Fraction, drawn[row.policy]))
+        assert own_variance(row, rows[0], count) == statistics.variance(
+            map(Fraction, drawn[row.policy])
+        )
     compared = with_intervals(rows, count, level)
     assert [it.diff for it in compared] == pytest.approx(
-        sorted((sum(own) - sum(base)) / count for own in drawn.values()))
+        sorted((sum(own) - sum(base)) / count for own in drawn.values())
+    )
     for it in compared:
         own = drawn[it.policy]
-        half = stats.t.interval(level, count - 1)[1] * statistics.stdev(own) / math.sqrt(count)
+        half = (
+            stats.t.interval(level, count - 1)[1]
+            * statistics.stdev(own)
+            / math.sqrt(count)
+        )
         wanted = [(statistics.mean(own) + sign * half) / periods for sign in (-1, 1)]
         assert [it.cost_low, it.cost_high] == (near(wanted) if sum(own) else [0, 0])
         if it.verdict == "base":
-            assert it.policy == "p0" and it.low is None
+            assert it.policy == "p0"
+            assert it.low is None
             continue
         joint = 1 - (1 - level) / (len(drawn) - 1)
         differences = [a - b for a, b in zip(own, base)]
@@ -206,33 +297,56 @@ def test_intervals_are_those_of_the_costs_themselves(drawn: Costs, periods: int,
         if spread:
             wanted = list(stats.ttest_rel(own, base).confidence_interval(joint))
         assert [it.low, it.high] == near(wanted)
-        assert it.std_error == pytest.approx(spread / math.sqrt(count), rel=1e-9, abs=1e-9)
-        verdict = "worse" if wanted[0] > 0 else "better" if wanted[1] < 0 else "undecided"
+        assert it.std_error == pytest.approx(
+            spread / math.sqrt(count), rel=1e-9, abs=1e-9
+        )
+        verdict = (
+            "worse" if wanted[0] > 0 else "better" if wanted[1] < 0 else "undecided"
+        )
         assert it.verdict == verdict or min(map(abs, wanted)) <= rounding(wanted)
 
 
 @given(costs(st.integers(1, 12), least=1), st.integers(1, 9), st.integers(1, 24))
-def test_a_report_is_of_its_own_number_of_replications_alone(drawn: Costs, periods: int, other: int) -> None:
+def test_a_report_is_of_its_own_number_of_replications_alone(
+    drawn: Costs, periods: int, other: int
+) -> None:
     rows, count = rows_of_costs(drawn, periods), len(drawn["p0"])
     assume(other != count and any(row.diff_total for row in rows))
     check_replications(rows, count, "it.csv")
-    with pytest.raises(Refused, match=rf"^it\.csv:[0-9]+: this is no report of {other} replications"):
+    with pytest.raises(
+        Refused, match=rf"^it\.csv:[0-9]+: this is no report of {other} replications"
+    ):
         check_replications(rows, other, "it.csv")
 
 
 @given(costs(st.integers(2, 9)), st.integers(1, 9), st.integers(0, 3))
-def test_estimates_are_those_of_the_costs_less_shifts(drawn: Costs, periods: int, least: int) -> None:
+def test_estimates_are_those_of_the_costs_less_shifts(
+    drawn: Costs, periods: int, least: int
+) -> None:
     """Compares costs and errors of a period; there is no error of a policy with fewer than two orders."""
     rows, count, base = rows_of_costs(drawn, periods), len(drawn["p0"]), drawn["p0"]
-    orders, shifts = [float(least + place) for place in range(len(rows))], [3.0 * it - 1 for it in range(len(rows))]
+    orders, shifts = [float(least + place) for place in range(len(rows))], [
+        3.0 * it - 1 for it in range(len(rows))
+    ]
     found = estimates_of(rows, count, periods, shifts, orders)
-    for estimate, own, shift, ordered in zip(found, drawn.values(), shifts, orders, strict=True):
+    for estimate, own, shift, ordered in zip(
+        found, drawn.values(), shifts, orders, strict=True
+    ):
         differences = [a - b for a, b in zip(own, base)]
-        errors = [statistics.stdev(numbers) / math.sqrt(count) / periods for numbers in (own, differences)]
+        errors = [
+            statistics.stdev(numbers) / math.sqrt(count) / periods
+            for numbers in (own, differences)
+        ]
         assert estimate.cost == pytest.approx(statistics.mean(own) / periods - shift)
-        assert estimate.difference == pytest.approx(statistics.mean(differences) / periods - shift + shifts[0])
-        assert estimate.own_error == (pytest.approx(errors[0]) if ordered >= 2 else None)
-        assert estimate.error == (pytest.approx(errors[1]) if errors[1] and least >= 2 else None)
+        assert estimate.difference == pytest.approx(
+            statistics.mean(differences) / periods - shift + shifts[0]
+        )
+        assert estimate.own_error == (
+            pytest.approx(errors[0]) if ordered >= 2 else None
+        )
+        assert estimate.error == (
+            pytest.approx(errors[1]) if errors[1] and least >= 2 else None
+        )
 
 
 def test_a_single_replication_has_no_intervals() -> None:
@@ -241,18 +355,17 @@ def test_a_single_replication_has_no_intervals() -> None:
         assert it.verdict == ("base" if it.policy == "p0" else "undecided")
 
 
-@pytest.mark.parametrize("fields", [
-    {"total": 11}, {"diff_mean": Fraction(1, 3)}, {"per_period": Fraction(1, 7)}, {"cov": None},
-    {"diff_total": 4, "diff_mean": Fraction(2)}, {"diff_var": Fraction(-1), "cov": Fraction(9)}, {"cov": Fraction(-9)}],
-    ids=str)
-def test_figures_that_contradict_each_other_are_rejected(fields: dict[str, object]) -> None:
+@pytest.mark.parametrize("fields", CASES["contradictions"], ids=str)
+def test_figures_that_contradict_each_other_are_rejected(
+    fields: dict[str, str]
+) -> None:
     base, other = rows_of_costs({"p0": [3, 4], "p1": [5, 5]}, 1)
+    own = {name: Fraction(text) if text else None for name, text in fields.items()}
     with pytest.raises(Refused, match="^it.csv:3: this is no report of 2 replications"):
-        check_replications([base, dataclasses.replace(other, **fields)], 2, "it.csv")
+        check_replications([base, dataclasses.replace(other, **own)], 2, "it.csv")
 
 
-STORED = ["scenario.toml", "notes.txt", "report.csv", "decision.txt", "sweep.csv", "why.txt", "suggested.toml",
-          "suggested.txt", "long_run.txt", "check.txt", "doubt.txt"]
+STORED = CASES["stored"]
 # How a file is opened for a redirection, and which stream of a command goes there.
 REDIRECTIONS = {">": ("w", "output"), ">>": ("a", "output"), "2>": ("w", "errors")}
 
@@ -264,17 +377,20 @@ def run_line(line: str, crnplan: Command) -> int:
         shutil.copy(*words)
         return 0
     assert command == "crnplan"
-    first = next((place for place, word in enumerate(words) if word in REDIRECTIONS), len(words))
+    first = next(
+        (place for place, word in enumerate(words) if word in REDIRECTIONS), len(words)
+    )
     told = crnplan(*words[:first])
-    for sign, name in zip(words[first::2], words[first + 1::2], strict=True):
+    for sign, name in zip(words[first::2], words[first + 1 :: 2], strict=True):
         mode, stream = REDIRECTIONS[sign]
         with Path(name).open(mode, encoding="utf-8") as file:
             file.write(getattr(told, stream))
     return told.status
 
 
-def test_the_case_is_as_its_page_says(top: Path, tmp_path: Path, crnplan: Command,
-                                      monkeypatch: pytest.MonkeyPatch) -> None:
+def test_the_case_is_as_its_page_says(
+    top: Path, tmp_path: Path, crnplan: Command, monkeypatch: pytest.MonkeyPatch
+) -> None:
     """Each command writes each file byte for byte. Each example has a report."""
     shutil.copytree(top / "examples/case", tmp_path / "own/examples/case")
     monkeypatch.chdir(tmp_path / "own")
@@ -289,5 +405,8 @@ def test_the_case_is_as_its_page_says(top: Path, tmp_path: Path, crnplan: Comman
         assert run_line(command, crnplan) == int("broken" in command), command
     for name in STORED:
         stored = (top / "examples/case" / name).read_bytes()
-        assert (tmp_path / "own/examples/case" / name).read_bytes() == stored != b"", name
-    assert {it.stem for it in (top / "examples").glob("*.toml")} == {"mail_order", "spare_part", "two_policies"}
+        assert (
+            (tmp_path / "own/examples/case" / name).read_bytes() == stored != b""
+        ), name
+    examples = {it.stem for it in (top / "examples").glob("*.toml")}
+    assert examples == {"mail_order", "spare_part", "two_policies"}

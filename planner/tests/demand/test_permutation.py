@@ -3,7 +3,6 @@ from __future__ import annotations
 
 import itertools
 import math
-from collections.abc import Callable, Sequence
 from typing import Any
 
 import numpy as np
@@ -11,113 +10,141 @@ import pytest
 from hypothesis import given, settings, strategies as st
 from scipy import stats
 
+from crnplan.chances import Floats
 from crnplan.demand import permutation
-from crnplan.demand.permutation import Orders, bound_of, centred, statistics_of
-from planner.studies.warnings import p_value
+from crnplan.demand.permutation import Orders, bound_of, centred
+from planner.studies.warnings import p_value, statistics_of
+from planner.tests.conftest import leave_as_written
 
 ALL_ORDERS = [*itertools.permutations([0, 5, 2, 0, 9, 1])]
-KINDS = statistics_of({"season": np.array([0, 1, 0, 1, 0, 1])})
+SEASONS = {"season": np.array([0, 1, 0, 1, 0, 1])}
+KINDS = Orders(ALL_ORDERS[0], SEASONS).names
 
 
-def of_row(kind: str, numbers: Sequence[float], parts: Sequence[int] = ()) -> float:
-    row = np.array([numbers], dtype=float)
-    kinds = statistics_of({"season": np.array(parts)} if len(parts) else {})
-    return float(kinds[kind](centred(row), centred(stats.rankdata(row, axis=1)))[0])
+def statistics(rows: Any, parts: Any = ()) -> Floats:
+    """Returns the statistics of rows, which have the same numbers, by the parts of a season if there are some."""
+    first = np.array(rows[0], dtype=float)
+    orders = np.argsort(np.argsort(rows, axis=1, kind="stable"), axis=1)
+    orders = np.argsort(first, kind="stable")[orders]
+    part_of = np.array(parts, int).reshape(-1, len(first))
+    ranks = centred(stats.rankdata(first))
+    return permutation.statistics_in(centred(first), ranks, orders, part_of)
 
 
 @settings(max_examples=60)
-@given(numbers=st.lists(st.integers(0, 30), min_size=10, max_size=40).filter(lambda its: len({*its}) > 1),
-       length=st.integers(2, 5))
+@given(
+    numbers=st.lists(st.integers(0, 30), min_size=10, max_size=40).filter(np.ptp),
+    length=st.integers(2, 5),
+)
 def test_statistics(numbers: list[int], length: int) -> None:
     """They are those of Ljung and Box, Spearman (squared), the best split's squares, and Kruskal and Wallis."""
-    size, far, least = len(numbers), [it - sum(numbers) / len(numbers) for it in numbers], math.ceil(len(numbers) / 10)
-    lags = ((lag, sum(one * other for one, other in zip(far, far[lag:])) / sum(it * it for it in far))
-            for lag in (1, 2, 3))
-    expected = sum(size * (size + 2) * found**2 / (size - lag) for lag, found in lags)
-    assert of_row("autocorrelation", numbers) == pytest.approx(expected)
-    assert of_row("trend", numbers) == pytest.approx(stats.spearmanr(numbers, range(size))[0]**2, abs=1e-12)
-    within = [sum(len(side) * np.var(side) for side in (numbers[:place], numbers[place:]))
-              for place in range(least, size - least + 1)]
-    assert of_row("shift", numbers) == pytest.approx(1 - min(within) / (size * np.var(numbers)), abs=1e-12)
-    parts, sides = [it % length for it in range(size)], [numbers[it::length] for it in range(length)]
-    assert of_row("season", numbers, parts) == pytest.approx(stats.kruskal(*sides).statistic)
-
-
-@pytest.fixture(scope="module")
-def drawn() -> dict[str, list[float]]:
-    """Returns the p value by drawn orders of each order of the tiny history, by test."""
-    found = [Orders(it).statistics(KINDS) for it in ALL_ORDERS]
-    return {kind: [p_value(its[kind]) for its in found] for kind in KINDS}
+    size, far = len(numbers), np.array(numbers) - np.mean(numbers)
+    expected = dict.fromkeys(("autocorrelation", "shift"), 0.0)
+    for lag in (1, 2, 3):
+        found = far[lag:] @ far[:-lag] / (far @ far)
+        expected["autocorrelation"] += size * (size + 2) * found**2 / (size - lag)
+    least = math.ceil(size / 10)
+    for place in range(least, size - least + 1):
+        means = [far[:place].mean(), far[place:].mean()]
+        squares = np.square(means) @ [place, size - place] / (far @ far)
+        expected["shift"] = max(expected["shift"], squares)
+    expected["trend"] = stats.spearmanr(numbers, range(size))[0] ** 2
+    sides = [numbers[it::length] for it in range(length)]
+    expected["season"] = stats.kruskal(*sides).statistic
+    (row,) = statistics([numbers], np.arange(size) % length)
+    found = dict(zip(KINDS, row.tolist()))
+    assert found == pytest.approx(expected, abs=1e-12)
 
 
 @pytest.mark.parametrize("kind", KINDS)
-def test_p_values_of_all_orders(kind: str, drawn: dict[str, list[float]], check_all: Callable[[Any], None]) -> None:
+def test_p_values_of_all_orders(kind: str, drawn: dict[str, Floats]) -> None:
     """Over all 720 orders of a history, a p value by all orders is exact; one by drawn orders is near to it.
 
     If all orders are equally likely, the share of those with p at most a is at most a, and a itself where a is such a p
     value.
     """
-    rows = np.array(ALL_ORDERS, dtype=float)
-    every = KINDS[kind](centred(rows), centred(stats.rankdata(rows, axis=1)))
-    by_all = np.array([(every >= it * (1 - 1e-9)).mean() for it in every])
-    for attained in np.unique(by_all):
-        assert (by_all <= attained + 1e-9).mean() == pytest.approx(attained)
-    check_all((str(order), bool(abs(p - exact) <= 5 * math.sqrt(exact * (1 - exact) / 1200) + 1 / 1200))
-              for order, p, exact in zip(ALL_ORDERS, drawn[kind], by_all))
+    every = statistics(ALL_ORDERS, SEASONS["season"])[:, KINDS.index(kind)]
+    exact = (every >= every[:, None] * (1 - 1e-9)).mean(axis=1)
+    for attained in np.unique(exact):
+        assert (exact <= attained + 1e-9).mean() == pytest.approx(attained)
+    error = np.sqrt(exact * (1 - exact) / 1200)
+    assert (np.abs(drawn[kind] - exact) <= 5 * error + 1 / 1200).all()
     for level in (0.05, 0.1, 0.3, 0.5):
-        assert np.mean(np.array(drawn[kind]) <= level) <= level + 0.03
+        assert np.mean(drawn[kind] <= level) <= level + 0.03
 
 
-def test_p_value_counts_the_history(monkeypatch: pytest.MonkeyPatch) -> None:
-    """Equal statistics count, also if rounded differently. Each order has all numbers, and is there once."""
-    assert p_value(np.array([3.0, 1, 2, 3])) == 0.5 and p_value(np.array([4.0, 1, 2, 3])) == 0.25
-    assert p_value(np.array([1 / 3 + 1e-15, 1 / 3, 0.1, 0.2])) == 0.5 and p_value(np.zeros(5)) == 1
-    assert [p_value(its) for its in Orders([7] * 6).statistics(KINDS).values()] == [1] * len(KINDS)
+@pytest.fixture(scope="module")
+def drawn() -> dict[str, Floats]:
+    """Returns the p value by drawn orders of each order of the tiny history, by test."""
+    found = np.zeros((len(KINDS), len(ALL_ORDERS)))
+    for at, order in enumerate(ALL_ORDERS):
+        its = statistics_of(order, SEASONS)
+        found[:, at] = [p_value(its[kind]) for kind in KINDS]
+    return dict(zip(KINDS, found))
+
+
+@pytest.mark.parametrize(
+    "statistics, p",
+    [
+        ([3.0, 1, 2, 3], 0.5),
+        ([4.0, 1, 2, 3], 0.25),
+        ([1 / 3 + 1e-15, 1 / 3, 0.1, 0.2], 0.5),
+        ([0.0] * 5, 1),
+    ],
+)
+def test_p_value_counts_the_history(statistics: list[float], p: float) -> None:
+    """Equal statistics count, also if rounded differently."""
+    assert p_value(np.array(statistics)) == p
+
+
+def test_orders() -> None:
+    """Each order has all numbers, and is there once."""
     numbers = [*range(30)]
-    monkeypatch.setattr(permutation, "MOST_CELLS", 100)
-    drawn = np.concatenate([np.rint(far + 14.5).astype(int) for far, _ in Orders(numbers).rows()])
-    assert drawn.shape == (1200, 30) and (drawn[0] == numbers).all() and (np.sort(drawn, axis=1) == numbers).all()
+    drawn = np.concatenate([*Orders(numbers, {}).orders(40)])
+    assert drawn.shape == (1200, 30) and drawn[0].tolist() == numbers
+    assert (np.sort(drawn, axis=1) == numbers).all()
     assert len(np.unique(drawn, axis=0)) == 1200
     # Each number comes to each place about as often: the statistic has 29^2 degrees of freedom.
-    counts = np.array([np.bincount(place, minlength=30) for place in drawn[1:].T])
-    assert stats.chi2.sf(((counts - 1199 / 30)**2 / (1199 / 30)).sum(), 29**2) > 1e-4
+    counts, _, _ = np.histogram2d(drawn[1:].ravel(), numbers * 1199, bins=30)
+    squares = ((counts - 1199 / 30) ** 2 / (1199 / 30)).sum()
+    assert stats.chi2.sf(squares, 29**2) > 1e-4
 
 
-@given(statistics=st.lists(st.integers(0, 20), min_size=20, max_size=60), level=st.sampled_from([0.05, 0.1, 0.25]))
+@given(
+    statistics=st.lists(st.integers(0, 20), min_size=20, max_size=60),
+    level=st.sampled_from([0.05, 0.1, 0.25]),
+)
 def test_bound(statistics: list[int], level: float) -> None:
     """A statistic has a p value of at most the level just if it is above the bound."""
     drawn = np.array([0.0, *statistics])
     bound = bound_of(drawn, level)
-    for value in range(22):
-        assert (p_value(np.array([value, *statistics], dtype=float)) <= level + 1e-9) == (value > bound)
+    for drawn[0] in range(22):
+        assert (p_value(drawn) <= level + 1e-9) == (drawn[0] > bound)
 
 
-@pytest.mark.parametrize("way", ["__call__", "__wrapped__"])
 @pytest.mark.parametrize("size, lengths", [(8, ()), (13, (2,)), (24, (4, 7))])
-def test_suspicious_orders(size: int, lengths: tuple[int, ...], way: str) -> None:
-    """As it is compiled and as it is written, the loop counts the orders whose statistic is at least that of the
-    history, until all tests have more than they may."""
+def test_statistics_as_written(
+    size: int, lengths: tuple[int, ...], monkeypatch: pytest.MonkeyPatch
+) -> None:
+    """As it is written, the loop has the statistics that it has as it is compiled."""
     random = np.random.default_rng(size)
-    numbers, orders = random.poisson(1.5, size), random.permuted(np.tile(np.arange(size), (40, 1)), axis=1)
-    parts = np.array([np.arange(size) % length for length in lengths], np.int64).reshape(-1, size)
-    kinds = [(kind, ()) for kind in ("autocorrelation", "trend", "shift")] + [("season", part) for part in parts]
-    enough = np.array([sum(of_row(kind, numbers[order], part) >= of_row(kind, numbers, part) - 1e-9 for order in orders)
-                       for kind, part in kinds])
-    words = centred(numbers.astype(float)), centred(stats.rankdata(numbers)), orders, parts
-    counted = getattr(permutation.suspicious, way)
-    assert counted(*words, enough).tolist() == enough.tolist()
-    assert counted(*words, np.append(-1, enough[1:])).tolist()[1:] == enough.tolist()[1:]
-    for most in (enough - 1, enough // 2):
-        assert (most < counted(*words, most)).all() and (counted(*words, most) <= enough).all()
+    rows = random.permuted(np.tile(random.poisson(1.5, size), (9, 1)), axis=1)
+    parts = [np.arange(size) % length for length in lengths]
+    compiled = statistics(rows, parts)
+    leave_as_written(monkeypatch, permutation)
+    assert statistics(rows, parts) == pytest.approx(compiled)
 
 
-@pytest.mark.parametrize("numbers", [[*range(6, 0, -1)], [3, 0, 0, 9, 1, 0, 2, 2], [0, 1] * 12],
-                         ids=["falling", "few", "turns"])
+@pytest.mark.parametrize(
+    "numbers",
+    [[*range(6, 0, -1)], [3, 0, 0, 9, 1, 0, 2, 2], [0, 1] * 12],
+    ids=["falling", "few", "turns"],
+)
 def test_seen_at_a_level(numbers: list[int]) -> None:
     """A test is seen at its own p value and above, and not below it, though not all orders are looked at."""
     seasons = {"season": np.arange(len(numbers)) % 2}
-    orders = Orders(numbers)
-    for name, statistics in orders.statistics(statistics_of(seasons)).items():
+    orders = Orders(numbers, seasons)
+    for name, statistics in statistics_of(numbers, seasons).items():
         p = p_value(statistics)
-        assert orders.p_values(seasons, p)[name] == orders.p_values(seasons, p + 1 / 1200)[name] == p
-        assert name not in orders.p_values(seasons, p - 1 / 1200)
+        assert orders.p_values(p)[name] == orders.p_values(p + 1 / 1200)[name] == p
+        assert name not in orders.p_values(p - 1 / 1200)

@@ -15,27 +15,20 @@ CENT = 0.005
 TODAY = "2026-11-27"
 
 
-@pytest.mark.parametrize("system", SYSTEMS)
-def test_from_two_files_to_orders_and_a_workbook(system: str, crnplan: Command, program: Path, tmp_path: Path) -> None:
-    """What is sold, stocked and ordered adds up to the cent, whatever the system writes."""
-    export, plan, today = SYSTEMS[system](tmp_path, PARTS), tmp_path / "plan", tmp_path / "today"
-    planned = crnplan("catalogue", export.demand, export.masters, *export.words, "--setup", "45", "--holding-rate",
-                      "20%", "--out", plan, "--program", program)
-    assert planned.status == 0 and f"saved: {export.currency} " in planned.output
-    sales = pd.DataFrame([(it.place, sold) for it in PARTS for _, sold in it.sales], columns=["place", "sold"])
-    sold = sales.groupby("place").sold.sum()
+def sold_by(system: str) -> list[int]:
+    """Returns how many items of each part are sold; SAP cancels the first movement."""
+    sold = [sum(count for _, count in part.sales) for part in PARTS]
     if system == "sap":
         sold[0] -= PARTS[0].sales[0][1]
-    with planned_folder(plan) as folder:
-        counts = pd.Series({item.name: sum(item.counts) for item in folder.read.items()})
-    parts = pd.DataFrame([(it.stock, it.cents / 100) for it in PARTS], columns=["stock", "price"])
-    place = counts.index.str.extract(r"(\d+)")[0].astype(int)
-    assert counts.tolist() == sold[place].tolist()
-    parts = parts.loc[place].set_index(counts.index)
+    return sold
 
-    listed = crnplan("today", plan, "--date", TODAY, "--out", today)
-    orders, decisions = (pd.read_csv(path, dtype={"item": str}, index_col="item") for path in (
-        today / "today_orders.csv", plan / "decisions.csv"))
+
+def check_orders(plan: Path, today: Path, parts: pd.DataFrame) -> pd.Series[float]:
+    """Checks today's orders by the levels of the plan, and returns what each is worth."""
+    orders, decisions = (
+        pd.read_csv(path, dtype={"item": str}, index_col="item")
+        for path in (today / "today_orders.csv", plan / "decisions.csv")
+    )
     unknown = orders.index[orders.order.isna()]
     assert [int(name[-3:]) for name in unknown] == [NEW]
     parts, orders = parts.loc[decisions.index], orders.drop(unknown)
@@ -43,16 +36,48 @@ def test_from_two_files_to_orders_and_a_workbook(system: str, crnplan: Command, 
     assert {*orders.index} == {*parts.index[due]} and decisions.periods.max() == WEEKS
     wanted = (decisions.S_chosen - parts.stock)[orders.index]
     assert (orders.order == wanted).all() and (orders.placed >= wanted).all()
-    assert (orders.value - orders.placed * parts.price[orders.index]).abs().max() < CENT
-    said = f"{TODAY}: {due.sum()} orders, worth {export.currency} {orders.value.sum():,.2f}, without what is on order: say"
-    assert said in listed.output
+    worth = orders.placed * parts.price[orders.index]
+    assert (orders.value - worth).abs().max() < CENT
+    return orders.value
 
-    book = tmp_path / "plan.xlsx"
-    assert crnplan("report", plan, "--xlsx", book, "--program", program).status == 0
-    sheets = pd.read_excel(book, sheet_name=None, dtype={"item": str})
-    assert sheets["Decisions"].item.tolist() == [*decisions.index]
-    assert sheets["Decisions"].saving.sum() == pytest.approx(decisions.saving.sum(), abs=CENT * len(decisions))
+
+def check_book(path: Path, plan: Path, items: pd.Index, worth: float) -> None:
+    """Checks that the workbook of a plan has its sums, and each item."""
+    decisions = pd.read_csv(plan / "decisions.csv", dtype={"item": str})
+    sheets = pd.read_excel(path, sheet_name=None, dtype={"item": str})
+    shown, most = sheets["Decisions"], CENT * len(decisions)
+    assert [*shown.item] == [*decisions.item]
+    assert shown.saving.sum() == pytest.approx(decisions.saving.sum(), abs=most)
     saved = sheets["Summary"].set_index("figure").chosen["saved a week"]
-    assert saved == pytest.approx(sheets["Decisions"].saving.sum())
-    assert sheets["Without what is on order"].value.sum() == pytest.approx(orders.value.sum())
-    assert {*sheets["Left out"].item.dropna()} | {*decisions.index} >= {*counts.index}
+    assert saved == pytest.approx(shown.saving.sum())
+    ordered = sheets["Without what is on order"].value.sum()
+    assert ordered == pytest.approx(worth)
+    assert {*sheets["Left out"].item.dropna()} | {*decisions.item} >= {*items}
+
+
+@pytest.mark.parametrize("system", SYSTEMS)
+def test_from_two_files_to_orders_and_a_workbook(
+    system: str, crnplan: Command, program: Path, tmp_path: Path
+) -> None:
+    """What is sold, stocked and ordered adds up to the cent, whatever the system writes."""
+    export, plan = SYSTEMS[system](tmp_path, PARTS), tmp_path / "plan"
+    words = [*export.words, *"--setup 45 --holding-rate 20% --program".split(), program]
+    planned = crnplan("catalogue", export.demand, export.masters, *words, "--out", plan)
+    assert planned.status == 0 and f"saved: {export.currency} " in planned.output
+    with planned_folder(plan) as folder:
+        items = [*folder.read.items()]
+    facts, sold = {}, sold_by(system)
+    for item in items:
+        part = PARTS[int("".join(filter(str.isdigit, item.name)))]
+        assert sum(item.counts) == sold[part.place]
+        facts[item.name] = {"stock": part.stock, "price": part.cents / 100}
+    parts = pd.DataFrame.from_dict(facts, orient="index")
+
+    today, book = tmp_path / "today", tmp_path / "plan.xlsx"
+    listed = crnplan("today", plan, "--date", TODAY, "--out", today)
+    values = check_orders(plan, today, parts)
+    worth = f"{len(values)} orders, worth {export.currency} {values.sum():,.2f}"
+    said = f"{TODAY}: {worth}, without what is on order: say"
+    assert said in listed.output
+    assert crnplan("report", plan, "--xlsx", book, "--program", program).status == 0
+    check_book(book, plan, parts.index, values.sum())

@@ -31,14 +31,30 @@ def room(tmp_path: Path, top: Path, program: Path) -> Path:
 @pytest.fixture(scope="session")
 def whole(tmp_path_factory: pytest.TempPathFactory, top: Path, program: Path) -> Path:
     """Returns the folder of a plan that was made by the script at once. It is to be copied, not changed."""
+
     def make(room: Path) -> None:
         furnished(room, top, program)
-        plan_item(room / "history.csv", room / "settings.toml", room / "plan", program=room / "program")
+        plan_item(
+            room / "history.csv",
+            room / "settings.toml",
+            room / "plan",
+            program=room / "program",
+        )
+
     return shared(tmp_path_factory, "item", make) / "plan"
 
 
 @pytest.fixture
 def plan(room: Path, crnplan: Command) -> Plan:
     def run(out: str = "plan", used: Path = room / "program") -> Answer:
-        return crnplan("item", room / "history.csv", room / "settings.toml", "--out", room / out, "--program", used)
+        return crnplan(
+            "item",
+            room / "history.csv",
+            room / "settings.toml",
+            "--out",
+            room / out,
+            "--program",
+            used,
+        )
+
     return run

@@ -7,20 +7,22 @@ from collections import Counter
 from collections.abc import Callable, Mapping
 from decimal import Decimal
 from pathlib import Path
+from typing import Any
 
 import numpy as np
 import pytest
 
 import crnplan as crn
 from crnplan.demand.fitted import Diagnostics, FittedLaw
-from crnplan.pages.item_page import LAW_COLUMNS, laws_of
-from crnplan.pages.law_words import law_words
+from crnplan.show.item_page import LAW_COLUMNS, laws_of
+from crnplan.show.law_words import law_words
 from crnplan.plan.question import Settings, question_of
-from planner.tests.conftest import Command
+from planner.tests.conftest import Command, cases_beside
 from planner.tests.item.conftest import Plan
-from planner.tests.pages.page_reader import Page, rows_of as list_of
+from planner.tests.show.page_reader import Page, rows_of as list_of
 from planner.tests.plan.items import item_of
 
+CASES = cases_beside(__file__)
 Row = Mapping[str, str]
 
 
@@ -34,7 +36,11 @@ def rows_of(folder: Path, name: str) -> dict[str, Row]:
 
 
 def money(text: str, digits: int = 2) -> str:
-    return "-" if text == "-" else f"{round(Decimal(text), digits) + 0:,.{digits}f}".replace("-", "\u2212")
+    return (
+        "-"
+        if text == "-"
+        else f"{round(Decimal(text), digits) + 0:,.{digits}f}".replace("-", "\u2212")
+    )
 
 
 def share(text: str) -> str:
@@ -43,24 +49,51 @@ def share(text: str) -> str:
 
 def policy(row: Row) -> list[str]:
     ends = [money(row[f"run_cost_{end}"]) for end in ("low", "high")]
-    return [row["policy"], row["s"], row["S"], money(row["theory_cost"]), share(row["fill"]), share(row["short"]),
-            f"{float(row['stock']):.1f}", f"{float(row['orders']):.3f}", money(row["run_cost"]),
-            "-" if "-" in ends else " to ".join(ends)]
+    return [
+        row["policy"],
+        row["s"],
+        row["S"],
+        money(row["theory_cost"]),
+        share(row["fill"]),
+        share(row["short"]),
+        f"{float(row['stock']):.1f}",
+        f"{float(row['orders']):.3f}",
+        money(row["run_cost"]),
+        "-" if "-" in ends else " to ".join(ends),
+    ]
 
 
 def doubted(row: Row) -> list[str]:
-    return [row["policy"], money(row["cost"]), f"{float(row['within']):.0%}", share(row["fill"]), share(row["fill_10"])]
+    return [
+        row["policy"],
+        money(row["cost"]),
+        f"{float(row['within']):.0%}",
+        share(row["fill"]),
+        share(row["fill_10"]),
+    ]
 
 
 def moved(row: Row) -> list[str]:
-    return [row["case"], row["s"], row["S"], money(row["cost"]), share(row["fill"]), money(row["kept_cost"]),
-            f"{abs(float(row['kept_more'])):.1%}", share(row["kept_fill"])]
+    return [
+        row["case"],
+        row["s"],
+        row["S"],
+        money(row["cost"]),
+        share(row["fill"]),
+        money(row["kept_cost"]),
+        f"{abs(float(row['kept_more'])):.1%}",
+        share(row["kept_fill"]),
+    ]
 
 
 TABLES: dict[str, tuple[str, Callable[[Row], list[str]]]] = {
     "All policies in the long run": ("policies.csv", policy),
     "Each policy under the laws that the history allows": ("doubt.csv", doubted),
-    "The best policy in each case, and what it costs to keep the chosen one": ("sensitivity.csv", moved)}
+    "The best policy in each case, and what it costs to keep the chosen one": (
+        "sensitivity.csv",
+        moved,
+    ),
+}
 
 
 @pytest.mark.parametrize("caption", TABLES)
@@ -68,61 +101,115 @@ def test_tables_are_those_of_the_files(caption: str, whole: Path) -> None:
     """Each table has the rows of its file, in that order, with its figures as a reader has them."""
     name, cells = TABLES[caption]
     rows = [cells(row) for row in rows_of(whole, name).values()]
-    assert page_of(whole).tables[caption][1:] == rows[:10 if name == "doubt.csv" else None] and len(rows) > 8
+    assert (
+        page_of(whole).tables[caption][1:]
+        == rows[: 10 if name == "doubt.csv" else None]
+    )
+    assert len(rows) > 8
 
 
-@pytest.mark.parametrize("title, name, ends", [
-    ("Cost compared with today's policy, in the long run", "policies.csv", ("run_low", "run_high")),
-    ("Cost compared with today's policy, over the coming 12 weeks", "coming.csv", ("low", "high"))])
-def test_intervals_are_those_of_the_files(title: str, name: str, ends: tuple[str, str], whole: Path) -> None:
+@pytest.mark.parametrize(
+    "title, name, ends",
+    [
+        (
+            "Cost compared with today's policy, in the long run",
+            "policies.csv",
+            ("run_low", "run_high"),
+        ),
+        (
+            "Cost compared with today's policy, over the coming 12 weeks",
+            "coming.csv",
+            ("low", "high"),
+        ),
+    ],
+)
+def test_intervals_are_those_of_the_files(
+    title: str, name: str, ends: tuple[str, str], whole: Path
+) -> None:
     """Each difference stands in a table, and is the label of its picture with both ends."""
     page, rows = page_of(whole), rows_of(whole, name)
     assert "difference from today" in page.tables[title][0]
     shown = {cells[0].split("(")[0]: cells[-1] for cells in page.tables[title][1:-1]}
-    assert shown == {it: f"{money(row['difference'])}{row['verdict']}" for it, row in rows.items()}
+    assert shown == {
+        it: f"{money(row['difference'])}{row['verdict']}" for it, row in rows.items()
+    }
     for it, row in rows.items():
         low, high = (money(row[end]) for end in ends)
         between = "" if low == "-" else f", from {low} to {high}"
-        assert f"{it}: {money(row['difference'])}{between}, {row['verdict']}" in page.pictures
+        assert (
+            f"{it}: {money(row['difference'])}{between}, {row['verdict']}"
+            in page.pictures
+        )
 
 
 def test_pictures_say_their_figures(whole: Path) -> None:
     """The pictures of the history and of the stock say in words what the files have."""
     page = page_of(whole)
-    demand = {name: int(row["demand"]) for name, row in rows_of(whole, "demand.csv").items()}
+    demand = {
+        name: int(row["demand"]) for name, row in rows_of(whole, "demand.csv").items()
+    }
     text = page.pictures["Demand by week, and the law that it is planned by"]
     first, *_, last = demand
-    assert f"{len(demand)} weeks from {first} to {last}, {sum(demand.values()):,} items" in text
-    assert f"the greatest demand is {max(demand.values())}, in {max(demand, key=demand.__getitem__)};" in text
+    assert (
+        f"{len(demand)} weeks from {first} to {last}, {sum(demand.values()):,} items"
+        in text
+    )
+    assert (
+        f"the greatest demand is {max(demand.values())}, in {max(demand, key=demand.__getitem__)};"
+        in text
+    )
     law = [row for row in list_of(whole / "laws.csv") if row["table"] == "demand"][-1]
-    assert f"mean of the law: {float(law['mean']):.2f} a week; 99 of 100 weeks by the law: at most " in text
+    assert (
+        f"mean of the law: {float(law['mean']):.2f} a week; 99 of 100 weeks by the law: at most "
+        in text
+    )
     assert text.endswith(f" at most {law['99.0%']}.")
-    words = page.pictures["In how many weeks demand is so large, as it was seen and by the law"].rstrip(".").split("; ")
-    table = crn.Scenario.read(whole / "scenario.toml").demand
-    for its, said in zip((Counter(demand.values()), dict(zip(table.values, table.weights))), words, strict=True):
+
+
+def test_picture_of_the_law(whole: Path) -> None:
+    """It says which share of the weeks, and of the law, have at least so much demand."""
+    demand = [int(row["demand"]) for row in rows_of(whole, "demand.csv").values()]
+    title = "In how many weeks demand is so large, as it was seen and by the law"
+    seen, by_law = page_of(whole).pictures[title].rstrip(".").split("; ")
+    law = crn.Scenario.read(whole / "scenario.toml").demand
+    for counts, said in (
+        (Counter(demand), seen),
+        (Counter(dict(zip(law.values, law.weights))), by_law),
+    ):
         shares = re.findall(r"at least (\d+) in ([0-9.]+)%", said)
-        above = [100 * sum(its[it] for it in its if it >= int(least)) / sum(its.values()) for least, _ in shares]
-        assert len(shares) > 1 and [float(it) for _, it in shares] == pytest.approx(above, abs=0.006)
+        assert len(shares) > 1
+        for least, share in shares:
+            above = sum(its for value, its in counts.items() if value >= int(least))
+            wanted = 100 * above / counts.total()
+            assert float(share) == pytest.approx(wanted, abs=0.006)
+
+
+def test_picture_of_the_stock(whole: Path) -> None:
     stocks: dict[str, list[int]] = {}
     for row in list_of(whole / "trajectory.csv"):
         stocks.setdefault(row["policy"], []).append(int(row["stock"]))
+    text = page_of(whole).pictures["Stock at the end of each week of one run"]
     assert [len(its) for its in stocks.values()] == [104, 104]
     for name, its in stocks.items():
-        owed = sum(it < 0 for it in its)
-        said = f"{name}: from {min(its)} to {max(its)}, {sum(its) / len(its):.1f} in the mean, items owed at the end of"
-        text = page.pictures["Stock at the end of each week of one run"]
-        assert f"{said} {owed} weeks".replace("-", "\u2212") in text
+        owed, mean = sum(it < 0 for it in its), sum(its) / len(its)
+        said = f"{name}: from {min(its)} to {max(its)}, {mean:.1f} in the mean, items owed at the end of {owed} weeks"
+        assert said.replace("-", "\u2212") in text
 
 
 def test_picture_of_the_law_whatever_the_order(room: Path, plan: Plan) -> None:
     """The picture of the law is that of a history in another order, though its weeks are others."""
     pictures = []
-    for number, lines in enumerate(2 * [(room / "history.csv").read_text().splitlines()]):
-        (room / "history.csv").write_text("\n".join([lines[0], *lines[:0:-1]] if number else lines) + "\n")
+    for number, lines in enumerate(
+        2 * [(room / "history.csv").read_text().splitlines()]
+    ):
+        (room / "history.csv").write_text(
+            "\n".join([lines[0], *lines[:0:-1]] if number else lines) + "\n"
+        )
         plan(f"plan_{number}")
         text = (room / f"plan_{number}/summary.html").read_text()
         pictures.append(re.findall(r"<figure.*?</figure>", text, re.DOTALL)[:2])
-    assert pictures[0][1] == pictures[1][1] and "as it was seen" in pictures[0][1]
+    assert pictures[0][1] == pictures[1][1]
+    assert "as it was seen" in pictures[0][1]
     assert pictures[0][0] != pictures[1][0]
 
 
@@ -130,27 +217,42 @@ def test_page_stands_alone(whole: Path) -> None:
     """The page links to nothing, allows its own style alone, and has the summary's words and all policies."""
     page = page_of(whole)
     page.check_alone()
-    assert set(page.addresses) == {"data:,"} and not page.parts["script"] and all(page.pictures.values())
+    assert set(page.addresses) == {"data:,"}
+    assert not page.parts["script"]
+    assert all(page.pictures.values())
     assert [caption.strip() for caption in page.parts["caption"]] == [*page.tables]
     wanted = " ".join((whole / "summary.txt").read_text().split())
-    told = re.search(r"^(Below .*?) (history: .*? weeks[.]) policy s S .* (In the long run .*?[.]) The chosen policy "
-                     "is ", wanted)
-    assert told and all(part in page.words for part in told.groups())
+    told = re.search(
+        r"^(Below .*?) (history: .*? weeks[.]) policy s S .* (In the long run .*?[.]) The chosen policy "
+        "is ",
+        wanted,
+    )
+    assert told
+    for part in told.groups():
+        assert part in page.words
     scenario = crn.Scenario.read(whole / "scenario.toml")
-    assert [it.name for it in scenario.policies] and set(rows_of(whole, "policies.csv")) == {
-        it.name for it in scenario.policies}
-    assert all(page.words.count(f" {it.name} ") >= 3 for it in scenario.policies)
-    assert f"Key {' '.join(scenario.key)}; scenario of version {scenario.version}. " in page.words
+    assert [it.name for it in scenario.policies]
+    assert set(rows_of(whole, "policies.csv")) == {it.name for it in scenario.policies}
+    for it in scenario.policies:
+        assert page.words.count(f" {it.name} ") >= 3
+    assert (
+        f"Key {' '.join(scenario.key)}; scenario of version {scenario.version}. "
+        in page.words
+    )
     counts = [row["demand"] for row in rows_of(whole, "demand.csv").values()]
-    assert page.source.count('class="bar"') == len(counts) - counts.count("0")
+    (bars,) = re.findall('class="bar" d="([^"]+)"', page.source)
+    assert bars.count("M") == len(counts) - counts.count("0")
 
 
 def test_page_escapes_texts(room: Path, crnplan: Command, program: Path) -> None:
     """The name of an item is no markup. It is that of its file, if the settings have none."""
     shutil.copy(room / "history.csv", room / "a<b>&.csv")
-    crnplan("item", room / "a<b>&.csv", room / "settings.toml", "--out", room / "plan", "--program", program)
+    words = "--out", room / "plan", "--program", program
+    crnplan("item", room / "a<b>&.csv", room / "settings.toml", *words)
     page = page_of(room / "plan")
-    assert "a<b>&" in page.words and not page.open and "b" not in page.parts["h1"]
+    assert "a<b>&" in page.words
+    assert not page.open
+    assert "b" not in page.parts["h1"]
 
 
 RANDOM = np.random.default_rng(2)
@@ -158,23 +260,12 @@ ERRATIC = RANDOM.negative_binomial(1.5, 1 / 3, 104).tolist()
 TWO_SIZES = [7, 13, 7, 7, 13, 13, 7, 13] * 13  # no family has such a law
 
 
-def law(family: str, method: str, **more: object) -> FittedLaw:
-    return FittedLaw.made(crn.Law((0, 1), (1, 1)), family, Diagnostics(crn.Law((0, 1), (1, 1)), method, **more))
-
-
-@pytest.mark.parametrize("its, words", [
-    (law("empirical", "empirical"), "this history"),
-    (law("empirical", "auto"), "this history (auto: no family gives it back)"),
-    (law("empirical", "auto", side=0.0), "this history"),
-    (law("blurred", "auto", side=0.1), "the law fitted to this history (auto: blurred)"),
-    (law("poisson", "poisson"), "the law fitted to this history (poisson)"),
-    (law("poisson", "predictive"), "the law fitted to this history (predictive: poisson)"),
-    (law("poisson", "auto", families={"poisson": 1.0}), "the law fitted to this history (auto: poisson)"),
-    (law("poisson", "auto", families={"poisson": 0.62, "hurdle-poisson": 0.31, "hurdle-geometric": 0.07}, share=0.75),
-     "the law fitted to this history (auto: poisson 62% and 2 more; 25% from what was seen)")])
-def test_words(its: FittedLaw, words: str) -> None:
+@pytest.mark.parametrize("family, method, facts, words", CASES["laws"], ids=str)
+def test_words(family: str, method: str, facts: dict[str, Any], words: str) -> None:
     """A law is named by how it was fitted, or by the history."""
-    assert law_words(its) == words
+    law = crn.Law((0, 1), (1, 1))
+    fitted = FittedLaw.made(law, family, Diagnostics(law, method, **facts))
+    assert law_words(fitted) == words
 
 
 @pytest.mark.parametrize("numbers", [ERRATIC, TWO_SIZES], ids=["erratic", "two sizes"])
@@ -183,17 +274,31 @@ def test_figures(numbers: list[int], method: str) -> None:
     """Each row has the figures that numpy has for the history, or for the law. The last one of a law names it."""
     leads = [2, 3, 2, 4]
     item = item_of(counts=tuple(numbers), leads=tuple(leads))
-    rows = [*laws_of(question_of(item, Settings(fit=method, lead_fit="empirical")), None).rows]
-    assert [it.name for it in LAW_COLUMNS] == ["table", "law", "mean", "variance", "95.0%", "99.0%", "99.9%", "largest"]
+    rows = [
+        *laws_of(
+            question_of(item, Settings(fit=method, lead_fit="empirical")), None
+        ).rows
+    ]
+    names = "table law mean variance 95.0% 99.0% 99.9% largest"
+    assert [it.name for it in LAW_COLUMNS] == names.split()
     its = crn.fit_demand(numbers, method=method)
     names, samples = ["this history"], [numbers]
     if its.family != "empirical":
-        names, samples = ["what was seen", law_words(its)], [numbers, np.repeat(its.values, its.weights)]
+        names, samples = ["what was seen", law_words(its)], [
+            numbers,
+            np.repeat(its.values, its.weights),
+        ]
     elif method != "empirical":
         names = [f"this history ({method}: no family gives it back)"]
-    assert [row[:2] for row in rows] == [*(["demand", name] for name in names), ["lead", "this history"]]
+    assert [row[:2] for row in rows] == [
+        *(["demand", name] for name in names),
+        ["lead", "this history"],
+    ]
     for row, sample in zip(rows, [*samples, leads]):
         variance = np.var(sample, ddof=int(len(sample) < 65_536))
-        quantiles = [int(np.quantile(sample, it, method="inverted_cdf")) for it in (0.95, 0.99, 0.999)]
+        quantiles = [
+            int(np.quantile(sample, it, method="inverted_cdf"))
+            for it in (0.95, 0.99, 0.999)
+        ]
         assert row[2:4] == pytest.approx([np.mean(sample), variance], abs=6e-5)
         assert row[4:] == [*quantiles, max(sample)]

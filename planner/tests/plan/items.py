@@ -1,18 +1,22 @@
 """Items whose facts are known, for tests of their plans."""
 from __future__ import annotations
 
-from collections.abc import Iterator
+import datetime
+import itertools
+from collections.abc import Iterable, Iterator
 from fractions import Fraction
 from typing import Any
 
 import numpy as np
+import pandas as pd
 
 from crnplan.plan.question import Settings
-from crnplan.records.item import Item
+from crnplan.read.item import Item
 
 # Short runs: a plan takes little time.
 SHORT: dict[str, Any] = {"periods": 64, "replications": 4}
 WEEKS = 60
+START = datetime.date(2024, 1, 1)  # a Monday
 
 
 def item_of(place: int = 0, **changed: Any) -> Item:
@@ -23,23 +27,66 @@ def item_of(place: int = 0, **changed: Any) -> Item:
     counts[:2] += 1
     level = int(4 * counts.mean() + 3)
     facts: dict[str, Any] = {
-        "name": f"I-{place:03}", "counts": tuple(counts.tolist()), "leads": (2,), "levels": (level, 2 * level + 5),
-        "setup": Fraction(20 + place % 7), "holding": Fraction(11, 20), "backlog": Fraction(9)}
+        "name": f"I-{place:03}",
+        "counts": tuple(counts.tolist()),
+        "leads": (2,),
+        "levels": (level, 2 * level + 5),
+        "setup": Fraction(20 + place % 7),
+        "holding": Fraction(11, 20),
+        "backlog": Fraction(9),
+    }
     return Item(**facts | changed)
 
 
 def several(count: int) -> Iterator[Item]:
     """Yields items of all kinds: several lead times, wanted fill rates, returns, packs."""
     kinds: tuple[dict[str, Any], ...] = (
-        {}, {"leads": (1, 3, 2)}, {"backlog": None, "fill": Fraction(19, 20), "levels": (1, 9)},
-        {"fill": Fraction(9, 10)})
+        {},
+        {"leads": (1, 3, 2)},
+        {"backlog": None, "fill": Fraction(19, 20), "levels": (1, 9)},
+        {"fill": Fraction(9, 10)},
+    )
     for place in range(count):
         item = item_of(place, **kinds[place % len(kinds)])
         if place % 5 == 4:
-            item = item_of(place, **kinds[place % len(kinds)], returns=tuple(it // 4 for it in item.counts))
+            item = item_of(
+                place,
+                **kinds[place % len(kinds)],
+                returns=tuple(it // 4 for it in item.counts),
+            )
         yield item
 
 
 def alone(**changed: Any) -> Settings:
     """Returns settings of short runs by which an item learns from no other."""
     return Settings(borrow="none", **SHORT | changed)
+
+
+def moves(item: Item) -> list[tuple[datetime.date, int, int]]:
+    """Returns the movements of an item: day, demand and what came back."""
+    found = list[tuple[datetime.date, int, int]]()
+    pairs = itertools.zip_longest(item.counts, item.returns, fillvalue=0)
+    for week, (asked, back) in enumerate(pairs):
+        if asked or back:
+            found.append((START + datetime.timedelta(weeks=week), asked, back))
+    return found
+
+
+def tables_of(items: Iterable[Item]) -> tuple[pd.DataFrame, pd.DataFrame]:
+    """Returns demand and masters of items, each second of which is of class b, as a catalogue has them."""
+    sales, masters = list[tuple[object, ...]](), list[tuple[object, ...]]()
+    for place, item in enumerate(items):
+        sales += [(item.name, *move) for move in moves(item)]
+        backlog, fill = (it and float(it) for it in (item.backlog, item.fill))
+        costs = float(item.setup), float(item.holding), backlog, fill
+        leads = " ".join(map(str, item.leads))
+        masters.append((item.name, "ab"[place % 2], *costs, leads, *item.levels))
+    columns = "item class setup holding backlog fill".split() + [
+        "lead (weeks)",
+        "s",
+        "S",
+    ]
+    return (
+        pd.DataFrame(sales, columns=["item", "date", "quantity", "returned"]),
+        pd.DataFrame(masters, columns=columns),
+    )

@@ -18,7 +18,7 @@ from crnplan.errors import Refused
 from crnplan.plan.aims import FILLS, Aims, Trial, Tried
 from crnplan.plan.correction import BLOCKS, blocks_of, levels_of, trial_of
 from crnplan.plan.question import NONE, Levels, Settings
-from crnplan.records.item import Item
+from crnplan.read.item import Item
 from crnplan.theory.long_run import Candidate, LongRun
 from planner.tests.plan.items import item_of
 
@@ -51,9 +51,15 @@ def test_all_items_weigh_alike() -> None:
 
 def test_classes_by_hand() -> None:
     """Of 30 items the 15 with the lower means are slow. With 28, no class is large enough to be one."""
-    trials = [Trial(float(place), 10, (0.5 if place < 15 else 1.5,) * 9) for place in range(30)]
+    trials = [
+        Trial(float(place), 10, (0.5 if place < 15 else 1.5,) * 9)
+        for place in range(30)
+    ]
     aims = Aims.of(trials)
-    assert (aims.speed, aims.classes) == (14.5, (Tried(15, 150, (0.05,) * 9), Tried(15, 150, (0.15,) * 9)))
+    assert (aims.speed, aims.classes) == (
+        14.5,
+        (Tried(15, 150, (0.05,) * 9), Tried(15, 150, (0.15,) * 9)),
+    )
     assert [aims.aim(counts, 0.9) for counts in ((14, 15), (14, 16))] == [0.9, 0.999]
     assert {tried.items for tried in Aims.of(trials[1:-1]).classes} == {28}
     assert Aims.parse(json.loads(json.dumps(dataclasses.asdict(aims)))) == aims
@@ -87,7 +93,15 @@ def drawn(random: np.random.Generator, periods: int) -> list[int]:
 
 def made(place: int) -> Item:
     counts = tuple(drawn(np.random.default_rng([1, place]), WEEKS))
-    return Item(f"I-{place}", counts, (LEAD,), (0, 1), Fraction(8), Fraction(1), fill=Fraction(19, 20))
+    return Item(
+        f"I-{place}",
+        counts,
+        (LEAD,),
+        (0, 1),
+        Fraction(8),
+        Fraction(1),
+        fill=Fraction(19, 20),
+    )
 
 
 def test_trials_say_what_comes(monkeypatch: pytest.MonkeyPatch) -> None:
@@ -99,22 +113,29 @@ def test_trials_say_what_comes(monkeypatch: pytest.MonkeyPatch) -> None:
     def kept(theory: LongRun) -> list[Levels]:
         plans.append(levels_of(theory))
         return plans[-1]
+
     monkeypatch.setitem(trial_of.__globals__, "levels_of", kept)
     share, rows = float(np.mean(fresh)), list[Floats]()
     for item in map(made, range(ITEMS)):
         trial = trial_of(item, OWN, Prior(NONE))
-        coming = [sum(unmet_of(policies[place], fresh) for policies in plans[-BLOCKS:]) / (BLOCKS * LONG * share)
-                  for place in range(len(FILLS))]
+        coming = [
+            sum(unmet_of(policies[place], fresh) for policies in plans[-BLOCKS:])
+            / (BLOCKS * LONG * share)
+            for place in range(len(FILLS))
+        ]
         rows.append(np.array(trial.unmet) * trial.mean / (share * WEEKS) - coming)
     assert len(plans) == BLOCKS * ITEMS
     off, error = np.mean(rows, axis=0), np.std(rows, axis=0, ddof=1) / math.sqrt(ITEMS)
-    assert (abs(off) < 3 * error).all() and error.max() < 0.02
+    assert (abs(off) < 3 * error).all()
+    assert error.max() < 0.02
 
 
 def test_what_has_no_trial() -> None:
     """An item without demand has none, nor one of which no policy meets a tried fill rate."""
     with pytest.raises(Refused, match="it has no demand"):
         trial_of(item_of(counts=(0,) * WEEKS), OWN, Prior(NONE))
-    theory: Any = SimpleNamespace(best=lambda fill: Candidate(math.inf, 0, 0), gap_of=lambda point, level: 0)
+    theory: Any = SimpleNamespace(
+        best=lambda fill: Candidate(math.inf, 0, 0), gap_of=lambda point, level: 0
+    )
     with pytest.raises(Refused, match="no policy meets a tried fill rate"):
         levels_of(theory)

@@ -22,18 +22,19 @@ from crnplan.plan.changes import masters_of
 from crnplan.plan.item import Depth, read_item
 from crnplan.plan.one import plan_one
 from crnplan.plan.question import Question, Settings, question_of
-from crnplan.records.bounds import Bounds
-from crnplan.records.item import Item
+from crnplan.read.bounds import Bounds
+from crnplan.read.item import Item
 from crnplan.remarks import Value
 from crnplan.scenario import Policy
-from crnplan.theory.feasible import ALL, Feasible
+from crnplan.theory.feasible import Feasible
 from crnplan.theory.many_laws import Promises
 from crnplan.words import sentence
-from planner.tests.conftest import Command, rows_of
+from planner.tests.conftest import Command, cases_beside, rows_of
 from planner.tests.plan.items import alone
 from planner.tests.theory import chain
 from planner.tests.theory.long_run_costs import costs_of, fills_of, shortfall_of
 
+CASES = cases_beside(__file__)
 # A demand of 0, 1 or 4 a week, 1 on average.
 SEEN = (0, 0, 0, 1, 4, 0, 1, 2) * 8
 FILL: dict[str, Any] = {"backlog": None, "fill": Fraction(19, 20)}
@@ -41,13 +42,25 @@ FILL: dict[str, Any] = {"backlog": None, "fill": Fraction(19, 20)}
 DEAR = {"levels": (0, 90)}
 
 
-def asked(bounds: Bounds = Bounds(), settings: Mapping[str, Any] = {}, **changed: Any) -> Question:
-    facts: dict[str, Any] = {"name": "A", "counts": SEEN, "leads": (2,), "levels": (3, 9), "setup": Fraction(30),
-                             "holding": Fraction(1), "backlog": Fraction(19), "bounds": bounds}
+def asked(
+    bounds: Bounds = Bounds(), settings: Mapping[str, Any] = {}, **changed: Any
+) -> Question:
+    facts: dict[str, Any] = {
+        "name": "A",
+        "counts": SEEN,
+        "leads": (2,),
+        "levels": (3, 9),
+        "setup": Fraction(30),
+        "holding": Fraction(1),
+        "backlog": Fraction(19),
+        "bounds": bounds,
+    }
     return question_of(Item(**facts | changed), alone(fit="empirical", **settings))
 
 
-def answer_of(question: Question, program: Path) -> tuple[Answer, dict[str, Mapping[str, Value]]]:
+def answer_of(
+    question: Question, program: Path
+) -> tuple[Answer, dict[str, Mapping[str, Value]]]:
     """Returns the answer to a question, and the facts of its remarks by their codes."""
     answer = plan_one(question, str(program))
     return answer, {remark.code: remark.facts for remark in answer.remarks}
@@ -57,89 +70,128 @@ def figures_of(question: Question, levels: tuple[int, int]) -> tuple[float, floa
     """Returns the cost in money and the fill of a policy, by the second computation of the tests. Without a backlog
     cost only orders and stock cost something."""
     scenario = question.scenario()
-    costs = replace(scenario.costs, backlog=scenario.costs.backlog if question.has_backlog else 0)
+    costs = replace(
+        scenario.costs, backlog=scenario.costs.backlog if question.has_backlog else 0
+    )
     short, level = shortfall_of(scenario, levels[1] - levels[0]), np.array(levels[1:])
-    cost, fill = costs_of(replace(scenario, costs=costs), short, level)[0], fills_of(scenario, short, level)[0]
+    cost, fill = (
+        costs_of(replace(scenario, costs=costs), short, level)[0],
+        fills_of(scenario, short, level)[0],
+    )
     return float(cost) / float(question.scale), float(fill)
 
 
-@pytest.mark.parametrize("bounds, box, feasible", [
-    (Bounds(), 1, ALL), (Bounds(s_min=0), 1, ALL),
-    # Each order is above S - s; of boxes of 10, two have 11 items.
-    (Bounds(order_min=12), 1, Feasible(11)), (Bounds(order_min=11), 10, Feasible(1)),
-    (Bounds(s_min=11), 10, Feasible(0, 2)),
-    (Bounds(pack=12), 1, Feasible(multiple=12)), (Bounds(pack=12), 8, Feasible(multiple=3)),
-    # 2.5 boxes a period: of the coverage and the shelf life the shorter one holds, rounded down.
-    (Bounds(coverage=Fraction(9)), 1, Feasible(most_level=22)),
-    (Bounds(coverage=Fraction(9), shelf_life=Fraction(5)), 1, Feasible(most_level=12)),
-    # S covers what s, here of a whole pack, and the smallest order need.
-    (Bounds(5, 7, 6, Fraction(1)), 1, Feasible(6, 6, 20, 5)),
-    # S - s covers 9 periods, and at least what a pack needs, or the smallest order, in whole packs.
-    (Bounds(order_coverage=Fraction(9)), 1, Feasible(most_gap=22)),
-    (Bounds(24, order_coverage=Fraction(9)), 1, Feasible(multiple=24, most_gap=24)),
-    (Bounds(order_min=30, order_coverage=Fraction(9)), 1, Feasible(29, most_gap=29)),
-    (Bounds(12, 30, order_coverage=Fraction(9)), 1, Feasible(29, multiple=12, most_gap=36)),
-], ids=str)
-def test_feasible_policies(bounds: Bounds, box: int, feasible: Feasible) -> None:
-    assert feasible_of(bounds, box, Law((2, 3), (1, 1))) == feasible
+def bounds_of(**amounts: Any) -> Bounds:
+    """Returns bounds whose coverages are given as numbers."""
+    whole = "pack", "order_min", "s_min"
+    return Bounds(
+        **{name: it if name in whole else Fraction(it) for name, it in amounts.items()}
+    )
 
 
-@pytest.mark.parametrize("every, coverage", [("day", 728), ("week", 104), ("month", 24), (None, None)])
-def test_bounds_where_masters_state_none(every: str | None, coverage: int | None) -> None:
+@pytest.mark.parametrize("bounds, box, feasible", CASES["feasible"], ids=str)
+def test_feasible_policies(
+    bounds: dict[str, int], box: int, feasible: dict[str, int]
+) -> None:
+    found = feasible_of(bounds_of(**bounds), box, Law((2, 3), (1, 1)))
+    assert found == Feasible(**feasible)
+
+
+@pytest.mark.parametrize(
+    "every, coverage", [("day", 728), ("week", 104), ("month", 24), (None, None)]
+)
+def test_bounds_where_masters_state_none(
+    every: str | None, coverage: int | None
+) -> None:
     """Masters come first, then settings. Else S - s covers two years, and s is at least 1 for a wanted fill rate."""
     plain, wanted = asked().item, asked(**FILL).item
     own = replace(plain, bounds=Bounds(4, 9, 0, Fraction(3), Fraction(2)))
-    usual, stated = Settings(every=every), Settings(every=every, order_min=7, max_coverage=30, s_min=2)
+    usual, stated = Settings(every=every), Settings(
+        every=every, order_min=7, max_coverage=30, s_min=2
+    )
     years = None if coverage is None else Fraction(coverage)
     assert usual.bounds_of(plain) == Bounds(s_min=0, order_coverage=years)
     assert usual.bounds_of(wanted) == Bounds(s_min=1, order_coverage=years)
-    assert usual.bounds_of(replace(plain, bounds=Bounds(shelf_life=Fraction(9)))).order_coverage == years
+    assert (
+        usual.bounds_of(
+            replace(plain, bounds=Bounds(shelf_life=Fraction(9)))
+        ).order_coverage
+        == years
+    )
     assert stated.bounds_of(wanted) == Bounds(1, 7, 2, Fraction(30))
     assert stated.bounds_of(own) == usual.bounds_of(own) == own.bounds
 
 
-@pytest.mark.parametrize("name, bounds, settings", [
-    ("coverage", Bounds(coverage=Fraction(5)), {}), ("coverage", Bounds(), {"max_coverage": 5}),
-    ("order_coverage", Bounds(), {"every": "week"}),
-    ("shelf_life", Bounds(shelf_life=Fraction(4)), {}), ("order_min", Bounds(order_min=30), {}),
-    ("pack", Bounds(pack=7), {}), ("s_min", Bounds(s_min=8), {})], ids=str)
-def test_what_a_bound_costs(name: str, bounds: Bounds, settings: Mapping[str, Any], program: Path,
-                            monkeypatch: pytest.MonkeyPatch) -> None:
+@pytest.mark.parametrize("name, bounds, settings", CASES["costs"], ids=str)
+def test_what_a_bound_costs(
+    name: str,
+    bounds: dict[str, int],
+    settings: Mapping[str, Any],
+    program: Path,
+    monkeypatch: pytest.MonkeyPatch,
+) -> None:
     """A bound that the best policy would leave is said with what it costs, by a second computation: also the default,
     here of 4 weeks."""
     monkeypatch.setitem(MOST_COVERAGE, "week", 4)
-    question, free = asked(bounds, settings, **DEAR), asked(**DEAR)
+    question, free = asked(bounds_of(**bounds), settings, **DEAR), asked(**DEAR)
     answer, remarks = answer_of(question, program)
     best = plan_one(free, str(program)).chosen.levels
     facts = remarks[f"bound of {name}"]
     assert (facts["s"], facts["S"]) == best
     cost = figures_of(free, answer.chosen.levels)[0] - figures_of(free, best)[0]
-    assert cost > 0 and facts["cost"] == pytest.approx(cost, rel=1e-6)
-    assert answer.coverage_cost == (facts["cost"] if name in ("coverage", "order_coverage") else None)
-    assert [code for code in remarks if code.startswith("bound of")] == [f"bound of {name}"]
+    assert cost > 0
+    assert facts["cost"] == pytest.approx(cost, rel=1e-6)
+    assert answer.coverage_cost == (
+        facts["cost"] if name in ("coverage", "order_coverage") else None
+    )
+    assert [code for code in remarks if code.startswith("bound of")] == [
+        f"bound of {name}"
+    ]
 
 
 def test_a_smallest_order_beyond_what_s_may_cover(program: Path) -> None:
     """A smallest order lets S cover more. No bound is said to save something by that."""
     for smallest in (12, 20, 30):
-        _, facts = answer_of(asked(Bounds(order_min=smallest, coverage=Fraction(3)), setup=Fraction(900)), program)
-        costs = [its["cost"] for code, its in facts.items() if code.startswith("bound of")]
-        assert costs and all(isinstance(cost, float) and cost >= 0 for cost in costs)
+        _, facts = answer_of(
+            asked(
+                Bounds(order_min=smallest, coverage=Fraction(3)), setup=Fraction(900)
+            ),
+            program,
+        )
+        costs = [
+            its["cost"] for code, its in facts.items() if code.startswith("bound of")
+        ]
+        assert costs
+        for cost in costs:
+            assert isinstance(cost, float)
+            assert cost >= 0
 
 
 def test_bounds_that_leave_no_policy_for_a_fill(program: Path) -> None:
     """No policy within the bounds has the wanted fill: of all these the chosen one meets most. That is a verdict."""
-    aims = Aims(1.0, (Tried(20, 20, tuple(1 - fill for fill in FILLS)),) * 2)  # which correct nothing
-    question, free = asked(Bounds(coverage=Fraction(3)), {"aims": aims}, **FILL | DEAR), asked(**FILL | DEAR)
+    aims = Aims(
+        1.0, (Tried(20, 20, tuple(1 - fill for fill in FILLS)),) * 2
+    )  # which correct nothing
+    question, free = asked(
+        Bounds(coverage=Fraction(3)), {"aims": aims}, **FILL | DEAR
+    ), asked(**FILL | DEAR)
     answer, remarks = answer_of(question, program)
-    assert answer.correction and answer.correction.plain_stock == answer.chosen.stock
-    fills = {(s, S): figures_of(question, (s, S))[1] for S in range(4) for s in range(1, S + 1)}
+    assert answer.correction
+    assert answer.correction.plain_stock == answer.chosen.stock
+    fills = {
+        (s, S): figures_of(question, (s, S))[1]
+        for S in range(4)
+        for s in range(1, S + 1)
+    }
     best = plan_one(free, str(program)).chosen.levels
     facts = remarks["bounded"]
-    assert answer.verdict == BOUNDED and answer.chosen.levels == max(fills, key=fills.__getitem__)
+    assert answer.verdict == BOUNDED
+    assert answer.chosen.levels == max(fills, key=fills.__getitem__)
     assert (facts["bound"], facts["periods"]) == ("coverage", 3)
-    assert facts["fill"] == pytest.approx(max(fills.values()), rel=1e-9) and max(fills.values()) < facts["wanted"]
-    assert (facts["s"], facts["S"]) == best and facts["cost"] == pytest.approx(figures_of(free, best)[0], rel=1e-6)
+    assert facts["fill"] == pytest.approx(max(fills.values()), rel=1e-9)
+    assert max(fills.values()) < facts["wanted"]
+    assert (facts["s"], facts["S"]) == best
+    assert facts["cost"] == pytest.approx(figures_of(free, best)[0], rel=1e-6)
     assert remarks["today out of bounds"] == {"s": 0, "S": 90}
 
 
@@ -149,68 +201,118 @@ RARE = tuple({40: 1, 110: 4}.get(week, 0) for week in range(156))
 LUMPY = tuple({30: 12, 31: 2, 90: 12}.get(week, 0) for week in range(156))
 
 
-@pytest.mark.parametrize("counts, levels", [(RARE, (1, 6)), (LUMPY, (12, 24)), (SEEN, (4, 9))], ids=str)
+@pytest.mark.parametrize(
+    "counts, levels", [(RARE, (1, 6)), (LUMPY, (12, 24)), (SEEN, (4, 9))], ids=str
+)
 @pytest.mark.parametrize("leads", [(2,), (1, 3, 2)], ids=["one lead time", "several"])
-def test_a_default_costs_no_wanted_service(counts: tuple[int, ...], levels: tuple[int, int], leads: tuple[int, ...],
-                                           program: Path) -> None:
+def test_a_default_costs_no_wanted_service(
+    counts: tuple[int, ...],
+    levels: tuple[int, int],
+    leads: tuple[int, ...],
+    program: Path,
+) -> None:
     """No coverage is stated, so S - s alone covers two years at most, and the wanted share is met: by the cheapest of
     all such pairs, by a second computation."""
-    asked_for = {"counts": counts, "levels": levels, "leads": leads, "setup": Fraction(60)}
+    asked_for = {
+        "counts": counts,
+        "levels": levels,
+        "leads": leads,
+        "setup": Fraction(60),
+    }
     question = asked(settings={"every": "week"}, **FILL | asked_for)
     answer, remarks = answer_of(question, program)
     point, level = answer.chosen.levels
     most = sum(counts) * 104 // len(counts)
-    assert question.theory().feasible == Feasible(0, 1, most_gap=most)
-    assert level - point <= most and answer.chosen.fill >= 0.95
-    assert answer.verdict != BOUNDED and BOUNDED not in remarks
-    pairs = {(s, s + gap): figures_of(question, (s, s + gap)) for gap in range(min(most, 30) + 1)
-             for s in range(1, 40)}
+    assert question.theory.feasible == Feasible(0, 1, most_gap=most)
+    assert level - point <= most
+    assert answer.chosen.fill >= 0.95
+    assert answer.verdict != BOUNDED
+    assert BOUNDED not in remarks
+    pairs = {
+        (s, s + gap): figures_of(question, (s, s + gap))
+        for gap in range(min(most, 30) + 1)
+        for s in range(1, 40)
+    }
     costs = [cost for cost, fill in pairs.values() if fill >= 0.95]
     assert figures_of(question, (point, level))[0] <= min(costs) * (1 + 1e-9)
 
 
-@pytest.mark.parametrize("bounds, wanted", [
-    (Bounds(coverage=Fraction(3)), {}), (Bounds(pack=20), {}), (Bounds(order_min=30), {}),
-    (Bounds(shelf_life=Fraction(5)), FILL), (Bounds(coverage=Fraction(5)), FILL)], ids=str)
-def test_nothing_worse_than_today_is_chosen(bounds: Bounds, wanted: Mapping[str, Any], program: Path) -> None:
+@pytest.mark.parametrize("bounds, has_fill", CASES["worse"], ids=str)
+def test_nothing_worse_than_today_is_chosen(
+    bounds: dict[str, int], has_fill: bool, program: Path
+) -> None:
     """The best policy within bounds costs more than today's and meets less, so today's stays. Both are said."""
+    wanted = FILL if has_fill else {}
     free = plan_one(asked(**wanted), str(program)).chosen
-    question = asked(bounds, **{**wanted, "levels": free.levels})
+    question = asked(bounds_of(**bounds), **{**wanted, "levels": free.levels})
     answer, remarks = answer_of(question, program)
-    feasible, worse = question.theory().feasible, remarks["today stays"]
+    feasible, worse = question.theory.feasible, remarks["today stays"]
     levels = worse["s"], worse["S"]
-    assert not feasible.allows(*free.levels) and feasible.allows(*levels)
-    (cost, fill), (own_cost, own_fill) = (figures_of(question, pair) for pair in (levels, free.levels))
-    assert cost > own_cost and fill < own_fill
+    assert not feasible.allows(*free.levels)
+    assert feasible.allows(*levels)
+    (cost, fill), (own_cost, own_fill) = (
+        figures_of(question, pair) for pair in (levels, free.levels)
+    )
+    assert cost > own_cost
+    assert fill < own_fill
     assert worse["cost"] == pytest.approx(cost - own_cost, rel=1e-6)
     assert (worse["fill"], worse["today"]) == pytest.approx((fill, own_fill), rel=1e-9)
-    assert answer.chosen.levels == free.levels and answer.verdict == SAME and answer.saving == 0
+    assert answer.chosen.levels == free.levels
+    assert answer.verdict == SAME
+    assert answer.saving == 0
 
 
 @pytest.mark.parametrize("keeps", [True, False])
-def test_today_stays_if_it_keeps_what_is_promised(keeps: bool, program: Path, monkeypatch: pytest.MonkeyPatch) -> None:
+def test_today_stays_if_it_keeps_what_is_promised(
+    keeps: bool, program: Path, monkeypatch: pytest.MonkeyPatch
+) -> None:
     """Today's policy costs less and meets more by the law of the item, but stays only if it keeps the promise too."""
     free = plan_one(asked(**FILL), str(program)).chosen
-    question = asked(Bounds(order_min=30), {"confidence": 0.5}, **FILL | {"levels": free.levels, "setup": Fraction(1)})
-    theory, known = question.theory(), choice.figures_of
+    question = asked(
+        Bounds(order_min=30),
+        {"confidence": 0.5},
+        **FILL | {"levels": free.levels, "setup": Fraction(1)},
+    )
+    known = Question.figures
     monkeypatch.setattr(Promises, "keeps", lambda *_: keeps)
-    monkeypatch.setattr(choice, "figures_of", lambda *its: replace(known(*its), cost=1, fill=1) if its[-1] == free.levels
-                        else known(*its))
-    assert (choice.choice_of(theory, question, True).worse is not None) == keeps
+    monkeypatch.setattr(
+        Question,
+        "figures",
+        lambda *its: replace(known(*its), cost=1, fill=1)
+        if its[-1] == free.levels
+        else known(*its),
+    )
+    assert (choice.choice_of(question, True).worse is not None) == keeps
 
 
-def test_today_stays_beside_what_a_run_shows_as_worse(program: Path, monkeypatch: pytest.MonkeyPatch) -> None:
+def test_today_stays_beside_what_a_run_shows_as_worse(
+    program: Path, monkeypatch: pytest.MonkeyPatch
+) -> None:
     """If theory is rounded, the run judges. A policy that it shows as dearer, and that serves less, is not chosen."""
     source = np.random.default_rng(71)
-    item = {"counts": tuple(source.integers(0, 9_973, 64).tolist()), "levels": (40_000, 90_000), "leads": (1, 3, 2)}
+    item = {
+        "counts": tuple(source.integers(0, 9_973, 64).tolist()),
+        "levels": (40_000, 90_000),
+        "leads": (1, 3, 2),
+    }
     question = asked(holding=Fraction(1, 100), backlog=Fraction(1, 10), **item)
     plain, _ = answer_of(question, program)
-    assert plain.source == RUN and plain.verdict == CHEAPER and plain.today and plain.chosen.fill < plain.today.fill
+    assert plain.source == RUN
+    assert plain.verdict == CHEAPER
+    assert plain.today
+    assert plain.chosen.fill < plain.today.fill
     known = one.run_of
-    monkeypatch.setattr(one, "run_of", lambda *its: replace(run, saving=-min(run.saving or 0, 7))
-                        if (run := known(*its)) else run)
+    monkeypatch.setattr(
+        one,
+        "run_of",
+        lambda *its: replace(run, saving=-min(run.saving or 0, 7))
+        if (run := known(*its))
+        else run,
+    )
     answer, remarks = answer_of(question, program)
-    assert answer.chosen.levels == (40_000, 90_000) and answer.verdict == SAME and not answer.saving
+    assert answer.chosen.levels == (40_000, 90_000)
+    assert answer.verdict == SAME
+    assert not answer.saving
     stays = remarks["today stays"]
     assert (stays["s"], stays["S"], stays["cost"]) == (*plain.chosen.levels, 7)
 
@@ -219,21 +321,29 @@ def test_what_costs_more_and_serves_more_is_chosen(program: Path) -> None:
     """A smallest order that costs more and meets more than today's policy is a choice, and so is one that costs less."""
     for levels in ((1, 3), (9, 30)):
         answer, remarks = answer_of(asked(Bounds(order_min=12), levels=levels), program)
-        assert answer.chosen.levels != levels and "today stays" not in remarks
+        assert answer.chosen.levels != levels
+        assert "today stays" not in remarks
 
 
 def test_no_order_waits_for_a_customer(program: Path) -> None:
     """With a wanted fill rate s is at least 1. With a backlog cost alone it is said what that would cost."""
-    few = {"counts": (0, 0, 0, 0, 0, 0, 1, 0) * 8, "setup": Fraction(1, 10), "levels": (1, 2)}
+    few = {
+        "counts": (0, 0, 0, 0, 0, 0, 1, 0) * 8,
+        "setup": Fraction(1, 10),
+        "levels": (1, 2),
+    }
     answer, remarks = answer_of(asked(backlog=Fraction(3, 2), **few), program)
     question = asked(backlog=Fraction(3, 2), **few)
     costs = [min(figures_of(question, (s, S))[0] for S in range(s, 9)) for s in (0, 1)]
-    assert answer.chosen.point == 0 and remarks["s of 0"]["cost"] == pytest.approx(costs[1] - costs[0], rel=1e-6)
+    assert answer.chosen.point == 0
+    assert remarks["s of 0"]["cost"] == pytest.approx(costs[1] - costs[0], rel=1e-6)
     wanted = few | {"backlog": None, "fill": Fraction(1, 10), "leads": (1,)}
     answer, remarks = answer_of(asked(**wanted), program)
-    assert answer.chosen.point == 1 and not {"s of 0", "bound of s_min"} & remarks.keys()
+    assert answer.chosen.point == 1
+    assert not {"s of 0", "bound of s_min"} & remarks.keys()
     answer, remarks = answer_of(asked(Bounds(s_min=0), **wanted), program)
-    assert answer.chosen.point == 0 and "s of 0" in remarks
+    assert answer.chosen.point == 0
+    assert "s of 0" in remarks
 
 
 def test_an_earlier_policy_out_of_bounds_does_not_stay(program: Path) -> None:
@@ -244,21 +354,33 @@ def test_an_earlier_policy_out_of_bounds_does_not_stay(program: Path) -> None:
         assert (plan_one(question, str(program)).undamped is not None) == stays
 
 
-@pytest.mark.parametrize("changed", [{}, {"leads": (1, 3, 2)}], ids=["one lead time", "several"])
-def test_orders_that_are_rounded_up(changed: dict[str, Any], program: Path, monkeypatch: pytest.MonkeyPatch) -> None:
+@pytest.mark.parametrize(
+    "changed", [{}, {"leads": (1, 3, 2)}], ids=["one lead time", "several"]
+)
+def test_orders_that_are_rounded_up(
+    changed: dict[str, Any], program: Path, monkeypatch: pytest.MonkeyPatch
+) -> None:
     """Rounding orders up to packs adds what a Markov chain says, but for the error of a run. If demand comes in whole
     packs, it adds nothing."""
     question = asked(Bounds(pack=7), **changed)
     answer, remarks = answer_of(question, program)
-    scenario = question.scenario().with_policies([Policy("chosen", *answer.chosen.levels)])
+    scenario = question.scenario().with_policies(
+        [Policy("chosen", *answer.chosen.levels)]
+    )
     plain, period = chain.by_chain(scenario)[0], chain.period
 
-    def rounded(state: chain.State, levels: tuple[int, int], *drawn: int) -> tuple[chain.State, chain.Counted]:
+    def rounded(
+        state: chain.State, policy: Policy, *drawn: int
+    ) -> tuple[chain.State, chain.Counted]:
         position = sum(state)
-        return period(state, (levels[0], position - (position - levels[1]) // 7 * 7), *drawn)
+        upper = position - (position - policy.S) // 7 * 7
+        return period(state, replace(policy, S=upper), *drawn)
+
     monkeypatch.setattr(chain, "period", rounded)
     more = (chain.by_chain.__wrapped__(scenario)[0] - plain) / float(question.scale)
-    assert more > 1 and remarks["rounded orders"]["cost"] == pytest.approx(more, abs=0.2)
+    cost = remarks["rounded orders"]["cost"]
+    assert more > 1
+    assert cost == pytest.approx(more, abs=0.2)
     whole = asked(Bounds(pack=7), counts=tuple(7 * count for count in SEEN))
     assert "rounded orders" not in answer_of(whole, program)[1]
 
@@ -268,83 +390,105 @@ def test_deeper_looks_respect_the_bounds(program: Path) -> None:
     the largest periods, and the best of each law, beside which nothing is cheaper."""
     question = asked(Bounds(3, 7, 3, Fraction(30)), counts=(*SEEN, 40), **DEAR)
     depth = Depth(question, plan_one(question, str(program)), str(program), laws=4)
-    feasible = question.theory().feasible
+    feasible = question.theory.feasible
     own = {(policy.s, policy.S) for policy in depth.policies} - {(0, 90)}
-    assert len(own) > 5 and all(feasible.allows(*levels) for levels in own)
+    assert len(own) > 5
+    for levels in own:
+        assert feasible.allows(*levels)
     moves = {(move.s, move.S) for move in depth.moves.moves}
-    assert len(moves) > 3 and all(s % 3 == S % 3 == 0 and S - s >= 6 and s >= 3 for s, S in moves)
-    assert depth.without and depth.without.rare.point % 3 == depth.without.rare.level % 3 == 0
+    assert len(moves) > 3
+    for s, S in moves:
+        assert s % 3 == S % 3 == 0
+        assert S - s >= 6
+        assert s >= 3
+    assert depth.without
+    assert depth.without.rare.point % 3 == depth.without.rare.level % 3 == 0
     free = asked(counts=question.item.counts, **DEAR)
-    doubts = [depth.doubt, Depth(free, plan_one(free, str(program)), str(program), laws=4).doubt]
+    doubts = [
+        depth.doubt,
+        Depth(free, plan_one(free, str(program)), str(program), laws=4).doubt,
+    ]
     least, least_free = (doubt.figures.least for doubt in doubts if doubt)
-    assert (least >= least_free).all() and (least > 1.001 * least_free).any()
+    assert (least >= least_free).all()
+    assert (least > 1.001 * least_free).any()
 
 
 def test_bounds_of_a_catalogue(crnplan: Command, tmp_path: Path, program: Path) -> None:
     """Options and crnplan.toml bound items whose masters state nothing. The summary adds up what coverage costs."""
     monday = datetime.date(2026, 1, 5)
-    rows = [f"{name},{monday + datetime.timedelta(weeks=week)},{count}" for name in "AB"
-            for week, count in enumerate(SEEN[:40])]
-    texts = {"demand.csv": "\n".join(["item,date,quantity", *rows, ""]),
-             "items.csv": "item,setup,holding,backlog,lead (weeks),s,S,coverage (weeks)\n"
-                          "A,30.25,1,19,2,3,9,\nB,30.25,1,19,2,3,9,90\n",
-             "mine.toml": '[catalogue]\nfit = "empirical"\nperiods = 64\nreplications = 2\norder_min = 9\n'
-                          "max_coverage = 8\n"}
-    for name, text in texts.items():
+    for name, text in CASES["catalogue"].items():
         (tmp_path / name).write_text(text, "utf-8")
-    demand, items, settings_path = map(tmp_path.joinpath, texts)
-    answer = crnplan("catalogue", demand, items, "--out", tmp_path / "plan", "--config", settings_path,
-                     "--order-min", "3", "--s-min", "2", "--jobs", "1", "--program", program)
+    with (tmp_path / "demand.csv").open("a") as file:
+        for week, count in enumerate(SEEN[:40]):
+            day = monday + datetime.timedelta(weeks=week)
+            file.write(f"A,{day},{count}\nB,{day},{count}\n")
+    words = f"""catalogue {tmp_path}/demand.csv {tmp_path}/items.csv --out {tmp_path}/plan --config {tmp_path}/mine.toml
+        --order-min 3 --s-min 2 --jobs 1 --program {program}"""
+    answer = crnplan(*words.split())
     decisions = rows_of(tmp_path / "plan/decisions.csv")
     with planned_folder(tmp_path / "plan") as plan:
         settings = plan.settings
     assert (settings.order_min, settings.max_coverage, settings.s_min) == (3, 8, 2)
     # The mean demand is 1 a week.
-    assert decisions["A"]["S_chosen"] == "8" and int(decisions["B"]["S_chosen"]) > 8
+    assert decisions["A"]["S_chosen"] == "8"
+    assert int(decisions["B"]["S_chosen"]) > 8
     cost = decisions["A"]["cost_coverage"]
-    assert float(cost) > 0 and not decisions["B"]["cost_coverage"]
-    assert f"S, or S less s, may cover no more periods of demand: 1 items, which costs {float(cost):.2f} a week" in answer.output
-    assert "no more periods of demand for 1 items" in (tmp_path / "plan/report.html").read_text("utf-8")
+    assert float(cost) > 0
+    assert not decisions["B"]["cost_coverage"]
+    said = f"S, or S less s, may cover no more periods of demand: 1 items, which costs {float(cost):.2f} a week"
+    assert said in answer.output
+    page = (tmp_path / "plan/report.html").read_text("utf-8")
+    assert "no more periods of demand for 1 items" in page
 
 
 def test_other_bounds_are_a_reason() -> None:
     """Planned again after an earlier plan, an item with other bounds has another master."""
-    old, new = (asked(bounds).item for bounds in (Bounds(), Bounds(4, coverage=Fraction(9, 2))))
-    remark, = masters_of(old, new, (3, 9))
+    old, new = (
+        asked(bounds).item for bounds in (Bounds(), Bounds(4, coverage=Fraction(9, 2)))
+    )
+    (remark,) = masters_of(old, new, (3, 9))
     assert sentence(remark) == "pack 1 to 4, coverage none to 4.5"
 
 
 def test_bounds_of_settings(tmp_path: Path) -> None:
     """The bounds of one item stand in its settings."""
-    (tmp_path / "history.csv").write_text("n\n" + "2\n" * 20, "utf-8")
-    (tmp_path / "settings.toml").write_text(
-        '[history]\ndemand = "n"\n[lead]\ntimes = [2]\n[costs]\nsetup = 9\nholding = 1\nbacklog = 9\n[today]\ns = 3\n'
-        "S = 9\nstock = 5\n[bounds]\norder_min = 6\npack = 3\ns_min = 2\ncoverage = 30\nshelf_life = 20\n", "utf-8")
+    for name, text in CASES["item"].items():
+        (tmp_path / name).write_text(text, "utf-8")
     item = read_item(tmp_path / "history.csv", tmp_path / "settings.toml").item
     assert item.bounds == Bounds(3, 6, 2, Fraction(30), Fraction(20))
 
 
-@pytest.mark.parametrize("bounds, size", [
-    (Bounds(coverage=Fraction(7)), 1), (Bounds(), 1), (Bounds(pack=3), 1), (Bounds(order_min=5, s_min=2), 1),
-    (Bounds(4, coverage=Fraction(9)), 6)], ids=str)
-def test_candidates_of_the_curve(bounds: Bounds, size: int, monkeypatch: pytest.MonkeyPatch) -> None:
+@pytest.mark.parametrize("bounds, size", CASES["candidates"], ids=str)
+def test_candidates_of_the_curve(
+    bounds: dict[str, int], size: int, monkeypatch: pytest.MonkeyPatch
+) -> None:
     """For each price the candidate of the curve is as good as the best of all feasible pairs, by a second computation,
     but for what a search on a grid may miss."""
-    monkeypatch.setitem(MOST_COVERAGE, "week", 3)  # as far as S - s goes without a coverage
-    question = asked(bounds, {"every": "week"}, price=Fraction(5), counts=tuple(size * count for count in SEEN))
-    feasible, scenario = question.theory().feasible, question.scenario()
+    monkeypatch.setitem(
+        MOST_COVERAGE, "week", 3
+    )  # as far as S - s goes without a coverage
+    question = asked(
+        bounds_of(**bounds),
+        {"every": "week"},
+        price=Fraction(5),
+        counts=tuple(size * count for count in SEEN),
+    )
+    feasible, scenario = question.theory.feasible, question.scenario()
     most = min(feasible.top, 40 * size)
-    pairs, figures, mean = list[tuple[int, int]](), list[list[float]](), float(scenario.demand.mean)
+    pairs, figures = list[tuple[int, int]](), list[list[float]]()
+    mean = float(scenario.demand.mean)
     for gap in range(most + 1):
         short = shortfall_of(scenario, gap)
-        levels = np.array([level for level in range(gap, most + 1) if feasible.allows(level - gap, level)], int)
-        if len(levels):
-            stock = np.maximum(levels[:, None] - short.least - np.arange(len(short.chances)), 0) @ short.chances
-            unmet = (1 - fills_of(scenario, short, levels)) * mean
-            pairs += [(level - gap, level) for level in levels.tolist()]
-            figures += [[*row, short.orders] for row in np.transpose([stock, unmet]).tolist()]
-    costs, rows = np.array(figures), [row for row in candidates_of(question).rows.tolist() if row[0] == 0]
+        for level in range(gap, most + 1):
+            if feasible.allows(level - gap, level):
+                left = level - short.least - np.arange(len(short.chances))
+                stock = np.maximum(left, 0) @ short.chances
+                met = fills_of(scenario, short, np.array([level]))[0]
+                pairs.append((level - gap, level))
+                figures.append([stock, (1 - met) * mean, short.orders])
+    rows = candidates_of(question).rows.tolist()
     for place, price in enumerate(PRICES):
-        found = [row for row in rows if row[1] <= place][-1]
-        by_pair = costs @ [1, 5 * price, 30]
-        assert by_pair[pairs.index((found[2], found[3]))] <= 1.007 * by_pair.min() + 1e-9
+        found = [row for row in rows if row[0] == 0 and row[1] <= place][-1]
+        costs = np.array(figures) @ [1, 5 * price, 30]
+        chosen = costs[pairs.index((found[2], found[3]))]
+        assert chosen <= 1.007 * costs.min() + 1e-9

@@ -20,7 +20,8 @@ def drawn_of(sizes: dict[str, float]) -> Draws:
 def test_all_of_few_items_are_taken() -> None:
     sizes = {f"P{place}": 1.0 + place for place in range(MOST)}
     drawn = drawn_of(sizes).drawn(sum(sizes.values()))
-    assert drawn.names == sorted(sizes) and not drawn.chances
+    assert drawn.names == sorted(sizes)
+    assert not drawn.chances
 
 
 def test_items_that_carry_four_fifths_are_taken() -> None:
@@ -31,10 +32,14 @@ def test_items_that_carry_four_fifths_are_taken() -> None:
     sizes = large | small
     total = sum(sizes.values())
     drawn = drawn_of(sizes).drawn(total)
-    assert drawn.taken == {name for name in large if name != "L9"} | {"L9"}  # L9 would be drawn with a chance of 1.
+    assert drawn.taken == {name for name in large if name != "L9"} | {
+        "L9"
+    }  # L9 would be drawn with a chance of 1.
     left, count = total - sum(large.values()), MOST - 10
     assert len(drawn.chances) == count
-    assert drawn.chances == pytest.approx({name: count * sizes[name] / left for name in drawn.chances})
+    assert drawn.chances == pytest.approx(
+        {name: count * sizes[name] / left for name in drawn.chances}
+    )
     assert sum(sizes[name] == 0.01 for name in drawn.chances) > count / 2
     assert drawn_of(dict(reversed(sizes.items()))).drawn(total) == drawn
 
@@ -43,17 +48,22 @@ def test_no_more_are_taken_than_that() -> None:
     """Of 1,000 equal items 800 carry four fifths. So many are not taken."""
     sizes = {f"P{place}": 1.0 for place in range(1_000)} | {"without a size": 0.0}
     drawn = drawn_of(sizes).drawn(1_000.0)
-    assert len(drawn.taken) == MOST_TAKEN and len(drawn.chances) == MOST - MOST_TAKEN
+    assert len(drawn.taken) == MOST_TAKEN
+    assert len(drawn.chances) == MOST - MOST_TAKEN
     assert {*drawn.chances.values()} == {(MOST - MOST_TAKEN) / (1_000 - MOST_TAKEN)}
 
 
 def test_estimate_by_hand() -> None:
     """Of three drawn items, with chances in proportion to their sizes, the ratios are 2, 1.5 and 7/3: their mean is 35/18.
-    So 12 items' worth of size have 70/3. The residuals are 1/18, -8/18 and 7/18 of their sizes."""
+    So 12 items' worth of size have 70/3. The residuals are 1/18, -8/18 and 7/18 of their sizes.
+    """
     sizes, chances = np.array([1.0, 2, 3]), np.array([0.25, 0.5, 0.75])
     value, error = estimated(np.array([2.0, 3, 7]), sizes, chances, 12.0)
     assert value == pytest.approx(70 / 3)
-    rest = [(1 - chance) * (4 * part)**2 for chance, part in zip(chances, (1 / 18, -8 / 18, 7 / 18))]
+    rest = [
+        (1 - chance) * (4 * part) ** 2
+        for chance, part in zip(chances, (1 / 18, -8 / 18, 7 / 18))
+    ]
     assert error == pytest.approx(math.sqrt(3 / 2 * sum(rest)))
 
 
@@ -62,13 +72,16 @@ def test_nothing_is_left_or_too_little_is_drawn() -> None:
     assert estimated(one, one, one, 0.0) == (0, 0)
     assert estimated(one, one, one, 5.0) == (0, math.inf)
     assert estimated(np.zeros(3), np.zeros(3), np.ones(3), 5.0) == (0, math.inf)
-    assert Estimate(20.0, 2.0).is_known() and not Estimate(20.0, 2.1).is_known()
-    assert Estimate(0.001, 0.0004).is_known(0.0005) and Estimate(-20.0, 2.0).plus(-5.0) == (-25, 2)
+    assert Estimate(20.0, 2.0).is_known()
+    assert not Estimate(20.0, 2.1).is_known()
+    assert Estimate(0.001, 0.0004).is_known(0.0005)
+    assert Estimate(-20.0, 2.0).plus(-5.0) == (-25, 2)
 
 
 def test_estimates_lie_where_they_say() -> None:
     """Of 2,000 items with lognormal sizes, one of which carries half, a figure that differs from item to item is found
-    within twice its error in some 9 of 10 draws, and that is small. Other names draw other items."""
+    within twice its error in some 9 of 10 draws, and that is small. Other names draw other items.
+    """
     source = random.Random(5)
     sizes = [source.lognormvariate(0, 1.5) for _ in range(2_000)]
     sizes[7] = sum(sizes)
@@ -80,9 +93,14 @@ def test_estimates_lie_where_they_say() -> None:
         drawn = drawn_of(dict(zip(names, sizes))).drawn(total)
         taken = [place_of[name] for name in drawn.taken]
         others = [place_of[name] for name in drawn.chances]
-        value, error = estimated(np.array([parts[place] for place in others]), np.array([sizes[place] for place in others]),
-                                 np.array([*drawn.chances.values()]), total - sum(sizes[place] for place in taken))
+        value, error = estimated(
+            np.array([parts[place] for place in others]),
+            np.array([sizes[place] for place in others]),
+            np.array([*drawn.chances.values()]),
+            total - sum(sizes[place] for place in taken),
+        )
         scores.append((value + sum(parts[place] for place in taken) - wanted) / error)
         errors.append(error / wanted)
-    assert 0.85 < np.mean(np.abs(scores) <= 2) < 0.99 and abs(np.mean(scores)) < 0.3
+    assert 0.85 < np.mean(np.abs(scores) <= 2) < 0.99
+    assert abs(np.mean(scores)) < 0.3
     assert np.median(errors) < 0.05

@@ -11,15 +11,15 @@ import pytest
 
 from crnplan.demand.learning import CLASS, Learned, Prior, learn
 from crnplan.money import Currency
-from crnplan.pages.item_page import ItemWords, item_page, item_summary
+from crnplan.show.item_page import ItemWords, item_page, item_summary
 from crnplan.plan import one
 from crnplan.plan.answer import Answer
 from crnplan.plan.correction import tried_names
 from crnplan.plan.item import Depth
 from crnplan.plan.choice import allowed_by
-from crnplan.plan.one import plan_batch, plan_one
+from crnplan.plan.one import plan_asked, plan_one
 from crnplan.plan.question import Settings, question_of
-from crnplan.records.item import NEW, NO_DEMAND, Item
+from crnplan.read.item import NEW, NO_DEMAND, Item
 from crnplan.remarks import Remark
 from crnplan.theory.lattice import NoTheory
 from crnplan.words import sentence
@@ -39,68 +39,119 @@ def new(*counts: int, **changed: Any) -> Item:
     return item_of(past=NEW, counts=counts, **changed)
 
 
-@pytest.mark.parametrize("counts, levels", [((), None), ((0, 3, 0, 1, 2), (4, 12))], ids=str)
-def test_a_new_item(prior: Prior, program: Path, counts: tuple[int, ...], levels: tuple[int, int] | None) -> None:
+@pytest.mark.parametrize(
+    "counts, levels", [((), None), ((0, 3, 0, 1, 2), (4, 12))], ids=str
+)
+def test_a_new_item(
+    prior: Prior, program: Path, counts: tuple[int, ...], levels: tuple[int, int] | None
+) -> None:
     """It has the policy of its learned law, and the range of what that costs under the laws that it allows: a tenth of them
     below, a tenth above. Its page stands with no period too."""
     question = question_of(new(*counts, levels=levels), ALL, prior)
     answer = plan_one(question, str(program))
-    theory, scenario = question.theory(), question.for_theory()
+    theory, scenario = question.theory, question.for_theory()
     best = theory.best()
-    assert answer.verdict == NEW and answer.chosen.levels == (best.point, best.level) and answer.alone is None
-    assert (answer.saving is None) == (levels is None) and answer.law.family == "borrowed"
+    assert answer.verdict == NEW
+    assert answer.chosen.levels == (best.point, best.level)
+    assert answer.alone is None
+    assert (answer.saving is None) == (levels is None)
+    assert answer.law.family == "borrowed"
     remark, *others = answer.remarks
     assert (remark.code, remark.facts["periods"], others) == ("new", len(counts), [])
-    shortfalls = [dataclasses.replace(scenario, demand=law) for law in allowed_by(question)[0]]
+    shortfalls = [
+        dataclasses.replace(scenario, demand=law) for law in allowed_by(question)[0]
+    ]
     gap = answer.chosen.level - answer.chosen.point
-    costs = [cost_of(own, shortfall_of(own, gap), answer.chosen.level) / float(question.scale) for own in shortfalls]
+    costs = [
+        cost_of(own, shortfall_of(own, gap), answer.chosen.level)
+        / float(question.scale)
+        for own in shortfalls
+    ]
     allowed = answer.allowed
-    assert allowed and [allowed.cost_low, allowed.cost_high] == pytest.approx(np.quantile(costs, [0.1, 0.9]), rel=1e-5)
-    assert 0 < allowed.fill_low < answer.chosen.fill < 1 and allowed.fill_low < allowed.fill_high <= 1
+    assert allowed
+    assert [allowed.cost_low, allowed.cost_high] == pytest.approx(
+        np.quantile(costs, [0.1, 0.9]), rel=1e-5
+    )
+    assert 0 < allowed.fill_low < answer.chosen.fill < 1
+    assert allowed.fill_low < allowed.fill_high <= 1
     words = ItemWords(Depth(question, answer, str(program)), "week", Currency())
     assert ": a new item" in item_summary(words).splitlines()[0]
     assert ("no week of the record" in item_page(words)) == (not counts)
 
 
-@pytest.mark.parametrize("item, settings, code", [
-    (new(2), Settings(borrow="none", **SHORT), "new without learning"), (new(2), Settings(**SHORT), "new without learning"),
-    (new(2, borrow="none"), ALL, "new without learning"), (new(2), Settings(fit="empirical", **SHORT), "new without learning"),
-    (new(2), BY_CLASS, "new without class"), (new(2, borrow="class"), ALL, "new without class"),
-    (new(5_000, 900), ALL, "new and unlike"),
-    (item_of(past=NO_DEMAND, counts=(0,) * 60, group="A"), ALL, "no demand in record")], ids=str)
-def test_an_item_without_a_law(prior: Prior, program: Path, item: Item, settings: Settings, code: str) -> None:
+@pytest.mark.parametrize(
+    "item, settings, code",
+    [
+        (new(2), Settings(borrow="none", **SHORT), "new without learning"),
+        (new(2), Settings(**SHORT), "new without learning"),
+        (new(2, borrow="none"), ALL, "new without learning"),
+        (new(2), Settings(fit="empirical", **SHORT), "new without learning"),
+        (new(2), BY_CLASS, "new without class"),
+        (new(2, borrow="class"), ALL, "new without class"),
+        (new(5_000, 900), ALL, "new and unlike"),
+        (
+            item_of(past=NO_DEMAND, counts=(0,) * 60, group="A"),
+            ALL,
+            "no demand in record",
+        ),
+    ],
+    ids=str,
+)
+def test_an_item_without_a_law(
+    prior: Prior, program: Path, item: Item, settings: Settings, code: str
+) -> None:
     """It is left out with what it lacks, how many periods it has, and what to do."""
-    fault, = plan_batch([(item, None)], settings, prior, str(program))
+    fault = plan_asked((item, None), settings, prior, str(program))
     assert fault == Remark(code, {"periods": len(item.counts)})
 
 
 def test_a_new_item_of_a_class(program: Path) -> None:
     """It has the law of its class, or that of all if its class has taught none."""
-    chances = [np.full((24, 192), 1.0), np.repeat(np.linspace(0, 1, 24)[:, None], 192, axis=1)]
+    chances = [
+        np.full((24, 192), 1.0),
+        np.repeat(np.linspace(0, 1, 24)[:, None], 192, axis=1),
+    ]
     whole, own = (Learned.of(its / its.sum(), 30, 30, 0.0) for its in chances)
     prior = Prior(CLASS, items=30, whole=whole, classes={"A": own})
     for group, name in (("A", "A"), ("B", "all")):
-        answer, = plan_batch([(new(3, group=group, fill=Fraction(9, 10)), None)], BY_CLASS, prior, str(program))
-        assert isinstance(answer, Answer) and answer.remarks[0].facts["prior"] == name
+        answer = plan_asked(
+            (new(3, group=group, fill=Fraction(9, 10)), None),
+            BY_CLASS,
+            prior,
+            str(program),
+        )
+        assert isinstance(answer, Answer)
+        assert answer.remarks[0].facts["prior"] == name
 
 
 def test_only_items_with_a_past_are_tried() -> None:
     """New items and those without demand say nothing of the past of others."""
-    items = [item_of(place, name=str(place), fill=Fraction(9, 10), past=past) for place, past in enumerate(
-        ("", NEW, NO_DEMAND))]
+    items = [
+        item_of(place, name=str(place), fill=Fraction(9, 10), past=past)
+        for place, past in enumerate(("", NEW, NO_DEMAND))
+    ]
 
     class Read:
         """Stands for a catalogue that was read."""
 
         def cells(self, *columns: str) -> list[list[object]]:
             return [[getattr(item, name) for name in columns] for item in items]
-    assert tried_names(Read()) == {"0"}  # type: ignore[arg-type]
+
+    assert tried_names(Read()) == ["0"]  # type: ignore[arg-type]
 
 
-def test_a_new_item_whose_laws_have_no_long_run(prior: Prior, program: Path, monkeypatch: pytest.MonkeyPatch) -> None:
+def test_a_new_item_whose_laws_have_no_long_run(
+    prior: Prior, program: Path, monkeypatch: pytest.MonkeyPatch
+) -> None:
     """It has a plan by its own law, and no range."""
+
     def none(*_: object) -> None:
         raise NoTheory("no law of demand has a long run")
+
     monkeypatch.setattr(one, "figures_of_laws", none)
     answer = plan_one(question_of(new(0, 2), ALL, prior), str(program))
-    assert answer.allowed is None and sentence(answer.remarks[0]) == "new, with 2 periods: its law is that of all items"
+    assert answer.allowed is None
+    assert (
+        sentence(answer.remarks[0])
+        == "new, with 2 periods: its law is that of all items"
+    )

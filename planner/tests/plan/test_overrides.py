@@ -10,38 +10,81 @@ import pandas as pd
 import pytest
 
 import crnplan as crn
-from crnplan.records.overrides import DO_NOT_ORDER, SET_LEVELS, Override
-from planner.tests.conftest import Command, rows_of
+from crnplan.plan.one import plan_one
+from crnplan.read.overrides import DO_NOT_ORDER, SET_LEVELS, Override
+from planner.tests.conftest import Command, cases_beside, rows_of
 from planner.tests.plan.test_bounds import asked, figures_of
 
+CASES = cases_beside(__file__)
 MONDAY = datetime.date(2024, 1, 1)
 WEEKS = 40
 END = MONDAY + datetime.timedelta(weeks=WEEKS, days=-1)
-QUICK: dict[str, Any] = {"periods": 64, "replications": 4, "fit": "empirical", "jobs": 1, "end": END}
-SET = pd.DataFrame({"item": ["A", "B", "D"], "s": ["5", "", "2"], "S": ["17", "", "4"], "override": ["", "do not order", ""],
-                    "reason": ["agreed with sales", "quality stop", "a spare part"]})
+QUICK: dict[str, Any] = {
+    "periods": 64,
+    "replications": 4,
+    "fit": "empirical",
+    "jobs": 1,
+    "end": END,
+}
+SET = pd.DataFrame(
+    [
+        ("A", "5", "17", "", "agreed with sales"),
+        ("B", "", "", "do not order", "quality stop"),
+        ("D", "2", "4", "", "a spare part"),
+    ],
+    columns=["item", "s", "S", "override", "reason"],
+)
 
 
 def tables_of(**columns: list[object]) -> tuple[pd.DataFrame, pd.DataFrame]:
     """Returns demand and masters of A, B and C, which are asked for, and of D, which is not; perhaps with more columns
     of the masters."""
-    rows = [(name, MONDAY + datetime.timedelta(weeks=week), 1 + (week * place) % 4)
-            for place, name in enumerate("ABC", 1) for week in range(0, WEEKS, place)]
-    masters = pd.DataFrame({"item": [*"ABCD"], "setup": 20, "holding": 0.2, "backlog": 3, "lead (weeks)": 2, "s": 1, "S": 9,
-                            "price": 5, "stock": [4, 0, 0, 1]} | columns)
+    rows = [
+        (name, MONDAY + datetime.timedelta(weeks=week), 1 + (week * place) % 4)
+        for place, name in enumerate("ABC", 1)
+        for week in range(0, WEEKS, place)
+    ]
+    masters = pd.DataFrame(
+        {
+            "item": [*"ABCD"],
+            "setup": 20,
+            "holding": 0.2,
+            "backlog": 3,
+            "lead (weeks)": 2,
+            "s": 1,
+            "S": 9,
+            "price": 5,
+            "stock": [4, 0, 0, 1],
+        }
+        | columns
+    )
     return pd.DataFrame(rows, columns=["item", "date", "quantity"]), masters
 
 
-def plan_of(program: Path, overrides: pd.DataFrame | None = None, columns: dict[str, list[object]] = {},
-            **words: Any) -> crn.Plan:
-    return crn.plan(*tables_of(**columns), overrides=overrides, program=program, **{**QUICK, **words})
+def plan_of(
+    program: Path,
+    overrides: pd.DataFrame | None = None,
+    columns: dict[str, list[object]] = {},
+    **words: Any,
+) -> crn.Plan:
+    return crn.plan(
+        *tables_of(**columns),
+        overrides=overrides,
+        program=program,
+        **{**QUICK, **words},
+    )
 
 
 def set_in(plan: crn.Plan) -> dict[str, tuple[object, ...]]:
     """Returns what is set in a plan by item: its kind, s, S and the reason."""
-    rows = plan.decisions.set_index("item")[["override", "s_override", "S_override", "override_reason"]]
-    return {name: tuple(None if pd.isna(cell) else cell for cell in row) for name, row in rows.dropna(how="all").T.items()
-            if row["override"]}
+    rows = plan.decisions.set_index("item")[
+        ["override", "s_override", "S_override", "override_reason"]
+    ]
+    return {
+        name: tuple(None if pd.isna(cell) else cell for cell in row)
+        for name, row in rows.dropna(how="all").T.items()
+        if row["override"]
+    }
 
 
 def test_levels_of_a_planner(program: Path) -> None:
@@ -50,35 +93,64 @@ def test_levels_of_a_planner(program: Path) -> None:
     free, plan = plan_of(program), plan_of(program, SET)
     before, rows = free.decisions.set_index("item"), plan.decisions.set_index("item")
     assert set_in(free) == {}
-    assert set_in(plan) == {"A": (SET_LEVELS, 5, 17, "agreed with sales"), "B": (DO_NOT_ORDER, None, None, "quality stop"),
-                            "D": (SET_LEVELS, 2, 4, "a spare part")}
-    assert rows["verdict"].to_dict() == {**before["verdict"].to_dict(), "B": "do not order"}
-    assert (rows.loc["A", ["s_chosen", "S_chosen"]] == before.loc["A", ["s_chosen", "S_chosen"]]).all()
+    assert set_in(plan) == {
+        "A": (SET_LEVELS, 5, 17, "agreed with sales"),
+        "B": (DO_NOT_ORDER, None, None, "quality stop"),
+        "D": (SET_LEVELS, 2, 4, "a spare part"),
+    }
+    assert rows["verdict"].to_dict() == {
+        **before["verdict"].to_dict(),
+        "B": "do not order",
+    }
+    assert (
+        rows.loc["A", ["s_chosen", "S_chosen"]]
+        == before.loc["A", ["s_chosen", "S_chosen"]]
+    ).all()
     for name in ("saving", "cost_chosen", "value_chosen"):
-        assert plan.totals[name] == pytest.approx(before.loc[["A", "C"], name].sum(), rel=1e-9)
+        assert plan.totals[name] == pytest.approx(
+            before.loc[["A", "C"], name].sum(), rel=1e-9
+        )
     assert plan.totals["override_cost"] == pytest.approx(rows.loc["A", "cost_override"])
-    assert "1 items, which cost" in plan.text and "+ 1 do not order" in plan.text
+    assert "1 items, which cost" in plan.text
+    assert "+ 1 do not order" in plan.text
     orders = plan.orders_today(date=END + datetime.timedelta(1)).frame.set_index("item")
     assert orders.loc["A", ["s", "S", "order"]].tolist() == [5, 17, 13]
-    assert orders.loc["D", ["s", "S", "order"]].tolist() == [2, 4, 3] and "B" not in orders.index
+    assert orders.loc["D", ["s", "S", "order"]].tolist() == [2, 4, 3]
+    assert "B" not in orders.index
     assert "its planner has set s and S" in orders.loc["A", "why"]
-    stopped = plan.orders_today(date=END + datetime.timedelta(1)).stopped.set_index("item")
-    assert stopped["status"].to_dict() == {"B": "do not order"} and "quality stop" in stopped.loc["B", "why"]
-    assert (plan.report().read_text("utf-8") if plan.room is None else "") or "set" in rows.loc["A", "warnings"]
+    stopped = plan.orders_today(date=END + datetime.timedelta(1)).stopped.set_index(
+        "item"
+    )
+    assert stopped["status"].to_dict() == {"B": "do not order"}
+    assert "quality stop" in stopped.loc["B", "why"]
+    assert "set" in rows.loc["A", "warnings"]
 
 
 def test_what_levels_of_a_planner_cost(program: Path) -> None:
     """They cost more than the chosen policy as a second computation says, also in boxes."""
-    from crnplan.plan.one import plan_one
     override = Override(SET_LEVELS, 2, 30, "why")
     answer = plan_one(asked(override=override), str(program))
-    (cost, fill), (least, _) = (figures_of(asked(), levels) for levels in ((2, 30), answer.chosen.levels))
-    assert answer.override and answer.override.levels == (2, 30) and answer.override.fill == pytest.approx(fill, rel=1e-9)
-    assert answer.override_cost == pytest.approx(cost - least, rel=1e-6) and cost > least
-    boxed = plan_one(asked(counts=tuple(5_000 * count for count in asked().item.counts), levels=(20_000, 50_000),
-                           setup=Fraction(30), holding=Fraction(1, 5_000), backlog=Fraction(19, 5_000),
-                           override=Override(SET_LEVELS, 9_999, 60_001)), str(program))
-    assert boxed.override and boxed.override.levels == (9_999, 60_001)
+    (cost, fill), (least, _) = (
+        figures_of(asked(), levels) for levels in ((2, 30), answer.chosen.levels)
+    )
+    assert answer.override
+    assert answer.override.levels == (2, 30)
+    assert answer.override.fill == pytest.approx(fill, rel=1e-9)
+    assert answer.override_cost == pytest.approx(cost - least, rel=1e-6)
+    assert cost > least
+    boxed = plan_one(
+        asked(
+            counts=tuple(5_000 * count for count in asked().item.counts),
+            levels=(20_000, 50_000),
+            setup=Fraction(30),
+            holding=Fraction(1, 5_000),
+            backlog=Fraction(19, 5_000),
+            override=Override(SET_LEVELS, 9_999, 60_001),
+        ),
+        str(program),
+    )
+    assert boxed.override
+    assert boxed.override.levels == (9_999, 60_001)
 
 
 def test_overrides_are_kept(program: Path, tmp_path: Path) -> None:
@@ -86,33 +158,41 @@ def test_overrides_are_kept(program: Path, tmp_path: Path) -> None:
     first = plan_of(program, SET, out=tmp_path / "first")
     second = plan_of(program, out=tmp_path / "second", after=tmp_path / "first")
     assert set_in(second) == set_in(first)
-    changed = pd.DataFrame({"item": ["B", "A"], "s": ["", "1"], "S": ["", "2"], "reason": ["", "new"]})
+    changed = pd.DataFrame(
+        {"item": ["B", "A"], "s": ["", "1"], "S": ["", "2"], "reason": ["", "new"]}
+    )
     third = plan_of(program, changed, out=tmp_path / "third", after=tmp_path / "second")
-    assert set_in(third) == {"A": (SET_LEVELS, 1, 2, "new"), "D": (SET_LEVELS, 2, 4, "a spare part")}
+    assert set_in(third) == {
+        "A": (SET_LEVELS, 1, 2, "new"),
+        "D": (SET_LEVELS, 2, 4, "a spare part"),
+    }
     assert third.decisions.set_index("item").loc["B", "verdict"] != "do not order"
     assert set_in(plan_of(program, out=tmp_path / "fourth")) == {}
 
 
 def test_overrides_of_masters(program: Path, tmp_path: Path) -> None:
     """Columns of the masters say it too, and count before an earlier plan."""
-    columns: dict[str, list[object]] = {
-        "s override": ["3", "", "", ""], "S_override": ["8", "", "", ""], "Override": ["", "", "Nicht bestellen", ""],
-        "Override reason": ["by hand", "", "", ""]}
+    columns = CASES["masters"]
     plan_of(program, SET, out=tmp_path / "first")
-    plan = plan_of(program, None, columns, out=tmp_path / "second", after=tmp_path / "first")
-    assert set_in(plan) == {"A": (SET_LEVELS, 3, 8, "by hand"), "B": (DO_NOT_ORDER, None, None, "quality stop"),
-                            "C": (DO_NOT_ORDER, None, None, ""), "D": (SET_LEVELS, 2, 4, "a spare part")}
-    with pytest.raises(crn.Refused, match="item 'A' has another override in the masters"):
+    plan = plan_of(
+        program, None, columns, out=tmp_path / "second", after=tmp_path / "first"
+    )
+    assert set_in(plan) == {
+        "A": (SET_LEVELS, 3, 8, "by hand"),
+        "B": (DO_NOT_ORDER, None, None, "quality stop"),
+        "C": (DO_NOT_ORDER, None, None, ""),
+        "D": (SET_LEVELS, 2, 4, "a spare part"),
+    }
+    with pytest.raises(
+        crn.Refused, match="item 'A' has another override in the masters"
+    ):
         plan_of(program, SET, columns)
 
 
-@pytest.mark.parametrize("rows, said", [
-    ([("A", "5", "3", "")], "s = 5 is above S = 3"), ([("A", "5", "", "")], "there is no S"),
-    ([("A", "", "7", "")], "there is no s"), ([("A", "x", "7", "")], "'x' is not a number"),
-    ([("A", "1.5", "7", "")], "no whole number|not a whole number"), ([("A", "1", "7", "do not order")], "there are s and S, and"),
-    ([("A", "", "", "perhaps")], "'perhaps' is not known"), ([("", "1", "2", "")], "the item is missing"),
-    ([("A", "1", "2", ""), ("A", "1", "3", "")], "item 'A' has rows that differ")], ids=str)
-def test_rows_that_can_not_be_read(rows: list[tuple[str, ...]], said: str, program: Path) -> None:
+@pytest.mark.parametrize("rows, said", CASES["refused"], ids=str)
+def test_rows_that_can_not_be_read(
+    rows: list[list[str]], said: str, program: Path
+) -> None:
     """All of a table is read, or nothing is planned by it."""
     with pytest.raises(crn.Refused, match=said):
         plan_of(program, pd.DataFrame(rows, columns=["item", "s", "S", "override"]))
@@ -120,30 +200,38 @@ def test_rows_that_can_not_be_read(rows: list[tuple[str, ...]], said: str, progr
 
 def test_levels_in_packs(program: Path) -> None:
     """A heading says what levels count."""
-    plan = plan_of(program, pd.DataFrame({"item": ["A"], "s (pack of 12)": ["1"], "S (pack of 12)": ["2"]}))
+    plan = plan_of(
+        program,
+        pd.DataFrame({"item": ["A"], "s (pack of 12)": ["1"], "S (pack of 12)": ["2"]}),
+    )
     assert set_in(plan) == {"A": (SET_LEVELS, 12, 24, "")}
 
 
 def test_overrides_of_masters_that_can_not_be_read() -> None:
     """An item is left out whose override can't be read."""
-    columns: dict[str, list[object]] = {"s override": ["3", "9", "2", ""], "S_override": ["", "8", "5", ""],
-                                        "Override": ["", "", "do not order", "perhaps"]}
-    rejects = crn.read_catalogue(*tables_of(**columns), end=END).rejects.set_index("item")
+    tables = tables_of(**CASES["refused_masters"])
+    rejects = crn.read_catalogue(*tables, end=END).rejects.set_index("item")
     assert {*rejects.index} == {*"ABCD"}
     assert [rejects.loc[name, "column"] for name in "AD"] == ["S_override", "Override"]
 
 
-def test_overrides_by_the_command(crnplan: Command, program: Path, tmp_path: Path) -> None:
+def test_overrides_by_the_command(
+    crnplan: Command, program: Path, tmp_path: Path
+) -> None:
     """An option names the file. Items that are not in the catalogue are named in rejects.csv."""
     for name, table in zip(("demand", "items"), tables_of()):
         table.to_csv(tmp_path / f"{name}.csv", index=False)
-    pd.concat([SET, pd.DataFrame({"item": ["Z"], "s": ["1"], "S": ["2"]})]).to_csv(tmp_path / "set.csv", index=False)
+    pd.concat([SET, pd.DataFrame({"item": ["Z"], "s": ["1"], "S": ["2"]})]).to_csv(
+        tmp_path / "set.csv", index=False
+    )
     files = tmp_path / "demand.csv", tmp_path / "items.csv"
-    answer = crnplan("catalogue", *files, "--overrides", tmp_path / "set.csv", "--out", tmp_path / "plan", "--jobs", "1",
-                     "--to", str(END), "--program", program)
-    decisions, rejects = rows_of(tmp_path / "plan/decisions.csv"), rows_of(tmp_path / "plan/rejects.csv", kind="item")
-    assert answer.status == 0 and (decisions["A"]["s_override"], decisions["A"]["S_override"]) == ("5", "17")
-    assert float(decisions["A"]["cost_override"]) > 0 and decisions["B"]["verdict"] == "do not order"
-    assert rejects["Z"]["file"] == "set.csv" and rejects["Z"]["line"] == "5"
+    words = f"--overrides {tmp_path}/set.csv --out {tmp_path}/plan --jobs 1 --to {END} --program {program}"
+    assert crnplan("catalogue", *files, *words.split()).status == 0
+    row = rows_of(tmp_path / "plan/decisions.csv")["A"]
+    assert (row["s_override"], row["S_override"]) == ("5", "17")
+    assert float(row["cost_override"]) > 0
+    out = rows_of(tmp_path / "plan/rejects.csv", kind="item")["Z"]
+    assert (out["file"], out["line"]) == ("set.csv", "5")
     page = (tmp_path / "plan/report.html").read_text("utf-8")
-    assert "s override" in page and "its planner has set (5, 17): agreed with sales" in page
+    assert "s override" in page
+    assert "its planner has set (5, 17): agreed with sales" in page

@@ -12,67 +12,108 @@ import pandas as pd
 import pytest
 
 import crnplan as crn
-from crnplan.records.item import PHASE_OUT, STOPPED, USUAL, Item
-from crnplan.records.quiet import chance_of_quiet, has_stopped, longest_before, months_of, quiet_periods
-from planner.tests.conftest import Command
+from crnplan.read.item import USUAL, Item
+from crnplan.read.quiet import (
+    chance_of_quiet,
+    has_stopped,
+    longest_before,
+    months_of,
+    quiet_periods,
+)
+from planner.tests.conftest import Command, cases_beside
 
+CASES = cases_beside(__file__)
 WEEKS = 156
 ITEMS = 3_000
 
 
-@pytest.mark.parametrize("counts", [(1, 0, 2, 0, 0), (0, 3, 1, 1, 0), (0, 0, 5), (4, 0, 0, 0, 0, 0), (1, 1)], ids=str)
+@pytest.mark.parametrize(
+    "counts",
+    [(1, 0, 2, 0, 0), (0, 3, 1, 1, 0), (0, 0, 5), (4, 0, 0, 0, 0, 0), (1, 1)],
+    ids=str,
+)
 def test_chance_of_quiet_periods(counts: tuple[int, ...]) -> None:
     """The chance is the share of all orders of the periods that end with as many without demand, or with more."""
     orders = [*itertools.permutations(counts)]
     quiet = len("".join(map(str, counts))) - len("".join(map(str, counts)).rstrip("0"))
     assert quiet_periods(counts) == quiet
-    share = sum(not any(order[len(order) - quiet:]) for order in orders) / len(orders)
+    share = sum(not any(order[len(order) - quiet :]) for order in orders) / len(orders)
     assert chance_of_quiet(counts) == pytest.approx(share, rel=1e-12)
 
 
 def test_the_longest_time_before() -> None:
-    assert [longest_before(counts) for counts in ((1, 0, 0, 1, 0, 1, 0, 0, 0), (0, 0, 5, 0), (0, 0), (1, 2))] == [2, 0, 0, 0]
+    assert [
+        longest_before(counts)
+        for counts in ((1, 0, 0, 1, 0, 1, 0, 0, 0), (0, 0, 5, 0), (0, 0), (1, 2))
+    ] == [2, 0, 0, 0]
 
 
 def independent(source: np.random.Generator) -> list[int]:
     """Returns a slow mover, asked for in one of 4 weeks to one of 50."""
     rate = 1 / source.uniform(4, 50)
-    return np.where(source.random(WEEKS) < rate, 1 + source.poisson(2, WEEKS), 0).tolist()
+    return np.where(
+        source.random(WEEKS) < rate, 1 + source.poisson(2, WEEKS), 0
+    ).tolist()
 
 
 def in_runs(source: np.random.Generator) -> list[int]:
     """Returns an item of projects: some weeks with demand, and then up to more than a year without."""
     counts = list[int]()
     while len(counts) < WEEKS:
-        counts += [*source.poisson(3, source.integers(2, 12)).tolist(), *[0] * int(source.exponential(40))]
+        counts += [
+            *source.poisson(3, source.integers(2, 12)).tolist(),
+            *[0] * int(source.exponential(40)),
+        ]
     return counts[:WEEKS]
 
 
 def seasonal(source: np.random.Generator) -> list[int]:
     """Returns an item that is asked for in a quarter of each year alone."""
     start = source.integers(0, 52)
-    return [int(source.poisson(2)) if (week - start) % 52 < 13 else 0 for week in range(WEEKS)]
+    return [
+        int(source.poisson(2)) if (week - start) % 52 < 13 else 0
+        for week in range(WEEKS)
+    ]
 
 
-@pytest.mark.parametrize("drawn, most", [(independent, 3), (in_runs, 180), (seasonal, 0)])
-def test_active_items_are_hardly_ever_stopped(drawn: Callable[[np.random.Generator], list[int]], most: int) -> None:
+@pytest.mark.parametrize(
+    "drawn, most", [(independent, 3), (in_runs, 180), (seasonal, 0)]
+)
+def test_active_items_are_hardly_ever_stopped(
+    drawn: Callable[[np.random.Generator], list[int]], most: int
+) -> None:
     """Of 3,000 active slow movers at most one in a thousand is taken for stopped, of seasonal ones none, and of items
     that are asked for in projects alone 6%."""
     source = np.random.default_rng(71)
-    stopped = sum(has_stopped(counts, "week") for counts in (drawn(source) for _ in range(ITEMS)) if any(counts))
+    stopped = sum(
+        has_stopped(counts, "week")
+        for counts in (drawn(source) for _ in range(ITEMS))
+        if any(counts)
+    )
     assert stopped <= most
 
 
 def test_what_has_stopped_is_found() -> None:
     """An item that is asked for in one of six weeks, and then for 78 weeks no more, is nearly always found."""
     source = np.random.default_rng(71)
-    found = [has_stopped([*(source.random(WEEKS) < 1 / 6).astype(int).tolist(), *[0] * 78], "week") for _ in range(500)]
+    found = [
+        has_stopped(
+            [*(source.random(WEEKS) < 1 / 6).astype(int).tolist(), *[0] * 78], "week"
+        )
+        for _ in range(500)
+    ]
     assert sum(found) > 490
     counts = [1, 0] * 60
     for every, year in (("week", 52), ("month", 12), ("day", 365)):
-        assert [has_stopped([*counts, *[0] * (quiet - 1)], every) for quiet in (year - 1, year)] == [False, True]
+        assert [
+            has_stopped([*counts, *[0] * (quiet - 1)], every)
+            for quiet in (year - 1, year)
+        ] == [False, True]
     # As long, and then longer, without demand as before.
-    assert [has_stopped([*counts, *[0] * 60, *counts, *[0] * quiet], "week") for quiet in (60, 61)] == [False, True]
+    assert [
+        has_stopped([*counts, *[0] * 60, *counts, *[0] * quiet], "week")
+        for quiet in (60, 61)
+    ] == [False, True]
     # Twice in the first month, and never again in five years.
     assert not has_stopped([1, 0, 0, 1, *[0] * 256], "week")
 
@@ -80,32 +121,51 @@ def test_what_has_stopped_is_found() -> None:
 def test_months_of_a_record() -> None:
     """Months are counted back from the end; what is left at the beginning is none."""
     counts = [9, 1, 2, 3, 4, 5, 6, 7, 8]
-    assert months_of(counts, "week") == [10, 26] and months_of(counts, "month") == counts
+    assert months_of(counts, "week") == [10, 26]
+    assert months_of(counts, "month") == counts
 
 
 MONDAY = datetime.date(2023, 1, 2)
 # By item what is asked for every second week, from one week to another, its status, and today's stock.
-CATALOGUE: dict[str, tuple[int, int, str, int]] = {
-    "ACTIVE": (0, 156, "", 0), "DEAD": (0, 78, "", 5), "KEPT": (0, 78, "Aktiv", 0), "OUT": (0, 156, "Auslauf", -3),
-    "GONE": (0, 156, "Z3", -2), "OLD": (0, 100, "", 7), "HEIR": (90, 156, "Nachfolger von OLD", 0),
-    "YOUNG": (150, 156, "replaces HEIR", 0)}
-QUICK: dict[str, Any] = {"periods": 64, "replications": 4, "fit": "empirical", "statuses": {"Z3": "stopped"}}
+CATALOGUE: dict[str, tuple[int, int, str, int]] = CASES["catalogue"]
+QUICK: dict[str, Any] = {
+    "periods": 64,
+    "replications": 4,
+    "fit": "empirical",
+    "statuses": {"Z3": "stopped"},
+}
 
 
 def tables_of(**status: str) -> tuple[pd.DataFrame, pd.DataFrame]:
     """Returns demand and masters of the catalogue, perhaps with items of another status."""
-    rows = [(name, MONDAY + datetime.timedelta(weeks=week), 1 + week % 3)
-            for name, (first, last, _, _) in CATALOGUE.items() for week in range(first, last, 2)]
-    masters = [(name, 9, 0.1, "95%", 2, 2, 30, 4, 2, stock, status.get(name, own))
-               for name, (_, _, own, stock) in CATALOGUE.items()]
-    names = ["item", "setup", "holding", "fill", "lead (weeks)", "s", "S", "price", "pack", "stock", "status"]
-    return (pd.DataFrame(rows, columns=["item", "date", "quantity"]),
-            pd.DataFrame(masters, columns=names))
+    rows = [
+        (name, MONDAY + datetime.timedelta(weeks=week), 1 + week % 3)
+        for name, (first, last, _, _) in CATALOGUE.items()
+        for week in range(first, last, 2)
+    ]
+    masters = [
+        (name, 9, 0.1, "95%", 2, 2, 30, 4, 2, stock, status.get(name, own))
+        for name, (_, _, own, stock) in CATALOGUE.items()
+    ]
+    names = ["item", "setup", "holding", "fill", "lead (weeks)"]
+    names += "s S price pack stock status".split()
+    return (
+        pd.DataFrame(rows, columns=["item", "date", "quantity"]),
+        pd.DataFrame(masters, columns=names),
+    )
 
 
-def read(statuses: dict[str, str] = {"Z3": "stopped"}, stopped: str = "by-test", **status: str) -> dict[str, Item]:
-    catalogue = crn.read_catalogue(*tables_of(**status), end=MONDAY + datetime.timedelta(weeks=156, days=-1),
-                                   statuses=statuses, stopped=stopped)
+def read(
+    statuses: dict[str, str] = {"Z3": "stopped"},
+    stopped: str = "by-test",
+    **status: str,
+) -> dict[str, Item]:
+    catalogue = crn.read_catalogue(
+        *tables_of(**status),
+        end=MONDAY + datetime.timedelta(weeks=156, days=-1),
+        statuses=statuses,
+        stopped=stopped,
+    )
     with catalogue.opened() as base:
         return {item.name: item for item in base.whole_items()}
 
@@ -113,44 +173,55 @@ def read(statuses: dict[str, str] = {"Z3": "stopped"}, stopped: str = "by-test",
 def test_status_of_items() -> None:
     """A status comes before the record: what is stated to be active is planned, however long nobody asked for it."""
     items = read()
-    assert {name: item.past for name, item in items.items()} == {
-        "ACTIVE": USUAL, "DEAD": STOPPED, "KEPT": USUAL, "OUT": PHASE_OUT, "GONE": STOPPED, "OLD": PHASE_OUT,
-        "HEIR": PHASE_OUT, "YOUNG": USUAL}
+    assert {name: item.past for name, item in items.items()} == CASES["pasts"]
     assert read(stopped="as-stated")["DEAD"].past == USUAL
-    dead = next(remark for remark in items["DEAD"].remarks if remark.code == "asked for no longer")
+    dead = next(
+        remark
+        for remark in items["DEAD"].remarks
+        if remark.code == "asked for no longer"
+    )
     assert (dead.facts["periods"], dead.facts["last"]) == (79, "2024-W25")
 
 
-@pytest.mark.parametrize("text, past", [
-    ("phase-out", PHASE_OUT), ("En fin de vie", PHASE_OUT), ("淘汰中", PHASE_OUT), ("Gesperrt", STOPPED), ("inactivo", STOPPED),
-    ("停产", STOPPED), ("Released", USUAL), ("在用", USUAL), ("  ", USUAL)])
+@pytest.mark.parametrize("text, past", CASES["statuses"])
 def test_words_of_a_status(text: str, past: str) -> None:
     assert read(ACTIVE=text)["ACTIVE"].past == past
 
 
-@pytest.mark.parametrize("text", ["Z3", "01", "replaced by OLD", "remplacé par OLD", "?"])
+@pytest.mark.parametrize(
+    "text", ["Z3", "01", "replaced by OLD", "remplacé par OLD", "?"]
+)
 def test_a_status_that_is_not_known(text: str) -> None:
     """What a text means is stated or refused, never guessed: the item is left out."""
     catalogue = crn.read_catalogue(*tables_of(ACTIVE=text, GONE=""))
     rejects = catalogue.rejects.set_index("item")
-    assert rejects.loc["ACTIVE", "column"] == "status" and rejects.loc["ACTIVE", "text"] == text
+    assert rejects.loc["ACTIVE", "column"] == "status"
+    assert rejects.loc["ACTIVE", "text"] == text
     assert f'statuses={{"{text}": "stopped"}}' in rejects.loc["ACTIVE", "advice"]
 
 
 def test_a_successor_takes_the_demand_of_a_chain() -> None:
     """A successor has the demand of its predecessor, which has that of its own, by pandas."""
     items, (demand, _) = read(), tables_of()
-    weeks = demand[demand["item"].isin(["OLD", "HEIR", "YOUNG"])].groupby("date")["quantity"].sum()
+    weeks = (
+        demand[demand["item"].isin(["OLD", "HEIR", "YOUNG"])]
+        .groupby("date")["quantity"]
+        .sum()
+    )
     days = [MONDAY + datetime.timedelta(weeks=week) for week in range(156)]
     assert items["YOUNG"].counts == tuple(weeks.reindex(days, fill_value=0))
-    assert sum(items["HEIR"].counts) == demand[demand["item"].isin(["OLD", "HEIR"])]["quantity"].sum()
-    assert [remark.code for remark in items["HEIR"].remarks][-2:] == ["successor", "succeeded"]
+    assert (
+        sum(items["HEIR"].counts)
+        == demand[demand["item"].isin(["OLD", "HEIR"])]["quantity"].sum()
+    )
+    assert [remark.code for remark in items["HEIR"].remarks][-2:] == [
+        "successor",
+        "succeeded",
+    ]
     assert items["OLD"].first == items["YOUNG"].first < read(YOUNG="")["YOUNG"].first
 
 
-@pytest.mark.parametrize("status, said", [
-    ({"OLD": "successor of YOUNG"}, "in a circle: HEIR > OLD > YOUNG > HEIR"), ({"OLD": "replaces: OLD"}, "OLD > OLD"),
-    ({"ACTIVE": "successor of OLD"}, "items ACTIVE and HEIR succeed 'OLD'"), ({"OLD": "active"}, "'OLD' is active")])
+@pytest.mark.parametrize("status, said", CASES["successors"], ids=str)
 def test_successors_that_can_not_be_meant(status: dict[str, str], said: str) -> None:
     with pytest.raises(crn.Refused, match=said):
         read(**status)
@@ -159,7 +230,8 @@ def test_successors_that_can_not_be_meant(status: dict[str, str], said: str) -> 
 def test_a_predecessor_that_is_not_there() -> None:
     """A predecessor of which nothing is read is said: its demand is nowhere."""
     item = read(YOUNG="successor of XYZ")["YOUNG"]
-    assert item.remarks[-1].code == "unknown predecessor" and item.remarks[-1].facts == {"item": "XYZ"}
+    assert item.remarks[-1].code == "unknown predecessor"
+    assert item.remarks[-1].facts == {"item": "XYZ"}
 
 
 def test_what_has_stopped_is_not_ordered(program: Path) -> None:
@@ -168,24 +240,37 @@ def test_what_has_stopped_is_not_ordered(program: Path) -> None:
     end = MONDAY + datetime.timedelta(weeks=156, days=-1)
     plan = crn.plan(*tables_of(), program=program, jobs=1, end=end, **QUICK)
     decisions, totals = plan.decisions.set_index("item"), plan.totals
-    ended = {"DEAD": "stopped", "GONE": "stopped", "OUT": "phase out", "OLD": "phase out", "HEIR": "phase out"}
+    ended = {name: past for name, past in CASES["pasts"].items() if past}
     assert decisions.loc[[*ended], "verdict"].to_dict() == ended
     assert (decisions.loc[[*ended], ["s_chosen", "S_chosen"]] == 0).all(axis=None)
     ordered = decisions.drop([*ended])
-    assert {*ordered.index} == {"ACTIVE", "KEPT", "YOUNG"} and decisions.loc[[*ended], "saving"].isna().all()
+    assert {*ordered.index} == {"ACTIVE", "KEPT", "YOUNG"}
+    assert decisions.loc[[*ended], "saving"].isna().all()
     for name in ("saving", "cost_today", "cost_chosen", "value_today"):
         assert totals[name] == pytest.approx(ordered[name].sum(), rel=1e-9)
-    assert totals["value_ended"] == 4 * (5 + 7) and totals.planned == 3
+    assert totals["value_ended"] == 4 * (5 + 7)
+    assert totals.planned == 3
     assert "8 named = 3 planned + 2 stopped + 3 phase out + 0 left out" in plan.text
     today = plan.orders_today(date=end + datetime.timedelta(1))
     orders = today.frame.set_index("item")
     assert {*orders.index} == {"ACTIVE", "KEPT", "YOUNG", "OUT"}
     # Packs of 2 that cover the 3 items owed.
-    assert orders.loc["OUT", ["s", "S", "order", "placed", "chance"]].tolist() == [0, 0, 3, 4, 1.0]
+    assert orders.loc["OUT", ["s", "S", "order", "placed", "chance"]].tolist() == [
+        0,
+        0,
+        3,
+        4,
+        1.0,
+    ]
     stopped = today.stopped.set_index("item")
-    assert stopped["status"].to_dict() == ended and stopped["stock"].sum() == 5 + 7
-    assert stopped["value"].sum() == 4 * (5 + 7) and stopped["owed"].to_dict()["GONE"] == 2
-    assert "5 items, with stock worth 48.0, of which 1 item is owed to customers and not ordered" in today.text
+    assert stopped["status"].to_dict() == ended
+    assert stopped["stock"].sum() == 5 + 7
+    assert stopped["value"].sum() == 4 * (5 + 7)
+    assert stopped["owed"].to_dict()["GONE"] == 2
+    assert (
+        "5 items, with stock worth 48.0, of which 1 item is owed to customers and not ordered"
+        in today.text
+    )
     assert {*today.dead["item"]} == {"DEAD", "OLD"}
 
 
@@ -194,9 +279,9 @@ def test_status_by_the_command(tmp_path: Path, crnplan: Command) -> None:
     for name, table in zip(("demand", "items"), tables_of(OUT="ZZ")):
         table.to_csv(tmp_path / f"{name}.csv", index=False)
     files = tmp_path / "demand.csv", tmp_path / "items.csv"
-    answer = crnplan("catalogue", *files, "--check", "--status", "Z3=stopped", "--status", "ZZ=phase out", "--stopped",
-                     "as-stated")
-    assert "items left out" not in answer.output
-    assert "say what it means by --status ZZ=stopped" in crnplan("catalogue", *files, "--check").output
-    answer = crnplan("catalogue", *files, "--check", "--status", "Z3=dead")
-    assert answer.status == 2 and "--status Z3=dead: a status is active, phase out or stopped" in answer.errors
+    check = ["catalogue", *map(str, files), "--check"]
+    words = "--status", "Z3=stopped", "--status", "ZZ=phase out", "--stopped"
+    assert "items left out" not in crnplan(*check, *words, "as-stated").output
+    assert "say what it means by --status ZZ=stopped" in crnplan(*check).output
+    said = "--status Z3=dead: a status is active, phase out or stopped"
+    assert crnplan(*check, "--status", "Z3=dead").refuses(said)

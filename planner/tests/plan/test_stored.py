@@ -1,7 +1,6 @@
 """Tests that answers are kept as they are, that changed files are named, and that sums and rates are right."""
 from __future__ import annotations
 
-import json
 import math
 import sqlite3
 from collections import Counter
@@ -18,17 +17,25 @@ from crnplan.chances import Floats
 from crnplan.errors import Refused
 from crnplan.money import rounded_costs
 from crnplan.plan.answer import Answer
-from crnplan.plan.exact_sums import ExactSums
 from crnplan.plan.totals import Totals
 from crnplan.plan.question import finest
-from crnplan.records.item import Item
+from crnplan.read.item import Item
 from crnplan.remarks import Remark
-from crnplan.stored import Columns, Damaged, Store, sealed
+from crnplan.store.stored import Columns, Damaged, Store, sealed
 
 FLOATS = some.floats(allow_nan=False)
-WHOLE = some.integers(-2**80, 2**80)
-REMARKS = some.builds(Remark, some.text(), some.dictionaries(some.text(), some.none() | WHOLE | FLOATS | some.text()))
-for kind, values in ((float, FLOATS), (int, WHOLE), (Fraction, some.fractions()), (Remark, REMARKS)):
+WHOLE = some.integers(-(2**80), 2**80)
+REMARKS = some.builds(
+    Remark,
+    some.text(),
+    some.dictionaries(some.text(), some.none() | WHOLE | FLOATS | some.text()),
+)
+for kind, values in (
+    (float, FLOATS),
+    (int, WHOLE),
+    (Fraction, some.fractions()),
+    (Remark, REMARKS),
+):
     some.register_type_strategy(kind, values)
 
 
@@ -38,8 +45,13 @@ def test_columns_give_back_what_they_are_given(value: Answer | Item) -> None:
     """Each field comes back as it was, of any size, through SQLite's own columns."""
     columns = Columns(type(value))
     base = sqlite3.connect(":memory:")
-    base.execute(f"CREATE TABLE kept ({', '.join(f'c{place}' for place in range(len(columns.names)))})")
-    base.execute(f"INSERT INTO kept VALUES ({', '.join('?' * len(columns.names))})", columns.cells(value))
+    base.execute(
+        f"CREATE TABLE kept ({', '.join(f'c{place}' for place in range(len(columns.names)))})"
+    )
+    base.execute(
+        f"INSERT INTO kept VALUES ({', '.join('?' * len(columns.names))})",
+        columns.cells(value),
+    )
     assert columns.value(base.execute("SELECT * FROM kept").fetchone()) == value
 
 
@@ -60,36 +72,54 @@ def test_a_store_keeps_answers_and_faults(tmp_path: Path) -> None:
     keep(Store(path, Item), ("b", "2", item("b")), ("a", "1", fault))
     keep(Store(path, Item), ("b", "3", item("c")), ("a", "1", fault))
     again = Store(path, Item)
-    assert [*again.answers()] == [("a", "1", fault), ("b", "3", item("c"))] and [*again.answers("b", "b")][0][0] == "b"
+    assert [*again.answers()] == [("a", "1", fault), ("b", "3", item("c"))]
+    assert [*again.answers("b", "b")][0][0] == "b"
     assert [*again.digests()] == [("a", "1"), ("b", "3")]
-    assert again.digest_for("b") == "3" and again.digest_for("c") is None
-    assert again.answer("b") == again.found("b", "3") == item("c") and again.answer("c") is again.found("b", "2") is None
+    assert again.digest_for("b") == "3"
+    assert again.digest_for("c") is None
+    assert again.answer("b") == again.found("b", "3") == item("c")
+    assert again.answer("c") is again.found("b", "2") is None
     assert [*again.cells("holding")] == [("a", fault, None), ("b", None, "2")]
-    assert again.lacking([("a", "1"), ("b", "2")]) == [("b", "2")] and again.lacking([]) == []
+    assert again.lacking([("a", "1"), ("b", "2")]) == [("b", "2")]
+    assert again.lacking([]) == []
     assert (again.fact("one"), again.fact("two")) == ("text", None)
     again.replace("b", "4", item("d"))
-    assert again.found("b", "3") is None and again.found("b", "4") == item("d")
+    assert again.found("b", "3") is None
+    assert again.found("b", "4") == item("d")
     again.close()
     path.write_bytes(b"no store" * 999)
     with pytest.raises(Damaged, match="kept: "):
         Store(path, Item)
     path.unlink()
-    keep(Store(path, Item), *((f"{place:04}", "1", item("a")) for place in range(2_000)))
+    keep(
+        Store(path, Item), *((f"{place:04}", "1", item("a")) for place in range(2_000))
+    )
     data = path.read_bytes()
-    path.write_bytes(data[:len(data) // 2] + bytes(4_096) + data[len(data) // 2 + 4_096:])
+    path.write_bytes(
+        data[: len(data) // 2] + bytes(4_096) + data[len(data) // 2 + 4_096 :]
+    )
     with pytest.raises(Damaged, match="kept: "):
         [*Store(path, Item).answers()]
 
 
-@pytest.mark.parametrize("change", ["UPDATE answers SET holding = 3", "UPDATE answers SET seal = 'x'",
-                                    "UPDATE answers SET digest = 'x'", "DELETE FROM answers"])
+@pytest.mark.parametrize(
+    "change",
+    [
+        "UPDATE answers SET holding = 3",
+        "UPDATE answers SET seal = 'x'",
+        "UPDATE answers SET digest = 'x'",
+        "DELETE FROM answers",
+    ],
+)
 def test_a_changed_answer_is_damaged(tmp_path: Path, change: str) -> None:
     """An answer that is not as it was kept, or is missing, is named, with what to do."""
     keep(Store(tmp_path / "kept", Item), ("a", "1", item("a")))
     store = Store(tmp_path / "kept", Item)
     with store.base:
         store.base.execute(change)
-    with pytest.raises(Damaged, match="kept: the answer to 'a' is not as it was kept: .* remove it"):
+    with pytest.raises(
+        Damaged, match="kept: the answer to 'a' is not as it was kept: .* remove it"
+    ):
         store.answer("a")
 
 
@@ -109,8 +139,10 @@ def test_arrays_and_bytes(tmp_path: Path) -> None:
     store.close()
     read = Store(tmp_path / "kept", Arrays, is_read=True)
     found = read.found("a", "1")
-    assert isinstance(found, Arrays) and found.data == value.data
-    assert found.numbers.tobytes() == value.numbers.tobytes() and found.numbers.shape == (2, 3)
+    assert isinstance(found, Arrays)
+    assert found.data == value.data
+    assert found.numbers.tobytes() == value.numbers.tobytes()
+    assert found.numbers.shape == (2, 3)
     assert [path.name for path in tmp_path.iterdir()] == ["kept"]
 
 
@@ -118,20 +150,14 @@ def test_arrays_and_bytes(tmp_path: Path) -> None:
 def test_sums_are_exact(numbers: list[float], times: int) -> None:
     """Numbers that cancel one another leave the others whole, in any number, order and groups."""
     many = [*numbers, *([1e16, 0.1, -1e16] * 12)] * times
-    exact = sum(map(Fraction, many))
-    sums = ExactSums()
+    totals = Totals(verdicts=Counter("ab"), corrected=Counter({0.95: 2}), priced=1)
     for number in many:
-        sums.add("x", number)
-    assert math.isclose(sums["x"], float(exact), rel_tol=1e-15, abs_tol=1e-9)
-    assert sums["y"] == 0 and "y" not in sums and len(sums.tree["x"]) < 100
-    trees = []
-    for some in (many[:len(many) // 3], many[len(many) // 3:]):
-        part = Totals(verdicts=Counter("ab"), corrected=Counter({0.95: 2}), priced=1)
-        part.parts.add("x", *some)
-        trees.append(json.loads(json.dumps(part.tree)))
-    together = Totals.together(trees)
-    assert sum(map(Fraction, together.parts.tree["x"])) == exact
-    assert (together.verdicts, together.corrected, together.priced) == ({"a": 2, "b": 2}, {0.95: 4}, 2)
+        totals.add_to("x", number)
+    read = Totals.parse(totals.json)
+    assert read["x"] == math.fsum(many) == float(sum(map(Fraction, many)))
+    assert read == totals
+    assert read["y"] == 0
+    assert "y" not in read.parts
 
 
 COSTS = st.fractions(Fraction(1, 10_000), 10_000, max_denominator=10_000)
@@ -145,11 +171,17 @@ def test_whole_rates(holding: Fraction, backlog: Fraction, setup: Fraction) -> N
     try:
         rates, scale, error = rounded_costs(costs, "holding")
     except Refused as why:
-        assert "too far apart" in str(why) and (setup > 10**8 * holding or backlog > 10**4 * holding)
+        assert "too far apart" in str(why)
+        assert setup > 10**8 * holding or backlog > 10**4 * holding
         return
     assert rates["holding"] == holding * scale > 0
-    assert all(abs(rates[it] - costs[it] * scale) <= Fraction(1, 2) for it in costs)
-    assert all(low <= rates[it] <= high for it in costs for low, high in [formats.limits("costs", it)])
+    for it in costs:
+        assert abs(rates[it] - costs[it] * scale) <= Fraction(1, 2)
+    assert all(
+        low <= rates[it] <= high
+        for it in costs
+        for low, high in [formats.limits("costs", it)]
+    )
     worst = max(abs(rates[it] / (costs[it] * scale) - 1) for it in costs if costs[it])
     assert abs(error - worst) < 1e-12
 
@@ -161,5 +193,6 @@ def test_finest_rates(setup: int, holding: int) -> None:
     rates, scale = finest({"setup": setup, "holding": holding}, Fraction(3))
     times = scale / 3
     assert rates == {"setup": setup * times, "holding": holding * times}
-    assert rates["setup"] <= 10**8 and rates["holding"] <= 10_000
+    assert rates["setup"] <= 10**8
+    assert rates["holding"] <= 10_000
     assert 10 * rates["setup"] > 10**8 or 10 * rates["holding"] > 10_000

@@ -73,21 +73,25 @@ def stationary(moves: np.ndarray, above: int) -> np.ndarray:
 def drawn(law: np.ndarray, least: int, net: np.ndarray) -> np.ndarray:
     """Returns the joint law after one demand, before an order: each depth by a transform of the sum."""
     size = 1 << (len(law) + len(net)).bit_length()
-    sums = np.fft.irfft(np.fft.rfft(law, size, axis=0) * np.fft.rfft(net, size)[:, None], size, axis=0)
-    after = sums[-least:len(law) + len(net) - 1]
+    sums = np.fft.irfft(
+        np.fft.rfft(law, size, axis=0) * np.fft.rfft(net, size)[:, None], size, axis=0
+    )
+    after = sums[-least : len(law) + len(net) - 1]
     after[0] += sums[:-least].sum(axis=0)
     return after
 
 
-def stepped(law: np.ndarray, least: int, net: np.ndarray, above: int, late: float) -> np.ndarray:
+def stepped(
+    law: np.ndarray, least: int, net: np.ndarray, above: int, late: float
+) -> np.ndarray:
     """Returns the joint law of the depth and of what is under way after one more review, whose order may be late."""
     after = drawn(law, least, net)
-    kept, ordered = after[:len(law)], after[len(law):]
+    kept, ordered = after[: len(law)], after[len(law) :]
     wide = np.zeros((len(kept), law.shape[1] + len(after) - above))
-    wide[:, :law.shape[1]] = kept
-    wide[above, :law.shape[1]] += (1 - late) * ordered.sum(axis=0)
+    wide[:, : law.shape[1]] = kept
+    wide[above, : law.shape[1]] += (1 - late) * ordered.sum(axis=0)
     for place, row in enumerate(ordered, len(kept) - above):
-        wide[above, place:place + len(row)] += late * row
+        wide[above, place : place + len(row)] += late * row
     used = np.nonzero(wide.sum(axis=0) > LEAST_CHANCE)[0][-1] + 1
     return wide[:, :used]
 
@@ -97,27 +101,37 @@ def shortfall_of(scenario: Scenario, gap: int) -> Shortfall:
     least, net = net_demand(scenario)
     above, moves = moves_of(least, net, gap)
     law = stationary(moves, above)[:, None]
-    orders = float((law[:, 0] @ moves[:, len(moves):]).sum())
+    orders = float((law[:, 0] @ moves[:, len(moves) :]).sum())
     lead = chances_of(scenario.lead)
     for age in range(len(lead) - 2, -1, -1):
-        law = stepped(law, least, net, above, float(lead[age + 1:].sum()))
+        law = stepped(law, least, net, above, float(lead[age + 1 :].sum()))
     chances = np.zeros(sum(law.shape) - 1)
     for depth, row in enumerate(law):
-        chances[depth:depth + len(row)] += row
+        chances[depth : depth + len(row)] += row
     back = chances_of(scenario.returns or Law((0,), (1,)))
-    return Shortfall(least - above, np.convolve(chances, net), orders, np.convolve(chances, back[::-1]))
+    return Shortfall(
+        least - above,
+        np.convolve(chances, net),
+        orders,
+        np.convolve(chances, back[::-1]),
+    )
 
 
 def fills_of(scenario: Scenario, short: Shortfall, levels: np.ndarray) -> np.ndarray:
     """Returns the share of demand that is met at once with each order-up-to level S."""
     stock = np.maximum(levels[:, None] - short.least - np.arange(len(short.before)), 0)
-    met = sum(chance * np.minimum(stock, asked) @ short.before
-              for asked, chance in enumerate(chances_of(scenario.demand)))
+    met = sum(
+        chance * np.minimum(stock, asked) @ short.before
+        for asked, chance in enumerate(chances_of(scenario.demand))
+    )
     return met / float(scenario.demand.mean)
 
 
 def costs_of(scenario: Scenario, short: Shortfall, levels: np.ndarray) -> np.ndarray:
-    stock, costs = levels[:, None] - short.least - np.arange(len(short.chances)), scenario.costs
+    stock, costs = (
+        levels[:, None] - short.least - np.arange(len(short.chances)),
+        scenario.costs,
+    )
     rates = np.where(stock > 0, costs.holding * stock, -costs.backlog * stock)
     return costs.setup * short.orders + rates @ short.chances
 
@@ -130,7 +144,9 @@ def best_of_gap(scenario: Scenario, gap: int) -> Best:
     """Returns the best policy of a gap S - s, with s at least 0."""
     short, costs = shortfall_of(scenario, gap), scenario.costs
     ratio = costs.backlog / (costs.backlog + costs.holding)
-    level = max(gap, short.least + int(np.searchsorted(np.cumsum(short.chances), ratio)))
+    level = max(
+        gap, short.least + int(np.searchsorted(np.cumsum(short.chances), ratio))
+    )
     return Best(cost_of(scenario, short, level), level - gap, level)
 
 

@@ -14,7 +14,9 @@ from crnplan.toml.documents import places_of, read_document, text_of_document
 from crnplan.toml.scenarios import read_scenario
 from planner.tests.conftest import Command
 
-EDITS: dict[str, dict[str, Any]] = tomllib.loads(Path(__file__).with_name("edits.toml").read_text("utf-8"))
+EDITS: dict[str, dict[str, Any]] = tomllib.loads(
+    Path(__file__).with_name("edits.toml").read_text("utf-8")
+)
 # What the first line has: the line of a fault of something that stands in the text.
 PLACED = re.compile("fault [0-9]+: (line [0-9]+|the document: )|no fault")
 
@@ -27,7 +29,9 @@ def cases(table: str) -> Iterator[Any]:
 
 
 @pytest.mark.parametrize("example, case", cases("edits"))
-def test_number_is_that_of_the_program(example: str, case: list[Any], top: Path, program: Path) -> None:
+def test_number_is_that_of_the_program(
+    example: str, case: list[Any], top: Path, program: Path
+) -> None:
     """Compares the number of the first fault of an edited scenario with the program's, and looks for its line."""
     number, *pairs = case
     text = (top / f"examples/{example}.toml").read_text("utf-8")
@@ -36,7 +40,9 @@ def test_number_is_that_of_the_program(example: str, case: list[Any], top: Path,
         text = text.replace(old, new)
     data = text.encode("latin-1")
     ran = subprocess.run([program], input=data, capture_output=True, timeout=60)
-    assert (ran.returncode, ran.stderr) == ((3, b"crnsim: scenario %d\n" % number) if number else (0, b""))
+    assert (ran.returncode, ran.stderr) == (
+        (3, b"crnsim: scenario %d\n" % number) if number else (0, b"")
+    )
     said = ([fault.text for fault in read_scenario(data)[1]] or ["no fault"])[0]
     assert said.startswith(f"fault {number}: " if number else "no fault")
     assert number == 1 or PLACED.match(said)
@@ -50,7 +56,8 @@ def test_messages(part: str, case: list[Any], two_policies: str) -> None:
     said = [fault.text for fault in faults] or ["no fault"]
     assert len(said) == len(wanted)
     for line, (start, *parts) in zip(said, wanted):
-        assert line.startswith(start) and all(part in line for part in parts)
+        assert line.startswith(start)
+        assert all(part in line for part in parts)
 
 
 @pytest.mark.parametrize("name", EDITS["lines"])
@@ -60,12 +67,27 @@ def test_lines_in_many_spellings(name: str) -> None:
     tree, faults = read_document(text.encode())
     found = places_of(text_of_document(text.encode()), tree)
     assert not faults
-    assert sorted(f"{'/'.join(map(str, path))} {line}" for path, (line, _) in found.items()) == sorted(wanted)
-    for line, column in found.values():  # of the first character of a key, an entry or a header
-        before, rest = text.split("\n")[line - 1][:column - 1], text.split("\n")[line - 1][column - 1:]
-        assert rest[0] not in " ,=" and (not before.strip() or before[-1] in " ,[{")
-    assert places_of(text_of_document(text.replace("\n", "\r\n").encode()), tree) == found
-    assert places_of(text, {**tree, "other": 1}) == places_of(f"{text}\nother", {**tree, "other": 1}) == {}
+    assert sorted(
+        f"{'/'.join(map(str, path))} {line}" for path, (line, _) in found.items()
+    ) == sorted(wanted)
+    for (
+        line,
+        column,
+    ) in found.values():  # of the first character of a key, an entry or a header
+        before, rest = (
+            text.split("\n")[line - 1][: column - 1],
+            text.split("\n")[line - 1][column - 1 :],
+        )
+        assert rest[0] not in " ,="
+        assert not before.strip() or before[-1] in " ,[{"
+    assert (
+        places_of(text_of_document(text.replace("\n", "\r\n").encode()), tree) == found
+    )
+    assert (
+        places_of(text, {**tree, "other": 1})
+        == places_of(f"{text}\nother", {**tree, "other": 1})
+        == {}
+    )
 
 
 def test_columns(two_policies: str, tmp_path: Path, crnplan: Command) -> None:
@@ -73,29 +95,50 @@ def test_columns(two_policies: str, tmp_path: Path, crnplan: Command) -> None:
     tree, _ = read_document(two_policies.encode())
     lines = two_policies.splitlines()
     for path, (line, column) in places_of(two_policies, tree).items():
-        rest, last = lines[line - 1][column - 1:], path[-1]
+        rest, last = lines[line - 1][column - 1 :], path[-1]
         if isinstance(last, str):
             assert rest.startswith((last, f"[{last}]", f"[[{last}]]"))
         elif path[0] != "policy":
             entries = tree[path[0]] if len(path) == 2 else tree[path[0]][path[1]]
-            assert rest.startswith(f'"{entries[last - 1]}"' if path[0] == "key" else str(entries[last - 1]))
+            assert rest.startswith(
+                f'"{entries[last - 1]}"' if path[0] == "key" else str(entries[last - 1])
+            )
     path = tmp_path / "missing.toml"
-    assert crnplan("why", path) == (2, "", f"crnplan: {path}: No such file or directory\n")
+    assert crnplan("why", path) == (
+        2,
+        "",
+        f"crnplan: {path}: No such file or directory\n",
+    )
 
 
-WHOLE = {"empty": (b"", 1, "missing"), "a picture": (b"\x89PNG\r\n\x1a\n\0\0", 1, "UTF-8"),
-         "UTF-16": ("version = 1\n".encode("utf-16-le"), 1, "UTF-16"), "brackets": (b"[" * 5000, 1, ""),
-         "quotes": (b'a = "' * 500, 1, ""),
-         "digits": (b"a = " + b"9" * 5000, 1, "an integer is beyond 64 bits (write a number within its range)"),
-         "fewer digits": (b"a = " + b"9" * 400, 1, "hundreds of digits"),
-         "a long file": (b"#" * 1_048_577, 2, "1,048,576")}
+WHOLE = {
+    "empty": (b"", 1, "missing"),
+    "a picture": (b"\x89PNG\r\n\x1a\n\0\0", 1, "UTF-8"),
+    "UTF-16": ("version = 1\n".encode("utf-16-le"), 1, "UTF-16"),
+    "brackets": (b"[" * 5000, 1, ""),
+    "quotes": (b'a = "' * 500, 1, ""),
+    "digits": (
+        b"a = " + b"9" * 5000,
+        1,
+        "an integer is beyond 64 bits (write a number within its range)",
+    ),
+    "fewer digits": (b"a = " + b"9" * 400, 1, "hundreds of digits"),
+    "a long file": (b"#" * 1_048_577, 2, "1,048,576"),
+}
 
 
 @pytest.mark.parametrize("name", WHOLE)
-def test_files_that_are_no_scenarios(name: str, tmp_path: Path, crnplan: Command) -> None:
+def test_files_that_are_no_scenarios(
+    name: str, tmp_path: Path, crnplan: Command
+) -> None:
     data, status, part = WHOLE[name]
     (tmp_path / "edited.toml").write_bytes(data)
-    for answer in (crnplan("why", tmp_path / "edited.toml"), crnplan("why", "-", data=data)):
+    for answer in (
+        crnplan("why", tmp_path / "edited.toml"),
+        crnplan("why", "-", data=data),
+    ):
         lines = (answer.output if status == 1 else answer.errors).splitlines()
-        assert answer.status == status and (len(lines) == 1 or name == "empty" and lines)
-        assert part in lines[0] and "Traceback" not in answer.errors
+        assert answer.status == status
+        assert len(lines) == 1 or name == "empty" and lines
+        assert part in lines[0]
+        assert "Traceback" not in answer.errors

@@ -46,6 +46,10 @@ class Period(NamedTuple):
     position: int
     unmet: int = 0
 
+    def times(self, box: int) -> Period:
+        """Returns the period with so many items for each."""
+        return Period(*(box * count for count in self))
+
     def cost(self, rates: Rates) -> Fraction | int:
         """Returns what the period costs."""
         if self.stock >= 0:
@@ -57,7 +61,9 @@ class Period(NamedTuple):
         return cost
 
 
-def periods_of(past: Past, levels: Iterable[Levels], initial: int, pack: int = 1) -> list[Period]:
+def periods_of(
+    past: Past, levels: Iterable[Levels], initial: int, pack: int = 1
+) -> list[Period]:
     """Returns the periods of a policy that starts with a stock and nothing on order.
 
     Its s and S may change from one period to the next. Orders are rounded up to packs of so many items.

@@ -16,13 +16,15 @@ from typing import IO
 
 from ..errors import ProgramError, ProgramFailed, argument
 from ..formats import STATUSES, status_of
-from ..interrupts import interrupted_later
+from ..store.interrupts import interrupted_later
 
 VARIABLE = "CRNSIM"
 STREAMS = "input", "output", "errors"
 JOBS = 4  # runs at a time: a run itself uses several processors
 # Statuses with which no input is to blame.
-FAILURES = {STATUSES[line] for line in ("reading", "writing", "thread", "gate", "memory")}
+FAILURES = {
+    STATUSES[line] for line in ("reading", "writing", "thread", "gate", "memory")
+}
 # A run that takes longer never ends: the largest one takes some 30 ms on four processors.
 RUN_SECONDS = 100.0
 C_LIBRARY = ctypes.CDLL(None)
@@ -32,8 +34,11 @@ def _named(path: str | Path, how: str) -> Path:
     """Returns the absolute path of a program that is named: a path, or a plain name that is searched on PATH."""
     program = shutil.which(path)
     if program is None:
-        here = f"{path} can't be run" if os.path.exists(path) else f"there is no program {path}"
-        raise ProgramError(f"{how}: {here}; build crnsim, or name it with {argument('program')}")
+        is_there = os.path.exists(path)
+        here = f"{path} can't be run" if is_there else f"there is no program {path}"
+        raise ProgramError(
+            f"{how}: {here}; build crnsim, or name it with {argument('program')}"
+        )
     return Path(os.path.abspath(program))
 
 
@@ -56,8 +61,10 @@ def program_and_reason(named: str | Path | None = None) -> tuple[Path, str]:
             return build, "the build of the repository"
     if shutil.which("crnsim"):
         return _named("crnsim", "PATH"), "PATH"
-    raise ProgramError(f"crnsim was not found; build it, put it on PATH, or name it with {argument('program')} or the "
-                       f"variable {VARIABLE}")
+    raise ProgramError(
+        f"crnsim was not found; build it, put it on PATH, or name it with {argument('program')} or the "
+        f"variable {VARIABLE}"
+    )
 
 
 @dataclass(frozen=True)
@@ -72,7 +79,9 @@ class Build:
 def build_of_package() -> Build | None:
     """Returns what the package is built of; None in a checkout of the repository."""
     path = Path(__file__).with_name("built.toml")
-    return Build(**tomllib.loads(path.read_text("utf-8"))) if path.exists() else None
+    if not path.exists():
+        return None
+    return Build(**tomllib.loads(path.read_text("utf-8")))
 
 
 def find_program(named: str | Path | None = None) -> Path:
@@ -90,8 +99,10 @@ def program_for(named: str | Path | None, cluster: object) -> str:
 @contextlib.contextmanager
 def own_processor() -> Iterator[None]:
     """Starts programs on the processor of this thread alone, if this is one of several processes that plan side by
-    side: on several processors the threads of a short run wait for one another, which takes twice as long."""
+    side: on several processors the threads of a short run wait for one another, which takes twice as long.
+    """
     from multiprocessing import parent_process
+
     if parent_process() is None or not hasattr(os, "sched_setaffinity"):
         yield
         return
@@ -109,20 +120,32 @@ class Runs:
     def __init__(self) -> None:
         self.under_way, self.is_over = set[subprocess.Popen[bytes]](), False
 
-    def status_of(self, program: Path, words: Sequence[str], given: IO[bytes], output: IO[bytes],
-                  errors: IO[bytes]) -> int:
+    def status_of(
+        self,
+        program: Path,
+        words: Sequence[str],
+        given: IO[bytes],
+        output: IO[bytes],
+        errors: IO[bytes],
+    ) -> int:
         """Runs the program, and returns its status. It is ended if it takes too long, or if an error is raised
         meanwhile. Raises ProgramFailed."""
         with contextlib.ExitStack() as stack:
             with own_processor(), interrupted_later():
-                run = stack.enter_context(subprocess.Popen([program, *words], stdin=given, stdout=output, stderr=errors))
+                run = stack.enter_context(
+                    subprocess.Popen(
+                        [program, *words], stdin=given, stdout=output, stderr=errors
+                    )
+                )
                 stack.callback(self.under_way.discard, run)
                 stack.callback(run.kill)
                 self.under_way.add(run)
             if not self.is_over and has_ended(run):
                 return run.wait()
-        raise ProgramFailed(f"{program}: a run has not ended in {RUN_SECONDS:g} seconds, and was ended",
-                            "look for processes and memory of this machine, and run again")
+        raise ProgramFailed(
+            f"{program}: a run has not ended in {RUN_SECONDS:g} seconds, and was ended",
+            "look for processes and memory of this machine, and run again",
+        )
 
     def end(self) -> None:
         """Ends all runs, and begins no more."""
@@ -147,41 +170,66 @@ def has_ended(run: subprocess.Popen[bytes]) -> bool:
         os.close(ending)
 
 
-def run_program(program: Path, text: str, *words: str, together: Runs | None = None) -> str:
+def run_program(
+    program: Path, text: str, *words: str, together: Runs | None = None
+) -> str:
     """Runs the program with words on a text, perhaps together with other runs, and returns its standard output. Raises
     ProgramError with its line.
 
     Its streams are files in memory: pipes would wake both processes in turn.
     """
     with contextlib.ExitStack() as stack:
-        given, output, errors = (stack.enter_context(open(os.memfd_create(name), "w+b", 0)) for name in STREAMS)
+        given, output, errors = (
+            stack.enter_context(open(os.memfd_create(name), "w+b", 0))
+            for name in STREAMS
+        )
         given.write(text.encode())
         given.seek(0)
         try:
-            status = (together or Runs()).status_of(program, words, given, output, errors)
+            status = (together or Runs()).status_of(
+                program, words, given, output, errors
+            )
         except OSError as fault:
-            raise ProgramError(f"{program}: {fault.strerror}; build crnsim, or name it with "
-                               f"{argument('program')}") from fault
+            raise ProgramError(
+                f"{program}: {fault.strerror}; build crnsim, or name it with "
+                f"{argument('program')}"
+            ) from fault
         for file in (output, errors):
             file.seek(0)
         written, said = output.read(), errors.read()
-    if status == 0:
-        return written.decode()
-    line = "; ".join(said.decode(errors="replace").splitlines()) or f"no output, status {status}"
+    _check_status(program, status, said.decode(errors="replace"))
+    return written.decode()
+
+
+def _check_status(program: Path, status: int, said: str) -> None:
+    """Raises ProgramError, with what the program has said, if its status is not 0."""
+    line = "; ".join(said.splitlines()) or f"no output, status {status}"
     if status < 0 or status in FAILURES:
-        raise ProgramFailed(f"{program}: {line}", "look for memory and processes of this machine, and run again")
-    raise ProgramError(f"{program}: {line}" + "; crnplan why says why" * (status == status_of("scenario")))
+        raise ProgramFailed(
+            f"{program}: {line}",
+            "look for memory and processes of this machine, and run again",
+        )
+    hint = "; crnplan why says why" * (status == status_of("scenario"))
+    if status:
+        raise ProgramError(f"{program}: {line}{hint}")
 
 
-def run_all(program: Path, runs: Iterable[tuple[str, ...]], jobs: int = JOBS) -> list[str]:
+def run_all(
+    program: Path, runs: Iterable[tuple[str, ...]], jobs: int = JOBS
+) -> list[str]:
     """Runs the program several times at once, each time on a text with words, and returns the outputs in order."""
     given = list(runs)
-    if len(given) == 1:  # as for most items of a catalogue: threads would take longer than the run
+    if len(given) == 1:
+        # As for most items of a catalogue: threads would take longer than the run.
         return [run_program(program, *given[0])]
     together = Runs()
-    with ThreadPoolExecutor(jobs) as pool:  # whose map begins no more runs when one has failed
+    with ThreadPoolExecutor(jobs) as pool:
+        # When one has failed, the map begins no more runs.
+        def run_one(run: tuple[str, ...]) -> str:
+            return run_program(program, *run, together=together)
+
         try:
-            return list(pool.map(lambda run: run_program(program, *run, together=together), given))
+            return list(pool.map(run_one, given))
         except BaseException:
             together.end()
             raise
@@ -189,5 +237,6 @@ def run_all(program: Path, runs: Iterable[tuple[str, ...]], jobs: int = JOBS) ->
 
 def writes_known_report(program: Path) -> bool:
     """Returns whether the program writes the known report on a small scenario. Raises ProgramError if it fails."""
-    scenario, report = (Path(__file__).with_name(f"example.{end}").read_text("utf-8") for end in ("toml", "csv"))
-    return run_program(program, scenario) == report
+    folder = Path(__file__).parent
+    scenario = (folder / "example.toml").read_text("utf-8")
+    return run_program(program, scenario) == (folder / "example.csv").read_text("utf-8")

@@ -26,11 +26,12 @@ from pathlib import Path
 from typing import TYPE_CHECKING, Any
 
 from .. import formats
+from ..columns import columns_of
 from ..toml.documents import shown
 from ..toml.scenarios import checked_tree, name_faults, plain_text
 from ..errors import Fault, ProgramError, Refused, argument
 from ..scenario import Costs, Policy, Scenario
-from ..table import DataTable, Json, Result, fraction, name, whole
+from ..table import DataTable, Json, Result
 from .program import find_program, run_all
 
 if TYPE_CHECKING:
@@ -41,13 +42,7 @@ if TYPE_CHECKING:
 HEADER = list(formats.COLUMNS)
 WHOLE = re.compile("-?[0-9]{1,40}")
 FRACTION = re.compile("-?[0-9]{1,60}/[1-9][0-9]{0,59}")
-COLUMNS = (
-    name("policy", meaning="name of the policy"), whole("s", "items", "reorder point"),
-    whole("S", "items", "order-up-to level"), whole("total", "money", "cost of all replications"),
-    fraction("per_period", "money a period", "mean cost"), whole("diff_total", "money", "total less the base's"),
-    fraction("diff_mean", "money a replication", "mean difference from the base's cost"),
-    fraction("diff_var", "squared money", "variance of that mean"),
-    fraction("cov", "squared money", "covariance of both costs"))
+COLUMNS = columns_of("crnsim", "report")
 NO_COSTS = Costs(0, 0, 0, 0)
 # Columns whose cell may be `-`, which stands for no figure.
 MAY_LACK = ("diff_var", "cov")
@@ -74,7 +69,7 @@ class Row:
 
 def table_of(rows: Iterable[Row]) -> DataTable:
     """Returns rows as a table, indexed by `policy`. As CSV it is the report that the program would write."""
-    return DataTable(COLUMNS, [[getattr(row, name) for name in HEADER] for row in rows], index="policy")
+    return DataTable.of(COLUMNS, [*rows], index="policy")
 
 
 def _refused(what: str, place: str, line: int) -> Refused:
@@ -91,7 +86,11 @@ def _value(name: str, cell: str, place: str, line: int) -> Any:
     whole = name in formats.WHOLE
     if not (WHOLE if whole else FRACTION).fullmatch(cell):
         kind = "a whole number" if whole else "a fraction such as 359/4"
-        raise _refused(f"column {name}: {shown(cell)} is not {kind}; give crnsim's own report", place, line)
+        raise _refused(
+            f"column {name}: {shown(cell)} is not {kind}; give crnsim's own report",
+            place,
+            line,
+        )
     return int(cell) if whole else Fraction(cell)
 
 
@@ -105,16 +104,24 @@ def read_rows(text: str, place: str = "") -> list[Row]:
     except csv.Error as fault:
         raise _refused(f"this is no report of crnsim: {fault}", place, 0) from fault
     if heading != HEADER:
-        raise _refused(f"this is no report of crnsim, whose first line is {formats.HEADER}", place, 1)
+        raise _refused(
+            f"this is no report of crnsim, whose first line is {formats.HEADER}",
+            place,
+            1,
+        )
     if not lines:
         raise _refused("the report has no policy", place, 0)
     rows = list[Row]()
     for line, cells in enumerate(lines, 2):
         if len(cells) != len(HEADER):
             raise _refused(f"{len(cells)} columns, not {len(HEADER)}", place, line)
-        rows.append(Row(*(_value(name, cell, place, line) for name, cell in zip(HEADER, cells))))
+        rows.append(
+            Row(*(_value(name, cell, place, line) for name, cell in zip(HEADER, cells)))
+        )
     if rows[0].diff_total != 0:
-        raise _refused("the first policy is not the base, whose differences are 0", place, 2)
+        raise _refused(
+            "the first policy is not the base, whose differences are 0", place, 2
+        )
     return rows
 
 
@@ -126,12 +133,16 @@ def rows_of(scenario: Scenario, text: str, program: str | Path) -> list[Row]:
         rows = []
     policies = [Policy(row.policy, row.s, row.S) for row in rows]
     if policies != [*scenario.policies]:
-        raise ProgramError(f"{program}: what it writes is no report of the scenario; name crnsim with "
-                           f"{argument('program')}")
+        raise ProgramError(
+            f"{program}: what it writes is no report of the scenario; name crnsim with "
+            f"{argument('program')}"
+        )
     return rows
 
 
-def pooled(reports: Sequence[Sequence[Row]], replications: int, periods: int) -> list[Row]:
+def pooled(
+    reports: Sequence[Sequence[Row]], replications: int, periods: int
+) -> list[Row]:
     """Returns the rows of all replications. Each of the reports has the same policies and so many replications."""
     rows, own = list[Row](), replications
     count = own * len(reports)
@@ -139,36 +150,57 @@ def pooled(reports: Sequence[Sequence[Row]], replications: int, periods: int) ->
     for column in zip(*reports, strict=True):
         squares = products = Fraction(0)
         for row, report in zip(column, reports):
-            squares += (row.diff_var or 0) * own * (own - 1) + Fraction(row.diff_total**2, own)
-            products += (row.cov or 0) * (own - 1) + Fraction(row.total * report[0].total, own)
+            squares += (row.diff_var or 0) * own * (own - 1) + Fraction(
+                row.diff_total**2, own
+            )
+            products += (row.cov or 0) * (own - 1) + Fraction(
+                row.total * report[0].total, own
+            )
         total = sum(row.total for row in column)
         difference = total - base
         variance = (squares - Fraction(difference**2, count)) / (count * (count - 1))
         covariance = (products - Fraction(total * base, count)) / (count - 1)
-        rows.append(Row(column[0].policy, column[0].s, column[0].S, total, Fraction(total, count * periods), difference,
-                        Fraction(difference, count), variance, covariance))
+        rows.append(
+            Row(
+                column[0].policy,
+                column[0].s,
+                column[0].S,
+                total,
+                Fraction(total, count * periods),
+                difference,
+                Fraction(difference, count),
+                variance,
+                covariance,
+            )
+        )
     return rows
 
 
 def counting(scenario: Scenario, cost: str) -> Scenario:
     """Returns a scenario with one cost at 1 and the others at 0."""
-    return dataclasses.replace(scenario, costs=dataclasses.replace(NO_COSTS, **{cost: 1}))
+    return dataclasses.replace(
+        scenario, costs=dataclasses.replace(NO_COSTS, **{cost: 1})
+    )
 
 
 def parts_of(scenario: Scenario) -> list[Scenario]:
     """Returns a scenario for each run of any number of policies: at most 16 in a run, with the base in each."""
     base, *others = scenario.policies
     most = formats.POLICIES[1] - 1
-    return [scenario.with_policies([base, *others[start:start + most]])
-            for start in range(0, max(1, len(others)), most)]
+    return [
+        scenario.with_policies([base, *others[start : start + most]])
+        for start in range(0, max(1, len(others)), most)
+    ]
 
 
 def joined(reports: Sequence[Sequence[Row]], program: str | Path) -> list[Row]:
     """Returns the rows of all reports, the base once. Raises ProgramError if it has not the same row in all."""
     base = reports[0][0]
     if any(rows[0] != base for rows in reports):
-        raise ProgramError(f"{program}: the base has not the same row in all reports; name crnsim with "
-                           f"{argument('program')}")
+        raise ProgramError(
+            f"{program}: the base has not the same row in all reports; name crnsim with "
+            f"{argument('program')}"
+        )
     return [base, *(row for rows in reports for row in rows[1:])]
 
 
@@ -202,6 +234,7 @@ class Report(Result):
         """Returns all policies by rank, the cheapest first, with paired-t intervals and verdicts. `level` is above 0,
         below 1."""
         from ..decide.verdicts import decided
+
         return decided(self.rows, self.scenario.replications, level)
 
 
@@ -213,5 +246,7 @@ def report_of(scenario: Scenario, program: str | Path | None = None) -> Report:
     checked_tree(scenario.tree, any_number=True)
     found, parts = find_program(program), parts_of(scenario)
     texts = run_all(found, [(plain_text(part.tree),) for part in parts])
-    rows = joined([rows_of(part, text, found) for part, text in zip(parts, texts)], found)
+    rows = joined(
+        [rows_of(part, text, found) for part, text in zip(parts, texts)], found
+    )
     return Report(tuple(rows), scenario)

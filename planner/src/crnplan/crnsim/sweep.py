@@ -8,18 +8,18 @@ from operator import attrgetter
 from pathlib import Path
 
 from .. import formats
-from ..digests import digest_of
+from ..store.digests import digest_of
 from ..errors import Refused
-from ..files import own_folder
-from ..jobs import Scheduler, program_digest, workers_of
+from ..store.files import own_folder
+from ..store.clusters import Scheduler
+from ..store.means import Means
 from ..money import Number, whole
-from ..remarks import Remark
 from ..scenario import Policy, Scenario
-from ..stored import Store
+from ..store.stored import Store
 from ..toml.scenarios import checked_tree, plain_text
-from ..work import Work
+from ..store.work import Work
 from .program import program_for, run_program
-from .report import Report, joined, parts_of, rows_of
+from .report import Report, Row, joined, parts_of, rows_of
 
 REPORTS = "sweep.sqlite"
 
@@ -34,39 +34,52 @@ class Kept:
 def numbers_of(name: str, first: int, last: int, step: int) -> range:
     """Returns the numbers from `first` to `last` of one side of the grid, in items. `name` is s or S."""
     if not (0 <= first <= last <= formats.MOST_ITEMS and step >= 1):
-        raise Refused(f"--{name}: FROM and TO are 0 to {formats.MOST_ITEMS:,} and rise, and STEP is at least 1")
+        raise Refused(
+            f"--{name}: FROM and TO are 0 to {formats.MOST_ITEMS:,} and rise, and STEP is at least 1"
+        )
     return range(first, last + 1, step)
 
 
-def grid_of(scenario: Scenario, points: Iterable[Number], levels: Iterable[Number]) -> list[Policy]:
+def grid_of(
+    scenario: Scenario, points: Iterable[Number], levels: Iterable[Number]
+) -> list[Policy]:
     """Returns the pairs of the grid with s <= S, without the base's own. Raises Refused, also as a ScenarioError."""
     base = scenario.policies[0]
     rising = [whole(level, "S") for level in levels]
     grid = list[Policy]()
     for point in points:
         s = whole(point, "s")
-        grid += [Policy.of_levels(s, S) for S in rising if s <= S and (s, S) != (base.s, base.S)]
+        for S in rising:
+            if s <= S and (s, S) != (base.s, base.S):
+                grid.append(Policy.of_levels(s, S))
     if not grid:
         raise Refused("the grid has no pair with s <= S beside the base")
     if any(policy.name == base.name for policy in grid):
-        raise Refused(f"the base is called {base.name}, as a pair of the grid; give it another name")
+        raise Refused(
+            f"the base is called {base.name}, as a pair of the grid; give it another name"
+        )
     checked_tree(scenario.with_policies([base, *grid]).tree, any_number=True)
     return grid
 
 
-def run_parts(parts: Sequence[Scenario], program: str) -> list[Kept | Remark]:
-    """Runs the program on scenarios, and returns the reports. Raises ProgramError."""
-    kept = list[Kept | Remark]()
-    for part in parts:
-        report = run_program(Path(program), plain_text(part.tree))
-        rows_of(part, report, program)  # which checks it
-        kept.append(Kept(report))
-    return kept
+def run_part(part: Scenario, program: str) -> Kept:
+    """Runs the program on a scenario, and returns the report. Raises ProgramError."""
+    report = run_program(Path(program), plain_text(part.tree))
+    rows_of(part, report, program)  # which checks it
+    return Kept(report)
 
 
-def sweep(scenario: Scenario, s: Iterable[Number], S: Iterable[Number], *, jobs: int | None = None,
-          out: str | Path | None = None, cluster: Scheduler | None = None, program: str | Path | None = None,
-          progress: bool = False) -> Report:
+def sweep(
+    scenario: Scenario,
+    s: Iterable[Number],
+    S: Iterable[Number],
+    *,
+    jobs: int | None = None,
+    out: str | Path | None = None,
+    cluster: Scheduler | None = None,
+    program: str | Path | None = None,
+    progress: bool = False,
+) -> Report:
     """Compares all pairs of reorder points `s` and levels `S` (items) with the scenario's first policy, the base.
 
     Pairs with s above S are left out. All policies meet the same demands, under the scenario's key. The report has the
@@ -76,17 +89,42 @@ def sweep(scenario: Scenario, s: Iterable[Number], S: Iterable[Number], *, jobs:
     workers run the program at its path. `progress` shows on standard error how many scenarios are done. Raises Refused,
     ScenarioError if a level is out of range, ProgramError if a run fails, and Failed.
     """
+    means = Means(jobs, cluster, shown=progress)
     path = program_for(program, cluster)
     asked = scenario.with_policies([scenario.policies[0], *grid_of(scenario, s, S)])
-    parts = {f"{number:05}": part for number, part in enumerate(parts_of(asked))}
-    of_program = program_digest(path, cluster)
-    digests = {name: digest_of(plain_text(part.tree), of_program) for name, part in parts.items()}
-    with contextlib.nullcontext() if out is None else own_folder(Path(out), "sweep") as folder:
-        place = folder.store(REPORTS) if folder else Path(":memory:")
-        with contextlib.closing(Store(place, Kept)) as reports:
-            work = Work(reports, digests.items, parts.__getitem__, run_parts, (path,), unit="scenarios", batch=1)
-            work.finish(workers_of(jobs, cluster, path), shown=progress)
-            texts = {name: answer.report for name, _, answer in reports.answers() if isinstance(answer, Kept)}
-    base, *rows = joined([rows_of(part, texts[name], path) for name, part in parts.items()], path)
+    with contextlib.ExitStack() as stack:
+        place = Path(":memory:")
+        if out is not None:
+            folder = stack.enter_context(own_folder(Path(out), "sweep"))
+            place = folder.store(REPORTS)
+        store = stack.enter_context(contextlib.closing(Store(place, Kept)))
+        base, *rows = _joined_run(parts_of(asked), store, means, path)
     ranked = base, *sorted(rows, key=attrgetter("diff_total"))
-    return Report(ranked, scenario.with_policies(Policy(row.policy, row.s, row.S) for row in ranked))
+    policies = (Policy(row.policy, row.s, row.S) for row in ranked)
+    return Report(ranked, scenario.with_policies(policies))
+
+
+def _joined_run(
+    scenarios: Sequence[Scenario], store: Store[Kept], means: Means, path: str
+) -> list[Row]:
+    """Runs those scenarios of which a store has no report, and returns the rows of all, the base once."""
+    of_program = means.program_digest(path)
+    parts, digests = {}, {}
+    for number, part in enumerate(scenarios):
+        parts[f"{number:05}"] = part
+        digests[f"{number:05}"] = digest_of(plain_text(part.tree), of_program)
+    work = Work(
+        store,
+        digests.items,
+        parts.__getitem__,
+        run_part,
+        (path,),
+        unit="scenarios",
+        batch=1,
+    )
+    work.finish(means.workers(path), shown=means.shown)
+    rows = {}
+    for name, _, answer in store.answers():
+        if isinstance(answer, Kept):
+            rows[name] = rows_of(parts[name], answer.report, path)
+    return joined([rows[name] for name in parts], path)

@@ -14,10 +14,11 @@ from pathlib import Path
 from typing import NamedTuple
 
 from .. import formats
+from ..columns import columns_of
 from ..errors import ProgramError, Refused, argument
 from ..law import Law
 from ..scenario import Policy, Scenario
-from ..table import DataTable, text, whole
+from ..table import DataTable
 from .periods import Past, Period, Rates, periods_of
 from .program import find_program, run_all
 from .report import report_of
@@ -27,7 +28,12 @@ MOST_DRAWN = 208
 MOST_POLICIES = 8
 PERIODS_OF_BLOCK = 4
 # The words of a block as the program writes them: a line with its name for each of formats.DRAWS.
-WORDS = re.compile("".join(rf"{name}((?: [0-9a-f]{{16}}){{{PERIODS_OF_BLOCK}}})\n" for name in formats.DRAWS))
+WORDS = re.compile(
+    "".join(
+        rf"{name}((?: [0-9a-f]{{16}}){{{PERIODS_OF_BLOCK}}})\n"
+        for name in formats.DRAWS
+    )
+)
 
 
 class PeriodOf(NamedTuple):
@@ -38,13 +44,7 @@ class PeriodOf(NamedTuple):
     figures: Period
 
 
-COLUMNS = (
-    text("policy", "name of the policy").by("policy"),
-    whole("period", "periods", "number of the period, from 0").by("number"),
-    whole("ordered", "items", "what is ordered at its review").by("figures.ordered"),
-    whole("net_demand", "items", "demand less what customers return").by("figures.net_demand"),
-    whole("stock", "items", "stock at its end, below 0 if items are owed").by("figures.stock"),
-    whole("position", "items", "stock and all that is on order, at its end").by("figures.position"))
+COLUMNS = columns_of("crnsim", "trajectory")
 
 
 def table_of(names: Iterable[str], shown: Iterable[Sequence[Period]]) -> DataTable:
@@ -61,7 +61,9 @@ def chosen(scenario: Scenario, names: Sequence[str]) -> list[Policy]:
     known = {policy.name: policy for policy in scenario.policies}
     for name in names:
         if name not in known:
-            raise Refused(f"there is no policy {name!r}; the scenario has {', '.join(known)}")
+            raise Refused(
+                f"there is no policy {name!r}; the scenario has {', '.join(known)}"
+            )
     if len(set(names)) != len(names) or not 1 <= len(names) <= MOST_POLICIES:
         raise Refused(f"give 1 to {MOST_POLICIES} policies, each once")
     return [known[name] for name in names]
@@ -71,9 +73,13 @@ def shown_periods(scenario: Scenario, asked: int | None, is_drawn: bool) -> int:
     """Returns how many periods are shown: `asked`, or as many as a picture has room for."""
     periods = min(scenario.periods, MOST_DRAWN) if asked is None else asked
     if not 1 <= periods <= scenario.periods:
-        raise Refused(f"{argument('periods', str(periods))}: the scenario has 1 to {scenario.periods} periods")
+        raise Refused(
+            f"{argument('periods', str(periods))}: the scenario has 1 to {scenario.periods} periods"
+        )
     if is_drawn and periods > MOST_DRAWN:
-        raise Refused(f"{argument('periods', str(periods))}: a picture has room for {MOST_DRAWN} periods")
+        raise Refused(
+            f"{argument('periods', str(periods))}: a picture has room for {MOST_DRAWN} periods"
+        )
     return periods
 
 
@@ -93,18 +99,28 @@ def draws_of(scenario: Scenario, periods: int, program: Path) -> Past:
     """Returns what the first periods of replication 0 draw. Raises ProgramError."""
     blocks = range(-(-periods // PERIODS_OF_BLOCK))
     streams: list[list[int]] = [[] for _ in formats.DRAWS]
-    for block in run_all(program, [("", "words", *scenario.key, str(block)) for block in blocks], JOBS):
+    for block in run_all(
+        program, [("", "words", *scenario.key, str(block)) for block in blocks], JOBS
+    ):
         lines = WORDS.fullmatch(block)
         if lines is None:
-            raise ProgramError(f"{program}: what it writes are no words of a block; name crnsim with "
-                               f"{argument('program')}")
+            raise ProgramError(
+                f"{program}: what it writes are no words of a block; name crnsim with "
+                f"{argument('program')}"
+            )
         for words, line in zip(streams, lines.groups()):
             words += [int(word, 16) for word in line.split()]
     demand, lead, returns = (words[:periods] for words in streams)
-    return Past(drawn(scenario.demand, demand), drawn(scenario.returns, returns), drawn(scenario.lead, lead))
+    return Past(
+        drawn(scenario.demand, demand),
+        drawn(scenario.returns, returns),
+        drawn(scenario.lead, lead),
+    )
 
 
-def trajectories(scenario: Scenario, periods: int, *, program: str | Path | None = None) -> list[list[Period]]:
+def trajectories(
+    scenario: Scenario, periods: int, *, program: str | Path | None = None
+) -> list[list[Period]]:
     """Returns the first periods of each policy of a scenario in replication 0.
 
     That replication alone keeps its random numbers if the number of periods changes. Raises Refused if the scenario has
@@ -113,13 +129,17 @@ def trajectories(scenario: Scenario, periods: int, *, program: str | Path | None
     path = find_program(program)
     periods = shown_periods(scenario, periods, False)
     past = draws_of(scenario, periods, path)
-    report = report_of(replace(scenario, periods=periods, replications=1, source=None), path)
+    report = report_of(
+        replace(scenario, periods=periods, replications=1, source=None), path
+    )
     rates = Rates(*astuple(scenario.costs))
     shown = list[list[Period]]()
     for policy, row in zip(scenario.policies, report.rows, strict=True):
         run = periods_of(past, [(policy.s, policy.S)] * periods, scenario.initial)
         if sum(period.cost(rates) for period in run) != row.total:
-            raise ProgramError(f"{path}: the total of {policy.name} is not that of its periods; name crnsim with "
-                               f"{argument('program')}")
+            raise ProgramError(
+                f"{path}: the total of {policy.name} is not that of its periods; name crnsim with "
+                f"{argument('program')}"
+            )
         shown.append(run)
     return shown

@@ -8,25 +8,21 @@ others may be better. There are candidates for dearer orders too, of which fewer
 """
 from __future__ import annotations
 
-from collections.abc import Callable, Iterable, Sequence
+from collections.abc import Iterable, Sequence
 from dataclasses import dataclass
 
 import numpy as np
 import numpy.typing as npt
 
 from ..chances import Floats, Whole
-from ..plan.answer import Laws
-from ..plan.one import or_fault
-from ..plan.question import Settings, Terms, terms_of
-from ..records.item import Item
-from ..remarks import Remark
+from ..plan.question import Terms
 from ..theory.long_run import LongRun
 from .every_gap import best_policies
 
 # Answers of other versions are not used again.
 VERSION = 6
 # Prices of a unit of value that is not met at once, in units of value: eight a decade.
-PRICES: Floats = 10.0**(np.arange(-40, 33) / 8)
+PRICES: Floats = 10.0 ** (np.arange(-40, 33) / 8)
 DIGITS = 10  # of a figure that is kept
 # How many times the setup an order costs, and how many times the holding stock costs. With the dearest orders, gaps are
 # 8^(1/2) times as wide (the economic order quantity), which is within those that theory looks at.
@@ -76,27 +72,46 @@ def vertices(owner: Whole, cost: Floats, unmet: Floats, kept: Whole) -> Whole:
         kept = kept[is_vertex]
 
 
-def variants_of(setup: float, holding: float, demand: float) -> list[tuple[float, float]]:
+def variants_of(
+    setup: float, holding: float, demand: float
+) -> list[tuple[float, float]]:
     """Returns what an order and an item of stock cost in each of `VARIANTS`.
 
     If setup is free, a dearer order costs the holding of a period's demand, a number of times.
     """
-    return [(setup + (orders - 1) * (setup or holding * demand), holding * stock) for orders, stock in VARIANTS]
+    return [
+        (setup + (orders - 1) * (setup or holding * demand), holding * stock)
+        for orders, stock in VARIANTS
+    ]
 
 
-def best_by_price(theory: LongRun, value: float, costs: Sequence[tuple[float, float]]) -> tuple[Whole, Floats]:
+def best_by_price(
+    theory: LongRun, value: float, costs: Sequence[tuple[float, float]]
+) -> tuple[Whole, Floats]:
     """Returns for each variant's costs the best gaps by price, and their levels, stock, unmet demand and orders: of all
-    feasible policies with one lead time, else those that a search finds. A unit has a `value`."""
+    feasible policies with one lead time, else those that a search finds. A unit has a `value`.
+    """
     pairs = np.repeat(np.transpose(costs), len(PRICES), axis=1)
     cases = np.array([*pairs, np.tile(value * PRICES, len(costs))])
     gaps, figures = best_policies(theory, cases)
-    return gaps.reshape(len(costs), -1), np.moveaxis(figures.reshape(4, len(costs), -1), 1, 0)
+    return gaps.reshape(len(costs), -1), np.moveaxis(
+        figures.reshape(4, len(costs), -1), 1, 0
+    )
 
 
 # A row of candidates: the place of the variant, the place of the first price that it is best for, s and S, stock and
 # unmet demand in items, and orders, of a period.
-ROW = np.dtype([("variant", "<u1"), ("first", "<u1"), ("point", "<i8"), ("level", "<i8"), ("stock", "<f8"),
-                ("unmet", "<f8"), ("orders", "<f8")])
+ROW = np.dtype(
+    [
+        ("variant", "<u1"),
+        ("first", "<u1"),
+        ("point", "<i8"),
+        ("level", "<i8"),
+        ("stock", "<f8"),
+        ("unmet", "<f8"),
+        ("orders", "<f8"),
+    ]
+)
 
 
 @dataclass(frozen=True)
@@ -110,7 +125,13 @@ class Candidates:
     data: bytes
 
     @classmethod
-    def of(cls, demand: float, setup: float, holding: float, columns: Iterable[Whole | Floats]) -> Candidates:
+    def of(
+        cls,
+        demand: float,
+        setup: float,
+        holding: float,
+        columns: Iterable[Whole | Floats],
+    ) -> Candidates:
         """Takes the candidates by the columns of ROW."""
         return cls(demand, setup, holding, np.rec.fromarrays([*columns], ROW).tobytes())
 
@@ -122,7 +143,9 @@ class Candidates:
 
 def rounded(figures: Floats) -> Floats:
     """Returns figures of at least 0 with as many digits as are kept, and whole ones with all."""
-    units = 10.0**np.maximum(DIGITS - 1 - np.floor(np.log10(np.where(figures > 0, figures, 1.0))), 0)
+    units = 10.0 ** np.maximum(
+        DIGITS - 1 - np.floor(np.log10(np.where(figures > 0, figures, 1.0))), 0
+    )
     kept: Floats = np.rint(figures * units) / units
     return kept
 
@@ -133,18 +156,19 @@ def candidates_of(terms: Terms) -> Candidates:
     demand = float(terms.demand.mean)
     setup, holding = (terms.money(terms.rates[name]) for name in ("setup", "holding"))
     assert item.price is not None
-    theory = terms.theory()
+    theory = terms.theory
     box = item.box
-    gaps, figures = best_by_price(theory, float(item.price) * box, variants_of(setup, holding, demand))
-    is_new = (np.diff(gaps, prepend=-1) != 0) | (np.diff(figures[:, 0], prepend=-1) != 0)
+    gaps, figures = best_by_price(
+        theory, float(item.price) * box, variants_of(setup, holding, demand)
+    )
+    is_new = (np.diff(gaps, prepend=-1) != 0) | (
+        np.diff(figures[:, 0], prepend=-1) != 0
+    )
     level, stock, unmet, orders = np.moveaxis(figures, 1, 0)[:, is_new]
     levels = np.array([level - theory.items(gaps[is_new]), level], int) * box
-    columns = *np.nonzero(is_new), *levels, *rounded(np.array([stock * box, unmet * box, orders]))
+    columns = (
+        *np.nonzero(is_new),
+        *levels,
+        *rounded(np.array([stock * box, unmet * box, orders])),
+    )
     return Candidates.of(demand * box, setup, holding / box, columns)
-
-
-def candidates_batch(batch: Sequence[tuple[Item, Laws]], settings: Settings) -> list[Candidates | Remark]:
-    """Returns the candidates of items with the laws of their plans, or why an item has none."""
-    def candidates(laws: Laws) -> Callable[[Item], Candidates]:
-        return lambda item: candidates_of(terms_of(item, laws, settings))
-    return [or_fault(candidates(laws), item) for item, laws in batch]

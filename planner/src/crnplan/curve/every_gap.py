@@ -17,122 +17,53 @@ from __future__ import annotations
 
 import numpy as np
 
-from ..chances import Floats, Whole
+from ..chances import Floats, Whole, add_times
 from ..compiled import compiled
+from ..theory.figures import STOCK_LEFT, UNMET
 from ..theory.grid import gap_grid
 from ..theory.levels import NEAR
-from ..theory.long_run import STOCK_LEFT, UNMET, LongRun
+from ..theory.long_run import LongRun
 from ..theory.shortfalls import LEAST_CHANCE
+from .points import choose_points
 
 # Shares of the best cost: by which gaps may be better that are not looked at, and beyond which costs are far more.
 GAIN = 5e-5
 FAR_MORE = 0.1
-NEARLY = 1 - 1e-6  # times a price: with one so far below, the best level is not dearer by rounding.
 FEW = 2  # One in so many gaps of a grid is looked at first.
 FINE = 64  # Beside the best gap, others are looked at that are so many times narrower apart.
 
 
 @compiled
-def add_low(sums: Floats, table: Floats, place: int, low: float, before: Floats, line: Floats) -> None:
+def add_low(
+    sums: Floats, table: Floats, place: int, low: float, before: Floats, line: Floats
+) -> None:
     """Adds a low, so many cells below S, to the sums of all levels from there on. `table` has by level of a low, in
     cells from 0 on, stock and unmet demand. Beyond it stock rises by the items of a cell, and is less by the mean
-    demand: both are the `line`. `before` has the sum of the chances of the lows before, and that of their places. Numba
-    makes fast code of `while`."""
+    demand: both are the `line`. `before` has the sum of the chances of the lows before, and that of their places.
+    """
     width = table.shape[1]
     last = place + width - 1
     sums[0, last] = line[0] * (last * before[0] - before[1]) - line[1] * before[0]
     for row in range(2):
-        here = sums[row, place:place + width]
-        added = table[row]
-        cell = 0
-        while cell < width:
-            here[cell] += low * added[cell]
-            cell += 1
+        add_times(sums[row, place : place + width], table[row], low)
     before[0] += low
     before[1] += low * place
 
 
 @compiled
-def set_point(sums: Floats, total: float, levels: Floats, place: int, points: Floats) -> None:
-    """Sets a level, in cells, with the means of both sums: between two cells a mean."""
-    cell = int(levels[place])
-    share = levels[place] - cell
-    points[0, place] = levels[place]
-    for row in range(2):
-        mean = sums[row, cell]
-        if share > 0:
-            mean += share * (sums[row, cell + 1] - mean)
-        points[row + 1, place] = mean / total
-
-
-@compiled
-def first_of_price(sums: Floats, total: float, levels: Floats, price: float, points: Floats) -> tuple[int, int]:
-    """Returns the place of the level that is best for a price, and how many levels were set."""
-    first = 0
-    least = np.inf
-    place = 0
-    while place < len(levels):
-        set_point(sums, total, levels, place, points)
-        if points[1, place] > least:
-            break
-        cost = points[1, place] + price * points[2, place]
-        if cost < least:
-            first = place
-            least = cost
-        place += 1
-    return first, place
-
-
-@compiled
-def vertices_of(sums: Floats, total: float, levels: Floats, prices: Floats, points: Floats, kept: Whole) -> int:
-    """Finds the vertices of the lower hull of levels with rising stock between two prices: from the first one on until
-    more stock costs more than it can gain. Returns how many there are, and sets their places."""
-    size = 0
-    limit = np.inf
-    first, done = first_of_price(sums, total, levels, NEARLY * prices[0], points)
-    for place in range(first, len(levels)):
-        if place >= done:
-            set_point(sums, total, levels, place, points)
-        stock = points[1, place]
-        unmet = points[2, place]
-        if stock > limit:
-            break
-        if size and unmet >= points[2, kept[size - 1]]:
-            continue
-        while size > 1:
-            before = kept[size - 2]
-            last = kept[size - 1]
-            if ((stock - points[1, last]) * (points[2, before] - points[2, last])
-                    > (points[1, last] - points[1, before]) * (points[2, last] - unmet)):
-                break
-            size -= 1
-        kept[size] = place
-        size += 1
-        limit = min(limit, stock + prices[-1] * unmet)
-    return size
-
-
-@compiled
-def choose_points(sums: Floats, total: float, levels: Floats, prices: Floats, points: Floats, chosen: Whole) -> None:
-    """Sets for rising prices the place of the level that is best, of equal ones the first. Levels rise, in cells, as
-    does the stock. `points` gets rows with levels that matter, and with the means of both sums, stock and unmet demand:
-    between two cells a mean."""
-    kept = np.empty(len(levels), np.int64)
-    size = vertices_of(sums, total, levels, prices, points, kept)
-    place = 0
-    for each in range(len(prices)):
-        while place + 1 < size:
-            here = kept[place]
-            after = kept[place + 1]
-            if points[1, after] - points[1, here] >= prices[each] * (points[2, here] - points[2, after]):
-                break
-            place += 1
-        chosen[each] = kept[place]
-
-
-@compiled
-def compare_gap(gap: int, total: float, span: float, points: Floats, chosen: Whole, ranks: Whole, costs: Floats,
-                floor: Floats, best: Floats, found: Floats, due: Floats) -> None:
+def compare_gap(
+    gap: int,
+    total: float,
+    span: float,
+    points: Floats,
+    chosen: Whole,
+    ranks: Whole,
+    costs: Floats,
+    floor: Floats,
+    best: Floats,
+    found: Floats,
+    due: Floats,
+) -> None:
     """Keeps for each case the gap and its chosen point if that costs less than the best so far, and sets when it is due:
     from which M on a wider gap may cost less. `total` is that of this gap. Cases are left as they are if no point is
     `chosen` for their rank, which is below 0 then. `costs` are by case those of an order, of an item in stock, and of
@@ -143,7 +74,11 @@ def compare_gap(gap: int, total: float, span: float, points: Floats, chosen: Who
         growth = np.inf
         if place < 0:
             continue
-        cost = costs[0, case] * orders + costs[1, case] * points[1, place] + costs[2, case] * points[2, place]
+        cost = (
+            costs[0, case] * orders
+            + costs[1, case] * points[1, place]
+            + costs[2, case] * points[2, place]
+        )
         if cost < best[case] * (1 - NEAR / 10):
             best[case] = cost
             found[0, case] = gap
@@ -168,8 +103,21 @@ def ranks_due(ranks: Whole, due: Floats, total: float) -> tuple[int, int]:
 
 
 @compiled
-def compare_gaps(lows: Floats, span: float, table: Floats, line: Floats, gaps: Whole, least: Floats, places: Floats,
-                 asked: Floats, ranks: Whole, costs: Floats, floor: Floats, best: Floats, found: Floats) -> int:
+def compare_gaps(
+    lows: Floats,
+    span: float,
+    table: Floats,
+    line: Floats,
+    gaps: Whole,
+    least: Floats,
+    places: Floats,
+    asked: Floats,
+    ranks: Whole,
+    costs: Floats,
+    floor: Floats,
+    best: Floats,
+    found: Floats,
+) -> int:
     """Compares some rising gaps, and returns how many of them were looked at: see `compare_gap`.
 
     `gaps` has these, and for each which of the levels, its `places`, is the first above its least one. All levels are
@@ -197,21 +145,27 @@ def compare_gaps(lows: Floats, span: float, table: Floats, line: Floats, gaps: W
         levels[first] = least[each]
         chosen[:] = -1
         looks = looks + 1
-        near = levels[first:int(np.searchsorted(levels, gap + width - 1.0))]
-        choose_points(sums, before[0], near, asked[start:stop], points, chosen[start:stop])
-        compare_gap(gap, before[0], span, points, chosen, ranks, costs, floor, best, found, due)
+        near = levels[first : int(np.searchsorted(levels, gap + width - 1.0))]
+        choose_points(
+            sums, before[0], near, asked[start:stop], points, chosen[start:stop]
+        )
+        compare_gap(
+            gap, before[0], span, points, chosen, ranks, costs, floor, best, found, due
+        )
     return looks
 
 
 @compiled
-def set_means(chances: Floats, low: int, rounded: float, step: int, means: Floats) -> None:
+def set_means(
+    chances: Floats, low: int, rounded: float, step: int, means: Floats
+) -> None:
     """Sets the mean stock and unmet demand, in items, of each level in cells from 0 on. `chances` has rows by how far
     the stock is below S, from the cell `low` on: before a period's demand, and after it. Their sum may be any, and those
     of at most `rounded` are none. Stock less what is owed is the level less the mean of how far it is above the stock.
     """
     size = means.shape[1]
     cell = low + chances.shape[1] - 1
-    means[:, cell + 1:] = 0.0
+    means[:, cell + 1 :] = 0.0
     total_before = 0.0
     owed_before = 0.0
     total = 0.0
@@ -240,13 +194,25 @@ def set_means(chances: Floats, low: int, rounded: float, step: int, means: Float
 
 
 @compiled
-def best_levels(chances: Floats, low: int, step: int, orders: Floats, gaps: Whole, least: Floats, places: Floats,
-                asked: Floats, ranks: Whole, costs: Floats) -> Floats:
+def best_levels(
+    chances: Floats,
+    low: int,
+    step: int,
+    orders: Floats,
+    gaps: Whole,
+    least: Floats,
+    places: Floats,
+    asked: Floats,
+    ranks: Whole,
+    costs: Floats,
+) -> Floats:
     """Returns a table for each of some rising gaps: rows with the best level of each case, in cells, its stock, its
     unmet demand and its cost. Words are as in `compare_gaps`. `chances` has two tables, as in `set_means`, with a row
     for each gap."""
     high = low + chances.shape[2]
-    enough = places[min(int(np.searchsorted(places, high)), len(places) - 1)]  # all is met there
+    enough = places[
+        min(int(np.searchsorted(places, high)), len(places) - 1)
+    ]  # all is met there
     means = np.empty((2, max(high, int(max(least[-1], float(enough))) + 2)))
     points = np.empty((3, len(places) + 1))
     chosen = np.empty(len(asked), np.int64)
@@ -256,10 +222,14 @@ def best_levels(chances: Floats, low: int, step: int, orders: Floats, gaps: Whol
         first = gaps[1, each]
         set_means(chances[:, each], low, LEAST_CHANCE / orders[each], step, means)
         levels[first] = least[each]
-        near = levels[first:int(np.searchsorted(levels, means.shape[1] - 1.0))]
+        near = levels[first : int(np.searchsorted(levels, means.shape[1] - 1.0))]
         choose_points(means, 1.0, near, asked, points, chosen)
         found[each, :3] = points[:, chosen[ranks]]
-        found[each, 3] = costs[0] * orders[each] + costs[1] * found[each, 1] + costs[2] * found[each, 2]
+        found[each, 3] = (
+            costs[0] * orders[each]
+            + costs[1] * found[each, 1]
+            + costs[2] * found[each, 2]
+        )
     return found
 
 
@@ -275,10 +245,16 @@ def may_gain(places: Whole, costs: Floats, least: Floats, at: int) -> bool:
             return True
         here = (costs[at + 1, case] - costs[at, case]) / width
         before = (costs[at, case] - costs[at - 1, case]) / (places[at] - places[at - 1])
-        after = (costs[at + 2, case] - costs[at + 1, case]) / (places[at + 2] - places[at + 1])
+        after = (costs[at + 2, case] - costs[at + 1, case]) / (
+            places[at + 2] - places[at + 1]
+        )
         fall = before * (after - here)
         bend = after - before
-        if fall <= 0 if bend == 0 else costs[at, case] + fall / bend * width < (1 - GAIN) * least[case]:
+        if (
+            fall <= 0
+            if bend == 0
+            else costs[at, case] + fall / bend * width < (1 - GAIN) * least[case]
+        ):
             return True
     return False
 
@@ -344,7 +320,9 @@ class Cases:
 
     def bounds(self, gaps: Whole) -> tuple[Whole, Floats]:
         """Returns some gaps, for each the place of the first level above its least one, and that one, in cells."""
-        least = (self.theory.items(gaps) + self.theory.feasible.least) / self.theory.step
+        least = (
+            self.theory.items(gaps) + self.theory.feasible.least
+        ) / self.theory.step
         return np.array([gaps, np.searchsorted(self.levels, least, "right")]), least
 
     def floor(self, table: Floats) -> Floats:
@@ -354,10 +332,12 @@ class Cases:
         step = self.theory.step
         if min(feasible.multiple, step) > 1:
             return np.full(len(self.ranks), -np.inf)
-        lows = table[:, feasible.least // step:].copy()
+        lows = table[:, feasible.least // step :].copy()
         points = np.empty((3, lows.shape[1]))
         chosen = np.empty(len(self.asked), int)
-        choose_points(lows, 1.0, np.arange(lows.shape[1], dtype=float), self.asked, points, chosen)
+        choose_points(
+            lows, 1.0, np.arange(lows.shape[1], dtype=float), self.asked, points, chosen
+        )
         stock, unmet = points[1:, chosen[self.ranks]]
         return np.asarray(self.costs[1] * stock + self.costs[2] * unmet)
 
@@ -365,12 +345,26 @@ class Cases:
         """Compares all gaps that may be best, with one lead time."""
         theory = self.theory
         step = self.theory.step
-        table = np.maximum(theory.figures_from(step * np.arange(self.width))[[STOCK_LEFT, UNMET]], 0)
+        table = np.maximum(
+            theory.figures_from(step * np.arange(self.width))[[STOCK_LEFT, UNMET]], 0
+        )
         line = np.array([step, step * theory.after.mean])
         floor = self.floor(table)
         for some in (self.gaps[gap_grid(len(self.gaps) - 1)[::FEW]], self.gaps):
-            compare_gaps(self.lows, theory.span, table, line, *self.bounds(some), self.levels, self.asked, self.ranks,
-                         self.costs, floor, self.best, self.found)
+            compare_gaps(
+                self.lows,
+                theory.span,
+                table,
+                line,
+                *self.bounds(some),
+                self.levels,
+                self.asked,
+                self.ranks,
+                self.costs,
+                floor,
+                self.best,
+                self.found,
+            )
             self.best *= 1 + NEAR
 
     def search(self) -> None:
@@ -382,20 +376,39 @@ class Cases:
         while len(new):
             for some in theory.parts(self.gaps[new]):
                 stocks, low = theory.shortfalls.stocks(some)
-                tables.extend(best_levels(stocks, low, theory.step, self.orders[some], *self.bounds(some), self.levels,
-                                          self.asked, self.ranks, self.costs))
+                tables.extend(
+                    best_levels(
+                        stocks,
+                        low,
+                        theory.step,
+                        self.orders[some],
+                        *self.bounds(some),
+                        self.levels,
+                        self.asked,
+                        self.ranks,
+                        self.costs,
+                    )
+                )
             places = np.append(places, new)
             order = np.argsort(places)
             totals = np.array([tables[place][3] for place in order])
             new = finer(places[order], self.gaps[places[order]], totals)
         best, own = np.unique(order[totals.argmin(axis=0)], return_inverse=True)
-        levels = np.array([tables[place][:3] for place in best])[own, :, np.arange(len(own))]
+        levels = np.array([tables[place][:3] for place in best])[
+            own, :, np.arange(len(own))
+        ]
         self.found = np.vstack([self.gaps[places[best]][own], levels.T])
 
     def policies(self) -> tuple[Whole, Floats]:
         """Returns the gaps of the best policies, and their levels in items, stock, unmet demand and orders."""
         gaps = self.found[0].astype(int)
-        return gaps, np.array([np.rint(self.theory.step * self.found[1]), *self.found[2:], self.orders[gaps]])
+        return gaps, np.array(
+            [
+                np.rint(self.theory.step * self.found[1]),
+                *self.found[2:],
+                self.orders[gaps],
+            ]
+        )
 
 
 def best_policies(theory: LongRun, costs: Floats) -> tuple[Whole, Floats]:

@@ -14,23 +14,37 @@ import itertools
 import math
 from collections import Counter
 from collections.abc import Callable, Iterator, Mapping, Sequence
-from dataclasses import dataclass
 from typing import Any, NamedTuple
 
 import numpy as np
 
 from ..chances import Floats, Whole
-from ..errors import Refused, argument
 from ..theory.levels import NEAR
 from .candidates import PRICES
-from .parts import (AS_IS, COST, FIGURES, UNMET, VALUE, Choice, Dearer, Point, Steps, Chosen, bounds_of,
-                    drawn_of, fitting, measured, policies_of, steps_of, stretches_of, summed, units_of)
+from .parts import (
+    AS_IS,
+    COST,
+    FIGURES,
+    UNMET,
+    VALUE,
+    Choice,
+    Dearer,
+    Point,
+    Steps,
+    Chosen,
+    bounds_of,
+    drawn_of,
+    fitting,
+    measured,
+    policies_of,
+    steps_of,
+    stretches_of,
+    summed,
+    units_of,
+)
 
 # A budget that is not used up is filled with steps whose price is at most so many times that of the step too many.
 FILL = 2.0
-# Costs of an order are doubled until there are few enough orders, then halved between the last two.
-DOUBLINGS = 13
-HALVINGS = 16
 # Steps that are looked at one by one, at most, unless more have the same price; and into how many stretches more steps
 # are cut.
 MOST_STEPS = 200_000
@@ -67,21 +81,33 @@ class Items:
 
     def point(self, sums: Whole) -> Point:
         """Returns the point of sums of figures, in units."""
-        value, _, orders, cost = (int(sums[figure]) * self.units[figure] for figure in FIGURES)
+        value, _, orders, cost = (
+            int(sums[figure]) * self.units[figure] for figure in FIGURES
+        )
         return Point(value, 1 - int(sums[UNMET]) / self.asked, orders, cost)
 
-    def policies(self, choice: Choice, places: Sequence[int] | None = None) -> Iterator[Chosen]:
+    def policies(
+        self, choice: Choice, places: Sequence[int] | None = None
+    ) -> Iterator[Chosen]:
         """Yields the policies of the items at some rising places, or of all, in a choice."""
         ends = [*self.starts[1:], self.count]
-        choices = (choice.of_part(start, end - start) for start, end in zip(self.starts, ends))
-        some = (None if places is None else np.array([it - start for it in places if start <= it < end], int)
-                for start, end in zip(self.starts, ends))
+        choices = (
+            choice.of_part(start, end - start) for start, end in zip(self.starts, ends)
+        )
+        some = (
+            None
+            if places is None
+            else np.array([it - start for it in places if start <= it < end], int)
+            for start, end in zip(self.starts, ends)
+        )
         return itertools.chain.from_iterable(self.over(policies_of, choices, some))
 
     def drawn(self, seed: str, count: int) -> list[tuple[int, str]]:
         """Returns the places and names of so many items, or of all if there are fewer, drawn as at random: the same in
         each run."""
-        drawn = itertools.chain.from_iterable(self.over(drawn_of, self.starts, *always(seed, count)))
+        drawn = itertools.chain.from_iterable(
+            self.over(drawn_of, self.starts, *always(seed, count))
+        )
         return sorted((place, name) for _, place, name in heapq.nsmallest(count, drawn))
 
     def ladder(self, dearer: Dearer = AS_IS) -> Ladder:
@@ -102,8 +128,15 @@ class Items:
             costs, unmet = np.moveaxis(sum(self.each(bounds_of, asked)), 1, 0)
             self.bounds[asked] = costs * self.units[COST], unmet * self.units[UNMET]
         costs, unmet = self.bounds[asked]
-        least = costs + PRICES * (unmet - (1 - point.fill) * self.asked * self.units[UNMET])
-        used = np.array([dearer.orders * point.orders + dearer.stock * point.value for dearer in asked])
+        least = costs + PRICES * (
+            unmet - (1 - point.fill) * self.asked * self.units[UNMET]
+        )
+        used = np.array(
+            [
+                dearer.orders * point.orders + dearer.stock * point.value
+                for dearer in asked
+            ]
+        )
         return float((least.max(axis=1) - used).max())
 
 
@@ -115,7 +148,8 @@ def grid(low: float, high: float) -> Floats:
 
 class Stretch(NamedTuple):
     """Steps of a ladder above a price, up to another one: how many, sums of figures before and after them, in units,
-    and what those add to the stock value that lower it; the least and the greatest price of a step."""
+    and what those add to the stock value that lower it; the least and the greatest price of a step.
+    """
 
     low: float
     high: float
@@ -160,12 +194,29 @@ class Ladder:
         *changes, falls = sums
         first = start if before is None else before
         places = np.column_stack([first, first[:, None] + np.cumsum(changes, axis=1)]).T
-        return [Stretch(*row) for row in zip(edges.tolist(), edges[1:].tolist(), counts.tolist(), places, places[1:],
-                                             falls.tolist(), (-span[0]).tolist(), span[1].tolist())]
+        return [
+            Stretch(*row)
+            for row in zip(
+                edges.tolist(),
+                edges[1:].tolist(),
+                counts.tolist(),
+                places,
+                places[1:],
+                falls.tolist(),
+                (-span[0]).tolist(),
+                span[1].tolist(),
+            )
+        ]
 
     def steps(self, function: Callable[..., Steps], *words: Any) -> Steps:
         """Returns the steps that a function returns for each part, the place of its first item, and further words."""
-        parts = zip(*self.items.over(function, self.items.starts, *always(self.items.units, self.dearer, *words)))
+        parts = zip(
+            *self.items.over(
+                function,
+                self.items.starts,
+                *always(self.items.units, self.dearer, *words),
+            )
+        )
         prices, owner, changes = [np.concatenate(part, axis=-1) for part in parts]
         order = np.argsort(prices, kind="stable")
         return Steps(prices[order], owner[order], changes[:, order])
@@ -173,7 +224,9 @@ class Ladder:
     def places(self, stretch: Stretch) -> tuple[Steps, Whole]:
         """Returns the steps of a stretch, and the sums of figures before the first, after it, and so on."""
         steps = self.steps(steps_of, stretch.low, stretch.high)
-        return steps, np.column_stack([stretch.before, stretch.before[:, None] + np.cumsum(steps.changes, axis=1)])
+        return steps, np.column_stack(
+            [stretch.before, stretch.before[:, None] + np.cumsum(steps.changes, axis=1)]
+        )
 
     def cut(self, stretch: Stretch) -> list[Stretch]:
         return self.stretches(grid(stretch.least, stretch.most), stretch.before)
@@ -181,7 +234,11 @@ class Ladder:
     def extreme(self, way: int, stretches: Sequence[Stretch] = ()) -> int:
         """Returns the greatest stock value along the ladder, or the least if `way` is -1, in units. It may fall."""
         some = stretches or self.grid
-        best = max(way * int(place[VALUE]) for stretch in some for place in (stretch.before, stretch.after))
+        best = max(
+            way * int(place[VALUE])
+            for stretch in some
+            for place in (stretch.before, stretch.after)
+        )
         for stretch in some:
             before = int(stretch.before[VALUE])
             most = before * way - stretch.falls
@@ -197,7 +254,9 @@ class Ladder:
             best = max(best, most)
         return way * best
 
-    def crossing(self, figure: int, way: int, most: int, stretches: Sequence[Stretch]) -> Crossing | None:
+    def crossing(
+        self, figure: int, way: int, most: int, stretches: Sequence[Stretch]
+    ) -> Crossing | None:
         """Returns the last step before which a figure, times `way`, is at most so much; None if it is always more. At
         the end it is more."""
         for stretch in reversed(stretches):
@@ -214,23 +273,43 @@ class Ladder:
                 return crossing
         return None
 
-    def _last(self, figure: int, way: int, most: int, stretch: Stretch) -> Crossing | None:
+    def _last(
+        self, figure: int, way: int, most: int, stretch: Stretch
+    ) -> Crossing | None:
         """Returns the last step of a stretch before which a figure is at most so much."""
         steps, places = self.places(stretch)
         fits = np.flatnonzero(way * places[figure, :-1] <= most)
         if not len(fits):
             return None
         last = int(fits[-1])
-        return Crossing(float(steps.prices[last]), int(steps.owner[last]), places[:, last], places[:, last + 1])
+        return Crossing(
+            float(steps.prices[last]),
+            int(steps.owner[last]),
+            places[:, last],
+            places[:, last + 1],
+        )
 
-    def choice(self, price: float, owner: int, sums: Whole, moved: Mapping[int, int] | None = None) -> Choice:
+    def choice(
+        self,
+        price: float,
+        owner: int,
+        sums: Whole,
+        moved: Mapping[int, int] | None = None,
+    ) -> Choice:
         """Returns the choice with all steps up to that of a price and an item, and what it amounts to."""
-        return Choice(self.dearer, price, owner, np.array(sorted((moved or {}).items()), int).reshape(-1, 2).T,
-                      self.items.point(sums))
+        return Choice(
+            self.dearer,
+            price,
+            owner,
+            np.array(sorted((moved or {}).items()), int).reshape(-1, 2).T,
+            self.items.point(sums),
+        )
 
     def with_price(self, place: int) -> Choice:
         """Returns the best choice for a price of the grid."""
-        return self.choice(self.grid[place].high, self.items.count, self.grid[place].after)
+        return self.choice(
+            self.grid[place].high, self.items.count, self.grid[place].after
+        )
 
     def with_fill(self, fill: float) -> Choice | None:
         """Returns a choice that meets a share of demand by value; None if no choice does."""
@@ -250,11 +329,14 @@ class Ladder:
             return self.choice(math.inf, 0, self.end)
         border = self.crossing(VALUE, 1, allowed, self.whole)
         # Further steps are taken that the budget allows, the cheapest first, each item's next one first.
-        return border and self._moved(border, VALUE, 1, allowed - int(border.before[VALUE]))
+        return border and self._moved(
+            border, VALUE, 1, allowed - int(border.before[VALUE])
+        )
 
     def _moved(self, border: Crossing, figure: int, way: int, spare: int) -> Choice:
         """Returns a choice at a border, in which steps beside it are taken, or taken back, one by one, each of which
-        uses some of what is to spare of a figure. An item for whose step there is too little stays as it is."""
+        uses some of what is to spare of a figure. An item for whose step there is too little stays as it is.
+        """
         windows = self.windows(border.price, way)
         falls = 0
         if figure == VALUE:
@@ -263,8 +345,15 @@ class Ladder:
         stays = np.zeros(self.items.count, bool)
         sums = (border.before if way > 0 else border.after).copy()
         for window in windows:
-            steps = self.steps(fitting, window.low, window.high, (border.price, border.owner), figure, way,
-                               spare + falls)
+            steps = self.steps(
+                fitting,
+                window.low,
+                window.high,
+                (border.price, border.owner),
+                figure,
+                way,
+                spare + falls,
+            )
             taken = []
             uses = zip(steps.owner.tolist(), (way * steps.changes[figure]).tolist())
             for place, (owner, use) in [*enumerate(uses)][::way]:
@@ -287,8 +376,11 @@ class Ladder:
         for stretch in self.stretches(grid(low, high)):
             if windows and windows[-1].steps + stretch.steps <= MOST_STEPS:
                 last = windows.pop()
-                stretch = last._replace(high=stretch.high, steps=last.steps + stretch.steps,
-                                        falls=last.falls + stretch.falls)
+                stretch = last._replace(
+                    high=stretch.high,
+                    steps=last.steps + stretch.steps,
+                    falls=last.falls + stretch.falls,
+                )
             windows.append(stretch)
         return windows[::way]
 
@@ -300,139 +392,3 @@ class Crossing(NamedTuple):
     owner: int
     before: Whole
     after: Whole
-
-
-def gap_of(items: Items, point: Point, dearer: Dearer = AS_IS) -> float:
-    """Returns the share by which setup and holding of a point are at most above the best with its service, and with no
-    more orders or stock, if these are dearer."""
-    parts = [0.0]
-    if dearer != AS_IS:
-        parts += (2.0**-np.arange(DOUBLINGS)).tolist()
-    least = items.least_cost(point, *(Dearer(part * dearer.orders, part * dearer.stock) for part in parts))
-    if least <= 0:
-        return math.inf
-    return max(0.0, point.cost / least - 1)
-
-
-class OffCurve(Refused):
-    """A budget that no choice keeps: which one, why, and what to do."""
-
-    def __init__(self, budget: str, why: str, advice: str) -> None:
-        super().__init__(f"{budget}: {why}", advice)
-        self.why = why
-
-
-@dataclass(frozen=True)
-class Budget:
-    """What a choice is to keep: the value of the stock at most, or the share of demand by value met at once at least,
-    and perhaps orders of a period at most. Raises Refused for what can't be meant."""
-
-    value: float | None = None
-    fill: float | None = None
-    orders: float | None = None
-
-    def __post_init__(self) -> None:
-        for name, number in (("stock_value", self.value), ("orders", self.orders)):
-            if number is not None and not 0 < number < math.inf:
-                raise Refused(f"{argument(name, f'{number:g}')} is not above 0")
-        if self.fill is not None and not 0 < self.fill < 1:
-            raise Refused(f"{argument('fill', f'{self.fill:g}')} is not between 0 and 1", "write 0.95 for 95 of 100 "
-                          "units of value")
-        if self.value is not None and self.fill is not None:
-            raise Refused(f"{argument('stock_value')} and {argument('fill')}: each alone names a point of the curve",
-                          "leave one out")
-
-    def choice(self, items: Items, dearer: Dearer = AS_IS) -> Choice | None:
-        """Returns the choice that keeps the stock value or the share; None if none does."""
-        ladder = items.ladder(dearer)
-        if self.value is not None:
-            return ladder.with_value(self.value)
-        return ladder.with_fill(self.fill or 0.0)
-
-    def kept(self, choice: Choice | None) -> Choice | None:
-        """Returns a choice that has no more orders than are allowed; None if it has more."""
-        if choice is None or choice.point.orders > (self.orders or math.inf) * (1 + NEAR):
-            return None
-        return choice
-
-
-def chosen_by(items: Items, budget: Budget) -> Choice:
-    """Returns the choice for a budget: on the curve if one keeps it. Raises OffCurve if none does, and for more than
-    the curve has.
-
-    If the stock value or the share lies below the curve, stock is made dearer: there is less of it, with more orders,
-    up to those that are allowed. If orders are too many, they are made dearer.
-    """
-    ladder = items.ladder()
-    start = items.point(ladder.start)
-    end = items.point(ladder.end)
-    if budget.value is not None and budget.value > end.value and budget.value > (
-            most := ladder.extreme(1) * items.units[VALUE]) * (1 + NEAR):
-        raise OffCurve(argument("stock_value", f"{budget.value:,.10g}"),
-                       f"the most stock on the curve is worth {most:,.2f}", "name less")
-    if budget.fill is not None and budget.fill > end.fill + NEAR:
-        raise OffCurve(argument("fill", f"{budget.fill:g}"),
-                       f"the curve ends with {end.fill:.8f} of demand by value", "name less")
-    first = budget.choice(items)
-    is_below = first is None or (budget.fill is not None and budget.fill < start.fill * (1 - NEAR))
-    if is_below and budget.orders is None:
-        what, least = ("fill", f"begins with {start.fill:.4f} of demand by value") if first else \
-            ("stock_value", f"has stock worth {ladder.extreme(-1) * items.units[VALUE]:,.2f} at least")
-        raise OffCurve(argument(what, f"{budget.fill or budget.value:,.10g}"), f"the curve {least}",
-                       f"name more, or allow more orders than it has there, by {argument('orders')}")
-    if first is None or is_below:
-        return with_more_orders(items, budget)
-    return budget.kept(first) or with_fewer_orders(items, budget, first)
-
-
-def with_more_orders(items: Items, budget: Budget) -> Choice:
-    """Returns the choice with the greatest extra cost of stock with which there are few enough orders: it uses all that
-    are allowed. Raises OffCurve if no choice keeps the budget."""
-    choice = _border(items.most_extra.stock, lambda amount: budget.kept(budget.choice(items, Dearer(stock=amount))),
-                     budget.kept(budget.choice(items)), is_least=False)
-    if choice is None:
-        least = "this service"
-        if budget.value is not None:
-            least = "stock of so little value"
-        raise OffCurve(argument("orders", f"{budget.orders:g}"), f"{least} takes more orders, or is not to be had",
-                       "name more orders or more stock")
-    return choice
-
-
-def with_fewer_orders(items: Items, budget: Budget, first: Choice) -> Choice:
-    """Returns the choice with the least extra cost of an order with which there are few enough orders; `first` has too
-    many. Raises OffCurve if no choice keeps the budget."""
-    fewest = first.point.orders
-
-    def choice_of(amount: float) -> Choice | None:
-        nonlocal fewest
-        choice = budget.choice(items, Dearer(orders=amount))
-        if choice:
-            fewest = min(fewest, choice.point.orders)
-        return budget.kept(choice)
-    choice = _border(items.most_extra.orders, choice_of, None, is_least=True)
-    if choice is None:
-        raise OffCurve(argument("orders", f"{budget.orders:g}"), f"with this stock or service there are {fewest:.4g} "
-                       "orders a period or more", "name more")
-    return choice
-
-
-def _border(most: float, choice_of: Callable[[float], Choice | None], first: Choice | None,
-            is_least: bool) -> Choice | None:
-    """Returns the choice with the least extra cost, or the greatest, with which a budget is kept; None if there is
-    none. `choice_of` has the choice for an extra cost, `first` is that for none."""
-    low = 0.0
-    last = first
-    for high in (most / 2.0**np.arange(DOUBLINGS, -1, -1)).tolist():
-        choice = choice_of(high)
-        best, beyond = (choice, last) if is_least else (last, choice)
-        if best and not beyond:
-            for _ in range(HALVINGS):
-                middle = (low + high) / 2
-                nearer = choice_of(middle)
-                best = nearer or best
-                low, high = (low, middle) if bool(nearer) is is_least else (middle, high)
-            return best
-        low = high
-        last = choice
-    return None if is_least else last

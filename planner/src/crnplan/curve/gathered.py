@@ -8,7 +8,7 @@ from __future__ import annotations
 import contextlib
 import functools
 import itertools
-from collections.abc import Callable, Iterable, Iterator, Sequence
+from collections.abc import Callable, Iterable, Iterator
 from dataclasses import dataclass
 from pathlib import Path
 from typing import Any, NamedTuple
@@ -16,19 +16,21 @@ from typing import Any, NamedTuple
 import numpy as np
 
 from ..chances import Floats
-from ..digests import digest_of
+from ..store.digests import digest_of
 from ..errors import Refused
-from ..files import IN_KEPT, Folder
-from ..jobs import Scheduler, Workers, batched, workers_of
+from ..store.files import IN_KEPT, Folder
+from ..store.jobs import Workers, batched
+from ..store.means import Means
 from ..plan.answer import CHOSEN, TODAY, Answer
 from ..plan.catalogue import PlannedFolder
-from ..plan.question import Settings
-from ..records.item import Item
+from ..plan.one import or_fault
+from ..plan.question import Settings, terms_of
+from ..read.item import Item
 from ..remarks import Remark
-from ..stored import Question, Store
+from ..store.stored import Question, Store
 from ..words import advice, sentence
-from ..work import Known, Work
-from .candidates import VERSION, Candidates, candidates_batch
+from ..store.work import Known, Work
+from .candidates import VERSION, Candidates, candidates_of
 from .exchange import Items
 from .parts import AS_IS, Dearer, Hulls, Part, Point
 
@@ -44,7 +46,8 @@ AHEAD = 4  # parts that are sent to a worker at a time
 @dataclass(frozen=True)
 class OnCurve:
     """An item on the curve: its price, whether it has a policy today, its candidates, and of a period stock, demand
-    that is not met at once, and orders, of today's policy (or the chosen one if it has none) and of the chosen one."""
+    that is not met at once, and orders, of today's policy (or the chosen one if it has none) and of the chosen one.
+    """
 
     price: float
     has_today: bool
@@ -52,26 +55,28 @@ class OnCurve:
     candidates: Candidates
 
 
-def on_curve_batch(batch: Sequence[tuple[Item, Answer]], settings: Settings) -> list[OnCurve | Remark]:
-    """Returns items on the curve, or why one can't be there."""
-    answers = list[OnCurve | Remark]()
-    candidates = candidates_batch([(item, answer.laws) for item, answer in batch], settings)
-    for (item, answer), some in zip(batch, candidates, strict=True):
-        answers.append(some if isinstance(some, Remark) else on_curve(item, answer, some))
-    return answers
+def on_curve_asked(asked: tuple[Item, Answer], settings: Settings) -> OnCurve | Remark:
+    """Returns an item on the curve, or why it can't be there."""
+    item, answer = asked
+    return or_fault(item, on_curve, answer, settings)
 
 
-def on_curve(item: Item, answer: Answer, candidates: Candidates) -> OnCurve:
-    """Returns an item on the curve."""
-    now = tuple((figures.stock, candidates.demand * (1 - figures.fill), figures.orders)
-                for figures in (answer.today or answer.chosen, answer.chosen))
+def on_curve(item: Item, answer: Answer, settings: Settings) -> OnCurve:
+    """Returns an item on the curve. Raises Refused if it has no theory."""
+    candidates = candidates_of(terms_of(item, answer.laws, settings))
+    now = tuple(
+        (figures.stock, candidates.demand * (1 - figures.fill), figures.orders)
+        for figures in (answer.today or answer.chosen, answer.chosen)
+    )
     return OnCurve(float(item.price or 0), item.levels is not None, now, candidates)
 
 
 def questions_of(planned: PlannedFolder) -> Iterator[Question]:
     """Yields the items of a planned folder, each with the digest of all that its candidates depend on."""
     prices = planned.read.cells("price")
-    for (name, digest), (price,) in zip(planned.read.digests(planned.planned.common), prices, strict=True):
+    for (name, digest), (price,) in zip(
+        planned.read.digests(planned.planned.common), prices, strict=True
+    ):
         is_planned = planned.store.digest_for(name) == digest
         yield name, digest_of(digest if is_planned else NO_PLAN, VERSION, price)
 
@@ -80,7 +85,9 @@ def asked_of(planned: PlannedFolder, name: str) -> tuple[Item, Answer] | Known:
     """Returns an item with its answer, or why it can't be on the curve."""
     item = planned.read.item(name)
     assert item is not None
-    answer = planned.store.found(name, planned.read.digest(name, planned.planned.common))
+    answer = planned.store.found(
+        name, planned.read.digest(name, planned.planned.common)
+    )
     if answer is None:
         return Known(Remark(NO_PLAN))
     if isinstance(answer, Remark):
@@ -114,7 +121,9 @@ def whole_part(folder: Path, names: Names) -> Part:
     with contextlib.closing(Store(folder / CANDIDATES, OnCurve, is_known=True)) as kept:
         for name, _, answer in kept.answers(names.first, names.last):
             if isinstance(answer, OnCurve):
-                items.append((name, answer.price, answer.candidates, np.array(answer.now)))
+                items.append(
+                    (name, answer.price, answer.candidates, np.array(answer.now))
+                )
     return Part.of(items)
 
 
@@ -137,11 +146,15 @@ class KeptPart(Part):
     def _held(self, dearer: Dearer) -> Held:
         """Returns what is kept of the part at some costs. If there is nothing, it is made and kept."""
         name, digest = held_as(self._part, dearer)
-        with contextlib.closing(Store(self._folder / HULLS, Held, is_known=True)) as kept:
+        with contextlib.closing(
+            Store(self._folder / HULLS, Held, is_known=True)
+        ) as kept:
             held = kept.found(name, digest)
             if not isinstance(held, Held):
                 part = self._whole
-                held = Held(part.names, part.demand, part.now, Hulls.of(part.rows, dearer))
+                held = Held(
+                    part.names, part.demand, part.now, Hulls.of(part.rows, dearer)
+                )
                 kept.replace(name, digest, held)
         return held
 
@@ -155,7 +168,9 @@ def held_as(names: Names, dearer: Dearer = AS_IS) -> Question:
 part_of = functools.lru_cache(MOST_PARTS)(KeptPart)
 
 
-def ask_part(folder: Path, names: Names, function: Callable[..., Any], *words: Any) -> Any:
+def ask_part(
+    folder: Path, names: Names, function: Callable[..., Any], *words: Any
+) -> Any:
     """Returns what a function returns for the part of some names, and further words."""
     return function(part_of(folder, names), *words)
 
@@ -181,14 +196,23 @@ class Parts:
             self.without_today += not has_today
             yield question
 
-    def __call__(self, function: Callable[..., Any], *columns: Iterable[Any]) -> Iterator[Any]:
+    def __call__(
+        self, function: Callable[..., Any], *columns: Iterable[Any]
+    ) -> Iterator[Any]:
         """Yields what a function returns for each part, with words from further columns, in order."""
-        words = zip(itertools.repeat(self.folder), self.parts, itertools.repeat(function), *columns)
+        words = zip(
+            itertools.repeat(self.folder),
+            self.parts,
+            itertools.repeat(function),
+            *columns,
+        )
         return self.workers.in_order(ask_part, words, AHEAD)
 
     def left_out(self) -> Iterator[tuple[str, Remark]]:
         """Yields the items that are left out, and why, in order."""
-        with contextlib.closing(Store(self.folder / CANDIDATES, OnCurve, is_known=True)) as kept:
+        with contextlib.closing(
+            Store(self.folder / CANDIDATES, OnCurve, is_known=True)
+        ) as kept:
             for name, fault, _ in kept.cells("fault"):
                 if fault:
                     yield name, fault
@@ -210,31 +234,46 @@ class Gathered:
 
 
 @contextlib.contextmanager
-def gather(own: Folder, folder: PlannedFolder, jobs: int | None, address: Scheduler | None, shown: bool) -> Iterator[Gathered]:
+def gather(own: Folder, folder: PlannedFolder, means: Means) -> Iterator[Gathered]:
     """Computes the candidates of a planned folder that are not kept yet, and gives all. Raises Refused if no item can
     be on the curve."""
-    with (contextlib.closing(Store(own.store(CANDIDATES), OnCurve)) as kept,
-          contextlib.closing(Store(own.store(HULLS), Held)) as hulls):
-        work = Work(kept, lambda: questions_of(folder), lambda name: asked_of(folder, name), on_curve_batch,
-                    (folder.settings,))
-        work.finish(workers_of(jobs, address), shown=shown)
+    with (
+        contextlib.closing(Store(own.store(CANDIDATES), OnCurve)) as kept,
+        contextlib.closing(Store(own.store(HULLS), Held)) as hulls,
+    ):
+        work = Work(
+            kept,
+            lambda: questions_of(folder),
+            lambda name: asked_of(folder, name),
+            on_curve_asked,
+            (folder.settings,),
+        )
+        work.finish(means.workers(), shown=means.shown)
         parts = Parts(folder.path.resolve(), kept)
         if not parts.parts:
             raise no_item(folder, parts)
         hulls.renew()
         hulls.finish(map(held_as, parts.parts), {})
         # Both stay open: whoever closes a file of SQLite last tidies it up, which takes as long as many questions.
-        with workers_of(jobs if len(parts.parts) > MOST_PARTS else 1, None) as workers:
+        jobs = means.jobs if len(parts.parts) > MOST_PARTS else 1
+        with Means(jobs).workers() as workers:
             parts.workers = workers
             items = Items(parts)
-            yield Gathered(folder, parts, items, dict(zip((TODAY, CHOSEN), items.now)), work.now)
+            yield Gathered(
+                folder, parts, items, dict(zip((TODAY, CHOSEN), items.now)), work.now
+            )
             parts.workers = Workers()
 
 
 def no_item(folder: PlannedFolder, parts: Parts) -> Refused:
     """Returns why no item is on the curve."""
     if not parts.out:
-        return Refused(f"{folder.path}: no item can be on the curve: no item is in the plan")
+        return Refused(
+            f"{folder.path}: no item can be on the curve: no item is in the plan"
+        )
     name, remark = next(parts.left_out())
-    return Refused(f"{folder.path}: no item can be on the curve: {parts.out:,} items are left out; the first, {name}: "
-                   f"{sentence(remark)}", advice(remark))
+    return Refused(
+        f"{folder.path}: no item can be on the curve: {parts.out:,} items are left out; the first, {name}: "
+        f"{sentence(remark)}",
+        advice(remark),
+    )

@@ -15,7 +15,7 @@ from typing import NamedTuple
 import numpy as np
 
 from ..chances import Floats, Whole
-from ..digests import sha256
+from ..store.digests import sha256
 from .candidates import DEARER, PRICES, Candidates, lower_hull, slopes, variants_of
 
 # The figures of a period that are added up: the value of the mean stock, that of demand that is not met at once,
@@ -50,12 +50,14 @@ Units = tuple[float, ...]
 
 def units_of(most: Iterable[float], count: int) -> Units:
     """Returns the unit of each figure, a power of 2, of which so many items have no more than `most` each."""
-    return tuple(2.0**(math.frexp(each * count)[1] - BITS) for each in most)
+    return tuple(2.0 ** (math.frexp(each * count)[1] - BITS) for each in most)
 
 
 def in_units(figures: Floats, units: Units) -> Whole:
     """Returns figures, the first axis of an array, as whole numbers of their units."""
-    whole: Whole = np.rint(figures / np.reshape(units, (-1, *[1] * (figures.ndim - 1)))).astype(np.int64)
+    whole: Whole = np.rint(
+        figures / np.reshape(units, (-1, *[1] * (figures.ndim - 1)))
+    ).astype(np.int64)
     return whole
 
 
@@ -80,19 +82,27 @@ class Rows:
     def shares(self, dearer: Dearer) -> Floats:
         """Returns how much each row counts for costs between those of two variants."""
         which = 1 if dearer.stock else 0
-        amount, variants, places = dearer[which], np.array(DEARER[which]), np.arange(len(self.extra))
+        amount = dearer[which]
+        variants = np.array(DEARER[which])
+        places = np.arange(len(self.extra))
         extra = self.extra[:, variants, which]
         above = np.minimum((extra <= amount).sum(axis=1), len(variants) - 1)
-        low, high = extra[places, above - 1], extra[places, above]
-        share, shares = np.clip((amount - low) / (high - low), 0, 1), np.zeros(self.extra.shape[:2])
-        shares[places, variants[above - 1]], shares[places, variants[above]] = 1 - share, share
+        low = extra[places, above - 1]
+        share = np.clip((amount - low) / (extra[places, above] - low), 0, 1)
+        shares = np.zeros(self.extra.shape[:2])
+        shares[places, variants[above - 1]] = 1 - share
+        shares[places, variants[above]] = share
         counted: Floats = shares[self.owner, self.variant]
         return counted
 
     def variant_costs(self) -> Floats:
         """Returns what each row costs in its variant."""
         extra = self.extra[self.owner, self.variant]
-        costs: Floats = self.figures[COST] + extra[:, 0] * self.figures[ORDERS] + extra[:, 1] * self.figures[VALUE]
+        costs: Floats = (
+            self.figures[COST]
+            + extra[:, 0] * self.figures[ORDERS]
+            + extra[:, 1] * self.figures[VALUE]
+        )
         return costs
 
 
@@ -100,7 +110,13 @@ class Part:
     """Some items: by item their `names`, the `demand`, in value, and the figures of `now`, of today's policies and of
     the chosen ones. Their candidates are loaded when they are needed."""
 
-    def __init__(self, names: tuple[str, ...], demand: Floats, now: Floats, load: Callable[[], Rows]) -> None:
+    def __init__(
+        self,
+        names: tuple[str, ...],
+        demand: Floats,
+        now: Floats,
+        load: Callable[[], Rows],
+    ) -> None:
         self.names, self.demand, self.now, self._load = names, demand, now, load
         self._known: dict[Dearer, Hulls] = {}
 
@@ -109,22 +125,36 @@ class Part:
         """Takes the candidates of items, each with its name, its price, and the figures of today's policy and of the
         chosen one: stock, unmet demand and orders."""
         names, prices, candidates, policies = zip(*answers)
-        count, rows = len(names), np.concatenate([its.rows for its in candidates])
-        price, (demand, setup, holding) = np.array(prices), np.array(
-            [(its.demand, its.setup, its.holding) for its in candidates]).T
-        extra = np.array([variants_of(its.setup, its.holding, its.demand) for its in candidates])
-        extra = (extra - np.column_stack([setup, holding])[:, None]) / np.column_stack([np.ones(count), price])[:, None]
+        places = np.arange(len(names))
+        price = np.array(prices)
+        costs = [(item.setup, item.holding, item.demand) for item in candidates]
+        setup, holding, demand = np.transpose(costs)
+        own = np.column_stack([setup, holding])[:, None]
+        units = np.column_stack([np.ones(len(names)), price])[:, None]
+        variants = np.array([variants_of(*cost) for cost in costs])
 
-        def figures(owner: Whole, stock: Floats, unmet: Floats, orders: Floats) -> Floats:
-            """Returns the figures of policies of some items."""
-            return np.array([price[owner] * stock, price[owner] * unmet, orders,
-                             setup[owner] * orders + holding[owner] * stock])
-        owner, variant, first = np.repeat(np.arange(count), [len(its.rows) for its in candidates]), rows["variant"], \
-            rows["first"]
-        is_last = np.append((owner[1:] != owner[:-1]) | (variant[1:] != variant[:-1]), True)
-        now = [figures(np.arange(count), *some) for some in np.transpose(policies, (1, 2, 0))]
-        loaded = Rows(extra, owner, variant, first, np.where(is_last, len(PRICES), np.append(first[1:], 0)),
-                      rows["point"], rows["level"], figures(owner, rows["stock"], rows["unmet"], rows["orders"]))
+        def figures(owner: Whole, policies: Sequence[Floats]) -> Floats:
+            """Returns the figures of policies of some items, by their stock, unmet demand and orders."""
+            stock, unmet, orders = policies
+            cost = setup[owner] * orders + holding[owner] * stock
+            return np.array([price[owner] * stock, price[owner] * unmet, orders, cost])
+
+        owner = np.repeat(places, [len(item.rows) for item in candidates])
+        rows = np.concatenate([item.rows for item in candidates])
+        first = rows["first"]
+        is_other = np.diff(owner) + (np.diff(rows["variant"]) != 0) > 0
+        is_last = np.append(is_other, True)
+        loaded = Rows(
+            (variants - own) / units,
+            owner,
+            rows["variant"],
+            first,
+            np.where(is_last, len(PRICES), np.append(first[1:], 0)),
+            rows["point"],
+            rows["level"],
+            figures(owner, [rows["stock"], rows["unmet"], rows["orders"]]),
+        )
+        now = [figures(places, some) for some in np.transpose(policies, (1, 2, 0))]
         return cls(names, price * demand, np.array(now), lambda: loaded)
 
     @functools.cached_property
@@ -170,8 +200,15 @@ class Hulls:
         prices = slopes(owner, cost[kept], unmet[kept])
         below = np.flatnonzero(np.isfinite(prices))
         below = below[np.lexsort((below, prices[below]))]
-        return cls(np.flatnonzero(np.append(True, owner[1:] != owner[:-1])), rows.point[kept], rows.level[kept],
-                   rows.figures[:, kept], prices[below], owner[below], below)
+        return cls(
+            np.flatnonzero(np.append(True, owner[1:] != owner[:-1])),
+            rows.point[kept],
+            rows.level[kept],
+            rows.figures[:, kept],
+            prices[below],
+            owner[below],
+            below,
+        )
 
     def changes(self, units: Units) -> Whole:
         """Returns what each step adds to the figures, in whole units."""
@@ -181,13 +218,13 @@ class Hulls:
 
     def before(self, price: float, owner: int) -> int:
         """Returns how many steps come before that of a price and an item."""
-        first, end = np.searchsorted(self.prices, price, "left"), np.searchsorted(self.prices, price, "right")
-        return int(first + np.searchsorted(self.owner[int(first):int(end)], owner))
+        first = int(np.searchsorted(self.prices, price, "left"))
+        end = int(np.searchsorted(self.prices, price, "right"))
+        return first + int(np.searchsorted(self.owner[first:end], owner))
 
 
 def measured(part: Part) -> tuple[int, Floats, Floats]:
-    """Returns how many items there are, the greatest of each figure, and the greatest extra costs of orders and stock.
-    """
+    """Returns how many items there are, the greatest of each figure, and the greatest extra costs of orders and stock."""
     most = np.maximum(part.rows.figures.max(axis=1), part.now.max(axis=(0, 2)))
     most[UNMET] = max(most[UNMET], part.demand.max())
     most[COST] = max(most[COST], part.rows.variant_costs().max())
@@ -196,8 +233,10 @@ def measured(part: Part) -> tuple[int, Floats, Floats]:
 
 def summed(part: Part, units: Units) -> tuple[int, Whole]:
     """Returns the demand, in units of unmet demand, and the figures of today's policies and of the chosen ones."""
-    asked = in_units(part.demand[None], units[UNMET:UNMET + 1]).sum()
-    return int(asked), np.array([in_units(figures, units).sum(axis=1) for figures in part.now])
+    asked = in_units(part.demand[None], units[UNMET : UNMET + 1]).sum()
+    return int(asked), np.array(
+        [in_units(figures, units).sum(axis=1) for figures in part.now]
+    )
 
 
 def bounds_of(part: Part, units: Units, asked: Sequence[Dearer]) -> Whole:
@@ -209,25 +248,31 @@ def bounds_of(part: Part, units: Units, asked: Sequence[Dearer]) -> Whole:
     for total, dearer in zip(sums, asked):
         shares = rows.shares(dearer)
         some = np.flatnonzero(shares)
-        for its, counted in zip(total, in_units(shares[some] * each[:, some], (units[COST], units[UNMET]))):
+        for its, counted in zip(
+            total, in_units(shares[some] * each[:, some], (units[COST], units[UNMET]))
+        ):
             np.add.at(its, rows.first[some], counted)
             np.subtract.at(its, rows.end[some], counted)
     least: Whole = np.cumsum(sums, axis=-1)[..., :-1]
     return least
 
 
-def stretches_of(part: Part, units: Units, dearer: Dearer,
-                 edges: Floats) -> tuple[Whole, Whole, Whole, Floats]:
+def stretches_of(
+    part: Part, units: Units, dearer: Dearer, edges: Floats
+) -> tuple[Whole, Whole, Whole, Floats]:
     """Returns sums over the steps between edges of price, each with the edge at its end: how many there are, what they
     add to each figure, and to the stock value those that lower it; the figures before all steps; and the least and the
     greatest price of each stretch that has steps."""
     hulls = part.hulls(dearer)
-    changes, ends = hulls.changes(units), np.searchsorted(hulls.prices, edges, "right")
+    ends = np.searchsorted(hulls.prices, edges, "right")
+    changes = hulls.changes(units)
     changes = np.vstack([changes, np.minimum(changes[VALUE], 0)])
-    sums = np.diff(np.pad(np.cumsum(changes, axis=1), ((0, 0), (1, 0)))[:, ends], axis=1)
+    before = np.pad(np.cumsum(changes, axis=1), ((0, 0), (1, 0)))
     # Where a stretch has no step, these are of one beside it, which other parts surpass.
-    least, most = np.append(hulls.prices, np.inf)[ends[:-1]], np.append(-np.inf, hulls.prices)[ends[1:]]
+    least = np.append(hulls.prices, np.inf)[ends[:-1]]
+    most = np.append(-np.inf, hulls.prices)[ends[1:]]
     start = in_units(hulls.figures[:, hulls.start], units).sum(axis=1)
+    sums = np.diff(before[:, ends], axis=1)
     return np.diff(ends), sums, start, np.array([-least, most])
 
 
@@ -239,25 +284,45 @@ class Steps(NamedTuple):
     changes: Whole
 
 
-def steps_of(part: Part, start: int, units: Units, dearer: Dearer, low: float, high: float) -> Steps:
+def steps_of(
+    part: Part, start: int, units: Units, dearer: Dearer, low: float, high: float
+) -> Steps:
     """Returns the steps above a price, up to another one. `start` is the place of the part's first item."""
     hulls = part.hulls(dearer)
     some = slice(*np.searchsorted(hulls.prices, (low, high), "right"))
-    return Steps(hulls.prices[some], hulls.owner[some] + start, hulls.changes(units)[:, some])
+    return Steps(
+        hulls.prices[some], hulls.owner[some] + start, hulls.changes(units)[:, some]
+    )
 
 
-def fitting(part: Part, start: int, units: Units, dearer: Dearer, low: float, high: float, border: tuple[float, int],
-            figure: int, way: int, spare: int) -> Steps:
+def fitting(
+    part: Part,
+    start: int,
+    units: Units,
+    dearer: Dearer,
+    low: float,
+    high: float,
+    border: tuple[float, int],
+    figure: int,
+    way: int,
+    spare: int,
+) -> Steps:
     """Returns the steps above a price, up to another one, that may be taken from a border on, if there is so much of a
     figure to spare: upwards, or back downwards if `way` is -1. The border is a step, by its price and its item.
 
     An item for whose step there is too little takes no further one.
     """
-    hulls, (price, owner) = part.hulls(dearer), border
-    first, end = (hulls.before(price, owner - start), int(np.searchsorted(hulls.prices, high, "right"))) if way > 0 \
-        else (int(np.searchsorted(hulls.prices, low, "right")), hulls.before(price, owner - start + 1))
+    hulls = part.hulls(dearer)
+    price, owner = border
+    if way > 0:
+        first = hulls.before(price, owner - start)
+        end = int(np.searchsorted(hulls.prices, high, "right"))
+    else:
+        first = int(np.searchsorted(hulls.prices, low, "right"))
+        end = hulls.before(price, owner - start + 1)
     places = np.arange(first, end)[::way]
-    changes, owners = hulls.changes(units), hulls.owner[places]
+    changes = hulls.changes(units)
+    owners = hulls.owner[places]
     stays = np.full(len(part.names), len(places))
     too_much = np.flatnonzero(way * changes[figure, places] > spare)
     np.minimum.at(stays, owners[too_much], too_much)
@@ -268,7 +333,8 @@ def fitting(part: Part, start: int, units: Units, dearer: Dearer, low: float, hi
 
 class Choice(NamedTuple):
     """A choice of policies: with what is dearer, each item takes the steps up to that of a price and an item, and so
-    many more, or fewer, as `moved` says of some items: their places, rising, and the numbers of steps."""
+    many more, or fewer, as `moved` says of some items: their places, rising, and the numbers of steps.
+    """
 
     dearer: Dearer
     price: float
@@ -278,7 +344,9 @@ class Choice(NamedTuple):
 
     def of_part(self, start: int, count: int) -> Choice:
         """Returns the choice of so many items from a place on, with places in their part."""
-        some = self.moved[:, slice(*np.searchsorted(self.moved[0], (start, start + count)))]
+        some = self.moved[
+            :, slice(*np.searchsorted(self.moved[0], (start, start + count)))
+        ]
         return self._replace(owner=self.owner - start, moved=some - [[start], [0]])
 
 
@@ -294,22 +362,33 @@ class Chosen(NamedTuple):
     cost: float
 
 
-def policies_of(part: Part, choice: Choice, places: Whole | None = None) -> list[Chosen]:
+def policies_of(
+    part: Part, choice: Choice, places: Whole | None = None
+) -> list[Chosen]:
     """Returns the policies of the items at some places of the part, or of all, in its choice."""
     if places is not None and not len(places):
         return []
     hulls = part.hulls(choice.dearer)
-    taken = np.bincount(hulls.owner[:hulls.before(choice.price, choice.owner + 1)], minlength=len(part.names))
+    steps = hulls.before(choice.price, choice.owner + 1)
+    taken = np.bincount(hulls.owner[:steps], minlength=len(part.names))
     taken[choice.moved[0]] += choice.moved[1]
     some = np.arange(len(part.names)) if places is None else places
     vertices = (hulls.start + taken)[some]
     value, unmet, orders, cost = hulls.figures[:, vertices]
-    columns = (hulls.point[vertices], hulls.level[vertices], value, 1 - unmet / part.demand[some], orders, cost)
-    return [*map(Chosen, (part.names[place] for place in some), *(column.tolist() for column in columns))]
+    fill = 1 - unmet / part.demand[some]
+    levels = hulls.point[vertices], hulls.level[vertices]
+    columns = [column.tolist() for column in (*levels, value, fill, orders, cost)]
+    return [*map(Chosen, (part.names[place] for place in some), *columns)]
 
 
-def drawn_of(part: Part, start: int, seed: str, count: int) -> list[tuple[str, int, str]]:
-    """Returns so many items at most, which are drawn by a digest of the seed and the name: digests, places and names.
-    """
-    return heapq.nsmallest(count, ((sha256(f"{seed}\nconfirm\n{name}"), start + place, name)
-                                   for place, name in enumerate(part.names)))
+def drawn_of(
+    part: Part, start: int, seed: str, count: int
+) -> list[tuple[str, int, str]]:
+    """Returns so many items at most, which are drawn by a digest of the seed and the name: digests, places and names."""
+    return heapq.nsmallest(
+        count,
+        (
+            (sha256(f"{seed}\nconfirm\n{name}"), start + place, name)
+            for place, name in enumerate(part.names)
+        ),
+    )

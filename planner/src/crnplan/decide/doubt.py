@@ -9,20 +9,21 @@ from __future__ import annotations
 
 import dataclasses
 import math
-from collections.abc import Iterable, Mapping
+from collections.abc import Iterable, Iterator, Mapping
 from dataclasses import dataclass, field
 from functools import cached_property
 from pathlib import Path
-from typing import TYPE_CHECKING
+from typing import TYPE_CHECKING, Any
 
+from ..columns import columns_of
 from ..toml.scenarios import checked_tree
 from ..crnsim.report import report_of
 from ..errors import Refused, argument
-from ..records.observed import Observed
+from ..read.observed import Observed
 from ..law import Law
 from ..money import Number
 from ..scenario import Policies, policies_of, Policy, Scenario
-from ..table import Cell, DataTable, Json, Result, number
+from ..table import DataTable, Json, Result
 from ..words import PREMISE, sentence
 from .verdicts import POLICY, horizon_of, own_variance
 
@@ -38,20 +39,7 @@ TIE = 1 + 1e-9  # Costs whose ratio is at most this are equal but for rounding.
 # How often the bounds held in the study planner/studies/doubt.py, in percent of all cases: the least and the most of
 # histories of 26, 52, 104 and 208 periods.
 HELD = {"regret": (89, 96), "fill": (79, 90)}
-COLUMNS = (
-    *POLICY, number("cost", "money a period", "mean cost of the long run over the laws, without `unit`", ".10g", ".2f"),
-    number("regret", "share", "how much more than the best of these policies it costs, mean", ".10g", ".2%"),
-    number("regret_90", "share", "what the regret does not exceed under 90% of the laws", ".10g", ".2%"),
-    number("within", "share", "laws under which the regret is at most `--within`", ".10g", ".0%"),
-    number("is_best", "share", "laws under which it is the best of these policies", ".10g", ".0%"),
-    number("own_regret", "share", "regret against the best of all policies under each law, mean", ".10g", ".2%"),
-    number("own_regret_90", "share", "what that does not exceed under 90% of the laws", ".10g", ".2%"),
-    number("own_within", "share", "laws under which that is at most `--within`", ".10g", ".0%"),
-    number("fill", "share", "demand met at once, mean", ".10g", ".2%"),
-    number("fill_10", "share", "what that reaches under 90% of the laws", ".10g", ".2%"),
-    number("run_cost", "money a period", "mean cost of the coming periods by crnsim", ".10g", ".2f"),
-    number("law_spread", "money a period", "its standard deviation over the laws", ".10g", ".2f"),
-    number("luck_spread", "money a period", "that of one replication under a law", ".10g", ".2f"))
+COLUMNS = columns_of("decide", "doubt")
 
 
 @dataclass(frozen=True, eq=False)
@@ -89,6 +77,7 @@ class Doubt(Result):
     def columns(self) -> dict[str, Floats]:
         """Returns the columns of the table with a figure for each policy."""
         import numpy as np
+
         columns = {"cost": self.figures.cost.mean(axis=0)}
         for name, regrets in (("", self.regrets), ("own_", self.own_regrets)):
             if not np.isnan(regrets).any():
@@ -108,69 +97,96 @@ class Doubt(Result):
     @property
     def regrets_shown(self) -> Floats:
         """Returns the regrets for a picture, the cheapest policy first: of a single policy those against all."""
-        return self.regrets[:, self.order] if len(self.policies) > 1 else self.own_regrets
+        shown = self.regrets if len(self.policies) > 1 else self.own_regrets
+        return shown[:, self.order]
+
+    @cached_property
+    def rows(self) -> list[dict[str, Any]]:
+        """Returns each policy with its figures by column, the cheapest first."""
+        rows = list[dict[str, Any]]()
+        for place in self.order:
+            rows.append({"policy": self.policies[place]})
+            for name, figures in self.columns.items():
+                rows[-1][name] = float(figures[place])
+        return rows
 
     @property
     def table(self) -> DataTable:
         """Returns the figures indexed by `policy`, the cheapest first."""
-        columns = [column for column in COLUMNS[len(POLICY):] if column.name in self.columns]
-        rows = list[list[Cell]]()
-        for place in self.order:
-            policy = self.policies[place]
-            figures = (float(self.columns[column.name][place]) for column in columns)
-            rows.append([policy.name, policy.s, policy.S, *figures])
-        return DataTable([*POLICY, *columns], rows, index="policy")
+        known = {column.name for column in POLICY} | self.columns.keys()
+        columns = [column for column in COLUMNS if column.name in known]
+        return DataTable.of(columns, self.rows, index="policy")
 
     @property
     def tree(self) -> dict[str, Json]:
         """Returns all as data, without rounding."""
-        return {"laws": len(self.figures.laws), "within": self.within, "families": self.demand.families,
-                "lead_families": self.lead.families if self.lead else None, "step": self.figures.step,
-                "error": self.figures.error, "sentence": self.sentence, "bounds": self.bounds,
-                "policies": self.table.records, "notes": self.remarks}
+        return {
+            "laws": len(self.figures.laws),
+            "within": self.within,
+            "families": self.demand.families,
+            "lead_families": self.lead.families if self.lead else None,
+            "step": self.figures.step,
+            "error": self.figures.error,
+            "sentence": self.sentence,
+            "bounds": self.bounds,
+            "policies": self.table.records,
+            "notes": self.remarks,
+        }
 
     @property
     def sentence(self) -> str:
         """Returns one sentence on the cheapest policy."""
-        best, count = self.order[0], len(self.policies)
-        name, among = ("within", f"these {count} policies") if count > 1 else ("own_within", "all")
-        return (f"{self.policies[best].name} is within {100 * self.within:g}% of the best of {among} under "
-                f"{self.columns[name][best]:.0%} of the laws that this history allows.")
+        best, count = self.rows[0], len(self.policies)
+        share, among = best.get("own_within"), "all"
+        if count > 1:
+            share, among = best["within"], f"these {count} policies"
+        return (
+            f"{best['policy'].name} is within {100 * self.within:g}% of the best of {among} under "
+            f"{share:.0%} of the laws that this history allows."
+        )
 
     @property
     def bounds(self) -> str:
         """Returns what is said of the cheapest policy with a stated chance."""
-        best, columns = self.order[0], self.columns
-        name, among = ("own_regret_90", "all policies") if "own_regret" in columns else ("regret_90", "these")
-        held, held_fill = ("{} to {}%".format(*HELD[of]) for of in ("regret", "fill"))
-        return (f"Under {MOST:.0%} of the laws it costs at most {columns[name][best]:.1%} more than the best of "
-                f"{among}, and under {MOST:.0%} its fill rate is at least {columns['fill_10'][best]:.1%}. In a study "
-                f"with known laws such a bound held in {held} of cases for the cost, and in {held_fill} for the fill "
-                f"rate. All of it holds {PREMISE}.")
+        best = self.rows[0]
+        bound, among = best["regret_90"], "these"
+        if "own_regret_90" in best:
+            bound, among = best["own_regret_90"], "all policies"
+        (least, most), (least_fill, most_fill) = HELD["regret"], HELD["fill"]
+        return (
+            f"Under {MOST:.0%} of the laws it costs at most {bound:.1%} more than the best of "
+            f"{among}, and under {MOST:.0%} its fill rate is at least {best['fill_10']:.1%}. In a study "
+            f"with known laws such a bound held in {least} to {most}% of cases for the cost, and in {least_fill} to "
+            f"{most_fill}% for the fill rate. All of it holds {PREMISE}."
+        )
 
     @property
     def remarks(self) -> list[str]:
         """Returns lines on the laws, on the lattice, and on what does not fit."""
         drawn, figures, scenario = len(self.demand.laws), self.figures, self.scenario
-        lines = [f"laws of demand: {families_of(self.demand)} (history: its periods with random weights)"]
+        lines = [
+            f"laws of demand: {families_of(self.demand)} (history: its periods with random weights)"
+        ]
         if self.lead:
             lines.append(f"laws of lead times: {families_of(self.lead)}")
         else:
             lines.append("lead times: those of the scenario under each law")
         if len(figures.laws) < drawn:
-            lines.append(f"{drawn - len(figures.laws)} laws of {drawn} are left out: under them as much comes back as "
-                         "is asked for")
-        lines.append("cost: a period of the long run, without unit; by theory, rounded and unproved")
+            lines.append(
+                f"{drawn - len(figures.laws)} laws of {drawn} are left out: under them as much comes back as "
+                "is asked for"
+            )
+        lines.append(
+            "cost: a period of the long run, without unit; by theory, rounded and unproved"
+        )
         if figures.error is not None:
-            lines.append(f"counted in steps of up to {figures.step} items: costs are right to about "
-                         f"{max(figures.error, 1e-4):.2%}, by which steps twice as large change them at most")
-        for name, law, allowed in (("demand", scenario.demand, self.demand), ("lead time", scenario.lead, self.lead)):
-            if allowed is None:
-                continue
-            own, means = float(law.mean), [float(drawn_law.mean) for drawn_law in allowed.laws]
-            if not min(means) <= own <= max(means):
-                lines.append(f"the mean {name} of the scenario is {own:.4g}, but {min(means):.4g} to {max(means):.4g} "
-                             "under the laws of the history; is it this item's history, in the same periods and boxes?")
+            lines.append(
+                f"counted in steps of up to {figures.step} items: costs are right to about "
+                f"{max(figures.error, 1e-4):.2%}, by which steps twice as large change them at most"
+            )
+        lines += _apart("demand", scenario.demand, self.demand)
+        if self.lead:
+            lines += _apart("lead time", scenario.lead, self.lead)
         return lines
 
     @property
@@ -178,16 +194,22 @@ class Doubt(Result):
         """Returns the sentences and the remarks."""
         lines = ["", f"{self.sentence} {self.bounds}", "", *self.remarks, ""]
         if self.spreads:
-            lines = ["", f"run_cost, law_spread, luck_spread: a period of the {sentence(horizon_of(self.scenario))}, by "
-                     "crnsim, all laws with one key: mean cost, its standard deviation over the laws, and that of one "
-                     "replication under a law", *lines]
+            lines = [
+                "",
+                f"run_cost, law_spread, luck_spread: a period of the {sentence(horizon_of(self.scenario))}, by "
+                "crnsim, all laws with one key: mean cost, its standard deviation over the laws, and that of one "
+                "replication under a law",
+                *lines,
+            ]
         return "\n".join(lines)
 
     @property
     def text(self) -> str:
         """Returns the table with its heading, and the notes."""
-        return (f"The long run under {len(self.figures.laws)} laws that the history allows\n\n{self.table.text}"
-                f"{self.notes}")
+        return (
+            f"The long run under {len(self.figures.laws)} laws that the history allows\n\n{self.table.text}"
+            f"{self.notes}"
+        )
 
 
 def families_of(allowed: AllowedLaws) -> str:
@@ -195,24 +217,77 @@ def families_of(allowed: AllowedLaws) -> str:
     return ", ".join(f"{count} {name}" for name, count in allowed.families.items())
 
 
-def _spreads_of(scenario: Scenario, laws: Iterable[tuple[Law, Law]], program: str | Path | None) -> dict[str, Floats]:
+def _apart(name: str, law: Law, allowed: AllowedLaws) -> Iterator[str]:
+    """Yields that the mean of a law of the scenario is none of those that the history allows, if it is so."""
+    own = float(law.mean)
+    means = [float(drawn_law.mean) for drawn_law in allowed.laws]
+    if not min(means) <= own <= max(means):
+        yield (
+            f"the mean {name} of the scenario is {own:.4g}, but {min(means):.4g} to {max(means):.4g} "
+            "under the laws of the history; is it this item's history, in the same periods and boxes?"
+        )
+
+
+def _spreads_of(
+    scenario: Scenario, laws: Iterable[tuple[Law, Law]], program: str | Path | None
+) -> dict[str, Floats]:
     """Runs a scenario under each law of demand and of lead times, with one key, and returns the columns of runs."""
     import numpy as np
+
+    count = scenario.replications
     costs, variances = [], []
     for demand, lead in laws:
-        rows = report_of(dataclasses.replace(scenario, demand=demand, lead=lead), program).rows
+        case = dataclasses.replace(scenario, demand=demand, lead=lead)
+        rows = report_of(case, program).rows
         costs.append([float(row.per_period) for row in rows])
-        if scenario.replications > 1:
-            variances.append([float(own_variance(row, rows[0], scenario.replications)) for row in rows])
+        if count > 1:
+            own = [own_variance(row, rows[0], count) for row in rows]
+            variances.append([*map(float, own)])
     luck = np.full(len(costs[0]), np.nan)
     if variances:
         luck = np.sqrt(np.mean(variances, axis=0)) / scenario.periods
-    return {"run_cost": np.mean(costs, axis=0), "law_spread": np.std(costs, axis=0, ddof=1), "luck_spread": luck}
+    return {
+        "run_cost": np.mean(costs, axis=0),
+        "law_spread": np.std(costs, axis=0, ddof=1),
+        "luck_spread": luck,
+    }
 
 
-def doubt(scenario: Scenario, history: Observed | Iterable[Number], leads: Observed | Iterable[Number] | None = None, *,
-          policies: Policies | None = None, times: int = 100, within: float = WITHIN, seed: int = 1, box: int = 1,
-          runs: bool = False, program: str | Path | None = None) -> Doubt:
+def _check_words(times: int, within: float) -> None:
+    """Raises Refused for a number of laws, or a share, that is out of range."""
+    least, most = TIMES
+    if not least <= times <= most:
+        asked = argument("times", str(times))
+        raise Refused(f"{asked}: there can be {least:,} to {most:,} laws")
+    if not 0 <= within < math.inf:
+        asked = argument("within", f"{within:g}")
+        raise Refused(f"{asked}: it is a share of at least 0, as 0.03 for 3%")
+
+
+def _candidates(scenario: Scenario, policies: Policies | None) -> tuple[Policy, ...]:
+    """Returns the policies that are looked at: the scenario's own, or others. Raises Refused, and ScenarioError."""
+    if policies is None:
+        return scenario.policies
+    candidates = tuple(dict.fromkeys(policies_of(policies)))
+    if not candidates:
+        raise Refused("policies: there is none; give at least one")
+    checked_tree(scenario.with_policies(candidates).tree, any_number=True)
+    return candidates
+
+
+def doubt(
+    scenario: Scenario,
+    history: Observed | Iterable[Number],
+    leads: Observed | Iterable[Number] | None = None,
+    *,
+    policies: Policies | None = None,
+    times: int = 100,
+    within: float = WITHIN,
+    seed: int = 1,
+    box: int = 1,
+    runs: bool = False,
+    program: str | Path | None = None,
+) -> Doubt:
     """Returns what each policy costs, and how well it fills, under the laws that a history allows.
 
     `history` is the demand of the scenario by period, `leads` are observed lead times (without them those of the
@@ -227,19 +302,17 @@ def doubt(scenario: Scenario, history: Observed | Iterable[Number], leads: Obser
     """
     from ..demand.posterior import allowed_laws, allowed_leads
     from ..theory.many_laws import figures_of_laws
-    if not TIMES[0] <= times <= TIMES[1]:
-        raise Refused(f"{argument('times', str(times))}: there can be {TIMES[0]:,} to {TIMES[1]:,} laws")
-    if not 0 <= within < math.inf:
-        raise Refused(f"{argument('within', f'{within:g}')}: it is a share of at least 0, as 0.03 for 3%")
-    candidates = scenario.policies
-    if policies is not None:
-        candidates = tuple(dict.fromkeys(policies_of(policies)))
-        if not candidates:
-            raise Refused("policies: there is none; give at least one")
-        checked_tree(scenario.with_policies(candidates).tree, any_number=True)
+
+    _check_words(times, within)
+    candidates = _candidates(scenario, policies)
     demand = allowed_laws(history, times=times, box=box, seed=seed)
-    lead = None if leads is None else allowed_leads(leads, times=times, seed=seed)
-    laws = [*zip(demand.laws, lead.laws if lead else [scenario.lead] * len(demand.laws))]
+    lead, lead_laws = None, [scenario.lead] * len(demand.laws)
+    if leads is not None:
+        lead = allowed_leads(leads, times=times, seed=seed)
+        lead_laws = [*lead.laws]
+    laws = [*zip(demand.laws, lead_laws)]
     figures = figures_of_laws(scenario, laws, candidates)
-    spreads = _spreads_of(scenario.with_policies(candidates), laws, program) if runs else {}
+    spreads: dict[str, Floats] = {}
+    if runs:
+        spreads = _spreads_of(scenario.with_policies(candidates), laws, program)
     return Doubt(scenario, candidates, within, demand, lead, figures, spreads)

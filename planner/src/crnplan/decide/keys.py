@@ -16,28 +16,42 @@ from pathlib import Path
 from .. import formats
 from ..crnsim.report import Row, pooled, table_of
 from ..errors import Refused, argument
-from ..files import Folder, own_folder
+from ..store.files import Folder, own_folder
 from ..scenario import Scenario
 from ..table import DataTable, Json, Result
 from ..toml.scenarios import plain_text
-from .verdicts import MOST_KEYS, Decision, check_replications, checked_level, horizon_of, with_intervals, with_verdict
+from .verdicts import (
+    MOST_KEYS,
+    Decision,
+    check_replications,
+    checked_level,
+    horizon_of,
+    with_intervals,
+    with_verdict,
+)
 
 Key = tuple[str, ...]
 VERDICTS = "better", "undecided", "worse"
 LEAST_REPLICATIONS = 2
 POOLED = "pooled.csv"
-KEPT = (POOLED, *(f"key_{number}.{end}" for number in range(1, MOST_KEYS + 1) for end in ("toml", "csv")))
+KEPT = [POOLED]
+for _number in range(1, MOST_KEYS + 1):
+    KEPT += f"key_{_number}.toml", f"key_{_number}.csv"
 
 
 def key_of(words: Sequence[str], own: Key) -> Key:
     """Returns the key that words name: four words, or one that replaces the first of the scenario's own."""
     for word in words:
         if not formats.WORD.fullmatch(word):
-            raise Refused(f"{argument('keys')}: {word!r} is not {formats.DIGITS_OF_WORD} digits of 0-9a-f (in lower case)")
+            raise Refused(
+                f"{argument('keys')}: {word!r} is not {formats.DIGITS_OF_WORD} digits of 0-9a-f (in lower case)"
+            )
     if len(words) not in (1, formats.WORDS_OF_KEY):
-        raise Refused(f"{argument('keys')}: there are {len(words)} words; give four, or one that replaces the first of "
-                      "the scenario")
-    return (*words, *own[len(words):])
+        raise Refused(
+            f"{argument('keys')}: there are {len(words)} words; give four, or one that replaces the first of "
+            "the scenario"
+        )
+    return (*words, *own[len(words) :])
 
 
 def keys_of(given: Sequence[Sequence[str]], count: int | None, own: Key) -> list[Key]:
@@ -49,17 +63,25 @@ def keys_of(given: Sequence[Sequence[str]], count: int | None, own: Key) -> list
     least = max(1, len(keys))
     count = least if count is None else count
     if not least <= count <= MOST_KEYS:
-        raise Refused(f"{argument('count', str(count))}: there can be {least} to {MOST_KEYS} keys here")
+        raise Refused(
+            f"{argument('count', str(count))}: there can be {least} to {MOST_KEYS} keys here"
+        )
     if own in keys:
-        raise Refused(f"{argument('keys', ' '.join(own))} is the scenario's own key, with the same histories again; "
-                      "give another one, or none to draw one")
+        raise Refused(
+            f"{argument('keys', ' '.join(own))} is the scenario's own key, with the same histories again; "
+            "give another one, or none to draw one"
+        )
     for place, key in enumerate(keys):
         if key in keys[:place]:
-            raise Refused(f"{argument('keys', ' '.join(key))} is given twice, with the same histories again; give "
-                          "another one")
+            raise Refused(
+                f"{argument('keys', ' '.join(key))} is given twice, with the same histories again; give "
+                "another one"
+            )
     while len(keys) < count:
-        drawn = tuple(secrets.token_hex(formats.DIGITS_OF_WORD // 2) for _ in range(formats.WORDS_OF_KEY))
-        keys += [drawn] if drawn not in [own, *keys] else []
+        words = range(formats.WORDS_OF_KEY)
+        drawn = tuple(secrets.token_hex(formats.DIGITS_OF_WORD // 2) for _ in words)
+        if drawn not in (own, *keys):
+            keys.append(drawn)
     return keys
 
 
@@ -88,8 +110,9 @@ class Check(Result):
         for verdict in VERDICTS:
             names = with_verdict(self.decision.rows, verdict)
             if names:
-                verb = "is" if len(names) == 1 else "are"
-                said = f"can't be told apart from {self.best}" if verdict == "undecided" else f"{verb} {verdict}"
+                said = f"{'is' if len(names) == 1 else 'are'} {verdict}"
+                if verdict == "undecided":
+                    said = f"can't be told apart from {self.best}"
                 clauses.append(f"{', '.join(names)} {said}")
         holds = "holds" if self.holds else "does not hold"
         return f"On these new histories {self.best} {holds}: {'; '.join(clauses)}.\n"
@@ -108,21 +131,35 @@ class Check(Result):
     @property
     def tree(self) -> dict[str, Json]:
         """Returns all as data, without rounding to decimals."""
-        return {"best": self.best, "holds": self.holds, "keys": self.keys, **self.decision.tree}
+        return {
+            "best": self.best,
+            "holds": self.holds,
+            "keys": self.keys,
+            **self.decision.tree,
+        }
 
 
 def _with_base(scenario: Scenario, best: str) -> Scenario:
     """Returns a scenario with its best policy as the first one."""
     names = [policy.name for policy in scenario.policies]
     if best not in names:
-        raise Refused(f"there is no policy {best!r}; the policies are: {', '.join(names)}")
+        raise Refused(
+            f"there is no policy {best!r}; the policies are: {', '.join(names)}"
+        )
     if len(names) == 1:
-        raise Refused("the scenario has one policy; add the policies with which it should be compared")
-    return scenario.with_policies(sorted(scenario.policies, key=lambda policy: policy.name != best))
+        raise Refused(
+            "the scenario has one policy; add the policies with which it should be compared"
+        )
+    base = scenario.policies[names.index(best)]
+    return scenario.with_policies(dict.fromkeys([base, *scenario.policies]))
 
 
-def _pooled_run(scenario: Scenario, keys: Sequence[Key], program: str | Path | None,
-                folder: Folder | None = None) -> list[Row]:
+def _pooled_run(
+    scenario: Scenario,
+    keys: Sequence[Key],
+    program: str | Path | None,
+    folder: Folder | None = None,
+) -> list[Row]:
     """Runs a scenario under each key, and returns the rows of all replications. A folder gets what was run."""
     reports = list[Sequence[Row]]()
     for number, key in enumerate(keys, 1):
@@ -140,9 +177,17 @@ def _pooled_run(scenario: Scenario, keys: Sequence[Key], program: str | Path | N
     return rows
 
 
-def check_keys(scenario: Scenario, best: str, *, keys: Sequence[Sequence[str]] = (), count: int | None = None,
-               replications: int = formats.MOST_REPLICATIONS, level: float = 0.95, program: str | Path | None = None,
-               out: str | Path | None = None) -> Check:
+def check_keys(
+    scenario: Scenario,
+    best: str,
+    *,
+    keys: Sequence[Sequence[str]] = (),
+    count: int | None = None,
+    replications: int = formats.MOST_REPLICATIONS,
+    level: float = 0.95,
+    program: str | Path | None = None,
+    out: str | Path | None = None,
+) -> Check:
     """Runs a scenario again under new keys, and compares each other policy with the policy named `best`.
 
     `keys` are given ones, each of four words, or of one that replaces the first word of the scenario's key; a word has
@@ -153,22 +198,36 @@ def check_keys(scenario: Scenario, best: str, *, keys: Sequence[Sequence[str]] =
     and ProgramError if a run fails.
     """
     if not LEAST_REPLICATIONS <= replications <= formats.MOST_REPLICATIONS:
-        raise Refused(f"{argument('replications', str(replications))}: there can be {LEAST_REPLICATIONS} to "
-                      f"{formats.MOST_REPLICATIONS} for each key; more come from more keys ({argument('keys')})")
+        raise Refused(
+            f"{argument('replications', str(replications))}: there can be {LEAST_REPLICATIONS} to "
+            f"{formats.MOST_REPLICATIONS} for each key; more come from more keys ({argument('keys')})"
+        )
     checked_level(level)
     asked = dataclasses.replace(_with_base(scenario, best), replications=replications)
     all_keys = keys_of(keys, count, scenario.key)
-    with contextlib.nullcontext() if out is None else own_folder(Path(out), "check") as folder:
-        if folder:
+    with contextlib.ExitStack() as stack:
+        folder = None
+        if out is not None:
+            folder = stack.enter_context(own_folder(Path(out), "check"))
             folder.remove(*KEPT)
         rows = _pooled_run(asked, all_keys, program, folder)
     total = replications * len(all_keys)
     ranked = with_intervals(rows, total, level)
-    return Check(best, tuple(all_keys), Decision(ranked, best, total, level, horizon_of(scenario), most=len(rows)))
+    coming = horizon_of(scenario)
+    decision = Decision(ranked, best, total, level, coming, most=len(rows))
+    return Check(best, tuple(all_keys), decision)
 
 
-def check_long_run(scenario: Scenario, best: str, *, keys: Sequence[Sequence[str]] = (), count: int | None = None,
-                   runs: int = 48, level: float = 0.95, program: str | Path | None = None) -> Check:
+def check_long_run(
+    scenario: Scenario,
+    best: str,
+    *,
+    keys: Sequence[Sequence[str]] = (),
+    count: int | None = None,
+    runs: int = 48,
+    level: float = 0.95,
+    program: str | Path | None = None,
+) -> Check:
     """Compares each other policy with the policy named `best` in the long run, under new keys.
 
     Keys are given and drawn as in `check_keys`. Each has 48 replications of a long run, or as many as `runs`, 2 to 256,
@@ -176,6 +235,7 @@ def check_long_run(scenario: Scenario, best: str, *, keys: Sequence[Sequence[str
     fails.
     """
     from .long_run import LongRunReport, long_scenario
+
     checked_level(level)
     based = _with_base(scenario, best)
     all_keys = keys_of(keys, count, scenario.key)

@@ -16,17 +16,28 @@ from functools import cached_property
 from pathlib import Path
 
 from .. import formats
+from ..columns import columns_of
 from ..crnsim.report import Row, report_of
 from ..errors import Refused, argument
-from ..remarks import Remark
+from ..remarks import Remark, Value
 from ..scenario import Policy, Scenario
-from ..table import Cell, DataTable, Result, names_of, number
+from ..table import DataTable, Result, names_of
 from ..theory.lattice import NoTheory
 from ..theory.long_run import LongRun
 from ..theory.run_effects import StartBias, end_effects, start_bias, theory_of
 from ..toml.scenarios import checked_tree
-from .verdicts import (FEWEST_ORDERS, MOST_ROWS, POLICY, Decision, Estimate, decided, estimates_of, far_from, horizon_of,
-                       ranked, t_quantile)
+from .verdicts import (
+    FEWEST_ORDERS,
+    MOST_ROWS,
+    Decision,
+    Estimate,
+    decided,
+    estimates_of,
+    far_from,
+    horizon_of,
+    ranked,
+    t_quantile,
+)
 
 # In standard errors of a difference. Measured: with smaller effects 94% of uncorrected 95% intervals hold.
 MOST_EFFECT = 0.25
@@ -34,10 +45,7 @@ MOST_EFFECT = 0.25
 CHANCE_OF_ALARM = 0.001
 KEYS = 48
 LEAST_KEYS, MOST_KEYS = 2, formats.MOST_REPLICATIONS
-COLUMNS = (
-    *POLICY, number("cost", "money a period", "mean cost, without `unit`").by("cost"),
-    number("difference", "money a period", "cost less the base's").by("difference"),
-    number("variance", "squared money", "variance of the mean of that difference").by("variance"))
+COLUMNS = columns_of("decide", "long_run_report")
 
 
 @dataclass(frozen=True)
@@ -53,10 +61,14 @@ class LongRunReport(Result):
     bias: StartBias
 
     @classmethod
-    def of(cls, rows: Sequence[Row], scenario: Scenario, replications: int, known: LongRun | None = None
-           ) -> LongRunReport:
-        """Makes the report of rows on a scenario, perhaps with other policies. Its theory may be known. Raises NoTheory.
-        """
+    def of(
+        cls,
+        rows: Sequence[Row],
+        scenario: Scenario,
+        replications: int,
+        known: LongRun | None = None,
+    ) -> LongRunReport:
+        """Makes the report of rows on a scenario, perhaps with other policies. Its theory may be known. Raises NoTheory."""
         asked = scenario.with_policies(Policy(row.policy, row.s, row.S) for row in rows)
         return cls(asked, tuple(rows), replications, start_bias(asked, known))
 
@@ -95,42 +107,64 @@ class LongRunReport(Result):
     @property
     def strong(self) -> list[str]:
         """Returns the policies for which that is too much for intervals of the long run."""
-        return [row.policy for row, effect in zip(self.rows, self.effects) if effect and abs(effect) > MOST_EFFECT]
+        names = []
+        for row, effect in zip(self.rows, self.effects):
+            if effect and abs(effect) > MOST_EFFECT:
+                names.append(row.policy)
+        return names
 
     @property
     def table(self) -> DataTable:
         """Returns the figures of a period, indexed by `policy`, the base first."""
-        square = self.scenario.periods**2
-        cells: list[list[Cell]] = [
-            [row.policy, row.s, row.S, estimate.cost, estimate.difference, float(row.diff_var or 0) / square]
-            for row, estimate in zip(self.rows, self.estimates)]
-        return DataTable(COLUMNS, cells, index="policy")
+        rows = []
+        for row, estimate in zip(self.rows, self.estimates):
+            variance = float(row.diff_var or 0) / self.scenario.periods**2
+            rows.append({"row": row, "estimate": estimate, "variance": variance})
+        return DataTable.of(COLUMNS, rows, index="policy")
 
     def decide(self, level: float = 0.95) -> Decision:
         """Returns all policies, the cheapest first, with paired-t intervals of a period at a level above 0 and below 1,
         verdicts, and the figures of theory beside."""
         base, costs = self.estimates[0].cost, self.bias.costs
-        percents = [100 * own.difference / base if base else None for own in self.estimates]
-        theory = [(cost, cost - costs[0], effect) for cost, effect in zip(costs, self.effects)]
-        policies = ranked(self.rows, self.estimates, percents, level, self.replications, theory)
+        percents, theory = list[float | None](), []
+        for own, cost, effect in zip(self.estimates, costs, self.effects):
+            percents.append(100 * own.difference / base if base else None)
+            theory.append((cost, cost - costs[0], effect))
+        policies = ranked(
+            self.rows, self.estimates, percents, level, self.replications, theory
+        )
         scenario = self.scenario
-        runs = Remark("common start", {"initial": scenario.initial, "periods": scenario.periods})
-        return Decision(policies, self.rows[0].policy, self.replications, level, Remark("long run"), runs,
-                        self._exactness(), (*_without_interval(self.estimates), *self._warnings()))
+        runs = Remark(
+            "common start", {"initial": scenario.initial, "periods": scenario.periods}
+        )
+        return Decision(
+            policies,
+            self.rows[0].policy,
+            self.replications,
+            level,
+            Remark("long run"),
+            runs,
+            self._exactness(),
+            (*_without_interval(self.estimates), *self._warnings()),
+        )
 
     def _exactness(self) -> Remark:
         """Returns how exact theory's figures are."""
         code = "rounded bias"
         if self.bias.theory.exact:
-            code = "exact theory" if self.bias.on_lattice else "start beside the lattice"
+            code = "exact theory" if self.is_exact else "start beside the lattice"
         return Remark(code, {"step": self.bias.theory.step})
 
     def _warnings(self) -> Iterator[Remark]:
         """Yields that the run is far from theory that is exact, if it is."""
         if not self.is_exact:
             return
-        quantile = t_quantile(CHANCE_OF_ALARM / (2 * len(self.rows)), self.replications - 1)
-        gaps = far_from(self.estimates, self.bias.costs, quantile, [0.0] * len(self.rows))
+        quantile = t_quantile(
+            CHANCE_OF_ALARM / (2 * len(self.rows)), self.replications - 1
+        )
+        gaps = far_from(
+            self.estimates, self.bias.costs, quantile, [0.0] * len(self.rows)
+        )
         far = dict.fromkeys(gap.policy for gap in gaps if gap.error > 0)
         if far:
             yield Remark("far from theory", {"policies": names_of([*far], MOST_ROWS)})
@@ -144,7 +178,8 @@ def _without_interval(estimates: Sequence[Estimate]) -> Iterator[Remark]:
             is_rare = min(own.orders, estimates[0].orders) < FEWEST_ORDERS
             (few if is_rare else same).append(own.policy)
     if few:
-        yield Remark("few orders", {"policies": names_of(few, MOST_ROWS), "least": FEWEST_ORDERS})
+        facts: dict[str, Value] = {"policies": names_of(few, MOST_ROWS)}
+        yield Remark("few orders", facts | {"least": FEWEST_ORDERS})
     if same:
         yield Remark("no spread", {"policies": names_of(same, MOST_ROWS)})
 
@@ -156,33 +191,51 @@ def long_scenario(scenario: Scenario, keys: int) -> Scenario:
     is biased least. Raises Refused for a number that is not 2 to 256, ScenarioError with all faults, and NoTheory.
     """
     if not LEAST_KEYS <= keys <= MOST_KEYS:
-        raise Refused(f"{argument('keys', str(keys))}: the long run takes {LEAST_KEYS} to {MOST_KEYS} keys")
+        raise Refused(
+            f"{argument('keys', str(keys))}: the long run takes {LEAST_KEYS} to {MOST_KEYS} keys"
+        )
     checked_tree(scenario.tree, any_number=True)
     base = scenario.policies[0]
     position = theory_of(scenario.with_policies([base])).mean_position(base.s, base.S)
     initial = min(max(round(position), 0), formats.MOST_ITEMS)
-    return replace(scenario, periods=formats.MOST_PERIODS, replications=keys, initial=initial,
-                   ring=formats.RING_SIZES[-1], costs=replace(scenario.costs, unit=0), source=None)
+    return replace(
+        scenario,
+        periods=formats.MOST_PERIODS,
+        replications=keys,
+        initial=initial,
+        ring=formats.RING_SIZES[-1],
+        costs=replace(scenario.costs, unit=0),
+        source=None,
+    )
 
 
-def long_run_of(scenario: Scenario, keys: int = KEYS, program: str | Path | None = None) -> LongRunReport:
+def long_run_of(
+    scenario: Scenario, keys: int = KEYS, program: str | Path | None = None
+) -> LongRunReport:
     """Runs the policies of a scenario, whose first one is the base, in the long run: see `Scenario.long_run`."""
     asked = long_scenario(scenario, keys)
     return LongRunReport.of(report_of(asked, program).rows, asked, keys)
 
 
-def corrected_decision(rows: Sequence[Row], scenario: Scenario, level: float = 0.95) -> Decision:
+def corrected_decision(
+    rows: Sequence[Row], scenario: Scenario, level: float = 0.95
+) -> Decision:
     """Compares the policies of a report in the long run: theory's bias of the common start is taken out.
 
     The report is on the scenario, perhaps with other policies. Raises Refused with one replication, and NoTheory.
     """
     if scenario.replications < 2:
-        raise Refused("one replication tells nothing of spread; give the report of at least 2")
+        raise Refused(
+            "one replication tells nothing of spread; give the report of at least 2"
+        )
     report = LongRunReport.of(rows, scenario, scenario.replications)
     decision = report.decide(level)
     if not report.strong:
         return decision
-    strong = Remark("strong start", {"policies": names_of(report.strong, MOST_ROWS), "most": MOST_EFFECT})
+    strong = Remark(
+        "strong start",
+        {"policies": names_of(report.strong, MOST_ROWS), "most": MOST_EFFECT},
+    )
     return replace(decision, warnings=(*decision.warnings, strong))
 
 
@@ -194,13 +247,22 @@ def end_warning(scenario: Scenario, rows: Sequence[Row]) -> list[Remark]:
     effects = end_effects(scenario, rows)
     if effects is None:
         return [Remark("unit at an unknown end", {"unit": unit})]
-    named_effects = list(zip(effects, (row.policy for row in rows)))
-    (least, low), (most, high) = min(named_effects), max(named_effects)
-    place = min(range(len(rows)), key=lambda place: rows[place].diff_total)
-    cheapest = rows[place]
-    code = "unit of the cheapest" if place else "unit at the end"
-    return [Remark(code, {"unit": unit, "base": base, "least": least, "low": low, "most": most, "high": high,
-                          "cheapest": cheapest.policy, "effect": effects[place], "mean": float(cheapest.diff_mean)})]
+    names = [row.policy for row in rows]
+    (least, low), (most, high) = min(zip(effects, names)), max(zip(effects, names))
+    differences = [row.diff_total for row in rows]
+    place = differences.index(min(differences))
+    facts: dict[str, Value] = {
+        "unit": unit,
+        "base": base,
+        "least": least,
+        "low": low,
+        "most": most,
+        "high": high,
+        "cheapest": names[place],
+        "effect": effects[place],
+        "mean": float(rows[place].diff_mean),
+    }
+    return [Remark("unit of the cheapest" if place else "unit at the end", facts)]
 
 
 def start_warning(rows: Sequence[Row], scenario: Scenario) -> list[Remark]:
@@ -215,15 +277,25 @@ def start_warning(rows: Sequence[Row], scenario: Scenario) -> list[Remark]:
         return []
     if not report.strong or not report.bias.theory.exact:
         return []
-    return [Remark("start of coming periods", {"periods": scenario.periods, "initial": scenario.initial,
-                                               "most": MOST_EFFECT, "policies": names_of(report.strong, MOST_ROWS)})]
+    facts: dict[str, Value] = {
+        "periods": scenario.periods,
+        "initial": scenario.initial,
+        "most": MOST_EFFECT,
+        "policies": names_of(report.strong, MOST_ROWS),
+    }
+    return [Remark("start of coming periods", facts)]
 
 
-def coming_decision(given: Sequence[Row], scenario: Scenario, level: float = 0.95) -> Decision:
+def coming_decision(
+    given: Sequence[Row], scenario: Scenario, level: float = 0.95
+) -> Decision:
     """Compares the policies of a report on the coming periods of a scenario. Warnings say what the end and the start of
     a replication do to the verdicts on the listed ones."""
     decision = decided(given, scenario.replications, level)
     listed = {row.policy for row in decision.listed}
     shown = [row for row in given if row.policy in listed]
-    return replace(decision, horizon=horizon_of(scenario),
-                   warnings=(*end_warning(scenario, given), *start_warning(shown, scenario)))
+    return replace(
+        decision,
+        horizon=horizon_of(scenario),
+        warnings=(*end_warning(scenario, given), *start_warning(shown, scenario)),
+    )

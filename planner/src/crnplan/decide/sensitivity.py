@@ -17,13 +17,14 @@ from pathlib import Path
 from typing import NamedTuple
 
 from .. import formats
+from ..columns import columns_of
 from ..crnsim.report import counting
 from ..law import Law
-from ..remarks import Remark
+from ..remarks import Remark, Value
 from ..scenario import Policy, Scenario
-from ..table import Cell, Column, DataTable, Json, Result, aligned, number, text, whole
+from ..table import Column, DataTable, Json, Result, aligned
 from ..words import sentence
-from .verdicts import POLICY, horizon_of
+from .verdicts import horizon_of
 
 
 class Change(NamedTuple):
@@ -36,18 +37,37 @@ class Change(NamedTuple):
     tenths: int = 10
 
 
-CHANGES = (Change("demand_up", "demand 10% up", "demand", "demand", 11),
-           Change("demand_down", "demand 10% down", "demand", "demand", 9),
-           Change("lead_plus_1", "lead time plus 1", "lead", "lead time"))
-# The regret of a policy in a case: money per period, and percent of the least cost, None if that is 0.
-Regret = tuple[Fraction, Fraction | None]
+CHANGES = (
+    Change("demand_up", "demand 10% up", "demand", "demand", 11),
+    Change("demand_down", "demand 10% down", "demand", "demand", 9),
+    Change("lead_plus_1", "lead time plus 1", "lead", "lead time"),
+)
+GREATEST = "greatest"
+
+
+class Regret(NamedTuple):
+    """What a policy costs too much in a case: money a period, and percent of the least cost, None if that is 0."""
+
+    money: Fraction
+    percent: Fraction | None
+
+    @classmethod
+    def of(cls, cost: Fraction, least: Fraction) -> Regret:
+        more = cost - least
+        return cls(more, 100 * more / least if least else None)
+
+    @property
+    def text(self) -> str:
+        """Returns the regret for a reader."""
+        percent = "" if self.percent is None else f" ({float(self.percent):.2f}%)"
+        return f"{float(self.money):.3f}{percent}"
 
 
 class Loss(NamedTuple):
-    """The regrets of a policy in all cases, in order, and last the greatest of them, with the name of its case."""
+    """The regrets of a policy by case, and as `greatest` that of the worst one."""
 
     policy: Policy
-    regrets: tuple[Regret, ...]
+    regrets: Mapping[str, Regret]
     worst: str
 
 
@@ -65,78 +85,71 @@ class Sensitivity(Result):
         """Returns the regrets of each policy against the cheapest one of each case, the least greatest regret first."""
         losses = list[Loss]()
         for place, policy in enumerate(self.policies):
-            regrets = {case: regret_of(costs[place], min(costs)) for case, costs in self.costs.items()}
-            worst = max(regrets, key=lambda case: regrets[case][0])
-            losses.append(Loss(policy, (*regrets.values(), regrets[worst]), worst))
-        return sorted(losses, key=lambda loss: loss.regrets[-1][0])
+            regrets = {
+                case: Regret.of(costs[place], min(costs))
+                for case, costs in self.costs.items()
+            }
+            worst = max(regrets, key=lambda case: regrets[case].money)
+            regrets[GREATEST] = regrets[worst]
+            losses.append(Loss(policy, regrets, worst))
+        return sorted(losses, key=lambda loss: loss.regrets[GREATEST].money)
 
     @property
     def cheapest(self) -> list[tuple[str, str, Fraction]]:
         """Returns the name of each case, its cheapest policy, of several the first by rank, and that policy's cost."""
         cheapest = list[tuple[str, str, Fraction]]()
-        for place, (case, costs) in enumerate(self.costs.items()):
-            names = (loss.policy.name for loss in self.losses if loss.regrets[place][0] == 0)
-            cheapest.append((case, next(names), min(costs)))
+        for case, costs in self.costs.items():
+            best = next(loss for loss in self.losses if not loss.regrets[case].money)
+            cheapest.append((case, best.policy.name, min(costs)))
         return cheapest
 
     @property
     def table(self) -> DataTable:
         """Returns the regret of each policy in each case, indexed by `policy`, the least greatest regret first."""
-        rows = list[list[Cell]]()
-        for loss in self.losses:
-            row: list[Cell] = [loss.policy.name, loss.policy.s, loss.policy.S]
-            for money, percent in loss.regrets:
-                row += [float(money), None if percent is None else float(percent)]
-            rows.append([*row, loss.worst])
-        return DataTable(columns_of([*self.costs]), rows, index="policy")
+        return DataTable.of(regret_columns([*self.costs]), self.losses, index="policy")
 
     @property
     def text(self) -> str:
         """Returns the table, the cheapest policy of each case, and the notes. The first line is the horizon."""
-        regrets = [["policy", "s", "S", *self.costs, "greatest", "in"]]
-        for loss in self.losses:
-            policy = loss.policy
-            regrets.append([policy.name, str(policy.s), str(policy.S), *map(regret_text, loss.regrets), loss.worst])
+        regrets = [["policy", "s", "S", *self.costs, GREATEST, "in"]]
+        for policy, own, worst in self.losses:
+            cells = [regret.text for regret in own.values()]
+            regrets.append([policy.name, str(policy.s), str(policy.S), *cells, worst])
         cheapest = [["case", "cheapest", "cost_a_period"]]
         for case, name, cost in self.cheapest:
             cheapest.append([case, name, f"{float(cost):.3f}"])
-        return (f"The {sentence(self.horizon)}\n\n{aligned(regrets, (0, len(regrets[0]) - 1))}\n"
-                "regret: cost per period above the cheapest policy of the case\n\n"
-                f"{aligned(cheapest, (0, 1))}{self.notes}")
+        return (
+            f"The {sentence(self.horizon)}\n\n{aligned(regrets, (0, len(regrets[0]) - 1))}\n"
+            "regret: cost per period above the cheapest policy of the case\n\n"
+            f"{aligned(cheapest, (0, 1))}{self.notes}"
+        )
 
     @property
     def notes(self) -> str:
         """Returns lines on cases that are not exact or left out."""
-        return "\n".join(["", *map(sentence, self.remarks), ""]) if self.remarks else ""
+        if not self.remarks:
+            return ""
+        return "\n".join(["", *map(sentence, self.remarks), ""])
 
     @property
     def tree(self) -> dict[str, Json]:
         """Returns all as data, without rounding to decimals."""
-        return {"horizon": f"The {sentence(self.horizon)}", "policies": self.table.records,
-                "notes": [*map(sentence, self.remarks)]}
+        return {
+            "horizon": f"The {sentence(self.horizon)}",
+            "policies": self.table.records,
+            "notes": [*map(sentence, self.remarks)],
+        }
 
 
-def columns_of(cases: Sequence[str]) -> list[Column]:
+def regret_columns(cases: Sequence[str]) -> list[Column]:
     """Returns the columns of the table for cases with these names."""
-    regrets = list[Column]()
-    for name in (*cases, "greatest"):
-        where = "in the case where that is greatest" if name == "greatest" else "of this case"
-        meaning = f"cost above the cheapest policy {where}"
-        regrets += [number(name, "money a period", meaning, ".6f"),
-                    number(f"{name}_percent", "percent of the cheapest cost", meaning, ".6f")]
-    return [*POLICY, *regrets, text("greatest_case", "the case with the greatest regret")]
-
-
-def regret_of(cost: Fraction, least: Fraction) -> Regret:
-    """Returns the regret of a cost beside the least one."""
-    more = cost - least
-    return more, 100 * more / least if least else None
-
-
-def regret_text(regret: Regret) -> str:
-    """Returns a regret for a reader."""
-    money, percent = regret
-    return f"{float(money):.3f}" + ("" if percent is None else f" ({float(percent):.2f}%)")
+    columns = [*columns_of("decide", "loss")]
+    for case in (*cases, GREATEST):
+        where = "of this case"
+        if case == GREATEST:
+            where = "in the case where that is greatest"
+        columns += columns_of("decide", "regret", case=case, where=where)
+    return [*columns, *columns_of("decide", "worst")]
 
 
 def changed_demand(demand: Law, tenths: int) -> Law:
@@ -163,34 +176,43 @@ def changed_demand(demand: Law, tenths: int) -> Law:
     return Law.of(weights)
 
 
-def law_cases(demand: Law, lead: Law, notes: list[Remark]) -> Iterator[tuple[Change, dict[str, Law]]]:
-    """Yields each change of a law with that law by its name. What cannot be done exactly, or at all, goes to the notes.
-    """
+def law_cases(
+    demand: Law, lead: Law, notes: list[Remark]
+) -> Iterator[tuple[Change, dict[str, Law]]]:
+    """Yields each change of a law with that law by its name. What cannot be done exactly, or at all, goes to the notes."""
     for change in CHANGES:
         if change.key == "lead":
-            law = Law.of({value + 1: weight for value, weight in zip(lead.values, lead.weights)})
+            later = [value + 1 for value in lead.values]
+            law = Law.of(dict(zip(later, lead.weights)))
             mean = law.mean
         else:
             law = changed_demand(demand, change.tenths)
             mean = demand.mean * change.tenths / 10
         value, most = law.values[-1], formats.limits(change.key, "values")[1]
+        facts: dict[str, Value] = {"case": change.words}
         if value > most:
-            notes.append(Remark("case out of range", {"case": change.words, "what": change.what, "value": value,
-                                                      "most": most}))
+            facts |= {"what": change.what, "value": value, "most": most}
+            notes.append(Remark("case out of range", facts))
             continue
         if law.mean != mean:
-            notes.append(Remark("rounded weights", {"case": change.words, "change": float(law.mean / demand.mean) - 1}))
+            facts["change"] = float(law.mean / demand.mean) - 1
+            notes.append(Remark("rounded weights", facts))
         yield change, {change.key: law}
 
 
-def _costs_of(case: Scenario, long_run: bool, program: str | Path | None) -> list[Fraction]:
+def _costs_of(
+    case: Scenario, long_run: bool, program: str | Path | None
+) -> list[Fraction]:
     """Returns what each policy costs a period in a case."""
     if long_run:
-        return [Fraction(estimate.cost) for estimate in case.long_run(program=program).estimates]
+        estimates = case.long_run(program=program).estimates
+        return [Fraction(estimate.cost) for estimate in estimates]
     return [row.per_period for row in case.run(program=program).rows]
 
 
-def sensitivity(scenario: Scenario, *, long_run: bool = False, program: str | Path | None = None) -> Sensitivity:
+def sensitivity(
+    scenario: Scenario, *, long_run: bool = False, program: str | Path | None = None
+) -> Sensitivity:
     """Runs a scenario as it is and changed, and returns what each policy costs too much in each case.
 
     The regrets are means of one sample, without intervals, and contain the end effect of the cost `unit`. With
@@ -204,7 +226,11 @@ def sensitivity(scenario: Scenario, *, long_run: bool = False, program: str | Pa
     asked = [*cases.values(), counting(scenario, "backlog")]
     runs = [_costs_of(case, long_run, program) for case in asked]
     costs, rate = dict(zip(cases, runs)), scenario.costs.backlog
-    for name, more in (("backlog_half", Fraction(-rate, 2)), ("backlog_double", Fraction(rate))):
+    for name, factor in (
+        ("backlog_half", Fraction(-1, 2)),
+        ("backlog_double", Fraction(1)),
+    ):
+        more = factor * rate
         costs[name] = [cost + more * items for cost, items in zip(runs[0], runs[-1])]
-    return Sensitivity(scenario.policies, costs, tuple(notes),
-                       Remark("long run without unit") if long_run else horizon_of(scenario))
+    horizon = Remark("long run without unit") if long_run else horizon_of(scenario)
+    return Sensitivity(scenario.policies, costs, tuple(notes), horizon)

@@ -19,45 +19,32 @@ from pathlib import Path
 from typing import NamedTuple
 
 from .. import formats
+from ..columns import columns_of
 from ..crnsim.report import Row, read_rows
 from ..errors import Refused, argument
 from ..remarks import Remark
 from ..scenario import BY_ITS_LAWS, Policy, Scenario
-from ..table import Column, DataTable, Json, Result, names_of, number, text, whole
+from ..table import DataTable, Json, Result, names_of
 from ..words import sentence
 
 Ends = tuple[float, float] | tuple[None, None]
 FEWEST_ORDERS = 2  # of the rarer policy of a comparison, in all replications
 MOST_KEYS = 64  # that a check may pool into one report
-POLICY = (text("policy", "name of the policy").by("policy"), whole("s", "items", "reorder point").by("s"),
-          whole("S", "items", "order-up-to level").by("S"))
-ENDS = (number("cost_low", "money a period", "low end of the interval of that cost, by itself", ".3f").by("cost_low"),
-        number("cost_high", "money a period", "high end of that interval", ".3f").by("cost_high"))
-PERCENT = number("percent", "percent of the base's cost", "the same difference", ".2f").by("percent")
-VERDICT = text("verdict", "`base`, `better`, `worse` or `undecided`, by the joint interval").by("verdict")
-
-
-def errors_of(unit: str) -> tuple[Column, ...]:
-    """Returns the columns of the error of a difference in a unit of money."""
-    return (number("std_error", unit, "standard error of the difference", ".3f").by("std_error"),
-            number("low", unit, "low end of the interval of the difference; all hold together", ".3f").by("low"),
-            number("high", unit, "high end of that interval", ".3f").by("high"))
-
-
+POLICY = columns_of("decide", "policy")
 # The columns over the periods of a report, and those in the long run.
-COLUMNS = (
-    *POLICY, number("cost_a_period", "money a period", "mean cost", ".3f").by("cost"), *ENDS,
-    number("diff_mean", "money a replication", "mean cost less the base's", ".3f").by("diff"), PERCENT,
-    *errors_of("money a replication"), VERDICT)
-LONG_RUN_COLUMNS = (
-    *POLICY, number("cost", "money a period", "mean cost in the long run by crnsim, without `unit`", ".3f").by("cost"), *ENDS,
-    number("diff", "money a period", "cost less the base's", ".3f").by("diff"), PERCENT, *errors_of("money a period"),
-    VERDICT, number("theory_cost", "money a period", "cost by theory", ".3f").by("theory_cost"),
-    number("theory_diff", "money a period", "cost by theory less the base's", ".3f").by("theory_diff"),
-    number("effect", "standard errors", "what the start adds to a difference that is not corrected", ".2f").by("effect"))
-MAY_LACK = ("theory_cost", "theory_diff", "effect")  # columns that stand if some policy has a figure
+COLUMNS = columns_of("decide", "coming")
+LONG_RUN_COLUMNS = columns_of("decide", "long_run")
+MAY_LACK = (
+    "theory_cost",
+    "theory_diff",
+    "effect",
+)  # columns that stand if some policy has a figure
 MOST_ROWS = 20
-VERDICTS = {"better": "better than {}", "worse": "worse than {}", "undecided": "can't be told apart from {}"}
+VERDICTS = {
+    "better": "better than {}",
+    "worse": "worse than {}",
+    "undecided": "can't be told apart from {}",
+}
 
 
 @dataclass(frozen=True)
@@ -101,7 +88,14 @@ class Estimate(NamedTuple):
         times = float(scale)
         own = None if self.own_error is None else self.own_error / times
         error = None if self.error is None else self.error / times
-        return Estimate(self.policy, self.cost / times, own, self.difference / times, error, self.orders)
+        return Estimate(
+            self.policy,
+            self.cost / times,
+            own,
+            self.difference / times,
+            error,
+            self.orders,
+        )
 
 
 class Gap(NamedTuple):
@@ -114,13 +108,20 @@ class Gap(NamedTuple):
     error: float
 
 
-def far_from(estimates: Sequence[Estimate], costs: Sequence[float], errors: float,
-             spare: Sequence[float]) -> Iterator[Gap]:
+def far_from(
+    estimates: Sequence[Estimate],
+    costs: Sequence[float],
+    errors: float,
+    spare: Sequence[float],
+) -> Iterator[Gap]:
     """Yields the figures that are further from theory's costs than so many standard errors, and what is to spare for
-    the policy. A saving is beside the first policy. Figures without a standard error are not compared."""
+    the policy. A saving is beside the first policy. Figures without a standard error are not compared.
+    """
     for estimate, cost, more in zip(estimates, costs, spare, strict=True):
-        gaps = (("cost", cost, estimate.cost, estimate.own_error),
-                ("saving", costs[0] - cost, -estimate.difference, estimate.error))
+        gaps = (
+            ("cost", cost, estimate.cost, estimate.own_error),
+            ("saving", costs[0] - cost, -estimate.difference, estimate.error),
+        )
         for figure, theory, run, error in gaps:
             if error is not None and abs(run - theory) > errors * error + more:
                 yield Gap(estimate.policy, figure, theory, run, error)
@@ -129,7 +130,9 @@ def far_from(estimates: Sequence[Estimate], costs: Sequence[float], errors: floa
 def checked_level(level: float) -> float:
     """Returns a level of confidence. Raises Refused if it is not between 0 and 1."""
     if not 0 < level < 1:
-        raise Refused(f"{argument('level', f'{level:g}')}: a level is between 0 and 1, as 0.95")
+        raise Refused(
+            f"{argument('level', f'{level:g}')}: a level is between 0 and 1, as 0.95"
+        )
     return level
 
 
@@ -141,13 +144,15 @@ def t_quantile(tails: float, degrees: int) -> float:
     `stdtrit` is right to nine digits alone if the degrees are few.
     """
     from scipy.special import betaincinv
+
     inside = float(betaincinv(degrees / 2, 0.5, tails))
     return math.sqrt(degrees * (1 - inside) / inside)
 
 
 def _periods_of(row: Row, replications: int) -> Fraction | None:
     """Returns the periods of a replication that a row implies: None if the policy costs nothing."""
-    return row.total / (row.per_period * replications) if row.total and row.per_period else None
+    is_known = row.total and row.per_period
+    return row.total / (row.per_period * replications) if is_known else None
 
 
 def own_variance(row: Row, base: Row, replications: int) -> Fraction:
@@ -156,18 +161,29 @@ def own_variance(row: Row, base: Row, replications: int) -> Fraction:
     return replications * row.diff_var - base.cov + 2 * row.cov
 
 
-def estimates_of(rows: Sequence[Row], replications: int, periods: int, shifts: Sequence[float],
-                 orders: Sequence[float]) -> list[Estimate]:
+def own_error(row: Row, base: Row, replications: int) -> float:
+    """Returns the standard error of the mean of a policy's own cost of a replication."""
+    return math.sqrt(own_variance(row, base, replications) / replications)
+
+
+def estimates_of(
+    rows: Sequence[Row],
+    replications: int,
+    periods: int,
+    shifts: Sequence[float],
+    orders: Sequence[float],
+) -> list[Estimate]:
     """Returns an estimate of each policy of a report. `shifts` are taken from the costs of a period."""
     estimates = list[Estimate]()
     for row, shift, count in zip(rows, shifts, orders, strict=True):
         own = error = None
         if count >= FEWEST_ORDERS:
-            own = math.sqrt(own_variance(row, rows[0], replications) / replications) / periods
+            own = own_error(row, rows[0], replications) / periods
         if min(count, orders[0]) >= FEWEST_ORDERS and row.diff_var:
             error = math.sqrt(row.diff_var) / periods
+        cost = float(row.per_period) - shift
         difference = float(row.diff_mean) / periods - shift + shifts[0]
-        estimates.append(Estimate(row.policy, float(row.per_period) - shift, own, difference, error, count))
+        estimates.append(Estimate(row.policy, cost, own, difference, error, count))
     return estimates
 
 
@@ -180,37 +196,68 @@ def verdict_of(low: float | None, high: float | None) -> str:
 
 def ends_of(middle: float, error: float | None, errors: float) -> Ends:
     """Returns both ends of an interval of so many standard errors on either side; None if there is no error."""
-    return (None, None) if error is None else (middle - errors * error, middle + errors * error)
+    if error is None:
+        return None, None
+    return middle - errors * error, middle + errors * error
 
 
-def ranked(rows: Sequence[Row], estimates: Sequence[Estimate], percents: Sequence[float | None], level: float,
-           replications: int, more: Sequence[Sequence[float | None]] = ()) -> tuple[Compared, ...]:
+def ranked(
+    rows: Sequence[Row],
+    estimates: Sequence[Estimate],
+    percents: Sequence[float | None],
+    level: float,
+    replications: int,
+    more: Sequence[Sequence[float | None]] = (),
+) -> tuple[Compared, ...]:
     """Returns compared policies, the cheapest first; `more` has the last fields of each. Raises Refused for a level."""
     tails, joint, single = 1 - checked_level(level), 0.0, 0.0
     policies = list[Compared]()
     if replications > 1:
         joint = t_quantile(tails / max(1, len(rows) - 1), replications - 1)
         single = t_quantile(tails, replications - 1)
-    for row, own, percent, last in zip(rows, estimates, percents, more or [()] * len(rows), strict=True):
+    for row, own, percent, last in zip(
+        rows, estimates, percents, more or [()] * len(rows), strict=True
+    ):
         error = own.error if policies else None
         low, high = ends_of(own.difference, error, joint)
         cost_low, cost_high = ends_of(own.cost, own.own_error, single)
         verdict = verdict_of(low, high) if policies else "base"
-        policies.append(Compared(row.policy, row.s, row.S, own.cost, cost_low, cost_high, own.difference, percent,
-                                 error, low, high, verdict, *last))
+        policies.append(
+            Compared(
+                row.policy,
+                row.s,
+                row.S,
+                own.cost,
+                cost_low,
+                cost_high,
+                own.difference,
+                percent,
+                error,
+                low,
+                high,
+                verdict,
+                *last,
+            )
+        )
     return tuple(sorted(policies, key=lambda policy: policy.diff))
 
 
-def with_intervals(rows: Sequence[Row], replications: int, level: float) -> tuple[Compared, ...]:
+def with_intervals(
+    rows: Sequence[Row], replications: int, level: float
+) -> tuple[Compared, ...]:
     """Compares the policies of a report over its periods, the cheapest first. Raises Refused for a level."""
     base, estimates, percents = rows[0], list[Estimate](), list[float | None]()
     for row in rows:
-        own = error = None
+        own = error = percent = None
         if replications > 1:
-            of_replication = math.sqrt(own_variance(row, base, replications) / replications)
-            own, error = of_replication / float(_periods_of(row, replications) or 1), math.sqrt(row.diff_var or 0)
-        estimates.append(Estimate(row.policy, float(row.per_period), own, float(row.diff_mean), error, math.inf))
-        percents.append(float(100 * Fraction(row.diff_total, base.total)) if base.total else None)
+            periods = float(_periods_of(row, replications) or 1)
+            own = own_error(row, base, replications) / periods
+            error = math.sqrt(row.diff_var or 0)
+        if base.total:
+            percent = float(100 * Fraction(row.diff_total, base.total))
+        cost, difference = float(row.per_period), float(row.diff_mean)
+        estimates.append(Estimate(row.policy, cost, own, difference, error, math.inf))
+        percents.append(percent)
     return ranked(rows, estimates, percents, level, replications)
 
 
@@ -224,9 +271,15 @@ def _is_of(row: Row, base: Row, replications: int) -> bool:
     if not 1 <= replications <= formats.MOST_REPLICATIONS * MOST_KEYS:
         return False
     periods, of_base = _periods_of(row, replications), _periods_of(base, replications)
-    if row.diff_mean * replications != row.diff_total or row.total - base.total != row.diff_total or row.total < 0:
+    if (
+        row.diff_mean * replications != row.diff_total
+        or row.total - base.total != row.diff_total
+        or row.total < 0
+    ):
         return False
-    if periods is not None and (periods.denominator != 1 or of_base not in (None, periods)):
+    if periods is not None and (
+        periods.denominator != 1 or of_base not in (None, periods)
+    ):
         return False
     if replications == 1 or row.diff_var is None or row.cov is None:
         return replications == 1 and row.diff_var is None and row.cov is None
@@ -237,7 +290,9 @@ def check_replications(rows: Sequence[Row], replications: int, place: str) -> No
     """Raises Refused if a row is of no report of this number of replications. `place` names the report."""
     for line, row in enumerate(rows, 2):
         if not _is_of(row, rows[0], replications):
-            raise Refused(f"{place}:{line}: this is no report of {replications} replications; give its own number")
+            raise Refused(
+                f"{place}:{line}: this is no report of {replications} replications; give its own number"
+            )
 
 
 def read_report(path: str | Path, replications: int) -> list[Row]:
@@ -247,33 +302,47 @@ def read_report(path: str | Path, replications: int) -> list[Row]:
         data = sys.stdin.buffer.read() if str(path) == "-" else Path(path).read_bytes()
         rows = read_rows(data.decode("utf-8"), name)
     except OSError as fault:
-        raise Refused(f"{name}: {fault.strerror}; name a report that crnsim has written") from fault
+        raise Refused(
+            f"{name}: {fault.strerror}; name a report that crnsim has written"
+        ) from fault
     except UnicodeDecodeError as fault:
         raise Refused(f"{name}: this is no report of crnsim: {fault}") from fault
     check_replications(rows, replications, name)
     return rows
 
 
-def check_policies(rows: Sequence[Row], policies: Sequence[Policy], report: str, scenario: str, sweep: bool) -> None:
-    """Raises Refused if the rows are not those of a scenario's policies, of a sweep the first one: names of both files.
-    """
+def check_policies(
+    rows: Sequence[Row],
+    policies: Sequence[Policy],
+    report: str,
+    scenario: str,
+    sweep: bool,
+) -> None:
+    """Raises Refused if the rows are not those of a scenario's policies, of a sweep the first one: names of both files."""
     given = [(row.policy, row.s, row.S) for row in rows]
     wanted = [(policy.name, policy.s, policy.S) for policy in policies]
     if sweep:
         given, wanted = given[:1], wanted[:1]
     for number, (one, other) in enumerate(zip(given, wanted), 1):
         if one != other:
-            raise Refused("{}: policy {} is {} ({}, {}), but in {} it is {} ({}, {}); give the report's own scenario"
-                          .format(report, number, *one, scenario, *other))
+            raise Refused(
+                "{}: policy {} is {} ({}, {}), but in {} it is {} ({}, {}); give the report's own scenario".format(
+                    report, number, *one, scenario, *other
+                )
+            )
     if len(given) != len(wanted):
         is_sweep = given[:1] == wanted[:1] and len(given) > len(wanted)
         hint = f"; for a table of crnplan sweep add {argument('sweep')}" * is_sweep
-        raise Refused(f"{report}: it has {len(given)} policies, but {scenario} has {len(wanted)}{hint}")
+        raise Refused(
+            f"{report}: it has {len(given)} policies, but {scenario} has {len(wanted)}{hint}"
+        )
 
 
 def horizon_of(scenario: Scenario) -> Remark:
     """Returns what a report on a scenario is about."""
-    return Remark("coming periods", {"periods": scenario.periods, "initial": scenario.initial})
+    return Remark(
+        "coming periods", {"periods": scenario.periods, "initial": scenario.initial}
+    )
 
 
 @dataclass(frozen=True)
@@ -307,9 +376,11 @@ class Decision(Result):
     @property
     def listed(self) -> Sequence[Compared]:
         """Returns the rows to show: all, or the first by rank of which one is always the base."""
-        first = self.rows[:self.most]
-        if self.runs or any(row.verdict == "base" for row in first):
-            return self.rows if self.runs else first
+        first = self.rows[: self.most]
+        if self.runs:
+            return self.rows
+        if any(row.verdict == "base" for row in first):
+            return first
         return [*first[:-1], next(row for row in self.rows if row.verdict == "base")]
 
     @property
@@ -323,39 +394,69 @@ class Decision(Result):
     @property
     def notes(self) -> str:
         """Returns what the columns mean, the policies by verdict, and the warnings."""
-        lines = [f"replications: {self.replications}, comparisons with {self.base}: {len(self.rows) - 1}, joint level: "
-                 f"{self.level:g}", BY_ITS_LAWS, *self._column_lines()]
-        lines += [f"{words.format(self.base)}: {names_of(with_verdict(self.rows, verdict), self.most)}"
-                  for verdict, words in VERDICTS.items()]
-        lines += [f"\nWARNING: {warning}" for warning in map(sentence, self.warnings)]
+        lines = [
+            f"replications: {self.replications}, comparisons with {self.base}: {len(self.rows) - 1}, joint level: "
+            f"{self.level:g}",
+            BY_ITS_LAWS,
+            *self._column_lines(),
+        ]
+        for verdict, words in VERDICTS.items():
+            names = names_of(with_verdict(self.rows, verdict), self.most)
+            lines.append(f"{words.format(self.base)}: {names}")
+        lines += [f"\nWARNING: {sentence(warning)}" for warning in self.warnings]
         return "".join(f"\n{line}" for line in lines) + "\n"
 
     def _column_lines(self) -> list[str]:
         """Returns what the columns mean."""
         if self.runs and self.theory:
             names, theory = self.table.names, sentence(self.theory)
-            effect = ["effect: what the start had added to diff, in standard errors; it is taken out"]
-            return [f"cost to verdict: a period by crnsim, {sentence(self.runs)}; unit is left out",
-                    "low to high: the interval of diff; all hold together at the joint level",
-                    f"cost_low to cost_high: the interval of cost, each at {self.level:g} by itself",
-                    f"theory_cost, theory_diff: a period of the long run by theory, {theory}"
-                    if "theory_cost" in names else f"theory is {theory}", *effect * ("effect" in names)]
+            effect = [
+                "effect: what the start had added to diff, in standard errors; it is taken out"
+            ]
+            return [
+                f"cost to verdict: a period by crnsim, {sentence(self.runs)}; unit is left out",
+                "low to high: the interval of diff; all hold together at the joint level",
+                f"cost_low to cost_high: the interval of cost, each at {self.level:g} by itself",
+                f"theory_cost, theory_diff: a period of the long run by theory, {theory}"
+                if "theory_cost" in names
+                else f"theory is {theory}",
+                *effect * ("effect" in names),
+            ]
         if self.replications == 1:
-            return ["one replication tells nothing of spread, so there are no intervals"]
-        joint = [f"low to high: the interval of diff_mean; all {len(self.rows) - 1} hold together at the joint level"]
-        return [*joint * (len(self.rows) > 1), f"cost_low to cost_high: the interval of a policy's own cost, each at "
-                f"{self.level:g} by itself; to compare policies use low and high"]
+            return [
+                "one replication tells nothing of spread, so there are no intervals"
+            ]
+        joint = [
+            f"low to high: the interval of diff_mean; all {len(self.rows) - 1} hold together at the joint level"
+        ]
+        return [
+            *joint * (len(self.rows) > 1),
+            f"cost_low to cost_high: the interval of a policy's own cost, each at "
+            f"{self.level:g} by itself; to compare policies use low and high",
+        ]
 
     @property
     def tree(self) -> dict[str, Json]:
         """Returns all as data, without rounding to decimals."""
-        named = {"crnsim": self.runs, "theory": self.theory}
-        sources: dict[str, Json] = {name: sentence(source) for name, source in named.items() if source}
-        horizon: dict[str, Json] = {"horizon": f"the {sentence(self.horizon)}"} if self.horizon else {}
-        return {**horizon, "base": self.base, "replications": self.replications, "level": self.level, **sources,
-                "policies": self.table.records, "warnings": [*map(sentence, self.warnings)]}
+        tree: dict[str, Json] = {}
+        if self.horizon:
+            tree["horizon"] = f"the {sentence(self.horizon)}"
+        tree |= {
+            "base": self.base,
+            "replications": self.replications,
+            "level": self.level,
+        }
+        if self.runs:
+            tree["crnsim"] = sentence(self.runs)
+        if self.theory:
+            tree["theory"] = sentence(self.theory)
+        tree["policies"] = self.table.records
+        tree["warnings"] = [*map(sentence, self.warnings)]
+        return tree
 
 
 def decided(rows: Sequence[Row], replications: int, level: float = 0.95) -> Decision:
     """Compares all rows of a report with its first one. Raises Refused for a level that is not between 0 and 1."""
-    return Decision(with_intervals(rows, replications, level), rows[0].policy, replications, level)
+    return Decision(
+        with_intervals(rows, replications, level), rows[0].policy, replications, level
+    )

@@ -14,17 +14,35 @@ from typing import Any
 
 import numpy as np
 
-from ..chances import Floats, Whole, cut, in_items, mixture, scaled
+from ..chances import Floats, Whole, add_times, cut, in_items, mixture, scaled
 from ..compiled import compiled
 from ..formats import MOST_DEMAND
 from ..law import Law
-from ..records.observed import Observed
+from ..read.observed import Observed
 from ..remarks import Remark
 from .fitted import Borrowed, Diagnostics, FittedLaw
 from .fitting import boxes_of, cap_of, family_law, share_of
-from .learning import (FLAT, LEVELS, MOST_SIZE, NONE, SHARES, SIZE_CELLS, Prior, is_outside, share_likelihoods, size_laws,
-                       size_likelihoods, size_table, size_widths)
-from .posterior import AllowedLaws, allowed_laws, law_of_chances, random_of, round_history, stratified
+from .grid import (
+    FLAT,
+    LEVELS,
+    MOST_SIZE,
+    SHARES,
+    SIZE_CELLS,
+    share_likelihoods,
+    size_laws,
+    size_likelihoods,
+    size_table,
+    size_widths,
+)
+from .learning import NONE, Prior, is_outside
+from .posterior import (
+    AllowedLaws,
+    allowed_laws,
+    law_of_chances,
+    random_of,
+    round_history,
+    stratified,
+)
 from .sample import Sample, shares_of
 
 FAMILY = "borrowed"
@@ -35,21 +53,18 @@ LEAST_CHANCE = 1e-9
 
 
 @compiled
-def weighed_sizes(weights: Floats, cells: Whole, widths: Whole, table: Floats, ends: Whole) -> Floats:
+def weighed_sizes(
+    weights: Floats, cells: Whole, widths: Whole, table: Floats, ends: Whole
+) -> Floats:
     """Returns the sum of the laws of sizes in a table (see `size_table`), each up to the width of its cell, with a row
     of weights for each cell."""
     chances = np.zeros(widths.max())
     points = weights.shape[1]
     for row in range(len(cells)):
-        laws = table[ends[cells[row]]:ends[cells[row] + 1]].reshape(points, -1)
-        sums = chances[:widths[row]]
+        laws = table[ends[cells[row]] : ends[cells[row] + 1]].reshape(points, -1)
+        sums = chances[: widths[row]]
         for point in range(points):
-            weight = weights[row, point]
-            law = laws[point]
-            size = 0
-            while size < len(sums):
-                sums[size] += weight * law[size]
-                size += 1
+            add_times(sums, laws[point], weights[row, point])
     return chances
 
 
@@ -69,7 +84,13 @@ class Posterior:
     @classmethod
     def of(cls, packs: Sample, prior: Floats, is_new: bool = False) -> Posterior:
         """Computes the likelihoods of a history."""
-        return cls(packs, prior, share_likelihoods([packs])[0], size_likelihoods([packs])[0], is_new=is_new)
+        return cls(
+            packs,
+            prior,
+            share_likelihoods([packs])[0],
+            size_likelihoods([packs])[0],
+            is_new=is_new,
+        )
 
     @cached_property
     def bayes(self) -> float:
@@ -83,15 +104,26 @@ class Posterior:
     def predictive(self) -> Floats:
         """Returns the posterior predictive law of the next period, without the end of its tail."""
         means = self.sizes.mean(axis=1)
-        demand = (self.shares * SHARES).mean(axis=1) @ self.prior  # of each cell of sizes, with a demand next
+        demand = (self.shares * SHARES).mean(
+            axis=1
+        ) @ self.prior  # of each cell of sizes, with a demand next
         share = float(demand @ means / (self.shares.mean(axis=1) @ self.prior @ means))
         weights = demand[:, None] * self.sizes
         weights /= weights.sum()
         own = weights.sum(axis=1)
         cells = np.flatnonzero(own > LEAST_CHANCE)
-        levels = np.minimum(np.ceil(np.log10(own[cells] / LEAST_CHANCE)).astype(int), LEVELS - 1)
+        levels = np.minimum(
+            np.ceil(np.log10(own[cells] / LEAST_CHANCE)).astype(int), LEVELS - 1
+        )
         widths = np.minimum(size_widths()[cells, levels], self.most)
-        return cut(np.concatenate([[1 - share], share * weighed_sizes(weights[cells], cells, widths, *size_table())]))
+        return cut(
+            np.concatenate(
+                [
+                    [1 - share],
+                    share * weighed_sizes(weights[cells], cells, widths, *size_table()),
+                ]
+            )
+        )
 
     @cached_property
     def share(self) -> float:
@@ -101,17 +133,26 @@ class Posterior:
     @property
     def law(self) -> Floats:
         """Returns the mixture of both."""
-        return mixture([(self.share, self.predictive), (1 - self.share, self.packs.law)])
+        return mixture(
+            [(self.share, self.predictive), (1 - self.share, self.packs.law)]
+        )
 
     def drawn(self, uniform: Floats) -> list[Floats]:
         """Draws laws of demand, one for each column of uniform numbers. Its three rows choose the cell, the point of
         the share within it, and that of the sizes."""
-        cells = np.cumsum(self.prior * np.outer(self.shares.mean(axis=1), self.sizes.mean(axis=1)))
-        share_cells, size_cells = np.divmod(np.searchsorted(cells[:-1] / cells[-1], uniform[0]), SIZE_CELLS)
+        cells = np.cumsum(
+            self.prior * np.outer(self.shares.mean(axis=1), self.sizes.mean(axis=1))
+        )
+        share_cells, size_cells = np.divmod(
+            np.searchsorted(cells[:-1] / cells[-1], uniform[0]), SIZE_CELLS
+        )
         shares = SHARES[share_cells, places(self.shares[share_cells], uniform[1])]
         points = places(self.sizes[size_cells], uniform[2])
         sizes = (size_laws()[cell][point] for cell, point in zip(size_cells, points))
-        return [np.concatenate([[1 - share], share * law]) for share, law in zip(shares, sizes)]
+        return [
+            np.concatenate([[1 - share], share * law])
+            for share, law in zip(shares, sizes)
+        ]
 
 
 def places(weights: Floats, uniform: Floats) -> Whole:
@@ -129,19 +170,24 @@ def why_alone(prior: Prior, sample: Sample, box: int) -> Remark | None:
     if sample.pack > 1 and not prior.packs:
         return Remark("packs of few others", {"pack": sample.pack})
     if is_outside(sample.packs):
-        return Remark("large sizes" + " in packs" * (sample.pack > 1), {"most": MOST_SIZE})
+        return Remark(
+            "large sizes" + " in packs" * (sample.pack > 1), {"most": MOST_SIZE}
+        )
     return None
 
 
-def sample_of(observed: Observed | Iterable[Any], box: int, is_new: bool) -> tuple[list[int], Sample]:
+def sample_of(
+    observed: Observed | Iterable[Any], box: int, is_new: bool
+) -> tuple[list[int], Sample]:
     """Returns a history in boxes, and as a sample. That of a new item may have no periods."""
     is_empty = is_new and isinstance(observed, tuple) and not observed
     boxes = [] if is_empty else boxes_of(observed, box)
     return boxes, Sample.of(boxes)
 
 
-def looked_at(prior: Prior, sample: Sample, item_class: str | None, box: int,
-              is_new: bool = False) -> tuple[Borrowed, list[tuple[float, Posterior]]]:
+def looked_at(
+    prior: Prior, sample: Sample, item_class: str | None, box: int, is_new: bool = False
+) -> tuple[Borrowed, list[tuple[float, Posterior]]]:
     """Returns what is known of an item, and the parts of its law; none if the law of the item alone is to be taken.
 
     The parts, by the learned prior and by the flat one, have the weights that they are likely with after the history,
@@ -164,11 +210,20 @@ def looked_at(prior: Prior, sample: Sample, item_class: str | None, box: int,
         return replace(known, alone=Remark("unlike histories")), []
     alike = posterior.bayes / (1 + posterior.bayes)
     flat = replace(posterior, prior=FLAT, most=cap_of(packs))
-    return replace(known, share=alike * posterior.share), [(alike, posterior), (1 - alike, flat)]
+    return replace(known, share=alike * posterior.share), [
+        (alike, posterior),
+        (1 - alike, flat),
+    ]
 
 
-def law_of(prior: Prior, observed: Observed | Iterable[Any], item_class: str | None = None, *, box: int = 1,
-           is_new: bool = False) -> FittedLaw:
+def law_of(
+    prior: Prior,
+    observed: Observed | Iterable[Any],
+    item_class: str | None = None,
+    *,
+    box: int = 1,
+    is_new: bool = False,
+) -> FittedLaw:
     """Fits the law of demand to a history with few orders, by what its catalogue has learned (`learn`).
 
     It is the posterior predictive law under what the item's class, the catalogue, or all items in packs have learned,
@@ -187,11 +242,23 @@ def law_of(prior: Prior, observed: Observed | Iterable[Any], item_class: str | N
         single = family_law(boxes, "auto", box)
         return replace(single, diagnostics=replace(single.diagnostics, borrowed=known))
     law = in_items(mixture((weight, part.law) for weight, part in parts), sample.pack)
-    return FittedLaw.made(Law.of_chances(law), FAMILY, Diagnostics(Law.of_numbers(boxes), FAMILY, borrowed=known))
+    return FittedLaw.made(
+        Law.of_chances(law),
+        FAMILY,
+        Diagnostics(Law.of_numbers(boxes), FAMILY, borrowed=known),
+    )
 
 
-def borrowed_laws(prior: Prior, observed: Observed | Iterable[Any], item_class: str | None = None, *, times: int = 100,
-                  box: int = 1, seed: int = 1, is_new: bool = False) -> AllowedLaws:
+def borrowed_laws(
+    prior: Prior,
+    observed: Observed | Iterable[Any],
+    item_class: str | None = None,
+    *,
+    times: int = 100,
+    box: int = 1,
+    seed: int = 1,
+    is_new: bool = False,
+) -> AllowedLaws:
     """Draws laws of demand that an item's history and its catalogue allow. The same seed gives the same laws.
 
     Their mean is the law of `law_of`, all but the end of its tail: each is drawn from the item's posterior under the
@@ -205,7 +272,15 @@ def borrowed_laws(prior: Prior, observed: Observed | Iterable[Any], item_class: 
     if not parts:
         return allowed_laws(boxes, times=times, seed=seed)
     *uniform, choice = stratified(random, ROWS, times)
-    chosen = np.searchsorted(np.cumsum([weight for weight, _ in parts])[:-1], choice, side="right")
-    laws = (round_history(scaled(law[:part.most + 1]), part.packs, part.share, random)
-            for place, (_, part) in enumerate(parts) for law in part.drawn(np.array(uniform)[:, chosen == place]))
-    return AllowedLaws({FAMILY: times}, tuple(law_of_chances(in_items(law, sample.pack), sample.most) for law in laws))
+    chosen = np.searchsorted(
+        np.cumsum([weight for weight, _ in parts])[:-1], choice, side="right"
+    )
+    laws = (
+        round_history(scaled(law[: part.most + 1]), part.packs, part.share, random)
+        for place, (_, part) in enumerate(parts)
+        for law in part.drawn(np.array(uniform)[:, chosen == place])
+    )
+    return AllowedLaws(
+        {FAMILY: times},
+        tuple(law_of_chances(in_items(law, sample.pack), sample.most) for law in laws),
+    )

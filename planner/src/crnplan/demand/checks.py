@@ -1,7 +1,6 @@
 """Checks whether a history is what a table takes it for: many independent periods of one law."""
 from __future__ import annotations
 
-import datetime
 import functools
 import math
 import tomllib
@@ -12,20 +11,31 @@ from pathlib import Path
 from typing import TYPE_CHECKING, NamedTuple
 
 import numpy as np
-from scipy import special
 
-from ..chances import Floats, Whole
-from ..errors import Refused
+from ..chances import Floats
 from ..money import Number, whole
-from ..records.dates import first_day, period_name
-from ..records.observed import History, Observed
-from ..records.quiet import chance_of_quiet, quiet_periods
+from ..read.dates import first_day, period_name
+from ..read.observed import History, Observed
+from ..read.quiet import chance_of_quiet, quiet_periods
 from ..remarks import Remark, Value
 from ..words import advised, sentence
 from .fitted import numbers_of
-from .permutation import (Orders, autocorrelation_seen, autocorrelations, bound_of, centred, least_seen, places_of,
-                          season_seen, shift, statistics_of, steps, tilted, trend, trend_seen)
+from .outliers import LEAST_DEMANDS, outliers_of
+from .permutation import (
+    Orders,
+    autocorrelation_seen,
+    autocorrelations,
+    centred,
+    in_order,
+    least_seen,
+    season_seen,
+    statistics_in,
+    step_weights,
+    tilted,
+    trend_seen,
+)
 from .sample import Sample
+from .seasons import Season, seasons_of
 
 if TYPE_CHECKING:
     import pandas as pd
@@ -36,71 +46,9 @@ LEVELS = ("trend", "shift")
 MOST_LARGEST = 3  # periods that are shown with the law, with the share of the variance that they make
 # So many periods without demand at the end of the record are named if as many come by luck with at most this chance.
 NO_DEMAND = 0.05
-# Demands far above all others: the chance to find one where there is none, how many are looked for, and among how many.
-OUTLIERS = 0.01
-MOST_OUTLIERS = 3
-LEAST_DEMANDS = 10
-# The seasons of dated periods: their names, with how many periods each has.
-CALENDAR: dict[str | None, dict[str, int]] = {
-    None: {}, "day": {"weekday": 7, "season": 365}, "week": {"season": 52}, "month": {"season": 12}}
-YEARS = 2  # of a season, before it is tested
-MOST_PARTS, PARTS = 7, 4  # A longer season is divided into so many parts.
 # The laws of demand of the study planner/studies/dependence.py, with their coefficients of variation.
 STUDIED = {"steady": 0.316, "erratic": 1.0}
 Effect = tuple[float, dict[str, Value]]  # its size, and the facts for its words
-
-
-class Season(NamedTuple):
-    """A season of a history: its name, how many periods it has, the part of each period, how many parts there are, and
-    of what: weekdays, quarters or places in the season."""
-
-    name: str
-    length: int
-    part_of: Whole
-    parts: int
-    unit: str
-
-    def ends(self, part: int) -> tuple[int, int]:
-        """Returns the first and the last weekday, quarter or place of a part, from 1 on."""
-        length = self.length if self.unit == "place" else self.parts
-        return -(-part * length // self.parts) + 1, -(-(part + 1) * length // self.parts)
-
-
-@functools.lru_cache(256)
-def season_of(name: str, length: int, every: str | None, first: int, size: int) -> Season:
-    """Returns a season of the calendar; without dates one that begins with the first period. A week belongs to the
-    quarter of its Thursday."""
-    if every is None:
-        parts = PARTS
-        if length <= MOST_PARTS:
-            parts = length
-        return Season(name, length, np.arange(size) % length * parts // length, parts, "place")
-    middle = datetime.timedelta(3 if every == "week" else 0)
-    days = [first_day(first + place, every) + middle for place in range(size)]
-    if name == "weekday":
-        return Season(name, length, np.array([day.weekday() for day in days]), 7, name)
-    return Season(name, length, np.array([(day.month - 1) // 3 for day in days]), 4, "quarter")
-
-
-def seasons_of(every: str | None, first: int, size: int, length: int | None) -> tuple[list[Season], list[Remark]]:
-    """Returns the seasons that so many periods are tested for, and remarks on those for which they are too few. One of
-    a named length takes the place of those of the calendar. Raises Refused for one of less than 2 periods."""
-    if length is not None and length < 2:
-        raise Refused(f"a season of {length} periods is none; say 2 or more")
-    lengths, calendar = CALENDAR[every], every
-    if length is not None:
-        lengths, calendar = {"season": length}, None
-    if not lengths:
-        return [], [Remark("season untested without dates")]
-    seasons = list[Season]()
-    untested = list[Remark]()
-    for name, own in lengths.items():
-        if size >= YEARS * own:
-            seasons.append(season_of(name, own, calendar, first, size))
-        else:
-            facts: dict[str, Value] = {"season": name, "periods": YEARS * own, "unit": every or "period"}
-            untested.append(Remark("season untested", facts))
-    return seasons, untested
 
 
 @dataclass(frozen=True)
@@ -124,7 +72,7 @@ class Check:
 class Facts:
     """What is checked: numbers, the seasons that they are many enough for, the number of the first period, and `every`
     (day, week or month, None without dates). The differences between parts of the seasons that are `taken` out are not
-    in `rows`, which keep the mean."""
+    in the numbers that are `left`, which keep the mean."""
 
     numbers: Sequence[int]
     seasons: Sequence[Season]
@@ -134,38 +82,46 @@ class Facts:
 
     def name(self, place: int) -> str:
         """Returns the name of a period: its date, or its number."""
-        return period_name(self.first + place, self.every) if self.every else f"period {self.first + place}"
+        return (
+            period_name(self.first + place, self.every)
+            if self.every
+            else f"period {self.first + place}"
+        )
 
     @cached_property
-    def rows(self) -> Floats:
-        """Returns the numbers, without the seasons that are taken out, as the only row of an array."""
+    def left(self) -> Floats:
+        """Returns the numbers, without the seasons that are taken out."""
         numbers = np.array(self.numbers, dtype=float)
         mean = numbers.mean()
         for season in self.seasons:
             if season.name in self.taken:
                 numbers += mean - _means(season, numbers)[season.part_of]
-        return np.round(numbers[None], 9)
+        return np.round(numbers, 9)
 
     def autocorrelation(self) -> Effect:
         """Returns the autocorrelation of neighbours. The facts have the largest one too, if it is of another lag."""
-        by_lag = autocorrelations(centred(self.rows))[:, 0]
+        by_lag = autocorrelations(centred(self.left))
         lag = int(np.argmax(np.abs(by_lag)))
         at_1 = float(by_lag[0])
         return at_1, {"at_1": at_1, "lag": lag + 1, "at_lag": float(by_lag[lag])}
 
     def trend(self) -> Effect:
         """Returns half of the rise along the straight line through a history, as a share of the mean. The facts have
-        how much the mean of the last third is above that of the first; None if the first third has no demand."""
-        numbers = self.rows[0]
-        time = centred(np.arange(len(self.numbers), dtype=float))
+        how much the mean of the last third is above that of the first; None if the first third has no demand.
+        """
+        numbers = self.left
+        time = centred(np.arange(len(numbers), dtype=float))
         third = len(numbers) // 3
         rise = float(time @ numbers / (time @ time) * time[-1])
-        return rise / float(numbers.mean()), {"change": _change(numbers[:third], numbers[-third:])}
+        return rise / float(numbers.mean()), {
+            "change": _change(numbers[:third], numbers[-third:])
+        }
 
     def shift(self) -> Effect:
         """Returns the mean after the step that explains most over the mean before it, less 1."""
-        place = int(places_of(len(self.numbers))[np.argmax(steps(centred(self.rows)))])
-        change = _change(self.rows[0, :place], self.rows[0, place:])
+        sums = np.cumsum(centred(self.left))
+        place = 1 + int(np.argmax(sums**2 * step_weights(len(sums))))
+        change = _change(self.left[:place], self.left[place:])
         since = None
         if self.every:
             since = first_day(self.first + place, self.every).isoformat()
@@ -174,16 +130,24 @@ class Facts:
 
     def season(self, season: Season) -> Effect:
         """Returns the amplitude of a sine whose means over the parts of a season vary as those of the history."""
-        means = _means(season, self.rows[0]) / self.rows.mean()
+        means = _means(season, self.left) / self.left.mean()
         width = math.pi / season.parts
         averaged = 1.0
         if season.length > season.parts:  # a sine within a part
             averaged = math.sin(width) / width
         most = int(means.argmax())
         least = int(means.argmin())
-        ends = zip(("most_first", "most_last", "least_first", "least_last"), season.ends(most) + season.ends(least))
-        return math.sqrt(2 * means.var()) / averaged, {"most": float(means[most]), "least": float(means[least]),
-                                                       **dict(ends), "unit": season.unit, "length": season.length}
+        ends = zip(
+            ("most_first", "most_last", "least_first", "least_last"),
+            season.ends(most) + season.ends(least),
+        )
+        return math.sqrt(2 * means.var()) / averaged, {
+            "most": float(means[most]),
+            "least": float(means[least]),
+            **dict(ends),
+            "unit": season.unit,
+            "length": season.length,
+        }
 
 
 def _means(season: Season, numbers: Floats) -> Floats:
@@ -205,34 +169,51 @@ def tests_of(facts: Facts, in_full: bool = True) -> tuple[Check, ...]:
     if len(facts.numbers) < LEAST_PERIODS or len({*facts.numbers}) == 1:
         return ()
     seasons = {season.name: season.part_of for season in facts.seasons}
-    orders = Orders(facts.numbers)
-    kinds = statistics_of(seasons)
-    level = FALSE_ALARMS / len(kinds)
+    orders = Orders(facts.numbers, seasons)
+    level = FALSE_ALARMS / len(orders.names)
     most = 1.0 if in_full else level
-    if not (p_values := orders.p_values(seasons, most)):
+    if not (p_values := orders.p_values(most)):
         return ()
-    rest = replace(facts, taken=tuple(name for name in seasons if p_values.get(name, 1.0) <= level))
+    rest = replace(
+        facts, taken=tuple(name for name in seasons if p_values.get(name, 1.0) <= level)
+    )
     if rest.taken:
-        left = Orders(rest.rows[0]).p_values({}, most) if np.ptp(rest.rows) else {}
+        left = Orders(rest.left, {}).p_values(most) if np.ptp(rest.left) else {}
         p_values |= {name: left.get(name, 1.0) for name in LEVELS}
-    effects = {"autocorrelation": facts.autocorrelation(), "trend": rest.trend(), "shift": rest.shift(),
-               **{season.name: facts.season(season) for season in facts.seasons}}
-    least = dict[str, float]()
-    if in_full:
-        bounds = {name: bound_of(drawn, level) for name, drawn in orders.statistics(kinds).items()}
-        least = _least_seen(facts, bounds, level)
-    return tuple(Check(name, p_values.get(name, 1.0), *effects[name], least.get(name)) for name in kinds)
+    effects = {
+        "autocorrelation": facts.autocorrelation(),
+        "trend": rest.trend(),
+        "shift": rest.shift(),
+        **{season.name: facts.season(season) for season in facts.seasons},
+    }
+    least = _least_seen(facts, orders.bounds(level), level) if in_full else {}
+    return tuple(
+        Check(name, p_values.get(name, 1.0), *effects[name], least.get(name))
+        for name in orders.names
+    )
 
 
-def _least_seen(facts: Facts, bounds: Mapping[str, float], level: float) -> dict[str, float]:
+def _least_seen(
+    facts: Facts, bounds: Mapping[str, float], level: float
+) -> dict[str, float]:
     """Returns what the tests of a history would have seen, but for a shift."""
     scores = tilted(Sample.of(facts.numbers))
     count = len(facts.numbers)
     seen: dict[str, Callable[[float], float]] = {
         "autocorrelation": partial(autocorrelation_seen, count, level),
         "trend": partial(trend_seen, scores, count, bounds["trend"]),
-        **{season.name: partial(season_seen, scores, count, season.length, season.parts, bounds[season.name])
-           for season in facts.seasons}}
+        **{
+            season.name: partial(
+                season_seen,
+                scores,
+                count,
+                season.length,
+                season.parts,
+                bounds[season.name],
+            )
+            for season in facts.seasons
+        },
+    }
     return {name: least_seen(chance) for name, chance in seen.items()}
 
 
@@ -267,21 +248,41 @@ class Checks:
     def frame(self) -> pd.DataFrame:
         """Returns a table with a row for each test, and the columns `p`, `warns`, `size`, `least_seen` and `words`."""
         import pandas as pd
+
         rows = list[list[object]]()
         for test in self.tests:
             words = sentence(Remark(f"found {test.name}", test.facts))
-            rows.append([test.name, test.p, test.name in self.warned, test.size, test.least_seen, words])
-        return pd.DataFrame(rows, columns=["test", "p", "warns", "size", "least_seen", "words"]).set_index("test")
+            rows.append(
+                [
+                    test.name,
+                    test.p,
+                    test.name in self.warned,
+                    test.size,
+                    test.least_seen,
+                    words,
+                ]
+            )
+        return pd.DataFrame(
+            rows, columns=["test", "p", "warns", "size", "least_seen", "words"]
+        ).set_index("test")
 
     @property
     def lines(self) -> list[str]:
         """Returns what is to be said of the demand, in lines: warnings, notes, the largest demands, and what stays
         unknown."""
         warnings = (f"warning: {advised(remark)}" for remark in self.warnings)
-        return [f"demand: {line}" for line in (*warnings, *map(advised, (*self.notes, *self.largest, *self.unknown)))]
+        return [
+            f"demand: {line}"
+            for line in (
+                *warnings,
+                *map(advised, (*self.notes, *self.largest, *self.unknown)),
+            )
+        ]
 
 
-def check_history(observed: Observed | Iterable[Number], *, season: int | None = None) -> Checks:
+def check_history(
+    observed: Observed | Iterable[Number], *, season: int | None = None
+) -> Checks:
     """Checks a history of demand, or any whole numbers from 0, one for each period in their order.
 
     Permutation tests look for autocorrelation (Ljung and Box), a trend (Spearman), a shift of the level, and a season
@@ -301,18 +302,30 @@ def check_history(observed: Observed | Iterable[Number], *, season: int | None =
     return _checked(numbers, None, 1, season, True)
 
 
-def remarks_of(numbers: Sequence[int], every: str | None = None, first: int = 1,
-               season: int | None = None) -> tuple[Remark, ...]:
+def remarks_of(
+    numbers: Sequence[int],
+    every: str | None = None,
+    first: int = 1,
+    season: int | None = None,
+) -> tuple[Remark, ...]:
     """Returns the warnings and the notes of `check_history` on whole numbers, which takes a few milliseconds. `every`
     and `first` are those of `History`."""
     checks = _checked(numbers, every, first, season, False)
     return *checks.warnings, *checks.notes
 
 
-def _checked(numbers: Sequence[int], every: str | None, first: int, season: int | None, in_full: bool) -> Checks:
+def _checked(
+    numbers: Sequence[int],
+    every: str | None,
+    first: int,
+    season: int | None,
+    in_full: bool,
+) -> Checks:
     seasons, untested = seasons_of(every, first, len(numbers), season)
     facts = Facts(numbers, seasons, every, first)
-    checks = Checks(len(numbers), len(numbers) - numbers.count(0), tests_of(facts, in_full))
+    checks = Checks(
+        len(numbers), len(numbers) - numbers.count(0), tests_of(facts, in_full)
+    )
     unknown = list[Remark]()
     if checks.tests:
         seen: dict[str, Value] = {}
@@ -325,8 +338,13 @@ def _checked(numbers: Sequence[int], every: str | None, first: int, season: int 
     elif len(numbers) < LEAST_PERIODS:
         unknown.append(Remark("few periods", {"periods": len(numbers)}))
     largest = largest_periods(numbers, every, first) if in_full else ()
-    return replace(checks, warnings=tuple(_warnings(facts, checks)), notes=tuple(_notes(facts)),
-                   unknown=tuple(unknown), largest=largest)
+    return replace(
+        checks,
+        warnings=tuple(_warnings(facts, checks)),
+        notes=tuple(_notes(facts)),
+        unknown=tuple(unknown),
+        largest=largest,
+    )
 
 
 def _warnings(facts: Facts, checks: Checks) -> Iterator[Remark]:
@@ -334,8 +352,10 @@ def _warnings(facts: Facts, checks: Checks) -> Iterator[Remark]:
     explains more is named."""
     kinds = {test.name: test for test in checks.tests if test.name in checks.warned}
     if {*LEVELS} <= {*kinds}:
-        far = centred(replace(facts, taken=tuple(kinds)).rows)
-        del kinds["trend" if shift(far, far)[0] > trend(far, far)[0] else "shift"]
+        far = centred(replace(facts, taken=tuple(kinds)).left)
+        no_parts = np.empty((0, len(far)), int)
+        _, trend, shift = statistics_in(far, far, in_order(len(far)), no_parts)[0]
+        del kinds["trend" if shift > trend else "shift"]
     lengths = {season.name: season.length for season in facts.seasons}
     for name in (*LEVELS, "season", "weekday", "autocorrelation"):
         if name not in kinds:
@@ -348,13 +368,16 @@ def _warnings(facts: Facts, checks: Checks) -> Iterator[Remark]:
             variation = float(np.std(facts.numbers) / np.mean(facts.numbers))
             kind = "season" if name in lengths else name
             lost = loss_of(kind, test.size, variation, lengths.get(name, 0))._asdict()
-        yield Remark(name, {"p": test.p, **test.facts, "beside": int(is_beside), **lost})
+        yield Remark(
+            name, {"p": test.p, **test.facts, "beside": int(is_beside), **lost}
+        )
 
 
 class Loss(NamedTuple):
     """What planner/studies/dependence.py measured, in percent, as means over twelve settings: an effect on one of its
     laws, the length of a season (in periods, else 0), how much more the planned policy costs than the best one, how
-    much its promised cost is above the true one, and how much higher S is in the best policy."""
+    much its promised cost is above the true one, and how much higher S is in the best policy.
+    """
 
     effect: str
     study: str
@@ -367,17 +390,28 @@ class Loss(NamedTuple):
 
 @functools.cache
 def losses() -> tuple[Loss, ...]:
-    return tuple(Loss(*row) for row in tomllib.loads(Path(__file__).with_name("study.toml").read_text("utf-8"))["rows"])
+    return tuple(
+        Loss(*row)
+        for row in tomllib.loads(
+            Path(__file__).with_name("study.toml").read_text("utf-8")
+        )["rows"]
+    )
 
 
 def loss_of(kind: str, size: float, variation: float, length: int = 0) -> Loss:
     """Returns what was lost with the effect that is nearest to one of this kind and size, which may be infinite, if a
     period's demand has this coefficient of variation."""
-    law = min(STUDIED, key=lambda name: abs(math.log(max(variation, 1e-9) / STUDIED[name])))
+    law = min(
+        STUDIED, key=lambda name: abs(math.log(max(variation, 1e-9) / STUDIED[name]))
+    )
+
     def distance(loss: Loss) -> tuple[float, float]:
         """Returns how far a loss is by the length of a season, and then by the size."""
-        of_length = abs(math.log(loss.effect_length / length)) if length else loss.effect_length
+        of_length = (
+            abs(math.log(loss.effect_length / length)) if length else loss.effect_length
+        )
         return of_length, abs(loss.effect_size / 100 - min(size, 10.0))
+
     return min((loss for loss in losses() if loss[:2] == (kind, law)), key=distance)
 
 
@@ -393,11 +427,24 @@ def _notes(facts: Facts) -> Iterator[Remark]:
         yield Remark("packs", {"pack": pack})
     if (chance := chance_of_quiet(numbers)) <= NO_DEMAND:
         quiet = quiet_periods(numbers)
-        yield Remark("no recent demand", {"periods": quiet, "last": facts.name(len(numbers) - 1 - quiet),
-                                          "chance": chance})
+        yield Remark(
+            "no recent demand",
+            {
+                "periods": quiet,
+                "last": facts.name(len(numbers) - 1 - quiet),
+                "chance": chance,
+            },
+        )
     if len(demands) < LEAST_DEMANDS:
-        yield Remark("few demands in record", {"demands": len(demands), "periods": len(numbers),
-                                               "least": LEAST_DEMANDS, **_largest(facts, 1)})
+        yield Remark(
+            "few demands in record",
+            {
+                "demands": len(demands),
+                "periods": len(numbers),
+                "least": LEAST_DEMANDS,
+                **_largest(facts, 1),
+            },
+        )
         return
     far = len(outliers_of(demands, pack))
     if far:
@@ -411,52 +458,36 @@ def largest_places(numbers: Sequence[int], count: int = MOST_LARGEST) -> list[in
 
 def share_of_variance(numbers: Sequence[int], places: Sequence[int]) -> float:
     """Returns the share of the variance that the demands at some places make; 0 if there is no variance."""
-    squares = centred(np.array(numbers, dtype=float))**2
+    squares = centred(np.array(numbers, dtype=float)) ** 2
     return float(squares[places].sum() / squares.sum()) if squares.any() else 0.0
 
 
-def largest_periods(numbers: Sequence[int], every: str | None = None, first: int = 1) -> tuple[Remark, ...]:
+def largest_periods(
+    numbers: Sequence[int], every: str | None = None, first: int = 1
+) -> tuple[Remark, ...]:
     """Returns a remark on the three largest demands, with their periods and the share of the variance that they make;
-    nothing if fewer than 10 periods have demand. `every` and `first` are those of `History`."""
+    nothing if fewer than 10 periods have demand. `every` and `first` are those of `History`.
+    """
     if len(numbers) - numbers.count(0) < LEAST_DEMANDS:
         return ()
     share = share_of_variance(numbers, largest_places(numbers))
-    return Remark("largest periods", {"share": share, **_largest(Facts(numbers, (), every, first), MOST_LARGEST)}),
+    return (
+        Remark(
+            "largest periods",
+            {
+                "share": share,
+                **_largest(Facts(numbers, (), every, first), MOST_LARGEST),
+            },
+        ),
+    )
 
 
 def _largest(facts: Facts, count: int) -> dict[str, Value]:
     """Returns the largest demands with their periods, as facts."""
     places = largest_places(facts.numbers, count)
-    demands: dict[str, Value] = {f"demand_{rank}": facts.numbers[place] for rank, place in enumerate(places, 1)}
-    return demands | {f"period_{rank}": facts.name(place) for rank, place in enumerate(places, 1)}
-
-
-@functools.cache
-def rosner_bound(size: int, above: int, level: float) -> float:
-    """Returns how many deviations above the mean the largest number may lie, if so many above it were taken away.
-
-    Source: Rosner, Percentage points for a generalized ESD many-outlier procedure, 1983, with a level of one side.
-    """
-    left = size - above
-    student = float(special.stdtrit(left - 2, 1 - level / left))
-    return (left - 1) * student / math.sqrt((left - 2 + student**2) * left)
-
-
-def outliers_of(demands: Sequence[int], pack: int) -> list[int]:
-    """Returns the demands that lie far above all others, the largest first: at most three, by Rosner's test of the
-    logarithms of the demands above 0, in packs. The variance of a rounding is added to theirs, since otherwise a 2
-    among many demands of 1 would lie far above them."""
-    ranked = sorted((demand for demand in demands if demand), reverse=True)
-    if len(ranked) < LEAST_DEMANDS:
-        return []
-    packs = np.array(ranked) / pack
-    far = 0
-    logarithms = np.log(packs)
-    roundings = 1 / (12 * packs**2)
-    for above in range(MOST_OUTLIERS):
-        left = len(packs) - above
-        distances = logarithms[above:] - logarithms[above:].sum() / left
-        variance = distances @ distances / (left - 1) + roundings[above:].sum() / left
-        if distances[0] > rosner_bound(len(packs), above, OUTLIERS) * math.sqrt(variance):
-            far = above + 1
-    return ranked[:far]
+    demands: dict[str, Value] = {
+        f"demand_{rank}": facts.numbers[place] for rank, place in enumerate(places, 1)
+    }
+    return demands | {
+        f"period_{rank}": facts.name(place) for rank, place in enumerate(places, 1)
+    }

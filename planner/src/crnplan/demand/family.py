@@ -14,7 +14,9 @@ from ..chances import DEMANDS, LEAST_TAIL, Floats, Whole, cut
 from ..formats import MOST_DEMAND
 from .sample import Sample
 
-Parameters = tuple[Any, ...]  # of a family: numbers of a member, or columns with one for each of several
+Parameters = tuple[
+    Any, ...
+]  # of a family: numbers of a member, or columns with one for each of several
 UNIFORMS = 5  # columns of uniform numbers, at most, for members
 LEAST_CHANCE = 1e-300
 FIRST_WIDTH = 128  # of drawn laws; ever more until all but a tail is there
@@ -31,7 +33,9 @@ class Fit(NamedTuple):
 
     def law(self, most: int) -> Floats:
         """Returns the law of the member, without the end of its tail. `most` is the largest number that was seen."""
-        return cut(self.family.laws(tuple(np.array([[it]]) for it in self.member), most)[0])
+        return cut(
+            self.family.laws(tuple(np.array([[it]]) for it in self.member), most)[0]
+        )
 
 
 class Family(ABC):
@@ -56,7 +60,9 @@ class Family(ABC):
         Its sum may be below 1 by the chance of numbers beyond the cells."""
 
     @abstractmethod
-    def drawn(self, sample: Sample, uniform: Floats, counted: float = 1.0) -> Parameters:
+    def drawn(
+        self, sample: Sample, uniform: Floats, counted: float = 1.0
+    ) -> Parameters:
         """Draws members from the posterior law of their parameters.
 
         `uniform` has columns of uniform numbers, with one for each member. Each number of the sample counts as
@@ -69,7 +75,9 @@ class Family(ABC):
 
     def logarithms(self, values: Whole, *parameters: Any) -> Floats:
         """Returns the logarithms of `chances`."""
-        return np.asarray(np.log(np.maximum(self.chances(values, *parameters), LEAST_CHANCE)))
+        return np.asarray(
+            np.log(np.maximum(self.chances(values, *parameters), LEAST_CHANCE))
+        )
 
     def fit(self, sample: Sample) -> Fit | None:
         """Returns the likeliest member. If the first parameter is a share of 0, it is none."""
@@ -77,7 +85,12 @@ class Family(ABC):
         if member is None:
             return None
         likelihood = float(sample.counts @ self.logarithms(sample.values, *member))
-        return Fit(self, member, likelihood, (len(member) - (member[0] == 0)) * math.log(sample.size) - 2 * likelihood)
+        return Fit(
+            self,
+            member,
+            likelihood,
+            (len(member) - (member[0] == 0)) * math.log(sample.size) - 2 * likelihood,
+        )
 
     def laws(self, parameters: Parameters, most: int) -> Floats:
         """Returns a row of chances of 0, 1, 2 and so on for each member, without the end of the tail. `most` is the

@@ -12,8 +12,8 @@ from ..errors import Fault, Refused
 from ..formats import MOST_WEIGHT
 from ..law import Law
 from ..money import whole
-from ..records.faults import RefusedFiles
-from ..records.observed import Observed
+from ..read.faults import RefusedFiles
+from ..read.observed import Observed
 from ..remarks import Remark
 from ..words import advised, counted, sentence
 from . import EMPIRICAL, LEAST_DEMANDS
@@ -21,7 +21,10 @@ from .sample import Shares
 
 QUANTILES = (0.95, 0.99, 0.999)
 LEAST_WEIGHT = 0.005  # of a family that is named
-LEAST_MEAN, LEAST_VARIANCE = 0.97, 0.8  # of a law of demand, beside those of what was seen; less is named
+LEAST_MEAN, LEAST_VARIANCE = (
+    0.97,
+    0.8,
+)  # of a law of demand, beside those of what was seen; less is named
 # How much dearer than the best policy the chosen one is after so many lead times, in percent, if the demand is known:
 # the least and the most of the cases of the study planner/studies/laws_leads.py.
 DOUBT = {5: (2.3, 4.4), 10: (1.0, 3.0), 20: (0.5, 1.9)}
@@ -43,15 +46,28 @@ class Figures:
         weights = np.array(law.weights)
         size = law.size
         mean = float(weights / size @ values)
-        places = np.searchsorted(np.cumsum(weights), [np.ceil(share * size - 1e-6) for share in QUANTILES])
-        variance: float | None = float(weights / size @ (values - mean)**2)
+        places = np.searchsorted(
+            np.cumsum(weights), [np.ceil(share * size - 1e-6) for share in QUANTILES]
+        )
+        variance: float | None = float(weights / size @ (values - mean) ** 2)
         if is_sample:
-            variance = float((weights @ values**2 - law.mean**2 * size) / (size - 1)) if size > 1 else None
-        return cls(mean, variance, law.values[-1], dict(zip(QUANTILES, values[places].tolist())))
+            variance = (
+                float((weights @ values**2 - law.mean**2 * size) / (size - 1))
+                if size > 1
+                else None
+            )
+        return cls(
+            mean,
+            variance,
+            law.values[-1],
+            dict(zip(QUANTILES, values[places].tolist())),
+        )
 
     def __str__(self) -> str:
         variance = "-" if self.variance is None else f"{self.variance:.4g}"
-        quantiles = ", ".join(f"{100 * share:g}% {value}" for share, value in self.quantiles.items())
+        quantiles = ", ".join(
+            f"{100 * share:g}% {value}" for share, value in self.quantiles.items()
+        )
         return f"mean {self.mean:.4g}, variance {variance}, quantiles {quantiles}, largest {self.most}"
 
 
@@ -121,7 +137,9 @@ class FittedLaw(Law):
     box: int = 1
 
     @classmethod
-    def made(cls, law: Law, family: str, diagnostics: Diagnostics, box: int = 1) -> FittedLaw:
+    def made(
+        cls, law: Law, family: str, diagnostics: Diagnostics, box: int = 1
+    ) -> FittedLaw:
         return cls(law.values, law.weights, family, diagnostics, box)
 
     @cached_property
@@ -140,18 +158,35 @@ class FittedLaw(Law):
         items."""
         seen = self.diagnostics.history
         law = self.figures
-        if self.is_of_leads or self.family == EMPIRICAL or not seen.variance or self.diagnostics.share == 0:
+        if (
+            self.is_of_leads
+            or self.family == EMPIRICAL
+            or not seen.variance
+            or self.diagnostics.share == 0
+        ):
             return None
         assert law.variance is not None
-        if round(law.mean / seen.mean, 2) >= LEAST_MEAN and round(law.variance / seen.variance, 2) >= LEAST_VARIANCE:
+        if (
+            round(law.mean / seen.mean, 2) >= LEAST_MEAN
+            and round(law.variance / seen.variance, 2) >= LEAST_VARIANCE
+        ):
             return None
-        return Remark("law below history", {
-            "mean": law.mean * self.box, "seen_mean": seen.mean * self.box, "variance": law.variance * self.box**2,
-            "seen_variance": seen.variance * self.box**2})
+        return Remark(
+            "law below history",
+            {
+                "mean": law.mean * self.box,
+                "seen_mean": seen.mean * self.box,
+                "variance": law.variance * self.box**2,
+                "seen_variance": seen.variance * self.box**2,
+            },
+        )
 
 
-def numbers_of(observed: Observed | Iterable[Any], what: str,
-               wrong: Callable[[int, int], str] = lambda number, most: "") -> list[int]:
+def numbers_of(
+    observed: Observed | Iterable[Any],
+    what: str,
+    wrong: Callable[[int, int], str] = lambda number, most: "",
+) -> list[int]:
     """Returns observed whole numbers of any kind, also floats that are whole. A Series of pandas by period has 0 in
     each period that it lacks.
 
@@ -166,10 +201,19 @@ def numbers_of(observed: Observed | Iterable[Any], what: str,
     most = max(numbers, default=0)
     if numbers and (wrong(most, most) or wrong(min(numbers), most)):
         reasons = [wrong(number, most) for number in numbers]
-        places = observed.places if isinstance(observed, Observed) else (
-            Fault(f"column {what!r}: entry {place}, {number},") for place, number in enumerate(numbers, 1))
-        faults = [replace(place, said=f"{place.what} {reason}") for place, reason in zip(places, reasons)
-                  if place and reason]
+        places = (
+            observed.places
+            if isinstance(observed, Observed)
+            else (
+                Fault(f"column {what!r}: entry {place}, {number},")
+                for place, number in enumerate(numbers, 1)
+            )
+        )
+        faults = [
+            replace(place, said=f"{place.what} {reason}")
+            for place, reason in zip(places, reasons)
+            if place and reason
+        ]
         if faults:
             raise RefusedFiles(faults)
     return numbers
@@ -180,25 +224,43 @@ def _dense(observed: Any, what: str) -> Iterable[Any]:
     kind = type(index).__name__
     if kind not in ("PeriodIndex", "DatetimeIndex"):
         is_whole = isinstance(observed, np.ndarray) and observed.dtype.kind in "iu"
-        return cast(Iterable[Any], observed.tolist() if is_whole else observed)  # Numbers of Python are read faster.
+        return cast(
+            Iterable[Any], observed.tolist() if is_whole else observed
+        )  # Numbers of Python are read faster.
     if not index.is_unique or not index.is_monotonic_increasing:
-        raise Refused(f"{what}: its dates stand twice or are not in order", "sum it by period, and sort it")
+        raise Refused(
+            f"{what}: its dates stand twice or are not in order",
+            "sum it by period, and sort it",
+        )
     if kind == "PeriodIndex":
         import pandas as pd
+
         every = pd.period_range(index[0], index[-1]) if len(index) else index
         return cast(Iterable[Any], observed.reindex(every, fill_value=0))
-    if len(index) > 1 and index.freq is None and (len(index) == 2 or index.inferred_freq is None):
-        raise Refused(f"{what}: its dates have gaps, or are not those of periods", "sum it by period, as with "
-                      'resample("W").sum(), so that periods without demand count 0')
+    if (
+        len(index) > 1
+        and index.freq is None
+        and (len(index) == 2 or index.inferred_freq is None)
+    ):
+        raise Refused(
+            f"{what}: its dates have gaps, or are not those of periods",
+            "sum it by period, as with "
+            'resample("W").sum(), so that periods without demand count 0',
+        )
     return cast(Iterable[Any], observed)
 
 
 def _whole_numbers(observed: Iterable[Any], what: str) -> list[int]:
     numbers = [*observed]
     if {*map(type, numbers)} != {int}:
-        numbers = [whole(number, f"{what}: entry {place}") for place, number in enumerate(numbers, 1)]
+        numbers = [
+            whole(number, f"{what}: entry {place}")
+            for place, number in enumerate(numbers, 1)
+        ]
     if not 1 <= len(numbers) <= MOST_WEIGHT:
-        raise Refused(f"there are {len(numbers):,} numbers of {what}; give 1 to {MOST_WEIGHT:,}")
+        raise Refused(
+            f"there are {len(numbers):,} numbers of {what}; give 1 to {MOST_WEIGHT:,}"
+        )
     return numbers
 
 
@@ -209,11 +271,15 @@ def fit_words(law: FittedLaw) -> Iterator[str]:
     if fit.method == EMPIRICAL:
         return
     if fit.side:
-        yield (f"of each of the {fit.seen.size} lead times seen, {fit.side:.1%} count one period earlier, and as much "
-               "one later")
+        yield (
+            f"of each of the {fit.seen.size} lead times seen, {fit.side:.1%} count one period earlier, and as much "
+            "one later"
+        )
     if law.is_of_leads:
         yield "by a study, a policy chosen after few lead times costs more than the best: " + ", ".join(
-            f"{least:g} to {most:g}% after {count}" for count, (least, most) in DOUBT.items())
+            f"{least:g} to {most:g}% after {count}"
+            for count, (least, most) in DOUBT.items()
+        )
         return
     if borrowed:
         yield from _words_of_borrowed(borrowed)
@@ -225,13 +291,19 @@ def _words_of_borrowed(borrowed: Borrowed) -> Iterator[str]:
     if borrowed.alone:
         yield sentence(borrowed.alone)
     else:
-        source = "the whole catalogue" if borrowed.prior == "all" else f"class {borrowed.prior}"
+        source = (
+            "the whole catalogue"
+            if borrowed.prior == "all"
+            else f"class {borrowed.prior}"
+        )
         yield f"learned from {source}, with {counted(borrowed.demands, 'demand')} seen{_mixed(borrowed.share)}"
         if borrowed.few:
             yield "with so few demands the law is all but that of the catalogue; look at it"
     if borrowed.log10_bayes is not None:
-        yield (f"the history is 10^{borrowed.log10_bayes:.1f} times as likely under what was learned as without it"
-               + ": unlike the catalogue; look at it" * borrowed.unlike)
+        yield (
+            f"the history is 10^{borrowed.log10_bayes:.1f} times as likely under what was learned as without it"
+            + ": unlike the catalogue; look at it" * borrowed.unlike
+        )
     if borrowed.guard:
         yield _guard_words("what was learned", borrowed.guard, not borrowed.alone)
 
@@ -243,18 +315,31 @@ def _words_of_families(law: FittedLaw) -> Iterator[str]:
     if law.family == EMPIRICAL:
         yield "no family gives back this history, so it stays as it is"
     elif fit.families:
-        named = {family: weight for family, weight in fit.families.items() if weight >= LEAST_WEIGHT}
-        yield (", ".join(f"{family} {weight:.0%}" for family, weight in named.items()) + _mixed(fit.share)
-               + f"; at most {fit.cap}, as {fit.history.most} is the largest demand seen")
+        named = {
+            family: weight
+            for family, weight in fit.families.items()
+            if weight >= LEAST_WEIGHT
+        }
+        yield (
+            ", ".join(f"{family} {weight:.0%}" for family, weight in named.items())
+            + _mixed(fit.share)
+            + f"; at most {fit.cap}, as {fit.history.most} is the largest demand seen"
+        )
         if fit.bulks and "bulk" in named:
             yield f"for the family bulk, the {counted(fit.bulks[0], 'demand')} of at least {fit.bulks[1]} are bulks"
     else:
         yield law.family
     if fit.bic:
-        yield "BIC above the least: " + ", ".join(f"{family} {bic - min(fit.bic.values()):.1f}"
-                                                  for family, bic in fit.bic.items())
+        yield "BIC above the least: " + ", ".join(
+            f"{family} {bic - min(fit.bic.values()):.1f}"
+            for family, bic in fit.bic.items()
+        )
     # Of the families that pass, their weights say enough; `diagnostics` has the rest.
-    yield from (_guard_words(family, shares, False) for family, shares in fit.guard.items() if not shares.passes)
+    yield from (
+        _guard_words(family, shares, False)
+        for family, shares in fit.guard.items()
+        if not shares.passes
+    )
 
 
 def _mixed(share: float) -> str:
@@ -262,9 +347,12 @@ def _mixed(share: float) -> str:
 
 
 def _guard_words(family: str, shares: Shares, passes: bool) -> str:
-    return (f"guard: a history of {family} varies as much with chance {shares.as_much:.2f}, as little with "
-            f"{shares.as_little:.2f}, is as far off with {shares.as_far:.2f}, has no larger demand with "
-            f"{shares.as_low:.2f}, as large a one with {shares.as_high:.2f}" + ": rejected" * (not passes))
+    return (
+        f"guard: a history of {family} varies as much with chance {shares.as_much:.2f}, as little with "
+        f"{shares.as_little:.2f}, is as far off with {shares.as_far:.2f}, has no larger demand with "
+        f"{shares.as_low:.2f}, as large a one with {shares.as_high:.2f}"
+        + ": rejected" * (not passes)
+    )
 
 
 def notes_of(law: FittedLaw, name: str) -> list[str]:

@@ -18,11 +18,19 @@ from ..errors import Refused, argument
 from ..formats import MOST_DEMAND, MOST_LEAD
 from ..law import Law
 from ..money import Number
-from ..records.observed import Observed
+from ..read.observed import Observed
 from . import EMPIRICAL, LEAD_METHODS
-from .families import FAMILIES, METHODS, cells_of, fits_of, near_of, parts_of, predictive_of
+from .families import (
+    FAMILIES,
+    METHODS,
+    cells_of,
+    fits_of,
+    near_of,
+    parts_of,
+    predictive_of,
+)
 from .fitted import LEAST_MEAN, LEAST_VARIANCE, Diagnostics, FittedLaw, numbers_of
-from .sample import Sample, shares_of
+from .sample import Sample, Shares, shares_of
 
 if TYPE_CHECKING:
     from .learning import Prior
@@ -33,7 +41,9 @@ PERIODS = np.logspace(-2, 2, 41)  # for which a law counts beside each of the hi
 LIKELIHOOD_RATIO = 0.5  # of logarithms, by which the history must speak against a law to be mixed with it
 FEW = 20  # lead times: with so many, what was seen stays as it is
 LEAST_LEADS = 2  # one lead time is what a supplier says, not a sample
-SIDES = (np.arange(30) + 0.5) / 100  # the shares that the kernel may move to each neighbour
+SIDES = (
+    np.arange(30) + 0.5
+) / 100  # the shares that the kernel may move to each neighbour
 ELSEWHERE = 0.05  # the chance, in the fit of the kernel, that a lead time is like none that was seen
 
 
@@ -51,8 +61,11 @@ def boxes_of(observed: Observed | Iterable[Number], box: int) -> list[int]:
     def wrong(number: int, most: int) -> str:
         if number <= box * MOST_DEMAND:
             return below_0(number, most)
-        return (f"is above {MOST_DEMAND:,}{f' in boxes of {box}' if box > 1 else ''}; count in larger boxes: "
-                f"{argument('box', str(-(-most // MOST_DEMAND)))} or more")
+        return (
+            f"is above {MOST_DEMAND:,}{f' in boxes of {box}' if box > 1 else ''}; count in larger boxes: "
+            f"{argument('box', str(-(-most // MOST_DEMAND)))} or more"
+        )
+
     return [-(-number // box) for number in numbers_of(observed, "demand", wrong)]
 
 
@@ -62,7 +75,9 @@ def risen(weights: Floats, counts: Whole) -> Floats:
     once = counts == 1
     others = weights[..., ~once]
     rises: Floats = np.log(weights[..., once]).sum(axis=-1)
-    rises += (special.gammaln(others + counts[~once]) - special.gammaln(others)).sum(axis=-1)
+    rises += (special.gammaln(others + counts[~once]) - special.gammaln(others)).sum(
+        axis=-1
+    )
     return rises
 
 
@@ -73,7 +88,7 @@ def share_of(sample: Sample, base: Floats) -> float:
     greatest (Minka, Estimating a Dirichlet distribution, 2000).
     """
     chances = np.zeros(max(len(base), sample.most + 1))
-    chances[:len(base)] = base
+    chances[: len(base)] = base
     seen = np.maximum(chances[sample.values], 1e-9)
     periods = sample.size * PERIODS
     likelihood = special.gammaln(periods) - special.gammaln(periods + sample.size)
@@ -89,7 +104,7 @@ def seen_share(sample: Sample, law: Floats) -> float:
     and a variance of at least `LEAST_VARIANCE` of those that were seen."""
     values = np.arange(len(law))
     mean = float(law @ values)
-    variance = float(law @ (values - mean)**2)
+    variance = float(law @ (values - mean) ** 2)
     own = sample.squares / sample.size
     lower = sample.mean - mean
     missing = LEAST_VARIANCE * sample.variance - variance
@@ -101,7 +116,9 @@ def seen_share(sample: Sample, law: Floats) -> float:
     # With a share x of what was seen the variance is higher by x (own - variance + lower^2) - x^2 lower^2.
     rise = own - variance + lower**2
     square = rise**2 - 4 * missing * lower**2
-    if rise <= 0 or square < 0:  # of fewer than five periods: the unbiased variance is above that of the history
+    if (
+        rise <= 0 or square < 0
+    ):  # of fewer than five periods: the unbiased variance is above that of the history
         return 1.0
     return min(max(of_mean, 2 * missing / (rise + math.sqrt(square))), 1.0)
 
@@ -124,36 +141,60 @@ def family_law(boxes: Sequence[int], method: str, box: int = 1) -> FittedLaw:
     pack = sample.pack
     fits = fits_of(packs)
     if method in FAMILIES and method not in fits:
-        raise Refused(f"the history does not allow the family {method}; it allows {', '.join(fits) or 'none'}")
-    guard = {name: shares_of(packs, fit.law(packs.most)) for name, fit in near_of(fits).items()}
+        raise Refused(
+            f"the history does not allow the family {method}; it allows {', '.join(fits) or 'none'}"
+        )
+    guard = dict[str, Shares]()
+    for name, fit in near_of(fits).items():
+        guard[name] = shares_of(packs, fit.law(packs.most))
     names = [name for name, shares in guard.items() if shares.passes]
     if method in FAMILIES:
         names = [method]
-    known = Diagnostics(Law.of_numbers(boxes), method, pack, {name: fit.bic for name, fit in fits.items()}, guard)
+    bic = {name: fit.bic for name, fit in fits.items()}
+    known = Diagnostics(Law.of_numbers(boxes), method, pack, bic, guard)
     if not names:
         return FittedLaw.made(known.seen, EMPIRICAL, known, box)
-    # Above the cap the law of `auto` has nothing, so all that is there counts in one cell.
+    if method == "auto":
+        known, law = mixed_law(sample, names, known)
+    else:
+        law = in_items(predictive_of(names[0], packs, DEMANDS), pack)
+    return FittedLaw.made(Law.of_chances(law), names[0], known, box)
+
+
+def mixed_law(
+    sample: Sample, names: Sequence[str], known: Diagnostics
+) -> tuple[Diagnostics, Floats]:
+    """Returns the law of `auto`, by the families that the guard lets pass, and what is known of it.
+
+    Their posterior chances are those of families that are as likely beforehand (Raftery, Bayesian model selection in
+    social research, 1995, section 4.1).
+    """
+    packs = sample.packs
+    # Above the cap the law has nothing, so all that is there counts in one cell.
     cap = cap_of(sample)
-    ends = cells_of(cap // pack + 1, MOST_DEMAND) if method == "auto" else DEMANDS
-    laws = (in_items(predictive_of(name, packs, ends), pack) for name in names)
-    if method != "auto":
-        return FittedLaw.made(Law.of_chances(next(laws)), names[0], known, box)
-    # Posterior chances of families that are as likely beforehand (Raftery, Bayesian model selection in social research,
-    # 1995, section 4.1).
-    likely = [math.exp((fits[names[0]].bic - fits[name].bic) / 2) for name in names]
+    ends = cells_of(cap // sample.pack + 1, MOST_DEMAND)
+    bic = known.bic
+    likely = [math.exp((bic[names[0]] - bic[name]) / 2) for name in names]
     weights = [value / sum(likely) for value in likely]
-    law = scaled(mixture(zip(weights, laws))[:cap + 1])
+    laws = (in_items(predictive_of(name, packs, ends), sample.pack) for name in names)
+    law = scaled(mixture(zip(weights, laws))[: cap + 1])
     share = min(share_of(sample, law), 1 - seen_share(sample, law))
     known = replace(known, families=dict(zip(names, weights)), cap=cap, share=share)
     parts = parts_of(packs) if "bulk" in names else None
     if parts:
-        known = replace(known, bulks=(parts.bulks.size, pack * int(parts.bulks.values[0])))
-    law = mixture([(share, law), (1 - share, sample.law)])
-    return FittedLaw.made(Law.of_chances(law), names[0], known, box)
+        least = sample.pack * int(parts.bulks.values[0])
+        known = replace(known, bulks=(parts.bulks.size, least))
+    return known, mixture([(share, law), (1 - share, sample.law)])
 
 
-def fit_demand(observed: Observed | Iterable[Number], *, method: str = "auto", box: int = 1,
-               borrow: Prior | None = None, item_class: str | None = None) -> FittedLaw:
+def fit_demand(
+    observed: Observed | Iterable[Number],
+    *,
+    method: str = "auto",
+    box: int = 1,
+    borrow: Prior | None = None,
+    item_class: str | None = None,
+) -> FittedLaw:
     """Fits the law of demand to a history, or to any whole numbers from 0, one for each period.
 
     `method` is one of these:
@@ -176,11 +217,16 @@ def fit_demand(observed: Observed | Iterable[Number], *, method: str = "auto", b
     """
     if borrow is not None:
         from .borrowing import law_of
+
         if method != "auto":
-            raise Refused(f"a law is either borrowed or fitted by the method {method!r}; leave one out")
+            raise Refused(
+                f"a law is either borrowed or fitted by the method {method!r}; leave one out"
+            )
         return law_of(borrow, observed, item_class, box=box)
     if method not in METHODS and method not in FAMILIES:
-        raise Refused(f"there is no method {method!r} to fit demand; say {', '.join(METHODS[:-1])} or {METHODS[-1]}")
+        raise Refused(
+            f"there is no method {method!r} to fit demand; say {', '.join(METHODS[:-1])} or {METHODS[-1]}"
+        )
     boxes = boxes_of(observed, box)
     if method != EMPIRICAL:
         return family_law(boxes, method, box)
@@ -197,6 +243,7 @@ def leads_of(observed: Observed | Iterable[Number]) -> list[int]:
         if number > MOST_LEAD:
             return above
         return below if number < 1 else ""
+
     return numbers_of(observed, "lead time", wrong)
 
 
@@ -210,25 +257,33 @@ def sides_of(counts: Floats) -> Floats:
     for place in np.flatnonzero(counts):
         others = counts - np.eye(MOST_LEAD)[place]
         chances = blurred(others[:, None] / others.sum(), SIDES)[place]
-        likelihoods *= ((1 - ELSEWHERE) * chances + ELSEWHERE / MOST_LEAD)**counts[place]
+        likelihoods *= ((1 - ELSEWHERE) * chances + ELSEWHERE / MOST_LEAD) ** counts[
+            place
+        ]
     return scaled(likelihoods)
 
 
-def fit_lead(observed: Observed | Iterable[Number], *, method: str = "auto") -> FittedLaw:
+def fit_lead(
+    observed: Observed | Iterable[Number], *, method: str = "auto"
+) -> FittedLaw:
     """Fits the law of lead times to observed ones: whole numbers of periods, at least 1.
 
     `empirical` has each lead time as often as it was seen. `auto` moves a part of 2 to 19 observed ones to the periods
     beside them, since a short record has not seen all. Raises RefusedFaults.
     """
     if method not in LEAD_METHODS:
-        raise Refused(f"there is no method {method!r} to fit lead times; say {' or '.join(LEAD_METHODS)}")
+        raise Refused(
+            f"there is no method {method!r} to fit lead times; say {' or '.join(LEAD_METHODS)}"
+        )
     numbers = leads_of(observed)
     seen = Law.of_numbers(numbers)
     if method == EMPIRICAL or not LEAST_LEADS <= len(numbers) < FEW:
         return FittedLaw.made(seen, EMPIRICAL, Diagnostics(seen, method, side=0.0))
     counts = counts_of(numbers)
     side = float(SIDES @ sides_of(counts))
-    return FittedLaw.made(lead_law(counts, side), "blurred", Diagnostics(seen, method, side=side))
+    return FittedLaw.made(
+        lead_law(counts, side), "blurred", Diagnostics(seen, method, side=side)
+    )
 
 
 def counts_of(leads: Sequence[int]) -> Floats:

@@ -29,17 +29,30 @@ from ..chances import Floats, cut, in_items, scaled
 from ..errors import Refused
 from ..formats import MOST_WEIGHT
 from ..law import Law
-from ..records.observed import Observed
+from ..read.observed import Observed
 from .families import fits_of, near_of
 from .family import UNIFORMS, Family, Fit, Parameters
-from .fitting import FEW, LEAST_LEADS, SIDES, boxes_of, counts_of, lead_law, leads_of, risen, sides_of
+from .fitting import (
+    FEW,
+    LEAST_LEADS,
+    SIDES,
+    boxes_of,
+    counts_of,
+    lead_law,
+    leads_of,
+    risen,
+    sides_of,
+)
 from .sample import Sample
 
 FROM_HISTORY = "history"  # the name of the Bayesian bootstrap among the families
 MEMBERS = 500  # of a family, among which laws are drawn
 # For how many periods a family counts beside each of the history; the last stands for the family itself.
 CONCENTRATIONS = np.logspace(-2, 2, 9)
-SHARES = [*(CONCENTRATIONS[:-1] / (1 + CONCENTRATIONS[:-1])).tolist(), 1.0]  # of the family in the mean of its laws
+SHARES = [
+    *(CONCENTRATIONS[:-1] / (1 + CONCENTRATIONS[:-1])).tolist(),
+    1.0,
+]  # of the family in the mean of its laws
 LEAST_SEEN = 1e-12
 PROPOSED = 0.3  # what a number counts for the draws of members
 COUNTED = 0.5  # what a number counts in the posterior
@@ -59,20 +72,27 @@ class AllowedLaws:
 
 def stratified(random: np.random.Generator, rows: int, times: int) -> Floats:
     """Returns rows of uniform numbers, one in each of `times` equal strata, so few draws are spread evenly (McKay,
-    Beckman and Conover, A comparison of three methods for selecting values of input variables, 1979)."""
+    Beckman and Conover, A comparison of three methods for selecting values of input variables, 1979).
+    """
     strata = np.array([random.permutation(times) for _ in range(rows)])
     return np.asarray((strata + random.random((rows, times))) / times)
 
 
-def round_history(base: Floats, sample: Sample, share: float, random: np.random.Generator,
-                  counted: float = 1.0) -> Floats:
+def round_history(
+    base: Floats,
+    sample: Sample,
+    share: float,
+    random: np.random.Generator,
+    counted: float = 1.0,
+) -> Floats:
     """Draws a law from a Dirichlet process round a law that has seen a sample: in the mean this share of the law and
-    the rest of the sample, so with 0 the Bayesian bootstrap. Each number counts as `counted` numbers."""
+    the rest of the sample, so with 0 the Bayesian bootstrap. Each number counts as `counted` numbers.
+    """
     if share == 1:
         return base
     periods = sample.size * share / (1 - share)
     weights = np.zeros(max(len(base), sample.most + 1))
-    weights[:len(base)] = periods * base
+    weights[: len(base)] = periods * base
     weights[sample.values] += sample.counts
     return scaled(random.standard_gamma(counted * weights))
 
@@ -95,16 +115,24 @@ def members_of(fit: Fit, packs: Sample, random: np.random.Generator) -> Members:
     What is common to a family is approximated as in the Bayesian information criterion. Source of the weights: Rubin,
     Using the SIR algorithm to simulate posterior distributions, 1988.
     """
-    parameters = fit.family.drawn(packs, stratified(random, UNIFORMS, MEMBERS)[:, :, None], PROPOSED)
+    parameters = fit.family.drawn(
+        packs, stratified(random, UNIFORMS, MEMBERS)[:, :, None], PROPOSED
+    )
     seen = np.maximum(fit.family.chances(packs.values, *parameters), LEAST_SEEN)
     own = np.log(seen) @ packs.counts
     periods = packs.size * CONCENTRATIONS[:, None, None]
     likely = risen(periods * seen, packs.counts)
-    likely += special.gammaln(periods[:, :, 0]) - special.gammaln(periods[:, :, 0] + packs.size)
+    likely += special.gammaln(periods[:, :, 0]) - special.gammaln(
+        periods[:, :, 0] + packs.size
+    )
     common = (PROPOSED - 1) * fit.log_likelihood - fit.bic / 2
     below = np.cumsum(np.exp((COUNTED - PROPOSED) * (own - own.max())))
-    return Members(fit.family, parameters, below / below[-1],
-                   special.logsumexp(COUNTED * likely - PROPOSED * own, axis=1) + common)
+    return Members(
+        fit.family,
+        parameters,
+        below / below[-1],
+        special.logsumexp(COUNTED * likely - PROPOSED * own, axis=1) + common,
+    )
 
 
 def end_of(sample: Sample) -> float:
@@ -113,26 +141,39 @@ def end_of(sample: Sample) -> float:
     return max(math.log(DEMANDS_OF_END) / math.log(sample.demands + 1), LEAST_END)
 
 
-def demand_laws(sample: Sample, times: int, random: np.random.Generator) -> tuple[dict[str, int], list[Floats]]:
+def demand_laws(
+    sample: Sample, times: int, random: np.random.Generator
+) -> tuple[dict[str, int], list[Floats]]:
     """Draws laws of demand: how many each family gave, and their chances."""
     packs = sample.packs
     pack = sample.pack
     fits = near_of(fits_of(packs))
     if not fits:
-        laws = (round_history(np.zeros(1), sample, 0.0, random, COUNTED) for _ in range(times))
+        laws = (
+            round_history(np.zeros(1), sample, 0.0, random, COUNTED)
+            for _ in range(times)
+        )
         return {FROM_HISTORY: times}, [*laws]
     members = [members_of(fit, packs, random) for fit in fits.values()]
-    ends = sample.most * end_of(sample)**stratified(random, 1, times)[0]
+    ends = sample.most * end_of(sample) ** stratified(random, 1, times)[0]
     likely = np.array([its.likely for its in members])
     below = np.cumsum(np.exp(likely - likely.max()))
-    places = np.searchsorted(below[:-1] / below[-1], (np.arange(times) + random.random()) / times)
-    families, concentrations = np.unravel_index(random.permutation(places), likely.shape)
+    places = np.searchsorted(
+        below[:-1] / below[-1], (np.arange(times) + random.random()) / times
+    )
+    families, concentrations = np.unravel_index(
+        random.permutation(places), likely.shape
+    )
     drawn: list[Floats] = []
-    for end, place, periods, uniform in zip(ends, families, concentrations, stratified(random, 1, times)[0]):
+    for end, place, periods, uniform in zip(
+        ends, families, concentrations, stratified(random, 1, times)[0]
+    ):
         family, parameters, shares, _ = members[place]
         member = np.searchsorted(shares[:-1], uniform)
-        law, = family.laws(tuple(column[member:member + 1] for column in parameters), packs.most)
-        base = scaled(in_items(cut(law), pack)[:int(end) + 1])
+        (law,) = family.laws(
+            tuple(column[member : member + 1] for column in parameters), packs.most
+        )
+        base = scaled(in_items(cut(law), pack)[: int(end) + 1])
         drawn.append(round_history(base, sample, SHARES[periods], random, COUNTED))
     counts = zip(fits, np.bincount(families, minlength=len(fits)).tolist())
     return {name: count for name, count in counts if count}, drawn
@@ -153,7 +194,9 @@ def law_of_chances(chances: Floats, most: int) -> Law:
     return Law((0, most), (MOST_WEIGHT - 1, 1)) if law.values == (0,) and most else law
 
 
-def allowed_laws(observed: Observed | Iterable[Any], *, times: int = 100, box: int = 1, seed: int = 1) -> AllowedLaws:
+def allowed_laws(
+    observed: Observed | Iterable[Any], *, times: int = 100, box: int = 1, seed: int = 1
+) -> AllowedLaws:
     """Draws laws of demand that a history allows. The same seed gives the same laws.
 
     `observed` and `box` are as in `fit_demand`, and so is what is raised. No law has demands above some times the
@@ -163,10 +206,14 @@ def allowed_laws(observed: Observed | Iterable[Any], *, times: int = 100, box: i
     random = random_of(times, seed, 0)
     sample = Sample.of(boxes_of(observed, box))
     families, laws = demand_laws(sample, times, random)
-    return AllowedLaws(families, tuple(law_of_chances(law, sample.most) for law in laws))
+    return AllowedLaws(
+        families, tuple(law_of_chances(law, sample.most) for law in laws)
+    )
 
 
-def allowed_leads(observed: Observed | Iterable[Any], *, times: int = 100, seed: int = 1) -> AllowedLaws:
+def allowed_leads(
+    observed: Observed | Iterable[Any], *, times: int = 100, seed: int = 1
+) -> AllowedLaws:
     """Draws laws of lead times that the observed ones allow. The same seed gives the same laws.
 
     Each has random weights of what was seen (the Bayesian bootstrap). As in `fit_lead(method="auto")`, 2 to 19 lead
@@ -176,7 +223,9 @@ def allowed_leads(observed: Observed | Iterable[Any], *, times: int = 100, seed:
     random = random_of(times, seed, 1)
     numbers = leads_of(observed)
     if len(numbers) < LEAST_LEADS:
-        return AllowedLaws({FROM_HISTORY: times}, (Law(tuple(numbers), (MOST_WEIGHT,)),) * times)
+        return AllowedLaws(
+            {FROM_HISTORY: times}, (Law(tuple(numbers), (MOST_WEIGHT,)),) * times
+        )
     counts = counts_of(numbers)
     sides = np.zeros(times)
     family = FROM_HISTORY
@@ -185,5 +234,7 @@ def allowed_leads(observed: Observed | Iterable[Any], *, times: int = 100, seed:
         sides = SIDES[np.searchsorted(below, stratified(random, 1, times)[0])]
         family = "blurred"
     weights = np.zeros((times, len(counts)))
-    weights[:, counts > 0] = random.standard_gamma(counts[counts > 0], (times, np.count_nonzero(counts)))
+    weights[:, counts > 0] = random.standard_gamma(
+        counts[counts > 0], (times, np.count_nonzero(counts))
+    )
     return AllowedLaws({family: times}, tuple(map(lead_law, weights, sides)))

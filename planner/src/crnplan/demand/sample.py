@@ -63,7 +63,7 @@ class Sample:
     @cached_property
     def squares(self) -> float:
         """Returns the sum of the squared distances from the mean."""
-        return float(self.counts @ (self.values - self.mean)**2)
+        return float(self.counts @ (self.values - self.mean) ** 2)
 
     @property
     def variance(self) -> float:
@@ -110,7 +110,8 @@ class Sample:
 
 class Shares(NamedTuple):
     """The shares of histories of a law that vary at least as much as the real one, at most as much, that are at least
-    as far from the law, and whose largest demand is at most the real one, and at least."""
+    as far from the law, and whose largest demand is at most the real one, and at least.
+    """
 
     as_much: float
     as_little: float
@@ -137,7 +138,9 @@ class Summed(NamedTuple):
     @classmethod
     def of(cls, chances: Floats) -> Summed:
         below = np.cumsum(chances)
-        return cls(below, *(np.cumsum(its[::-1])[::-1] for its in (chances, chances * below)))
+        return cls(
+            below, *(np.cumsum(its[::-1])[::-1] for its in (chances, chances * below))
+        )
 
 
 def distances(histories: Whole, law: Summed) -> Floats:
@@ -149,12 +152,15 @@ def distances(histories: Whole, law: Summed) -> Floats:
     """
     size = histories.shape[1]
     weights = (2 * np.arange(size) + 1) / size
-    return np.asarray(law.tails[histories] @ weights - 2 * law.means[histories].sum(axis=1))
+    return np.asarray(
+        law.tails[histories] @ weights - 2 * law.means[histories].sum(axis=1)
+    )
 
 
 class Uniform(NamedTuple):
     """Uniform numbers for drawn histories, a row for each: the numbers of all rows, rising; the row of each, and its
-    place in that; and how many numbers of each row are among the first ones, once in so many."""
+    place in that; and how many numbers of each row are among the first ones, once in so many.
+    """
 
     rising: Floats
     rows: Whole
@@ -166,14 +172,29 @@ class Uniform(NamedTuple):
         """Takes rows of rising numbers."""
         order = np.argsort(numbers, axis=None)
         rows, places = np.divmod(order, numbers.shape[1])
-        parts = [np.bincount(part, minlength=len(numbers)) for part in np.array_split(rows, range(
-            COUNTED, len(rows) + 1, COUNTED))]
-        return cls(numbers.ravel()[order], rows, places, np.cumsum([0 * parts[0], *parts], axis=0))
+        parts = [
+            np.bincount(part, minlength=len(numbers))
+            for part in np.array_split(rows, range(COUNTED, len(rows) + 1, COUNTED))
+        ]
+        return cls(
+            numbers.ravel()[order],
+            rows,
+            places,
+            np.cumsum([0 * parts[0], *parts], axis=0),
+        )
 
 
 @compiled
-def drawn_figures(rising: Floats, rows: Whole, places: Whole, first: Whole, last: int, below: Floats, tails: Floats,
-                  means: Floats) -> tuple[Floats, Floats]:
+def drawn_figures(
+    rising: Floats,
+    rows: Whole,
+    places: Whole,
+    first: Whole,
+    last: int,
+    below: Floats,
+    tails: Floats,
+    means: Floats,
+) -> tuple[Floats, Floats]:
     """Returns of histories that are drawn by uniform numbers (see `Uniform`) their squared size times their variance,
     and their `distances`. No number is above the last one. The draws of a number stand together: they are counted one
     by one, or row by row if there are many."""
@@ -198,13 +219,15 @@ def drawn_figures(rising: Floats, rows: Whole, places: Whole, first: Whole, last
         if rank < end:
             rank = end
             now[:] = first[end // COUNTED]
-            for row in rows[end - end % COUNTED:end]:
+            for row in rows[end - end % COUNTED : end]:
                 now[row] += 1
             for row in range(times):
                 more = now[row] - seen[row]
                 totals[row] = totals[row] + more * number
                 squares[row] = squares[row] + more * number * number
-                far[row] += ((now[row] + seen[row]) / size * tails[number] - mean) * more
+                far[row] += (
+                    (now[row] + seen[row]) / size * tails[number] - mean
+                ) * more
             seen[:] = now
     return size * squares - totals**2, far
 
@@ -212,13 +235,15 @@ def drawn_figures(rising: Floats, rows: Whole, places: Whole, first: Whole, last
 @functools.lru_cache(maxsize=8)
 def uniforms(size: int) -> Uniform:
     """Returns uniform numbers for drawn histories of a size."""
-    return Uniform.of(np.sort(np.random.default_rng(SEED).random((TIMES, size)), axis=1))
+    return Uniform.of(
+        np.sort(np.random.default_rng(SEED).random((TIMES, size)), axis=1)
+    )
 
 
 def shares_of(sample: Sample, chances: Floats) -> Shares:
     """Returns the shares of a sample under a law. The same sample and law have the same shares."""
     law = np.zeros(max(len(chances), sample.most + 1))
-    law[:len(chances)] = chances / chances.sum()
+    law[: len(chances)] = chances / chances.sum()
     summed = Summed.of(law)
     size = sample.size
     below = summed.below
@@ -226,8 +251,19 @@ def shares_of(sample: Sample, chances: Floats) -> Shares:
     own = size * sample.squares
     common = size * float(law @ below**2)
     own_far = float(distances(np.repeat(sample.values, sample.counts)[None], summed)[0])
-    alike = (squares >= own * (1 - ROUNDING), squares <= own * (1 + ROUNDING),
-             far + common >= (own_far + common) * (1 - ROUNDING))
-    as_much, as_little, as_far = (float((holds.sum() + 1) / (TIMES + 1)) for holds in alike)  # with the history itself
+    alike = (
+        squares >= own * (1 - ROUNDING),
+        squares <= own * (1 + ROUNDING),
+        far + common >= (own_far + common) * (1 - ROUNDING),
+    )
+    as_much, as_little, as_far = (
+        float((holds.sum() + 1) / (TIMES + 1)) for holds in alike
+    )  # with the history itself
     before = below[sample.most - 1] if sample.most else 0.0
-    return Shares(as_much, as_little, as_far, float(below[sample.most]**sample.size), float(1 - before**sample.size))
+    return Shares(
+        as_much,
+        as_little,
+        as_far,
+        float(below[sample.most] ** sample.size),
+        float(1 - before**sample.size),
+    )

@@ -10,13 +10,13 @@ from collections.abc import Iterable, Iterator
 from typing import TYPE_CHECKING
 
 from ..errors import Refused
-from ..files import IN_KEPT, Folder
-from ..jobs import batched
-from ..records.catalogue_reading import Catalogued
-from ..records.item import Item
+from ..store.files import IN_KEPT, Folder
+from ..store.jobs import batched
+from ..read.catalogue_reading import Catalogued
+from ..read.item import Item
 from ..remarks import Remark, Value
-from ..stored import Store, sealed
-from ..work import Known
+from ..store.stored import Store, sealed
+from ..store.work import Known
 from .answer import Answer
 from .changes import Change, Pair, change_of
 from .question import Levels
@@ -33,34 +33,48 @@ def check_records(earlier: PlannedFolder, read: Catalogued) -> None:
     """Raises Refused if a catalogue that was read is not a later state of an earlier one."""
     every = read.fact("every")
     if earlier.every != every:
-        raise Refused(f"{earlier.path}: its periods are {earlier.every}s, and these are {every}s",
-                      "read the files by the same periods")
+        raise Refused(
+            f"{earlier.path}: its periods are {earlier.every}s, and these are {every}s",
+            "read the files by the same periods",
+        )
     names = heapq.merge(earlier.read.names(), read.names())
     if not any(name == following for name, following in itertools.pairwise(names)):
-        raise Refused(f"{earlier.path}: none of its items is in these tables",
-                      "name the folder of an earlier plan of this catalogue")
+        raise Refused(
+            f"{earlier.path}: none of its items is in these tables",
+            "name the folder of an earlier plan of this catalogue",
+        )
     missing = earlier.read.fact("periods")[1] - read.fact("periods")[1]
     if missing > 0:
-        raise Refused(f"{earlier.path}: its record ends {missing:,} {every}s after this one",
-                      "name the later files as DEMAND.csv, and the folder of the earlier plan behind --after")
+        raise Refused(
+            f"{earlier.path}: its record ends {missing:,} {every}s after this one",
+            "name the later files as DEMAND.csv, and the folder of the earlier plan behind --after",
+        )
 
 
 def taken(answer: Answer | Remark) -> Answer | Remark:
     """Returns the answer of an earlier plan to a question that has not changed. The policy before is its own."""
-    return answer if isinstance(answer, Remark) else dataclasses.replace(answer, before=answer.chosen)
+    return (
+        answer
+        if isinstance(answer, Remark)
+        else dataclasses.replace(answer, before=answer.chosen)
+    )
 
 
-def asked_after(read: Catalogued, planned: Planned, earlier: PlannedFolder | None,
-                name: str) -> tuple[Item, Levels | None] | Known:
+def asked_after(
+    read: Catalogued, planned: Planned, earlier: PlannedFolder | None, name: str
+) -> tuple[Item, Levels | None] | Known:
     """Returns what is asked of an item that was read: its facts, with its s and S in an earlier plan, if it has any
-    there. The answer of that plan to the same question is known, but for a policy that stayed by another least gain."""
+    there. The answer of that plan to the same question is known, but for a policy that stayed by another least gain.
+    """
     item = read.item(name)
     assert item is not None
     answer = earlier.store.answer(name) if earlier else None
     if earlier is None or answer is None:
         return item, None
     before = None if isinstance(answer, Remark) else answer
-    is_same = read.digest(name, planned.base) == earlier.read.digest(name, earlier.planned.base)
+    is_same = read.digest(name, planned.base) == earlier.read.digest(
+        name, earlier.planned.base
+    )
     if before and before.undamped:
         is_same &= planned.settings.least_gain == earlier.settings.least_gain
     if is_same:
@@ -70,14 +84,19 @@ def asked_after(read: Catalogued, planned: Planned, earlier: PlannedFolder | Non
 
 def common_changes(earlier: Planned, planned: Planned) -> Iterator[Remark]:
     """Yields what has changed for all items: settings, what was learned, and what computes."""
-    before, after = dataclasses.asdict(earlier.settings), dataclasses.asdict(planned.settings)
+    before, after = dataclasses.asdict(earlier.settings), dataclasses.asdict(
+        planned.settings
+    )
     facts = dict[str, Value]()
     for name in before:
         if name not in ("least_gain", "aims") and before[name] != after[name]:
             facts |= {f"{name} before": before[name], f"{name} after": after[name]}
     if facts:
         yield Remark("other settings", facts)
-    if (earlier.prior.text, earlier.settings.aims) != (planned.prior.text, planned.settings.aims):
+    if (earlier.prior.text, earlier.settings.aims) != (
+        planned.prior.text,
+        planned.settings.aims,
+    ):
         yield Remark("other learning")
     if json.loads(earlier.base)[:3] != json.loads(planned.base)[:3]:
         yield Remark("other program")
@@ -85,8 +104,14 @@ def common_changes(earlier: Planned, planned: Planned) -> Iterator[Remark]:
 
 def pairs_of(earlier: PlannedFolder, now: PlannedFolder) -> Iterator[Pair]:
     """Yields the items of both plans in order of their names, with all their periods."""
-    left = {reject.item: reject.remark for reject in now.read.rejects() if reject.kind == "item"}
-    for name, _ in itertools.groupby(heapq.merge(earlier.read.names(), now.read.names())):
+    left = {
+        reject.item: reject.remark
+        for reject in now.read.rejects()
+        if reject.kind == "item"
+    }
+    for name, _ in itertools.groupby(
+        heapq.merge(earlier.read.names(), now.read.names())
+    ):
         answer = now.store.answer(name)
         fault = answer if isinstance(answer, Remark) else left.get(name)
         yield Pair(decided(earlier, name), decided(now, name), fault)
@@ -100,7 +125,9 @@ def decided(plan: PlannedFolder, name: str) -> tuple[Item, Answer] | None:
 
 def changes_since(earlier: PlannedFolder, now: PlannedFolder) -> Iterator[Change]:
     """Yields what has changed since an earlier plan, by item. An item without a policy in either has not changed."""
-    common, (_, stop) = [*common_changes(earlier.planned, now.planned)], earlier.read.fact("periods")
+    common, (_, stop) = [
+        *common_changes(earlier.planned, now.planned)
+    ], earlier.read.fact("periods")
     for pair in pairs_of(earlier, now):
         if pair.old or pair.new:
             yield change_of(pair, earlier.settings, stop, common)

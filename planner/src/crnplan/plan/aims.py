@@ -1,6 +1,7 @@
 """The fill rates at which plans aim: what the past of a catalogue makes of the wanted ones."""
 from __future__ import annotations
 
+import itertools
 import math
 from collections.abc import Mapping, Sequence
 from dataclasses import dataclass
@@ -8,7 +9,10 @@ from typing import Any
 
 import numpy as np
 
-FILLS = (0.9, 0.95, 0.97, 0.98, 0.9875, 0.9925, 0.9965, 0.9985, 0.9995)  # whose policies are tried on the past
+from ..chances import Floats
+
+# The fill rates whose policies are tried on the past.
+FILLS = 0.9, 0.95, 0.97, 0.98, 0.9875, 0.9925, 0.9965, 0.9985, 0.9995
 LOGS = np.log1p(-np.array(FILLS))
 MOST = 0.999  # An aim is no higher: what is unmet there, more stock hardly meets.
 CLASSES = ("slow", "fast")
@@ -18,7 +22,8 @@ LEAST_CLASS = 15  # Smaller classes aim as all items do.
 @dataclass(frozen=True)
 class Trial:
     """What an item's policies for `FILLS` did not meet at once in periods that their laws had not seen, in units of the
-    mean of its demand. Beside it are that mean in items a period, and how many periods they were."""
+    mean of its demand. Beside it are that mean in items a period, and how many periods they were.
+    """
 
     mean: float
     periods: int
@@ -37,26 +42,34 @@ class Tried:
     @classmethod
     def of(cls, trials: Sequence[Trial]) -> Tried:
         """Adds up trials, of which there is at least one."""
-        periods = sum(trial.periods for trial in trials)
-        shares = [math.fsum(column) / periods for column in zip(*(trial.unmet for trial in trials))]
+        periods, shares = 0, list[float]()
+        for trial in trials:
+            periods += trial.periods
+        for column in zip(*(trial.unmet for trial in trials)):
+            shares.append(math.fsum(column) / periods)
         return cls(len(trials), periods, tuple(shares))
+
+    @property
+    def falling(self) -> Floats:
+        """Returns the shares that are not met, of which none is above the one of a lower fill rate."""
+        falling: Floats = np.minimum.accumulate(self.unmet)
+        return falling
 
     def aim(self, wanted: float) -> float:
         """Returns the fill rate whose policies met the wanted one: between those of `FILLS` by the logarithm of what it
-        leaves unmet. It is at least the wanted one, and at most 99.9% if that is less."""
-        unmet = np.minimum.accumulate(self.unmet)[::-1]
-        rate = -math.expm1(float(np.interp(1 - wanted, unmet, LOGS[::-1])))
-        return max(wanted, min(rate, MOST))
+        leaves unmet. It is at least the wanted one, and at most 99.9% if that is less.
+        """
+        log = np.interp(1 - wanted, self.falling[::-1], LOGS[::-1])
+        return max(wanted, min(-math.expm1(float(log)), MOST))
 
     def met(self, rate: float) -> float:
         """Returns the share of demand that policies for a fill rate met at once."""
-        return 1 - float(np.interp(-math.log1p(-rate), -LOGS, np.minimum.accumulate(self.unmet)))
+        return 1 - float(np.interp(-math.log1p(-rate), -LOGS, self.falling))
 
 
 @dataclass(frozen=True)
 class Aims:
-    """What the past of a catalogue says of each class: items whose mean demand is up to `speed`, the median, are slow.
-    """
+    """What the past of a catalogue says of each class: items whose mean demand is up to `speed`, the median, are slow."""
 
     speed: float
     classes: tuple[Tried, ...]
@@ -64,17 +77,20 @@ class Aims:
     @classmethod
     def of(cls, trials: Sequence[Trial]) -> Aims:
         """Learns from trials. A class of fewer than 15 items has those of all."""
-        speed = float(np.median([trial.mean for trial in trials]))
-        slow = [trial for trial in trials if trial.mean <= speed]
-        fast = [trial for trial in trials if trial.mean > speed]
-        classes = [Tried.of(own if len(own) >= LEAST_CLASS else trials) for own in (slow, fast)]
+        means = np.array([trial.mean for trial in trials])
+        speed, classes = float(np.median(means)), list[Tried]()
+        for is_in in (means <= speed, means > speed):
+            own = [*itertools.compress(trials, is_in)]
+            classes.append(Tried.of(own if len(own) >= LEAST_CLASS else trials))
         return cls(speed, tuple(classes))
 
     @classmethod
     def parse(cls, tree: Mapping[str, Any]) -> Aims:
-        """Returns that of which `dataclasses.asdict` has made a tree. Raises LookupError or TypeError for another one.
-        """
-        classes = [Tried(tried["items"], tried["periods"], tuple(tried["unmet"])) for tried in tree["classes"]]
+        """Returns that of which `dataclasses.asdict` has made a tree. Raises LookupError or TypeError for another one."""
+        classes = list[Tried]()
+        for tried in tree["classes"]:
+            unmet = tuple(tried["unmet"])
+            classes.append(Tried(tried["items"], tried["periods"], unmet))
         return cls(tree["speed"], tuple(classes))
 
     def aim(self, counts: Sequence[float], wanted: float) -> float:

@@ -6,16 +6,28 @@ from fractions import Fraction
 from typing import NamedTuple
 
 from ..law import Law
-from ..records.item import NEW, Item
+from ..read.item import NEW, Item
 from ..remarks import Remark
 
 # Policies: today's, the chosen one, the one that the item would get by its own history alone, that of an earlier plan,
 # and the one that would be chosen if that one did not stay.
-TODAY, CHOSEN, ALONE, BEFORE, UNDAMPED = "today", "chosen", "alone", "before", "undamped"
+TODAY, CHOSEN, ALONE, BEFORE, UNDAMPED = (
+    "today",
+    "chosen",
+    "alone",
+    "before",
+    "undamped",
+)
 OVERRIDE = "override"  # that of the planner
 # Verdicts. `more service`: today's policy misses the wanted fill, and keeping it costs more. `bounded`: no policy
 # within the bounds of the item has the wanted fill; the chosen one meets most.
-CHEAPER, DEARER, UNDECIDED, SAME, SERVICE = "cheaper", "dearer", "undecided", "same", "more service"
+CHEAPER, DEARER, UNDECIDED, SAME, SERVICE = (
+    "cheaper",
+    "dearer",
+    "undecided",
+    "same",
+    "more service",
+)
 BOUNDED = "bounded"
 COMPARED = CHEAPER, DEARER, UNDECIDED, SAME, SERVICE, BOUNDED, NEW
 UNCOMPARED = "no policy today"  # the verdict on an item without one, beside which nothing is compared
@@ -29,7 +41,8 @@ DAMPED = "damped"  # the code of an item whose policy of an earlier plan stays
 @dataclass(frozen=True)
 class Figures:
     """A policy by theory in the long run: s (`point`) and S (`level`) in items; of a period the cost in money, the
-    share of demand met at once, the share of periods that end with items owed, the mean stock in items, and orders."""
+    share of demand met at once, the share of periods that end with items owed, the mean stock in items, and orders.
+    """
 
     point: int
     level: int
@@ -68,7 +81,8 @@ class Allowed:
 @dataclass(frozen=True)
 class LawFacts:
     """The law of demand: its family, its share beside what was seen, the log10 of the Bayes factor for what it has
-    learned from others (None if nothing), and its mean and standard deviation in items a period."""
+    learned from others (None if nothing), and its mean and standard deviation in items a period.
+    """
 
     family: str
     share: float

@@ -9,29 +9,35 @@ from collections.abc import Generator, Iterable, Iterator, Sequence
 from dataclasses import dataclass
 from difflib import get_close_matches
 from pathlib import Path
-from typing import Any
 
 from ..crnsim.program import program_for
 from ..demand.learning import Prior
-from ..digests import digest_of, sum_of_digests
+from ..store.digests import digest_of, sum_of_digests
 from ..errors import Refused, argument
-from ..files import IN_KEPT, Folder, faults_of, read_folder
-from ..jobs import Scheduler, program_digest, workers_of
+from ..store.files import IN_KEPT, Folder, faults_of, read_folder
+from ..store.means import Means
 from ..money import Currency
-from ..records.catalogue_reading import CATALOGUE, READ, Catalogued
-from ..records.item import Item
+from ..read.catalogue_reading import CATALOGUE, READ, Catalogued
+from ..read.item import Item
 from ..remarks import Remark
-from ..stored import Damaged, Store, reading
+from ..store.stored import Damaged, Store, reading
 from ..table import Column, DataTable
 from ..words import advice, sentence
-from ..work import Work
-from .after import CHANGES, PLAN, asked_after, check_records, changes_since, keep_changes
+from ..store.work import Work
+from .after import (
+    CHANGES,
+    PLAN,
+    asked_after,
+    check_records,
+    changes_since,
+    keep_changes,
+)
 from .aims import Aims
 from .answer import Answer
 from .changes import Change
 from .correction import AIMS, aims_of
-from .learned import PRIOR, PRIOR_WINDOW, learned_of
-from .one import plan_batch
+from .learned import PRIOR, PRIOR_WINDOW, Learned, learned_of
+from .one import plan_asked
 from .question import NONE, Question, Settings, question_of
 from .totals import Totals
 
@@ -55,13 +61,21 @@ class Planned:
     @property
     def common(self) -> str:
         """Returns the text that all digests of answers have."""
-        return json.dumps([self.base, self.earlier, self.settings.least_gain]) if self.earlier else self.base
+        return (
+            json.dumps([self.base, self.earlier, self.settings.least_gain])
+            if self.earlier
+            else self.base
+        )
 
     @property
     def facts(self) -> dict[str, str]:
         """Returns what is kept of it beside the answers."""
-        tree = {"settings": dataclasses.asdict(self.settings), "borrow": self.prior.borrow, "common": self.base,
-                "earlier": self.earlier}
+        tree = {
+            "settings": dataclasses.asdict(self.settings),
+            "borrow": self.prior.borrow,
+            "common": self.base,
+            "earlier": self.earlier,
+        }
         return {PLANNED: json.dumps(tree)}
 
     @classmethod
@@ -76,27 +90,39 @@ class Planned:
             if tree["borrow"] != NONE:
                 prior = Prior.parse(answers.fact(PRIOR) or "", str(answers.named))
             aims = tree["settings"].pop("aims", None)
-            settings = Settings(**tree["settings"], aims=None if aims is None else Aims.parse(aims))
-            return cls(settings, prior, str(tree["common"]), str(tree.get("earlier", "")))
+            settings = Settings(
+                **tree["settings"], aims=None if aims is None else Aims.parse(aims)
+            )
+            return cls(
+                settings, prior, str(tree["common"]), str(tree.get("earlier", ""))
+            )
         except (ValueError, LookupError, TypeError) as fault:
-            raise Damaged(answers.named, f"what was planned is not as it was kept ({fault})") from fault
+            raise Damaged(
+                answers.named, f"what was planned is not as it was kept ({fault})"
+            ) from fault
 
 
 class PlannedFolder:
     """A folder whose items are all answered, as their rows are now. `planned_folder` opens it."""
 
-    def __init__(self, path: Path, read: Catalogued, answers: Store[Answer], planned: Planned) -> None:
+    def __init__(
+        self, path: Path, read: Catalogued, answers: Store[Answer], planned: Planned
+    ) -> None:
         self.path, self.read, self.store, self.planned = path, read, answers, planned
         self.settings = planned.settings
-        self.every, self.decimals, self.counts = (read.fact(name) for name in ("every", "decimals", "counts"))
-        self.currency = Currency(read.fact("currency"), self.decimals)
+        self.every, self.counts = read.fact("every"), read.fact("counts")
+        self.currency = Currency(read.fact("currency"), read.fact("decimals"))
 
     def check(self) -> None:
         """Raises Refused if an item is not planned as its rows are now."""
         if not self.store.is_ours:
-            raise Refused(f"{self.path}: another version of crnplan has planned it", AGAIN)
+            raise Refused(
+                f"{self.path}: another version of crnplan has planned it", AGAIN
+            )
         if self.store.digest != whole_digest(self.read, self.planned.common):
-            raise Refused(f"{self.path}: its plan is not as the rows that were read last", AGAIN)
+            raise Refused(
+                f"{self.path}: its plan is not as the rows that were read last", AGAIN
+            )
 
     @property
     def digest(self) -> str:
@@ -107,11 +133,18 @@ class PlannedFolder:
     def totals(self) -> Totals:
         """Returns what the answers add up to. Raises Damaged."""
         with reading(self.store.named):
-            return Totals.together([json.loads(self.store.fact(TOTALS) or "")])
+            return Totals.parse(self.store.fact(TOTALS) or "")
 
     def table(self, columns: Sequence[Column], things: Iterable[object]) -> DataTable:
         """Returns a table with a row for each thing, with the money and the periods of the plan."""
-        return DataTable.of(columns, things, self.decimals, "", currency=self.currency.code, every=self.every)
+        return DataTable.of(
+            columns,
+            things,
+            self.currency.decimals,
+            "",
+            currency=self.currency.code,
+            every=self.every,
+        )
 
     def changes(self) -> Iterator[Change]:
         """Yields what has changed since the earlier plan, by item. Raises Refused if that is not known."""
@@ -119,8 +152,13 @@ class PlannedFolder:
             return
         with contextlib.closing(Store(self.path / CHANGES, Change)) as store:
             if store.fact(PLAN) != self.digest:
-                raise Refused(f"{self.path}: what has changed since the earlier plan is not known", AGAIN)
-            yield from (change for _, _, change in store.answers() if isinstance(change, Change))
+                raise Refused(
+                    f"{self.path}: what has changed since the earlier plan is not known",
+                    AGAIN,
+                )
+            for _, _, change in store.answers():
+                if isinstance(change, Change):
+                    yield change
 
     def answers(self, is_whole: bool = False) -> Iterator[Decided]:
         """Yields the items in order of their names, each with its answer, or with the fault for which it has none; with
@@ -132,14 +170,16 @@ class PlannedFolder:
     def item(self, name: str) -> tuple[Item, Answer]:
         """Returns an item with its answer. Raises Refused if it is not there, left out, or not planned as its rows are
         now."""
-        item = self.read.item(name)
+        item, answer = self.read.item(name), self.store.answer(name)
+        place = f"{self.path}: item {name!r}"
         if item is None:
             raise self._why_not(name)
         if self.store.digest_for(name) != self.read.digest(name, self.planned.common):
-            raise Refused(f"{self.path}: item {name!r}: it is not planned as its rows are now", AGAIN)
-        answer = self.store.answer(name)
+            raise Refused(f"{place}: it is not planned as its rows are now", AGAIN)
         if isinstance(answer, Remark):
-            raise Refused(f"{self.path}: item {name!r}: it could not be planned: {sentence(answer)}", advice(answer))
+            raise Refused(
+                f"{place}: it could not be planned: {sentence(answer)}", advice(answer)
+            )
         assert answer is not None
         return item, answer
 
@@ -148,14 +188,18 @@ class PlannedFolder:
 
     def _why_not(self, name: str) -> Refused:
         """Returns why an item has no plan: it is left out, or there is none of this name."""
-        left = next((out for out in self.read.rejects() if out.kind == "item" and out.item == name), None)
-        if left:
-            where = f"{left.file}:{left.line}" if left.line else left.file
-            return Refused(f"{self.path}: item {name!r} is left out: {where}: {sentence(left.remark)}",
-                           advice(left.remark))
+        for out in self.read.rejects():
+            if out.kind == "item" and out.item == name:
+                where = f"{out.file}:{out.line}" if out.line else out.file
+                return Refused(
+                    f"{self.path}: item {name!r} is left out: {where}: {sentence(out.remark)}",
+                    advice(out.remark),
+                )
         close = get_close_matches(name, self.read.names(), 1)
-        return Refused(f"{self.path}: there is no item {name!r}",
-                       f"did you mean {close[0]!r}?" if close else "decisions.csv has all items")
+        return Refused(
+            f"{self.path}: there is no item {name!r}",
+            f"did you mean {close[0]!r}?" if close else "decisions.csv has all items",
+        )
 
 
 def whole_digest(read: Catalogued, common: str) -> str:
@@ -167,14 +211,30 @@ def check_earlier(after: Path | None, out: Path | None, settings: Settings) -> N
     """Raises Refused, before anything is written, if an earlier plan is missing, or is in the folder of this one."""
     if after is None:
         if settings.least_gain is not None:
-            raise Refused(f"{argument('least_gain')} needs an earlier plan", f"name its folder by {argument('after')}")
+            raise Refused(
+                f"{argument('least_gain')} needs an earlier plan",
+                f"name its folder by {argument('after')}",
+            )
     elif out is not None and after.resolve() == out.resolve():
-        raise Refused(f"{after}: the earlier plan and this one need folders of their own",
-                      "name another folder for this one")
-    elif (after / OLDER).is_file() and not (after / ANSWERS).is_file():
-        raise no_plan(after)
+        raise Refused(
+            f"{after}: the earlier plan and this one need folders of their own",
+            "name another folder for this one",
+        )
     elif not (after / ANSWERS).is_file():
-        raise Refused(f"{after}: no plan is in it", "name the folder of an earlier crnplan catalogue")
+        if (after / OLDER).is_file():
+            raise no_plan(after)
+        raise Refused(
+            f"{after}: no plan is in it",
+            "name the folder of an earlier crnplan catalogue",
+        )
+
+
+def copied(files: Sequence[Path], room: Path) -> Path:
+    """Copies files of a folder into a room, and returns the first there."""
+    with faults_of(files[0].parent):
+        for file in files:
+            shutil.copyfile(file, room / file.name)
+    return room / files[0].name
 
 
 @contextlib.contextmanager
@@ -182,17 +242,17 @@ def copied_folder(path: Path, room: Path) -> Iterator[PlannedFolder]:
     """Opens the plan in a folder so that nothing is written into that, and no run works there. What a run that was
     ended by force has left is copied into a room. Raises Refused if no finished plan is in it, or if a run works
     there."""
-    with read_folder(path, CATALOGUE), contextlib.ExitStack() as stack:
-        index = path / ANSWERS
-        with faults_of(path):
-            left = [file for end in ("-wal", "-journal") for file in [path / f"{ANSWERS}{end}"] if file.is_file()]
-            if left and index.is_file():
-                for file in (index, *left):
-                    shutil.copyfile(file, room / file.name)
-                index = room / index.name
-        planned = stack.enter_context(planned_folder(path, index, is_read=not left))
-        planned.check()
-        yield planned
+    index = path / ANSWERS
+    logs = index.with_name(f"{index.name}-wal"), index.with_name(
+        f"{index.name}-journal"
+    )
+    with read_folder(path, CATALOGUE):
+        left = [log for log in logs if log.is_file()]
+        if left and index.is_file():
+            index = copied((index, *left), room)
+        with planned_folder(path, index, is_read=not left) as planned:
+            planned.check()
+            yield planned
 
 
 @contextlib.contextmanager
@@ -211,89 +271,117 @@ def no_plan(path: Path) -> Refused:
     """Returns why a folder has no plan."""
     if (path / OLDER).is_file():
         return Refused(f"{path}: an older version of crnplan has planned it", AGAIN)
-    return Refused(f"{path}: no plan is in it", f"run crnplan catalogue DEMAND.csv ITEMS.csv --out {path} first")
+    return Refused(
+        f"{path}: no plan is in it",
+        f"run crnplan catalogue DEMAND.csv ITEMS.csv --out {path} first",
+    )
 
 
 @contextlib.contextmanager
-def planned_folder(path: Path, index: Path | None = None, is_read: bool = False) -> Iterator[PlannedFolder]:
+def planned_folder(
+    path: Path, index: Path | None = None, is_read: bool = False
+) -> Iterator[PlannedFolder]:
     """Opens a folder of `crnplan catalogue`, perhaps by a copy of its answers, or only to read them. Raises Refused if no
     plan is in it, and Damaged."""
     index = index or path / ANSWERS
     if not (path / READ).is_file() or not index.is_file():
         raise no_plan(path)
-    with contextlib.closing(Store(index, Answer, is_read=is_read, named=path / ANSWERS)) as answers:
+    with contextlib.closing(
+        Store(index, Answer, is_read=is_read, named=path / ANSWERS)
+    ) as answers:
         planned = Planned.of(answers)
         if planned is None:
             raise no_plan(path)
-        with contextlib.closing(Catalogued(path / READ, planned.settings.window)) as read:
+        with contextlib.closing(
+            Catalogued(path / READ, planned.settings.window)
+        ) as read:
             yield PlannedFolder(path, read, answers, planned)
 
 
 def take_prior(answers: Store[Answer], earlier: PlannedFolder, again: bool) -> None:
     """Keeps what the items of an earlier plan have learned, and where they aim, unless it is to be learned again."""
-    facts = {name: earlier.store.fact(name) for name in (PRIOR, PRIOR_WINDOW, AIMS)}
-    if not again:
-        answers.keep_facts({name: fact for name, fact in facts.items() if fact is not None})
+    if again:
+        return
+    for name in (PRIOR, PRIOR_WINDOW, AIMS):
+        fact = earlier.store.fact(name)
+        if fact is not None:
+            answers.keep_facts({name: fact})
 
 
 @dataclass(frozen=True)
 class Run:
     """A run that plans a catalogue: its folder, the items with their answers, which come once and in order, how many of
-    these were planned now or before, what was learned, now or in an earlier run, and the earlier plan."""
+    these were planned now or before, what was learned, now or in an earlier run, and the earlier plan.
+    """
 
     planned: PlannedFolder
     answers: Iterator[Decided]
     work: Work[Answer]
-    learned: tuple[Remark, ...]
-    has_learned: bool
+    learned: Learned
     earlier: PlannedFolder | None
+
+    @property
+    def remarks(self) -> tuple[Remark, ...]:
+        """Returns what is to be said of the laws of all items."""
+        window = self.planned.settings.window
+        if window is None:
+            return self.learned.remarks
+        return *self.learned.remarks, Remark("window", {"periods": window})
 
     def keep_changes(self, folder: Folder) -> None:
         """Keeps what has changed since the earlier plan, once all answers have come."""
         if self.earlier:
-            keep_changes(folder, self.planned.digest, changes_since(self.earlier, self.planned))
+            changes = changes_since(self.earlier, self.planned)
+            keep_changes(folder, self.planned.digest, changes)
 
 
-def answered(planned: PlannedFolder, work: Work[Answer], workers: contextlib.AbstractContextManager[Any],
-             shown: bool) -> Generator[Decided, None, None]:
+def answered(
+    planned: PlannedFolder, work: Work[Answer], means: Means, program: str
+) -> Generator[Decided, None, None]:
     """Yields the items in order with their answers, as these come, and keeps what they add up to at the end. It has to
     be closed."""
-    totals = Totals()
-    with contextlib.closing(work.answered(workers, shown=shown)) as questions:
+    totals, workers = Totals(), means.workers(program)
+    with contextlib.closing(work.answered(workers, shown=means.shown)) as questions:
         for name, digest, asked in questions:
             item = asked[0] if asked else planned.read.item(name)
             answer = work.store.found(name, digest)
             assert item is not None and answer is not None
             totals.note(item, answer)
             yield item, answer
-    facts = {**planned.planned.facts, TOTALS: json.dumps(totals.tree)}
-    work.store.finish(work.questions(), facts)
+    work.store.finish(work.questions(), planned.planned.facts | {TOTALS: totals.json})
 
 
 @contextlib.contextmanager
-def planning(folder: Folder, settings: Settings, *, after: Path | None = None, jobs: int | None = None,
-             address: Scheduler | None = None, program: str | Path | None = None, again: bool = False,
-             shown: bool = False) -> Iterator[Run]:
+def planning(
+    folder: Folder, settings: Settings, means: Means, after: Path | None, again: bool
+) -> Iterator[Run]:
     """Plans the catalogue that was read into a folder: see `plan`. An item that is not planned yet is planned when its
     answer is asked for."""
-    path = program_for(program, address)
-    with (faults_of(folder.path), earlier_folder(after, folder) as earlier,
-          contextlib.closing(Catalogued(folder.path / READ, settings.window)) as read,
-          contextlib.closing(Store(folder.store(ANSWERS), Answer)) as answers):
+    path = program_for(means.program, means.cluster)
+    with (
+        faults_of(folder.path),
+        earlier_folder(after, folder) as earlier,
+        contextlib.closing(Catalogued(folder.path / READ, settings.window)) as read,
+        contextlib.closing(Store(folder.store(ANSWERS), Answer)) as answers,
+    ):
         if earlier:
             check_records(earlier, read)
             take_prior(answers, earlier, again)
-        prior, usual, learned, has_learned = learned_of(answers, read, settings, again)
-        if settings.window is not None:
-            learned += (Remark("window", {"periods": settings.window}),)
-        settings = dataclasses.replace(settings, borrow=usual, every=read.fact("every"))
+        learned = learned_of(answers, read, settings, again)
+        prior, every = learned.prior, read.fact("every")
+        settings = dataclasses.replace(settings, borrow=learned.usual, every=every)
         if settings.correct:
-            settings = dataclasses.replace(settings, aims=aims_of(
-                folder, answers, read, settings, prior, again=again, workers=workers_of(jobs, address), shown=shown))
-        planned = Planned(settings, prior, settings.common(program_digest(path, address), prior),
-                          earlier.digest if earlier else "")
-        work = Work(answers, lambda: read.digests(planned.common),
-                    lambda name: asked_after(read, planned, earlier, name), plan_batch, (settings, prior, path))
+            aims = aims_of(folder, answers, read, settings, prior, means, again)
+            settings = dataclasses.replace(settings, aims=aims)
+        base = settings.common(means.program_digest(path), prior)
+        planned = Planned(settings, prior, base, earlier.digest if earlier else "")
+        work = Work(
+            answers,
+            lambda: read.digests(planned.common),
+            lambda name: asked_after(read, planned, earlier, name),
+            plan_asked,
+            (settings, prior, path),
+        )
         opened = PlannedFolder(folder.path, read, answers, planned)
-        with contextlib.closing(answered(opened, work, workers_of(jobs, address, path), shown)) as decided:
-            yield Run(opened, decided, work, learned, has_learned, earlier)
+        with contextlib.closing(answered(opened, work, means, path)) as decided:
+            yield Run(opened, decided, work, learned, earlier)

@@ -4,7 +4,7 @@ from __future__ import annotations
 
 import dataclasses
 import statistics
-from collections import Counter
+from collections import Counter, defaultdict
 from collections.abc import Iterable, Iterator, Sequence
 from dataclasses import dataclass
 from fractions import Fraction
@@ -12,27 +12,30 @@ from operator import attrgetter
 from typing import NamedTuple
 
 from ..demand.fitting import fit_lead
-from ..records.bounds import Bounds
-from ..records.item import Item
+from ..read.bounds import Bounds
+from ..read.item import Item
 from ..remarks import Remark, Value
 from .answer import Answer, Figures, LawFacts
 from .backtest.outcomes import Happened, Outcome
 from .backtest.sums import Estimate, Group
-from .exact_sums import ExactSums
 from .question import Settings
 
 # What an item's policy is beside the earlier one: the same, moved, the same though another costs less, new, or gone.
 KINDS = SAME, MOVED, DAMPED, NEW, GONE = ("same", "moved", "damped", "new", "gone")
 # The facts of a master, but for lead times and levels, by the names of their columns.
-COLUMNS = {name: name for name in ("setup", "holding", "backlog", "fill", "borrow")} | {"class": "group"} | {
-    bound.name: f"bounds.{bound.name}" for bound in dataclasses.fields(Bounds)}
+COLUMNS = (
+    {name: name for name in ("setup", "holding", "backlog", "fill", "borrow")}
+    | {"class": "group"}
+    | {bound.name: f"bounds.{bound.name}" for bound in dataclasses.fields(Bounds)}
+)
 Planned = tuple[Item, Answer]
 
 
 @dataclass(frozen=True)
 class Since:
     """What the policy of the earlier plan came to in the periods after that plan: the number of the first, the mean
-    demand of all periods of the item, the demand of these, and what was promised and came, at the costs of then."""
+    demand of all periods of the item, the demand of these, and what was promised and came, at the costs of then.
+    """
 
     first: int
     mean: float
@@ -50,14 +53,14 @@ class Change:
     description: str
     group: str
     kind: str
-    earlier: Figures | None
-    before: Figures | None
-    after: Figures | None
-    undamped: Figures | None
-    law_before: LawFacts | None
-    law_after: LawFacts | None
-    reasons: tuple[Remark, ...]
-    since: Since | None
+    earlier: Figures | None = None
+    before: Figures | None = None
+    after: Figures | None = None
+    undamped: Figures | None = None
+    law_before: LawFacts | None = None
+    law_after: LawFacts | None = None
+    reasons: tuple[Remark, ...] = ()
+    since: Since | None = None
 
     @property
     def gain(self) -> float | None:
@@ -79,7 +82,7 @@ def periods_of(item: Item, start: int, stop: int) -> list[tuple[int, int]]:
     """Returns what was asked for and what came back of an item in each period from one on before another, by their
     numbers."""
     periods = [*zip(item.counts, item.returns or (0,) * len(item.counts))]
-    return periods[max(0, start - item.first):max(0, stop - item.first)]
+    return periods[max(0, start - item.first) : max(0, stop - item.first)]
 
 
 def rows_of(old: Item, new: Item, stop: int) -> Iterator[Remark]:
@@ -89,8 +92,12 @@ def rows_of(old: Item, new: Item, stop: int) -> Iterator[Remark]:
     changed = sum(before != after for before, after in zip(then, now))
     added = periods_of(new, max(stop, new.first), new.first + len(new.counts))
     if added:
-        rows = None if changed or old.first != new.first else new.rows - old.rows
-        yield Remark("new rows", {"periods": len(added), "rows": rows, "items": sum(asked for asked, _ in added)})
+        rows = None
+        if not changed and old.first == new.first:
+            rows = new.rows - old.rows
+        items = sum(asked for asked, _ in added)
+        facts = {"periods": len(added), "rows": rows, "items": items}
+        yield Remark("new rows", facts)
     if changed:
         items = sum(after - before for (before, _), (after, _) in zip(then, now))
         yield Remark("changed rows", {"periods": changed, "items": items})
@@ -98,7 +105,7 @@ def rows_of(old: Item, new: Item, stop: int) -> Iterator[Remark]:
         yield Remark("other first period", {"periods": new.first - old.first})
 
 
-def plain_value(fact: Fraction | Value) -> Value:
+def plain(fact: Fraction | Value) -> Value:
     """Returns a fact of a master as that of a remark."""
     return float(fact) if isinstance(fact, Fraction) else fact
 
@@ -106,68 +113,92 @@ def plain_value(fact: Fraction | Value) -> Value:
 def masters_of(old: Item, new: Item, earlier: tuple[int, int]) -> Iterator[Remark]:
     """Yields what has changed in the master of an item: costs, bounds and the like, lead times, and today's policy."""
     facts: dict[str, Value] = {}
-    for name, field_name in COLUMNS.items():
-        fact = attrgetter(field_name)
-        if fact(old) != fact(new):
-            facts |= {f"{name} before": plain_value(fact(old)), f"{name} after": plain_value(fact(new))}
+    for name, field in COLUMNS.items():
+        fact = attrgetter(field)
+        before, after = fact(old), fact(new)
+        if before != after:
+            facts[f"{name} before"] = plain(before)
+            facts[f"{name} after"] = plain(after)
     if facts:
         yield Remark("other master", facts)
     if old.leads != new.leads:
-        yield Remark("other lead times", {"before": statistics.fmean(old.leads), "after": statistics.fmean(new.leads),
-                                          "seen": len(new.leads)})
+        mean = statistics.fmean
+        leads = {"before": mean(old.leads), "after": mean(new.leads)}
+        yield Remark("other lead times", leads | {"seen": len(new.leads)})
     if old.levels != new.levels:
         s, S = new.levels or (None, None)
-        yield Remark("other policy today", {"s": s, "S": S, "earlier": int(new.levels == earlier)})
+        today = {"s": s, "S": S, "earlier": int(new.levels == earlier)}
+        yield Remark("other policy today", today)
 
 
-def reasons_of(old: Planned, new: Planned, stop: int, common: Sequence[Remark]) -> Iterator[Remark]:
+def reasons_of(
+    old: Planned, new: Planned, stop: int, common: Sequence[Remark]
+) -> Iterator[Remark]:
     """Yields what may have moved the policy of an item, `common` being what all items have."""
     (old_item, old_answer), (new_item, new_answer) = old, new
     yield from rows_of(old_item, new_item, stop)
     yield from masters_of(old_item, new_item, old_answer.chosen.levels)
     before, after = old_answer.law, new_answer.law
     if (before.mean, before.spread) != (after.mean, after.spread):
-        yield Remark("other law", {"mean before": before.mean, "mean after": after.mean,
-                                   "spread before": before.spread, "spread after": after.spread})
+        facts = {
+            "mean before": before.mean,
+            "mean after": after.mean,
+            "spread before": before.spread,
+            "spread after": after.spread,
+        }
+        yield Remark("other law", facts)
     yield from common
 
 
 def since_of(old: Planned, now: Item, settings: Settings, stop: int) -> Since | None:
     """Returns what the policy of the earlier plan came to in the periods from `stop` on, by the settings of that plan;
-    None if there are no such periods. It is in use from the first period of the record on."""
+    None if there are no such periods. It is in use from the first period of the record on.
+    """
     item, answer = old
     record = max(0, stop - now.first)
     demands = now.counts[record:]
     if not demands:
         return None
     past = dataclasses.replace(item, counts=now.counts, returns=now.returns)
-    happened = Happened(past, fit_lead(item.leads, method=settings.lead_fit), settings.seed_of("since", item.name),
-                        record)
-    return Since(now.first + record, sum(now.counts) / len(now.counts), demands,
-                 happened.of_figures([answer.chosen] * happened.later))
+    lead = fit_lead(item.leads, method=settings.lead_fit)
+    happened = Happened(past, lead, settings.seed_of("since", item.name), record)
+    kept = happened.of_figures([answer.chosen] * happened.later)
+    return Since(now.first + record, sum(now.counts) / len(now.counts), demands, kept)
 
 
-def change_of(pair: Pair, settings: Settings, stop: int, common: Sequence[Remark]) -> Change:
+def change_of(
+    pair: Pair, settings: Settings, stop: int, common: Sequence[Remark]
+) -> Change:
     """Returns what has changed of an item. `settings` are those of the earlier plan, whose record ends before period
     `stop`, and `common` is what has changed for all items."""
     old, new, left = pair
+    item, _ = new or old or (None, None)
+    assert item is not None
+    change = Change(item.name, item.description, item.category, GONE)
+    if old:
+        earlier, gone = old[1], left or Remark("not in the files")
+        change = dataclasses.replace(
+            change, earlier=earlier.chosen, law_before=earlier.law, reasons=(gone,)
+        )
     if new is None:
-        assert old
-        item, earlier = old
-        return Change(item.name, item.description, item.category, GONE, earlier.chosen, None, None, None, earlier.law,
-                      None, (left or Remark("not in the files"),), None)
-    item, answer = new
+        return change
+    answer, kind = new[1], MOVED
+    change = dataclasses.replace(change, after=answer.chosen, law_after=answer.law)
     if old is None:
         reason = Remark("new item", {"periods": len(item.counts)})
-        return Change(item.name, item.description, item.category, NEW, None, None, answer.chosen, None, None,
-                      answer.law, (reason,), None)
-    _, earlier = old
-    kind = SAME if answer.chosen.levels == earlier.chosen.levels else MOVED
+        return dataclasses.replace(change, kind=NEW, reasons=(reason,))
     if answer.undamped:
         kind = DAMPED
-    return Change(item.name, item.description, item.category, kind, earlier.chosen, answer.before, answer.chosen,
-                  answer.undamped, earlier.law, answer.law, tuple(reasons_of(old, new, stop, common)),
-                  since_of(old, item, settings, stop))
+    elif answer.chosen.levels == earlier.chosen.levels:
+        kind = SAME
+    return dataclasses.replace(
+        change,
+        kind=kind,
+        before=answer.before,
+        undamped=answer.undamped,
+        reasons=tuple(reasons_of(old, new, stop, common)),
+        since=since_of(old, item, settings, stop),
+    )
 
 
 @dataclass(frozen=True)
@@ -190,14 +221,21 @@ class SinceSums:
         if not any(any(since.demands) for since in known):
             return None
         group = Group(known)
-        return cls(len(known), max(len(since.demands) for since in known), 1 - group.promised().value,
-                   group.unmet("kept").estimate, group.missed().estimate, group.dearer().estimate)
+        return cls(
+            len(known),
+            max(len(since.demands) for since in known),
+            1 - group.promised().value,
+            group.unmet("kept").estimate,
+            group.missed().estimate,
+            group.dearer().estimate,
+        )
 
 
 @dataclass
 class ChangeSums:
     """What the changes of all items add up to: how many there are of each kind, and for which reasons; what is gained
-    by those that move, and what is given up by those that are damped, in money of a period by the laws of now."""
+    by those that move, and what is given up by those that are damped, in money of a period by the laws of now.
+    """
 
     kinds: Counter[str]
     reasons: Counter[str]
@@ -208,11 +246,13 @@ class ChangeSums:
     @classmethod
     def of(cls, changes: Iterable[Change]) -> ChangeSums:
         """Adds up changes."""
-        kinds, reasons, gains, known = Counter[str](), Counter[str](), ExactSums(), list[Since]()
+        kinds, reasons, known = Counter[str](), Counter[str](), list[Since]()
+        gains = defaultdict[str, Fraction](Fraction)
         for change in changes:
             kinds[change.kind] += 1
             reasons.update({reason.code for reason in change.reasons})
-            gains.add(change.kind, change.gain or 0.0)
+            gains[change.kind] += Fraction(change.gain or 0)
             if change.since:
                 known.append(change.since)
-        return cls(kinds, reasons, gains[MOVED], gains[DAMPED], SinceSums.of(known))
+        gained, given_up = float(gains[MOVED]), float(gains[DAMPED])
+        return cls(kinds, reasons, gained, given_up, SinceSums.of(known))

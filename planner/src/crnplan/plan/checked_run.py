@@ -19,7 +19,6 @@ from ..errors import Failed
 from ..formats import MOST_ITEMS, MOST_REPLICATIONS
 from ..remarks import Remark
 from ..scenario import Policy, Scenario, key_words
-from ..theory.long_run import LongRun
 from .answer import CHOSEN, Figures, Run
 from .question import Levels, Question, Unplanned
 
@@ -33,10 +32,12 @@ class Disagreement(Unplanned, Failed):
     """A run whose figure is further from exact theory than chance allows: one of both is wrong, a fault of ours."""
 
 
-def scenario_of(question: Question, theory: LongRun, levels: Levels) -> Scenario:
+def scenario_of(question: Question, levels: Levels) -> Scenario:
     """Returns the scenario of a run of today's policy, the base, if there is one, and of the chosen one with some
-    levels, unless it is the same. The run starts from the mean position of the chosen one."""
-    initial = min(max(round(theory.mean_position(*levels)), 0), MOST_ITEMS)
+    levels, unless it is the same. The run starts from the mean position of the chosen one.
+    """
+    position = round(question.theory.mean_position(*levels))
+    initial = min(max(position, 0), MOST_ITEMS)
     scenario = question.scenario(question.rates.get("backlog", 0), initial)
     if levels == question.levels:
         return scenario
@@ -50,38 +51,49 @@ class Sample:
     the start are.
     """
 
-    def __init__(self, question: Question, theory: LongRun, report: Report) -> None:
+    def __init__(self, question: Question, report: Report) -> None:
         """Takes the bias of the start out of a report."""
-        known = LongRunReport.of(report.rows, report.scenario, report.scenario.replications, theory)
-        self.policies: list[Estimate] = [estimate.in_money(question.scale) for estimate in known.estimates]
+        scenario = report.scenario
+        known = LongRunReport.of(
+            report.rows, scenario, scenario.replications, question.theory
+        )
+        self.policies = list[Estimate]()
+        for estimate in known.estimates:
+            self.policies.append(estimate.in_money(question.scale))
         self.is_exact = known.is_exact
 
+    def disagreement(
+        self, figures: Mapping[str, Figures], errors: float, spare: Mapping[str, float]
+    ) -> Remark | None:
+        """Returns the first figure that is further from theory than so many standard errors and what is to spare for its
+        policy, by default nothing; None if there is none."""
+        names = [estimate.policy for estimate in self.policies]
+        costs = [figures[name].cost for name in names]
+        spared = [spare.get(name, 0.0) for name in names]
+        gap = next(far_from(self.policies, costs, errors, spared), None)
+        return gap and Remark(
+            "disagrees",
+            {
+                "figure": f"{gap.figure} of {gap.policy}",
+                "theory": gap.theory,
+                "run": gap.run,
+                "error": gap.error,
+            },
+        )
 
-def disagreement(sample: Sample, figures: Mapping[str, Figures], errors: float,
-                 spare: Mapping[str, float]) -> Remark | None:
-    """Returns the first figure of a run that is further from theory than so many standard errors and what is to spare
-    for its policy; None if there is none."""
-    names = [estimate.policy for estimate in sample.policies]
-    gaps = far_from(sample.policies, [figures[name].cost for name in names], errors, [spare[name] for name in names])
-    gap = next(gaps, None)
-    if gap is None:
-        return None
-    return Remark("disagrees", {"figure": f"{gap.figure} of {gap.policy}", "theory": gap.theory, "run": gap.run,
-                                "error": gap.error})
 
-
-def rare_cost(question: Question, theory: LongRun, levels: Levels, scenario: Scenario) -> float:
+def rare_cost(question: Question, levels: Levels, scenario: Scenario) -> float:
     """Returns the mean cost a period, in money, of the rarest events: of so few that a run may have none of them.
 
     These are orders, and the periods with the most items owed. A run without them shows no spread for them either. It
     has none of n events that are expected with the chance exp(-n). Items owed come in runs of up to the longest lead
     time and a period.
     """
-    point, level = levels
-    periods, expected = scenario.periods * scenario.replications, -math.log(CHANCE)
-    orders = min(theory.figures(point, level).orders, expected / periods)
-    rare, owed = expected * (max(scenario.lead.values) + 1) / periods, 0.0
-    for gap, share in theory.gaps_of(point, level):
+    theory, (_, level) = question.theory, levels
+    few = -math.log(CHANCE) / (scenario.periods * scenario.replications)
+    orders = min(theory.figures(*levels).orders, few)
+    rare, owed = few * (max(scenario.lead.values) + 1), 0.0
+    for gap, share in theory.gaps_of(*levels):
         law = theory.below(gap)
         chances, cells = law.chances[::-1], law.cells[::-1]
         above = np.cumsum(chances) - chances
@@ -90,21 +102,33 @@ def rare_cost(question: Question, theory: LongRun, levels: Levels, scenario: Sce
     return question.money(scenario.costs.setup * orders + scenario.costs.backlog * owed)
 
 
-def check_run(question: Question, theory: LongRun, report: Report, sample: Sample, figures: Mapping[str, Figures],
-              program: str) -> None:
+def check_run(
+    question: Question,
+    report: Report,
+    sample: Sample,
+    figures: Mapping[str, Figures],
+    program: str,
+) -> None:
     """Raises Disagreement if a run is further from theory than chance allows, and so is a larger one under another key.
     Nothing is compared if theory or the bias of the start is rounded."""
-    most = t_quantile(SUSPECT, report.scenario.replications - 1)
-    nothing = dict.fromkeys(figures, 0.0)
-    if not (theory.exact and sample.is_exact and disagreement(sample, figures, most, nothing)):
+    if not (question.theory.exact and sample.is_exact):
+        return
+    scenario = report.scenario
+    most = t_quantile(SUSPECT, scenario.replications - 1)
+    if not sample.disagreement(figures, most, {}):
         return
     key = key_words(f"{question.settings.seed}\nagain\n{question.item.name}")
-    larger = dataclasses.replace(report.scenario, key=tuple(key), replications=MOST_REPLICATIONS)
-    again = Sample(question, theory, report_of(larger, program))
-    rare = {row.policy: rare_cost(question, theory, (row.s, row.S), larger) for row in report.rows}
+    larger = dataclasses.replace(
+        scenario, key=tuple(key), replications=MOST_REPLICATIONS
+    )
+    again = Sample(question, report_of(larger, program))
+    rare = {
+        row.policy: rare_cost(question, (row.s, row.S), larger) for row in report.rows
+    }
     of_base = rare[report.rows[0].policy]
     spare = {name: cost + of_base for name, cost in rare.items()}
-    fault = disagreement(again, figures, t_quantile(CHANCE, MOST_REPLICATIONS - 1), spare)
+    most = t_quantile(CHANCE, MOST_REPLICATIONS - 1)
+    fault = again.disagreement(figures, most, spare)
     if fault:
         raise Disagreement(fault)
 
@@ -113,13 +137,32 @@ def run_of(question: Question, report: Report, sample: Sample) -> Run:
     """Returns the run of today's policy, if there is one, and of the last one of a report, which may be the same."""
     rows, scenario, costs = report.rows, report.scenario, report.scenario.costs
     base, chosen = sample.policies[0], sample.policies[-1]
-    run = Run(" ".join(scenario.key), scenario.periods, scenario.replications, scenario.initial, question.scale,
-              costs.setup, costs.holding, costs.backlog, rows[-1].total, chosen.cost)
+    run = Run(
+        " ".join(scenario.key),
+        scenario.periods,
+        scenario.replications,
+        scenario.initial,
+        question.scale,
+        costs.setup,
+        costs.holding,
+        costs.backlog,
+        rows[-1].total,
+        chosen.cost,
+    )
     if question.levels is None:
         return run
     saving = 0.0 - chosen.difference  # which is never -0.0
     error = 0.0 if len(rows) == 1 else chosen.error
-    low, high = ends_of(saving, error, t_quantile(1 - question.settings.level, scenario.replications - 1))
-    return dataclasses.replace(run, total_today=rows[0].total, difference=rows[-1].diff_mean,
-                               variance=rows[-1].diff_var or rows[0].diff_mean, cost_today=base.cost, saving=saving,
-                               error=error, low=low, high=high)
+    quantile = t_quantile(1 - question.settings.level, scenario.replications - 1)
+    low, high = ends_of(saving, error, quantile)
+    return dataclasses.replace(
+        run,
+        total_today=rows[0].total,
+        difference=rows[-1].diff_mean,
+        variance=rows[-1].diff_var or rows[0].diff_mean,
+        cost_today=base.cost,
+        saving=saving,
+        error=error,
+        low=low,
+        high=high,
+    )

@@ -4,15 +4,16 @@ from __future__ import annotations
 import dataclasses
 import math
 from dataclasses import dataclass
+from typing import Any
 
 from ..demand.borrowing import borrowed_laws
 from ..demand.posterior import allowed_laws, allowed_leads
 from ..errors import Refused
 from ..law import Law
 from ..remarks import Remark
-from ..theory.long_run import Candidate, LongRun
+from ..theory.long_run import Candidate
 from ..theory.many_laws import Promises
-from .answer import ALONE, BEFORE, CHOSEN, OVERRIDE, TODAY, UNDAMPED, Figures
+from .answer import ALONE, BEFORE, CHOSEN, OVERRIDE, TODAY, UNDAMPED
 from .question import NONE, Levels, NoPolicy, Question, Terms
 
 LAWS = 100  # that are drawn
@@ -44,40 +45,41 @@ class Choice:
 
     def beside(self, today: Levels, more_by_run: float | None = None) -> Choice:
         """Returns that today's policy stays, since this one costs more and serves less."""
-        return dataclasses.replace(self, levels=today, undamped=None, worse=self.levels, more_by_run=more_by_run)
+        return dataclasses.replace(
+            self,
+            levels=today,
+            undamped=None,
+            worse=self.levels,
+            more_by_run=more_by_run,
+        )
 
 
-def allowed_by(question: Question, laws: int = LAWS) -> tuple[tuple[Law, ...], tuple[Law, ...]]:
+def allowed_by(
+    question: Question, laws: int = LAWS
+) -> tuple[tuple[Law, ...], tuple[Law, ...]]:
     """Returns so many laws of demand, and perhaps of lead times, that an item's history allows. They follow from its
     name and the seed."""
     item, seed = question.item, question.seed("allowed")
+    named: dict[str, Any] = {"times": laws, "box": item.box, "seed": seed}
     if question.borrow == NONE:
-        drawn = allowed_laws(item.counts, times=laws, box=item.box, seed=seed)
+        drawn = allowed_laws(item.counts, **named)
     else:
-        drawn = borrowed_laws(question.prior, item.counts, question.group, times=laws, box=item.box, seed=seed,
-                              is_new=question.is_new)
+        drawn = borrowed_laws(
+            question.prior,
+            item.counts,
+            question.group,
+            is_new=question.is_new,
+            **named,
+        )
     if len(item.leads) < 2:
         return drawn.laws, ()
     return drawn.laws, allowed_leads(item.leads, times=laws, seed=seed).laws
 
 
-def figures_of(terms: Terms, theory: LongRun, levels: Levels) -> Figures:
-    """Returns theory's figures of a policy, whose levels are in boxes. Without a backlog cost only orders and stock
-    cost something."""
-    known, box, rates = theory.figures(*levels), terms.item.box, terms.rates
-    cost = known.cost
-    if not terms.has_backlog:
-        cost = rates["setup"] * known.orders + rates["holding"] * known.stock
-    point, level = levels[0] * box, levels[1] * box
-    if terms.item.levels and levels == terms.levels:  # which may not be in whole boxes
-        point, level = terms.item.levels
-    return Figures(point, level, terms.money(cost), known.fill, known.short, known.stock * box, known.orders)
-
-
-def best_of(theory: LongRun, terms: Terms) -> tuple[Candidate, bool]:
+def best_of(terms: Terms) -> tuple[Candidate, bool]:
     """Returns the best policy within the bounds of an item, or the cheapest that meets the share it aims at; and whether
     the bounds leave none, and this one meets most. Raises NoPolicy if there is none."""
-    share = terms.aim or 0.0
+    theory, share = terms.theory, terms.aim or 0.0
     best = theory.best(share)
     is_bounded = best.cost == math.inf and theory.free.best(share).cost < math.inf
     if is_bounded:
@@ -87,56 +89,64 @@ def best_of(theory: LongRun, terms: Terms) -> tuple[Candidate, bool]:
     return best, is_bounded
 
 
-def choice_of(theory: LongRun, question: Question, beside_today: bool = False) -> Choice:
+def choice_of(question: Question, beside_today: bool = False) -> Choice:
     """Returns the policy of `best_of`; with a confidence, the cheapest that meets the share under so many of the laws
     that the history allows. That of an earlier plan may stay: see `damped`; and if the policy stands beside today's,
     that one: see `unless_worse`. Raises NoPolicy if there is none."""
-    choice, promises = promised(theory, question)
+    choice, promises = promised(question)
     if not choice.is_bounded:
-        choice = damped(choice, theory, question, promises)
-    if not beside_today:
-        return choice
-    return unless_worse(choice, theory, question, promises)
+        choice = damped(choice, question, promises)
+    return unless_worse(choice, question, promises) if beside_today else choice
 
 
-def promised(theory: LongRun, question: Question) -> tuple[Choice, Promises | None]:
+def promised(question: Question) -> tuple[Choice, Promises | None]:
     """Returns the policy of a question as if there were no other, and what it promises, if it does. Raises NoPolicy."""
     confidence, fill = question.settings.confidence, question.aim
-    best, is_bounded = best_of(theory, question)
-    plain = best.point, best.level
+    best, is_bounded = best_of(question)
+    plain = best.levels
     if is_bounded or fill is None or confidence is None:
         return Choice(plain, plain, is_bounded=is_bounded), None
+    theory, allowed = question.theory, allowed_by(question)
     gap = theory.gap_of(*plain)
-    promises = Promises(question.scenario(), theory, gap, *allowed_by(question), [fill], confidence)
+    promises = Promises(question.scenario(), theory, gap, *allowed, [fill], confidence)
     sure = promises.cheapest(best, fill)
     if sure.cost == math.inf:
         return Choice(plain, plain, False), None
-    return Choice((sure.point, sure.level), plain), promises
+    return Choice(sure.levels, plain), promises
 
 
-def unless_worse(choice: Choice, theory: LongRun, question: Question, promises: Promises | None) -> Choice:
+def breaks(promises: Promises | None, levels: Levels) -> bool:
+    """Returns whether a policy breaks what is promised, if anything is."""
+    return promises is not None and not promises.keeps(*levels, promises.shares[0])
+
+
+def unless_worse(
+    choice: Choice, question: Question, promises: Promises | None
+) -> Choice:
     """Returns the choice; or today's policy if that costs less and meets more at once by the law of the item, and keeps
-    what is promised, if anything is. Its levels may be out of bounds, or finer than a lattice that is not exact."""
-    today, fill = question.levels, question.aim
-    if today is None or today == choice.levels:
+    what is promised, if anything is. Its levels may be out of bounds, or finer than a lattice that is not exact.
+    """
+    levels = question.levels
+    if levels is None or levels == choice.levels:
         return choice
-    known, new = figures_of(question, theory, today), figures_of(question, theory, choice.levels)
-    if new.cost <= known.cost * (1 + CLOSE) or new.fill >= known.fill:
+    today, new = question.figures(levels), question.figures(choice.levels)
+    is_worse = new.cost > today.cost * (1 + CLOSE) and new.fill < today.fill
+    if not is_worse or breaks(promises, levels):
         return choice
-    if promises and fill is not None and not promises.keeps(*today, fill):
-        return choice
-    return choice.beside(today)
+    return choice.beside(levels)
 
 
-def damped(choice: Choice, theory: LongRun, question: Question, promises: Promises | None = None) -> Choice:
+def damped(choice: Choice, question: Question, promises: Promises | None) -> Choice:
     """Returns the choice; or the policy of an earlier plan, if a change gains less than the least share of its cost,
     and it is within the bounds and still keeps the fill rate at which plans aim: by the law of the item, and under
     enough laws if that is promised."""
-    before, least, fill = question.before, question.settings.least_gain, question.aim
-    if before is None or least is None or before == choice.levels or not theory.feasible.allows(*before):
+    before, least = question.before, question.settings.least_gain
+    if before is None or least is None or before == choice.levels:
         return choice
-    earlier, new = figures_of(question, theory, before), figures_of(question, theory, choice.levels)
-    if fill is not None and (earlier.fill < fill or promises and not promises.keeps(*before, fill)):
+    if not question.theory.feasible.allows(*before):
+        return choice
+    earlier, new = question.figures(before), question.figures(choice.levels)
+    if earlier.fill < (question.aim or 0.0) or breaks(promises, before):
         return choice
     if earlier.cost - new.cost >= least * earlier.cost:
         return choice
@@ -146,8 +156,14 @@ def damped(choice: Choice, theory: LongRun, question: Question, promises: Promis
 def levels_of(question: Question, choice: Choice) -> dict[str, Levels]:
     """Returns s and S of each policy that there is, in boxes. There is none of the item alone if its own law has no
     best policy, or if it is new."""
-    known = {CHOSEN: choice.levels, ALONE: alone_of(question, choice), TODAY: question.levels, BEFORE: question.before,
-             UNDAMPED: choice.undamped, OVERRIDE: question.override}
+    known = {
+        CHOSEN: choice.levels,
+        ALONE: alone_of(question, choice),
+        TODAY: question.levels,
+        BEFORE: question.before,
+        UNDAMPED: choice.undamped,
+        OVERRIDE: question.override,
+    }
     return {name: levels for name, levels in known.items() if levels}
 
 
@@ -158,7 +174,6 @@ def alone_of(question: Question, choice: Choice) -> Levels | None:
     if not question.learned:
         return choice.best
     try:
-        single = question.alone()
-        return choice_of(single.theory(), single).best
+        return choice_of(question.alone()).best
     except Refused:
         return None

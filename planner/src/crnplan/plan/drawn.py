@@ -12,7 +12,7 @@ from collections.abc import Mapping
 from typing import Any, NamedTuple, TypeVar
 
 from ..chances import Floats
-from ..digests import number_of
+from ..store.digests import number_of
 
 MOST = 120  # items that are taken and drawn together
 MOST_TAKEN = 80  # of these, since they carry a share of all costs

@@ -5,9 +5,9 @@ from __future__ import annotations
 
 from collections.abc import Mapping
 from dataclasses import replace
-from fractions import Fraction
 from functools import cached_property
 from itertools import repeat
+from operator import attrgetter
 from pathlib import Path
 from typing import Any, NamedTuple
 
@@ -16,32 +16,40 @@ from ..crnsim.program import find_program
 from ..crnsim.report import report_of
 from ..crnsim.trajectory import trajectories
 from ..decide.doubt import WITHIN, Doubt
-from ..decide.verdicts import Compared, Estimate, ends_of, t_quantile, verdict_of, with_intervals
+from ..decide.verdicts import (
+    Compared,
+    Estimate,
+    ends_of,
+    t_quantile,
+    verdict_of,
+    with_intervals,
+)
 from ..demand.checks import largest_periods, largest_places
 from ..demand.fitted import FittedLaw
 from ..demand.posterior import AllowedLaws
 from ..errors import Refused
 from ..formats import MOST_ITEMS, POLICIES
 from ..law import Law
-from ..records import History, LeadTimes, read_history, read_lead_times
-from ..records.bounds import Bounds
-from ..records.item import Item
+from ..read import History, LeadTimes, read_history, read_lead_times
+from ..read.bounds import Bounds
+from ..read.item import Item
 from ..scenario import Policy, Scenario
 from ..theory.lattice import NoTheory
-from ..theory.long_run import Candidate, LongRun
+from ..theory.long_run import Candidate
 from ..theory.many_laws import CONFIDENCE, Promises, figures_of_laws
 from ..theory.suggestions import FILLS, Chosen, add_fills, chosen_policies
 from ..words import sentence
 from .answer import ALONE, CHOSEN, THEORY, TODAY, Answer, Figures
 from .checked_run import Sample
-from .choice import LAWS, allowed_by, choice_of, figures_of
+from .choice import LAWS, allowed_by, choice_of
 from .one import plan_one
 from .question import NONE, Levels, Question, Settings, question_of, terms_of
 from .settings import Tables, read_settings
 from .what_ifs import Moves, moves_of
 
 MOST_PERIODS = 104  # of a trajectory
-RULES = ("delimiter", "encoding", "decimal", "item", "leave_out")
+RULES = "delimiter", "encoding", "decimal", "item", "leave_out"
+OF_HISTORY = "demand", "returns", "date", "net", "whole"
 
 
 class Shown(NamedTuple):
@@ -82,26 +90,36 @@ class Coming(NamedTuple):
 
 class Depth:
     """What is computed of an item beside its answer, as it is asked for. `laws` is how many are drawn that its history
-    allows, `confidence` the share of them under which suggested policies keep a fill rate."""
+    allows, `confidence` the share of them under which suggested policies keep a fill rate.
+    """
 
-    def __init__(self, question: Question, answer: Answer, program: str, laws: int = LAWS,
-                 confidence: float | None = None) -> None:
-        self.question, self.answer, self.program, self.laws = question, answer, program, laws
+    def __init__(
+        self,
+        question: Question,
+        answer: Answer,
+        program: str,
+        laws: int = LAWS,
+        confidence: float | None = None,
+    ) -> None:
+        self.question, self.answer = question, answer
+        self.program, self.laws = program, laws
         self.confidence = confidence or question.settings.confidence or CONFIDENCE
-
-    @cached_property
-    def theory(self) -> LongRun:
-        return self.question.theory()
 
     @cached_property
     def levels(self) -> dict[str, Levels]:
         """Returns s and S of the answer's policies in boxes, the base first."""
-        item, today, answer = self.question.item, self.question.levels, self.answer
+        question, answer = self.question, self.answer
         levels = dict[str, Levels]()
-        for name, policy in ((TODAY, answer.today), (CHOSEN, answer.chosen), (ALONE, answer.alone)):
-            if policy:
-                in_boxes = policy.point // item.box, policy.level // item.box
-                levels[name] = today if today and policy.levels == item.levels else in_boxes
+        for name, policy in (
+            (TODAY, answer.today),
+            (CHOSEN, answer.chosen),
+            (ALONE, answer.alone),
+        ):
+            if policy and question.levels and policy.levels == question.item.levels:
+                levels[name] = question.levels
+            elif policy:
+                box = question.item.box
+                levels[name] = policy.point // box, policy.level // box
         return levels
 
     @property
@@ -117,7 +135,9 @@ class Depth:
     @cached_property
     def single(self) -> FittedLaw | None:
         """Returns the law of the item's own history alone, if another one was learned."""
-        return self.question.alone().demand if self.question.learned and not self.question.is_new else None
+        if not self.question.learned or self.question.is_new:
+            return None
+        return self.question.alone().demand
 
     @cached_property
     def allowed(self) -> tuple[tuple[Law, ...], tuple[Law, ...]]:
@@ -125,19 +145,29 @@ class Depth:
 
     @cached_property
     def promises(self) -> Promises:
-        gap = self.theory.gap_of(*self.levels[CHOSEN])
-        return Promises(self.question.scenario(), self.theory, gap, *self.allowed, [*FILLS.values()], self.confidence)
+        question, fills = self.question, [*FILLS.values()]
+        gap = question.theory.gap_of(*self.levels[CHOSEN])
+        return Promises(
+            question.scenario(),
+            question.theory,
+            gap,
+            *self.allowed,
+            fills,
+            self.confidence,
+        )
 
     @cached_property
     def suggested(self) -> Chosen:
         """Returns further policies with the reasons for each: those that keep fill rates, by the law of the item and
-        under most of the allowed ones, and with a backlog cost the neighbours of the best."""
-        scenario, levels, theory, promises = self.question.scenario(), self.levels[CHOSEN], self.theory, self.promises
-        if self.question.has_backlog and self.question.item.fill is None:
+        under most of the allowed ones, and with a backlog cost the neighbours of the best.
+        """
+        question, levels = self.question, self.levels[CHOSEN]
+        scenario, theory = question.scenario(), question.theory
+        if question.has_backlog and question.item.fill is None:
             best = Candidate(theory.figures(*levels).cost, *levels)
-            return chosen_policies(scenario, theory, best, promises)
+            return chosen_policies(scenario, theory, best, self.promises)
         chosen = Chosen(scenario)
-        add_fills(chosen, theory, promises)
+        add_fills(chosen, theory, self.promises)
         return chosen
 
     @cached_property
@@ -151,8 +181,10 @@ class Depth:
             levels = policy.s, policy.S
             names.setdefault(levels, policy.name)
             reasons[levels] = tuple(map(sentence, remarks))
-        most = POLICIES[1]
-        return {Policy(name, *levels): reasons.get(levels, ()) for levels, name in [*names.items()][:most]}
+        policies = dict[Policy, tuple[str, ...]]()
+        for levels, name in [*names.items()][: POLICIES[1]]:
+            policies[Policy(name, *levels)] = reasons.get(levels, ())
+        return policies
 
     @cached_property
     def sample(self) -> Sample:
@@ -160,15 +192,20 @@ class Depth:
         run = self.answer.run
         report = report_of(self.scenario, self.program)
         totals = {row.policy: row.total for row in report.rows}
-        if (totals.get(TODAY), totals[self.chosen]) != (run.total_today, run.total_chosen):
-            raise Refused(f"item {self.question.item.name!r}: {self.program} gives other totals than the plan has",
-                          "plan it again with this program")
-        return Sample(self.question, self.theory, report)
+        own = totals.get(TODAY), totals[self.chosen]
+        if own != (run.total_today, run.total_chosen):
+            raise Refused(
+                f"item {self.question.item.name!r}: {self.program} gives other totals than the plan has",
+                "plan it again with this program",
+            )
+        return Sample(self.question, report)
 
     @property
     def scenario(self) -> Scenario:
         backlog = self.question.rates.get("backlog", 0)
-        return self.question.scenario(backlog, self.answer.run.initial).with_policies(self.policies)
+        return self.question.scenario(backlog, self.answer.run.initial).with_policies(
+            self.policies
+        )
 
     def _sampled(self, sampled: Estimate) -> Estimate:
         """Returns a policy of the run. The answer's own policies are as there: theory counts the start on a coarser
@@ -177,29 +214,44 @@ class Depth:
         if sampled.policy == TODAY and run.cost_today is not None:
             return sampled._replace(cost=run.cost_today)
         if sampled.policy == CHOSEN:
-            return sampled._replace(cost=run.cost_chosen, difference=-(run.saving or 0.0), error=run.error)
+            return sampled._replace(
+                cost=run.cost_chosen, difference=-(run.saving or 0.0), error=run.error
+            )
         return sampled
 
     @cached_property
     def compared(self) -> list[Shown]:
         """Returns all policies, the cheapest first."""
-        settings = self.question.settings
+        settings, rows = self.question.settings, list[Shown]()
         base = self.answer.today or self.answer.chosen
         errors = t_quantile(1 - settings.level, settings.replications - 1)
-        rows = list[Shown]()
-        for (policy, reasons), run in zip(self.policies.items(), map(self._sampled, self.sample.policies)):
-            figures = figures_of(self.question, self.theory, (policy.s, policy.S))
-            own_ends, ends = ends_of(run.cost, run.own_error, errors), ends_of(run.difference, run.error, errors)
-            cost, difference, verdict = run.cost, run.difference, verdict_of(*ends)
+        runs = map(self._sampled, self.sample.policies)
+        for (policy, reasons), run in zip(self.policies.items(), runs):
+            figures = self.question.figures((policy.s, policy.S))
+            own_low, own_high = ends_of(run.cost, run.own_error, errors)
+            low, high = ends_of(run.difference, run.error, errors)
+            cost, difference, verdict = run.cost, run.difference, verdict_of(low, high)
             if self.answer.source == THEORY:
                 cost, difference = figures.cost, figures.cost - base.cost
                 verdict = verdict_of(difference, difference)
             if policy.name == self.base:
                 verdict = "base"
-            beside = Compared(policy.name, figures.point, figures.level, run.cost, own_ends[0], own_ends[1],
-                              run.difference, None, run.error, ends[0], ends[1], verdict)
+            beside = Compared(
+                policy.name,
+                figures.point,
+                figures.level,
+                run.cost,
+                own_low,
+                own_high,
+                run.difference,
+                None,
+                run.error,
+                low,
+                high,
+                verdict,
+            )
             rows.append(Shown(policy.name, figures, cost, difference, beside, reasons))
-        return sorted(rows, key=lambda row: row.difference)
+        return sorted(rows, key=attrgetter("difference"))
 
     @cached_property
     def doubt(self) -> Doubt | None:
@@ -209,12 +261,14 @@ class Depth:
         (demands, leads), policies = self.allowed, tuple(self.policies)
         # Without a backlog cost it is that by which a newsvendor would meet the wanted share.
         scenario = replace(self.scenario, costs=self.question.for_theory().costs)
+        laws = [*zip(demands, leads or repeat(scenario.lead))]
+        feasible, made = self.question.theory.feasible, self.promises.made
         try:
-            figures = figures_of_laws(scenario, [*zip(demands, leads or repeat(scenario.lead))], policies,
-                                      self.theory.feasible, self.promises.made)
+            figures = figures_of_laws(scenario, laws, policies, feasible, made)
         except NoTheory:
             return None
-        return Doubt(scenario, policies, WITHIN, AllowedLaws({}, demands), None, figures)
+        law = AllowedLaws({}, demands)
+        return Doubt(scenario, policies, WITHIN, law, None, figures)
 
     @cached_property
     def without(self) -> Without | None:
@@ -223,14 +277,14 @@ class Depth:
         question, item = self.question, self.question.item
         if not largest_periods(item.counts):
             return None
+        left = item.without(largest_places(item.counts))
         try:
-            asked = question_of(item.without(largest_places(item.counts)), question.settings, question.prior)
-            theory = asked.theory()
-            rare = figures_of(asked, theory, choice_of(theory, asked).levels)
+            asked = question_of(left, question.settings, question.prior)
+            rare = asked.figures(choice_of(asked).levels)
         except Refused:
             return None
         boxes = round(rare.point / item.box), round(rare.level / item.box)
-        return Without(rare, figures_of(question, self.theory, boxes))
+        return Without(rare, question.figures(boxes))
 
     @cached_property
     def moves(self) -> Moves:
@@ -243,29 +297,38 @@ class Depth:
     def _stock(self) -> int:
         """Returns today's stock in boxes; the initial stock of the run if that is not known."""
         item = self.question.item
-        return self.answer.run.initial if item.stock is None else min(max(round(item.stock / item.box), 0), MOST_ITEMS)
+        if item.stock is None:
+            return self.answer.run.initial
+        return min(max(round(item.stock / item.box), 0), MOST_ITEMS)
 
     @cached_property
     def trajectory(self) -> Mapping[str, list[Period]]:
         """Returns today's and the chosen policy period by period, in boxes: replication 0 of the run, from today's
         stock if that is known."""
-        shown = [policy for policy in self.policies if policy.name in (TODAY, self.chosen)]
+        names = TODAY, self.chosen
+        shown = [policy for policy in self.policies if policy.name in names]
         periods = min(self.question.settings.periods, MOST_PERIODS)
         scenario = replace(self.scenario.with_policies(shown), initial=self._stock())
-        return dict(zip((policy.name for policy in shown), trajectories(scenario, periods, program=self.program)))
+        runs = trajectories(scenario, periods, program=self.program)
+        return {policy.name: run for policy, run in zip(shown, runs)}
 
     def coming(self, periods: int, replications: int) -> Coming:
         """Returns the policies over so many coming periods from today's stock, in as many replications. The cost of an
         item counts too. Raises Refused and ProgramError."""
-        costs, money = replace(self.scenario.costs, unit=self.question.rates.get("unit", 0)), self.question.money
-        scenario = replace(self.scenario, periods=periods, replications=replications, initial=self._stock(),
-                           costs=costs)
-        rows = with_intervals(report_of(scenario, self.program).rows, replications, self.question.settings.level)
-        coming = list[Compared]()
-        for row in rows:
-            low = None if row.low is None else money(row.low / periods)
-            high = None if row.high is None else money(row.high / periods)
-            coming.append(replace(row, cost=money(row.cost), diff=money(row.diff / periods), low=low, high=high))
+        question, unit = self.question, self.question.rates.get("unit", 0)
+        scenario = replace(
+            self.scenario,
+            periods=periods,
+            replications=replications,
+            initial=self._stock(),
+            costs=replace(self.scenario.costs, unit=unit),
+        )
+        report, coming = report_of(scenario, self.program), list[Compared]()
+        for row in with_intervals(report.rows, replications, question.settings.level):
+            low = None if row.low is None else question.money(row.low / periods)
+            high = None if row.high is None else question.money(row.high / periods)
+            cost, diff = question.money(row.cost), question.money(row.diff / periods)
+            coming.append(replace(row, cost=cost, diff=diff, low=low, high=high))
         return Coming(scenario, coming)
 
 
@@ -279,38 +342,74 @@ class Facts(NamedTuple):
     settings: Tables
 
 
+def leads_of(
+    lead: Mapping[str, Any], every: str | None, rules: Mapping[str, Any]
+) -> LeadTimes:
+    """Returns the lead times of a file. Raises RefusedFaults."""
+    return read_lead_times(
+        lead["path"],
+        lead=lead["column"],
+        every=every,
+        ordered=lead["ordered"],
+        received=lead["received"],
+        **rules,
+    )
+
+
 def read_item(history: str | Path, settings: str | Path) -> Facts:
     """Reads the facts of an item. Its name, from which its key follows, is that of the settings, else the text that its
     rows have, else the name of the file without its ending. Raises RefusedFaults with all faults of the settings or of
     the history."""
-    path = Path(history)
-    tables = read_settings(settings)
-    asked, lead, costs, today, run = (tables[name] for name in ("history", "lead", "costs", "today", "run"))
-    dates = {"every": asked["every"], "start": asked["from"], "end": asked["to"]} if asked["date"] else {}
-    rules: dict[str, Any] = {"date_formats": tuple(asked["date_formats"]), **{name: asked[name] for name in RULES}}
-    demand = read_history(path, **{name: asked[name] for name in ("demand", "returns", "date", "net", "whole")},
-                          **dates, **rules)
-    leads = read_lead_times(lead["path"], lead=lead["column"], every=asked["every"], ordered=lead["ordered"],
-                            received=lead["received"], **rules) if lead["path"] else None
+    path, tables = Path(history), read_settings(settings)
+    asked, lead, costs, today, run = (
+        tables[name] for name in ("history", "lead", "costs", "today", "run")
+    )
+    rules: dict[str, Any] = {name: asked[name] for name in RULES}
+    rules["date_formats"] = tuple(asked["date_formats"])
+    named: dict[str, Any] = {name: asked[name] for name in OF_HISTORY}
+    if asked["date"]:
+        named |= {"every": asked["every"], "start": asked["from"], "end": asked["to"]}
+    demand = read_history(path, **named, **rules)
+    leads = leads_of(lead, asked["every"], rules) if lead["path"] else None
     returns = demand.returns.counts if demand.returns else ()
-    spans = {name: None if tables["bounds"][name] is None else Fraction(tables["bounds"][name])
-             for name in ("coverage", "shelf_life")}
-    bounds = Bounds(**{**tables["bounds"], **spans})
-    item = Item(run["name"] or ", ".join(asked["item"].values()) or path.stem, demand.counts,
-                leads.counts if leads else tuple(lead["times"]), (today["s"], today["S"]), costs["setup"],
-                costs["holding"], costs["backlog"], run["fill"], costs["unit"], returns if any(returns) else (),
-                bounds=bounds, stock=Fraction(today["stock"]), first=demand.first, rows=len(demand.counts))
+    item = Item(
+        run["name"] or ", ".join(asked["item"].values()) or path.stem,
+        demand.counts,
+        leads.counts if leads else tuple(lead["times"]),
+        (today["s"], today["S"]),
+        costs["setup"],
+        costs["holding"],
+        costs["backlog"],
+        run["fill"],
+        costs["unit"],
+        returns if any(returns) else (),
+        bounds=Bounds(**tables["bounds"]),
+        stock=today["stock"],
+        first=demand.first,
+        rows=len(demand.counts),
+    )
     return Facts(item, demand, leads, tables)
 
 
 def planned(facts: Facts, program: str | Path | None = None) -> Depth:
     """Plans an item as its settings say, and returns it for a deeper look. The replications are those of the coming
     periods, if there is a horizon. Raises Refused, Disagreement and ProgramError."""
-    path, history, run = str(find_program(program)), facts.settings["history"], facts.settings["run"]
-    asked: dict[str, Any] = {name: run[name] for name in ("seed", "level") if run[name] is not None}
+    path = str(find_program(program))
+    history, lead, run = (facts.settings[name] for name in ("history", "lead", "run"))
+    replications = Settings.replications
     if run["replications"] and not run["horizon"]:
-        asked["replications"] = run["replications"]
-    question = question_of(facts.item, Settings(
-        fit=history["fit"], lead_fit=facts.settings["lead"]["fit"], borrow=NONE, every=facts.history.every,
-        season=history["season"], confidence=None if run["fill"] is None else run["confidence"], **asked))
-    return Depth(question, plan_one(question, path), path, run["laws"], run["confidence"])
+        replications = run["replications"]
+    settings = Settings(
+        seed=run["seed"],
+        level=run["level"],
+        replications=replications,
+        fit=history["fit"],
+        lead_fit=lead["fit"],
+        borrow=NONE,
+        every=facts.history.every,
+        season=history["season"],
+        confidence=None if run["fill"] is None else run["confidence"],
+    )
+    question = question_of(facts.item, settings)
+    answer = plan_one(question, path)
+    return Depth(question, answer, path, run["laws"], run["confidence"])

@@ -9,12 +9,12 @@ from typing import Any, NamedTuple
 import numpy as np
 
 from ..demand.learning import LEAST_ITEMS, LEAST_ON_REQUEST, MOST_PULLED, Prior, learn
-from ..digests import sha256
+from ..store.digests import sha256
 from ..errors import Refused
-from ..records.catalogue_reading import Catalogued
-from ..records.item import NO_DEMAND, TEACHING, Item
+from ..read.catalogue_reading import Catalogued
+from ..read.item import NO_DEMAND, TEACHING, Item
 from ..remarks import Remark
-from ..stored import Store
+from ..store.stored import Store
 from .question import ALL, CLASS, NONE, Settings
 
 PRIOR, PRIOR_WINDOW = "prior", "window of prior"  # facts beside answers
@@ -38,14 +38,9 @@ def own_laws(reason: str) -> Learned:
     return Learned(Prior(NONE), NONE, (Remark("own laws", {"reason": reason}),))
 
 
-def drawn_from(names: Iterable[str], most: int) -> frozenset[str]:
-    """Returns so many names, or all if there are fewer: those with the least digests, which is as good as at random."""
-    return frozenset(heapq.nsmallest(most, names, key=sha256))
-
-
 def drawn_of_groups(pairs: Iterable[tuple[str, str]], most: int) -> list[str]:
-    """Returns in order so many names of each group, or all if there are fewer, drawn as by `drawn_from`. Pairs have a
-    name and its group."""
+    """Returns in order so many names of each group, or all if there are fewer: those with the least digests, which is as
+    good as at random. Pairs have a name and its group."""
     drawn = defaultdict[str, list[tuple[int, str]]](list)
     for name, group in pairs:
         entry = -int(sha256(name), 16), name
@@ -77,7 +72,9 @@ def learners(read: Catalogued, by_class: bool) -> Iterator[Item]:
             yield item
 
 
-def learned_of(answers: Store[Any], read: Catalogued, settings: Settings, again: bool) -> Learned:
+def learned_of(
+    answers: Store[Any], read: Catalogued, settings: Settings, again: bool
+) -> Learned:
     """Returns what the items of a catalogue learn from one another.
 
     With `settings.borrow` None an item learns from all if there are 100 items. What was learned before in this way is
@@ -103,7 +100,9 @@ def learned_of(answers: Store[Any], read: Catalogued, settings: Settings, again:
             raise
         return own_laws(few.what)
     usual = settings.borrow or (ALL if learners_of(prior) >= LEAST_ITEMS else NONE)
-    return Learned(prior, usual, tuple(remarks_of(prior, usual, said)), prior is earlier)
+    return Learned(
+        prior, usual, tuple(remarks_of(prior, usual, said)), prior is earlier
+    )
 
 
 def learners_of(prior: Prior) -> int:
@@ -115,13 +114,17 @@ def remarks_of(prior: Prior, usual: str, said: Counter[str]) -> Iterator[Remark]
     """Yields remarks on what was learned, if an item usually learns in a way, and so many masters say another one."""
     if usual == NONE:
         yield Remark("own laws", {"reason": ""})
-    yield Remark("learned", {"items": learners_of(prior), "classes": len(prior.classes)})
+    yield Remark(
+        "learned", {"items": learners_of(prior), "classes": len(prior.classes)}
+    )
     others = said.total() - said[""] - said[usual]
     if others:
         yield Remark("masters say otherwise", {"items": others})
 
 
-def kept_prior(answers: Store[Any], window: int | None, way: str, least: int) -> Prior | None:
+def kept_prior(
+    answers: Store[Any], window: int | None, way: str, least: int
+) -> Prior | None:
     """Returns what at least so many items have learned in this way and by this window in an earlier run; None if that
     is not kept."""
     text = answers.fact(PRIOR)

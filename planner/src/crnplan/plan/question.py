@@ -13,21 +13,21 @@ from ..demand.fitted import Borrowed, FittedLaw
 from ..demand.fitting import fit_demand, fit_lead
 from ..demand.borrowing import law_of
 from ..demand.learning import Prior
-from ..digests import number_of, sha256
+from ..store.digests import number_of, sha256
 from ..errors import CrnplanError, Refused, argument
 from ..formats import MOST_DEMAND, MOST_ITEMS, MOST_LEAD, MOST_PERIODS, limits
 from ..law import Law
 from ..money import rounded_costs
 from ..options import check_words, option
-from ..records.bounds import Bounds
-from ..records.item import BORROW, NEW, Item
-from ..remarks import Remark
+from ..read.bounds import Bounds
+from ..read.item import BORROW, NEW, Item
+from ..remarks import Remark, Value
 from ..scenario import Costs, Levels as Levels, Scenario
 from ..theory.lattice import lattice_of, rough_lattice, shape_of, theory_on
 from ..theory.long_run import LongRun
 from ..words import advice, sentence
 from .aims import Aims
-from .answer import Laws
+from .answer import Figures, Laws
 from .bounds import MOST_COVERAGE, feasible_of
 
 SEED_BITS = 32
@@ -86,8 +86,11 @@ class Settings:
         check_words(self)
         option("settings.lead.fit").check(self.lead_fit)
         if self.fit != "auto" and self.borrow not in (None, NONE):
-            raise Refused(f"{argument('fit', self.fit)} fits each item alone, and "
-                          f"{argument('borrow', str(self.borrow))} learns from others", "leave one out")
+            raise Refused(
+                f"{argument('fit', self.fit)} fits each item alone, and "
+                f"{argument('borrow', str(self.borrow))} learns from others",
+                "leave one out",
+            )
 
     def common(self, program: str, prior: Prior) -> str:
         """Returns what all answers depend on, with the digest of the program and what was learned, as a text. The least
@@ -100,29 +103,40 @@ class Settings:
     def bounds_of(self, item: Item) -> Bounds:
         """Returns the bounds of an item: those of its masters, else those of the settings."""
         own = item.bounds
-        s_min, coverage, order_coverage = own.s_min, own.coverage or None, None
+        s_min, coverage, usual = own.s_min, own.coverage or None, None
         if s_min is None:
             s_min = self.s_min
         if s_min is None:
             s_min = int(item.fill is not None)
         if coverage is None and self.max_coverage is not None:
             coverage = Fraction(self.max_coverage)
-        usual = MOST_COVERAGE.get(self.every or "")
-        if usual and coverage is None:
-            order_coverage = Fraction(usual)
-        return dataclasses.replace(own, order_min=own.order_min or self.order_min, s_min=s_min, coverage=coverage,
-                                   order_coverage=order_coverage)
+        if coverage is None:
+            usual = MOST_COVERAGE.get(self.every or "")
+        return dataclasses.replace(
+            own,
+            order_min=own.order_min or self.order_min,
+            s_min=s_min,
+            coverage=coverage,
+            order_coverage=usual,
+        )
 
     def seed_of(self, purpose: str, name: str) -> int:
         """Returns the seed of random numbers for a purpose, which follows from an item's name and the seed."""
         return number_of(f"{self.seed}\n{purpose}\n{name}", SEED_BITS)
 
 
+def rounded(levels: Levels | None, box: int) -> Levels | None:
+    """Returns levels in boxes, rounded; None if there are none."""
+    return levels and (round(levels[0] / box), round(levels[1] / box))
+
+
 @dataclass(frozen=True, eq=False)
 class Terms:
     """What theory takes of an item: its facts, its costs as whole rates of a box with their scale, its laws in boxes,
     and the settings. With `cells` theory is rough, which takes less time: the largest demand and order have together at
-    most so many steps. No run has such terms, so their numbers may be beyond the program's ranges."""
+    most so many steps. No run has such terms, so their numbers may be beyond the program's ranges. `known` is a theory
+    of the same laws and other costs, whose tables are used.
+    """
 
     item: Item
     settings: Settings
@@ -132,21 +146,18 @@ class Terms:
     lead: Law
     returns: Law | None
     cells: int | None = field(default=None, kw_only=True)
+    known: LongRun | None = field(default=None, kw_only=True)
 
     @property
     def levels(self) -> Levels | None:
         """Returns today's policy in boxes; None if there is none."""
-        return self._rounded(self.item.levels)
+        return rounded(self.item.levels, self.item.box)
 
     @property
     def override(self) -> Levels | None:
         """Returns the policy in boxes that the planner has set; None if there is none."""
         override = self.item.override
-        return None if override is None else self._rounded(override.levels)
-
-    def _rounded(self, levels: Levels | None) -> Levels | None:
-        box = self.item.box
-        return None if levels is None else (round(levels[0] / box), round(levels[1] / box))
+        return rounded(override.levels, self.item.box) if override else None
 
     @property
     def has_backlog(self) -> bool:
@@ -166,9 +177,12 @@ class Terms:
         """Returns the fill rate at which the plan aims by the law: the wanted one, or what the past of the catalogue
         makes of it. None if none is wanted."""
         wanted, aims = self.item.fill, self.settings.aims
-        if wanted is None or aims is None:
-            return None if wanted is None else float(wanted)
-        return aims.aim((float(self.demand.mean),) if self.is_new else self.item.counts, float(wanted))
+        if wanted is None:
+            return None
+        if aims is None:
+            return float(wanted)
+        counts = [float(self.demand.mean)] if self.is_new else self.item.counts
+        return aims.aim(counts, float(wanted))
 
     @property
     def implied_backlog(self) -> int:
@@ -178,6 +192,16 @@ class Terms:
             return self.rates["backlog"]
         return max(1, round(self.rates["holding"] * fill / (1 - fill)))
 
+    @property
+    def laws(self) -> Laws:
+        """Returns the laws as they are kept."""
+        returns = self.returns and self.returns.table
+        return Laws(self.item.box, self.demand.table, self.lead.table, returns)
+
+    def items(self, levels: Levels) -> dict[str, Value]:
+        """Returns s and S of a policy in items, as facts of a remark."""
+        return {"s": levels[0] * self.item.box, "S": levels[1] * self.item.box}
+
     def money(self, amount: float) -> float:
         return amount / float(self.scale)
 
@@ -186,29 +210,45 @@ class Terms:
         """Returns the scenario of today's policy, or of none, with the rates. What was read or fitted is within the
         program's ranges, but cases and smaller boxes may have larger demands and levels: raises ScenarioError. Costs of
         cases may be larger too, as theory has no range for them."""
-        settings, today, rates = self.settings, self.levels, {"backlog": 1, **self.rates, "unit": 0}
-        made = Scenario.of_laws(self.demand, self.lead, self.returns, Costs(**rates), today, 0, settings.periods,
-                                settings.replications, f"{settings.seed}\n{self.item.name}")
-        fits = (self.demand.values[-1] <= MOST_DEMAND and self.lead.values[-1] <= MOST_LEAD
-                and (today is None or today[1] <= MOST_ITEMS))
-        return made if fits or self.cells else made.changed()  # which checks it, and names all faults
+        settings, today = self.settings, self.levels
+        made = Scenario.of_laws(
+            self.demand,
+            self.lead,
+            self.returns,
+            Costs(**{"backlog": 1, **self.rates, "unit": 0}),
+            today,
+            0,
+            settings.periods,
+            settings.replications,
+            f"{settings.seed}\n{self.item.name}",
+        )
+        fits = (
+            self.demand.values[-1] <= MOST_DEMAND
+            and self.lead.values[-1] <= MOST_LEAD
+            and (today is None or today[1] <= MOST_ITEMS)
+        )
+        if fits or self.cells:
+            return made
+        return made.changed()  # which checks it, and names all faults
 
     def scenario(self, backlog: int | None = None, initial: int = 0) -> Scenario:
         """Returns the scenario of today's policy, or of none, with a backlog rate, by default that of the rates or else
-        1, without which theory finds no best policy. Its key follows from the item's name and the seed."""
+        1, without which theory finds no best policy. Its key follows from the item's name and the seed.
+        """
         scenario = self._scenario
-        if backlog not in (None, scenario.costs.backlog):
-            scenario = dataclasses.replace(scenario, costs=dataclasses.replace(scenario.costs, backlog=backlog))
-        return dataclasses.replace(scenario, initial=initial) if initial else scenario
+        if backlog is not None:
+            costs = dataclasses.replace(scenario.costs, backlog=backlog)
+            scenario = dataclasses.replace(scenario, costs=costs)
+        return dataclasses.replace(scenario, initial=initial)
 
     def for_theory(self) -> Scenario:
         """Returns the scenario with a backlog rate by which theory has policies that meet a wanted share: with hardly any
         it would be far too coarse."""
         return self.scenario(self.implied_backlog)
 
-    def theory(self, known: LongRun | None = None) -> LongRun:
-        """Returns the theory of the item, perhaps with the tables of one that is known, of the same laws and other
-        costs. Raises Refused if there is none.
+    @cached_property
+    def theory(self) -> LongRun:
+        """Returns the theory of the item. Raises Refused if there is none.
 
         Without a backlog cost only setup and stock cost something. The lattice is then chosen by the implied backlog
         rate.
@@ -218,9 +258,26 @@ class Terms:
         shape = shape_of(self.for_theory(), feasible.gap(1) - 1)
         if self.cells is None:
             lattice = lattice_of(scenario, shape, level - point, MOST_GAPS)
+        elif self.known:
+            lattice = self.known.step, self.known.exact
         else:
-            lattice = (known.step, known.exact) if known else rough_lattice(shape, self.cells)
-        return theory_on(scenario, shape, *lattice, feasible, known)
+            lattice = rough_lattice(shape, self.cells)
+        return theory_on(scenario, shape, *lattice, feasible, self.known)
+
+    def figures(self, levels: Levels) -> Figures:
+        """Returns theory's figures of a policy, whose levels are in boxes. Without a backlog cost only orders and stock
+        cost something."""
+        known, box, rates = self.theory.figures(*levels), self.item.box, self.rates
+        cost = known.cost
+        if not self.has_backlog:
+            cost = rates["setup"] * known.orders + rates["holding"] * known.stock
+        point, level = levels[0] * box, levels[1] * box
+        if self.item.levels and levels == self.levels:  # may be in parts of boxes
+            point, level = self.item.levels
+        money, stock = self.money(cost), known.stock * box
+        return Figures(
+            point, level, money, known.fill, known.short, stock, known.orders
+        )
 
 
 @dataclass(frozen=True, eq=False)
@@ -257,22 +314,26 @@ class Question(Terms):
 
     def alone(self) -> Question:
         """Returns the question of an item that learns its law from no other."""
-        return dataclasses.replace(self, borrow=NONE, demand=fit_demand(self.item.counts, box=self.item.box))
+        return dataclasses.replace(
+            self, borrow=NONE, demand=fit_demand(self.item.counts, box=self.item.box)
+        )
 
 
-def finest(rates: Mapping[str, int], scale: Fraction) -> tuple[dict[str, int], Fraction]:
+def finest(
+    rates: Mapping[str, int], scale: Fraction
+) -> tuple[dict[str, int], Fraction]:
     """Returns rates and their scale times the greatest power of ten that the program's ranges allow.
 
     Beside them a backlog rate of 1, without which theory finds no best policy, then says next to nothing.
     """
     most = min(limits("costs", name)[1] // rate for name, rate in rates.items() if rate)
-    times = 10**(len(str(most)) - 1)
+    times = 10 ** (len(str(most)) - 1)
     return {name: rate * times for name, rate in rates.items()}, scale * times
 
 
 def in_boxes(levels: Levels | None, box: int) -> Levels | None:
     """Returns levels in boxes; None if there are none, or if they are not in whole boxes."""
-    if levels is None or any(level % box for level in levels):
+    if levels is None or levels[0] % box or levels[1] % box:
         return None
     return levels[0] // box, levels[1] // box
 
@@ -280,13 +341,16 @@ def in_boxes(levels: Levels | None, box: int) -> Levels | None:
 def rates_of(item: Item) -> tuple[dict[str, int], Fraction, float]:
     """Returns the costs of a box of an item as whole rates, with their scale and the share by which one is rounded.
     Raises Refused if its costs are too far apart."""
-    box, costs = item.box, {"setup": item.setup, "holding": item.box * item.holding}
+    box = item.box
+    costs = {"setup": item.setup, "holding": box * item.holding}
     if item.backlog is not None:
         costs["backlog"] = box * item.backlog
     if item.unit:
         costs["unit"] = box * item.unit
     rates, scale, error = rounded_costs(costs, "holding")
-    return (rates, scale, error) if item.backlog is not None else (*finest(rates, scale), error)
+    if item.backlog is None:
+        rates, scale = finest(rates, scale)
+    return rates, scale, error
 
 
 def terms_of(item: Item, laws: Laws, settings: Settings) -> Terms:
@@ -302,17 +366,39 @@ def why_unknown(item: Item, prior: Prior, borrow: str) -> str | None:
     return "new without class" if borrow == CLASS and not item.group else None
 
 
-def question_of(item: Item, settings: Settings, prior: Prior | None = None, before: Levels | None = None) -> Question:
+def question_of(
+    item: Item,
+    settings: Settings,
+    prior: Prior | None = None,
+    before: Levels | None = None,
+) -> Question:
     """Returns the question of an item, whose law is perhaps learned, and which has perhaps the s and S of an earlier
-    plan. Raises Refused if its numbers are none of a scenario, and NoPolicy for a new item without a law to learn."""
+    plan. Raises Refused if its numbers are none of a scenario, and NoPolicy for a new item without a law to learn.
+    """
     prior, box = prior or Prior(NONE), item.box
     borrow = NONE if settings.fit != "auto" else item.borrow or settings.borrow or NONE
     if item.past == NEW and (why := why_unknown(item, prior, borrow)):
         raise NoPolicy(Remark(why, {"periods": len(item.counts)}))
     rates, scale, error = rates_of(item)
-    group = item.group if borrow == CLASS else None
-    demand = fit_demand(item.counts, method=settings.fit, box=box) if borrow == NONE else \
-        law_of(prior, item.counts, group, box=box, is_new=item.past == NEW)
-    returns = fit_demand(item.returns, method=settings.fit, box=box) if item.returns else None
+    if borrow == NONE:
+        demand = fit_demand(item.counts, method=settings.fit, box=box)
+    else:
+        group = item.group if borrow == CLASS else None
+        demand = law_of(prior, item.counts, group, box=box, is_new=item.past == NEW)
+    returns = None
+    if item.returns:
+        returns = fit_demand(item.returns, method=settings.fit, box=box)
     lead = fit_lead(item.leads, method=settings.lead_fit)
-    return Question(item, settings, rates, scale, demand, lead, returns, prior, borrow, error, in_boxes(before, box))
+    return Question(
+        item,
+        settings,
+        rates,
+        scale,
+        demand,
+        lead,
+        returns,
+        prior,
+        borrow,
+        error,
+        in_boxes(before, box),
+    )

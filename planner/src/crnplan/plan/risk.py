@@ -11,13 +11,14 @@ from collections.abc import Iterable
 from dataclasses import dataclass
 from fractions import Fraction
 from functools import cached_property
+from operator import attrgetter
 
 import numpy as np
 
-from ..records.columns import DAYS
-from ..records.observed import Day
+from ..read.columns import DAYS
+from ..read.observed import Day
 from ..remarks import Remark
-from .today import Standing, demands_of, items_of
+from .standing import Standing, demands_of, items_of
 
 
 @dataclass(frozen=True)
@@ -35,18 +36,22 @@ class Risk:
     def days_late(self) -> int:
         """Returns how many days ago the oldest order was due that is overdue; 0 if none is."""
         day = self.standing.day
-        return max(((day - arrival.due).days for arrival in self.standing.overdue if arrival.due), default=0)
+        dates = [arrival.due for arrival in self.standing.overdue if arrival.due]
+        return (day - min(dates, default=day)).days
 
     @cached_property
     def receipt(self) -> Day | None:
         """Returns the day of the next receipt; None if that is of an order of the day."""
-        dates = [arrival.due for arrival in self.standing.arrivals if arrival.due and arrival.due > self.standing.day]
-        return min(dates, default=None)
+        day = self.standing.day
+        dates = [arrival.due for arrival in self.standing.arrivals if arrival.due]
+        return min((date for date in dates if date > day), default=None)
 
     @property
     def days(self) -> float:
         """Returns the days until the next receipt: of an order of the day its mean lead time."""
-        return float(self.standing.lead_days) if self.receipt is None else (self.receipt - self.standing.day).days
+        if self.receipt is None:
+            return float(self.standing.lead_days)
+        return (self.receipt - self.standing.day).days
 
     @property
     def horizons(self) -> dict[int, float]:
@@ -55,29 +60,32 @@ class Risk:
             return self.standing.horizons
         return {math.ceil(self.days / DAYS[self.standing.every]): 1.0}
 
+    def _due_on(self, day: Day | None) -> Fraction:
+        """Returns how many items are due on a day, or without one."""
+        return items_of(
+            arrival for arrival in self.standing.arrivals if arrival.due == day
+        )
+
     @cached_property
     def there(self) -> Fraction:
         """Returns the stock less what is owed, with what is due on the day."""
-        standing = self.standing
-        return standing.there + items_of(arrival for arrival in standing.arrivals if arrival.due == standing.day)
-
-    @property
-    def doubtful(self) -> Fraction:
-        """Returns what is on order and overdue, or has no date."""
-        return self.overdue + items_of(arrival for arrival in self.standing.arrivals if arrival.due is None)
+        return self.standing.there + self._due_on(self.standing.day)
 
     @property
     def ends_before(self) -> bool:
         """Returns whether the stock is less than mean demand up to the next receipt."""
-        return float(self.there) < self.standing.mean * self.days / float(DAYS[self.standing.every])
+        return float(self.there) < self.standing.mean * self.days / float(
+            DAYS[self.standing.every]
+        )
 
     @cached_property
     def _figures(self) -> tuple[float, float, float]:
         """Returns both chances, and what is short."""
         box, sure = self.standing.laws.box, self.there
+        doubtful = self.overdue + self._due_on(None)
         in_time, without, short = 0.0, 0.0, 0.0
         for _, chance, demand in demands_of(self.standing.laws, self.horizons):
-            in_time += chance * demand.above(math.floor((sure + self.doubtful) / box))
+            in_time += chance * demand.above(math.floor((sure + doubtful) / box))
             without += chance * demand.above(math.floor(sure / box))
             lacking = np.maximum(demand.cells * box - float(sure), 0.0)
             short += chance * float(lacking @ demand.chances)
@@ -110,19 +118,27 @@ class Risk:
         reasons = list[Remark]()
         orders = len(self.standing.overdue)
         if orders:
-            reasons.append(Remark("overdue", {"orders": orders, "items": float(self.overdue), "days": self.days_late}))
+            items, days = float(self.overdue), self.days_late
+            facts = {"orders": orders, "items": items, "days": days}
+            reasons.append(Remark("overdue", facts))
         if self.ends_before:
             code = "nothing is due" if self.receipt is None else "stock ends"
-            reasons.append(Remark(code, {"weeks": self.standing.weeks or 0.0, "days": self.days}))
+            lasts = {"weeks": self.standing.weeks or 0.0, "days": self.days}
+            reasons.append(Remark(code, lasts))
         return reasons
 
     @property
     def order(self) -> tuple[bool, float, float, str]:
         """Returns what sorts first what is best expedited: of the greatest value that is short."""
-        return self.value is None, -(self.value or 0.0), -self.short, self.standing.item.name
+        return (
+            self.value is None,
+            -(self.value or 0.0),
+            -self.short,
+            self.standing.item.name,
+        )
 
 
 def risks_of(standings: Iterable[Standing]) -> list[Risk]:
     """Returns the items that are late or at risk, what to expedite first before others."""
-    risks = map(Risk, standings)
-    return sorted((risk for risk in risks if risk.reasons), key=lambda risk: risk.order)
+    risks = [risk for risk in map(Risk, standings) if risk.reasons]
+    return sorted(risks, key=attrgetter("order"))

@@ -14,27 +14,55 @@ from typing import Any
 from ..errors import Refused
 from ..money import MOST_DIGITS, exact
 from ..options import PLAN, Option, option, table_of, within
-from ..records.choosing import Condition
-from ..records.columns import COLUMNS, ROLES, unit_fault
+from ..read.choosing import Condition
+from ..read.columns import COLUMNS, ROLES, unit_fault
 from ..toml.documents import Path as Place, TreeFault, shown
-from ..toml.rules import (MISSING, RANGE, Check, Key, Table, choice, date, flag, money, no_faults, number, numbers,
-                          read_tables, share, text, texts)
+from ..toml.rules import (
+    MISSING,
+    RANGE,
+    Check,
+    Key,
+    Table,
+    choice,
+    date,
+    flag,
+    money,
+    no_faults,
+    number,
+    numbers,
+    read_tables,
+    share,
+    text,
+    texts,
+)
 
 Tables = Mapping[str, Mapping[str, Any]]
 CONFIG = "crnplan.toml"
 NEED_DATE = ("net", "whole", "from", "to")
 # The ways to give lead times: the key that chooses it, and the keys that it takes beside. A file needs its column.
 LEADS = {"file": ("column",), "orders": ("ordered", "received"), "times": ()}
+# The numbers of an item's settings that are taken exactly.
+EXACT = (
+    *("costs.setup", "costs.holding", "costs.backlog", "costs.unit"),
+    *("run.fill", "today.stock", "bounds.coverage", "bounds.shelf_life"),
+)
 # The tables of an item's settings that must be there.
 NEEDED = ("history", "lead", "costs", "today")
 # What to do about keys and tables that settings had in the past.
 GONE = {
-    "history": {"box": "large numbers are counted in boxes by themselves: write costs, levels and stock of single items, "
-                "and remove this line"},
-    "run": {"key": "random numbers now follow from the seed and the name of the item: write seed or name, or remove "
-            "this line"}}
-GONE_TABLES = {"check": "an item is no longer checked by itself: run crnplan check on scenario.toml, and remove this "
-               "table"}
+    "history": {
+        "box": "large numbers are counted in boxes by themselves: write costs, levels and stock of single items, "
+        "and remove this line"
+    },
+    "run": {
+        "key": "random numbers now follow from the seed and the name of the item: write seed or name, or remove "
+        "this line"
+    },
+}
+GONE_TABLES = {
+    "check": "an item is no longer checked by itself: run crnplan check on scenario.toml, and remove this "
+    "table"
+}
 
 
 def number_of(value: Any) -> Fraction | None:
@@ -47,8 +75,13 @@ def horizon(least: int, most: int) -> Check:
     periods = number(least, most)
 
     def check(path: Place, value: Any) -> list[TreeFault]:
-        return [fault._replace(advice=f"{fault.advice}, or remove this line for the long run")
-                for fault in periods(path, value)]
+        return [
+            fault._replace(
+                advice=f"{fault.advice}, or remove this line for the long run"
+            )
+            for fault in periods(path, value)
+        ]
+
     return check
 
 
@@ -60,14 +93,23 @@ def cost(path: Place, value: Any) -> list[TreeFault]:
     amount = number_of(value)
     if amount is not None and amount < 10**MOST_DIGITS:
         return []
-    return [TreeFault(RANGE, path, f"{shown(value)} is no cost", f"write 0 or more, with at most {MOST_DIGITS} digits")]
+    return [
+        TreeFault(
+            RANGE,
+            path,
+            f"{shown(value)} is no cost",
+            f"write 0 or more, with at most {MOST_DIGITS} digits",
+        )
+    ]
 
 
 def price(path: Place, value: Any) -> list[TreeFault]:
     """Returns the faults of an amount of money above 0."""
     faults = cost(path, value)
     if not faults and value <= 0:
-        faults = [TreeFault(RANGE, path, f"{shown(value)} is free", "write a cost above 0")]
+        faults = [
+            TreeFault(RANGE, path, f"{shown(value)} is free", "write a cost above 0")
+        ]
     return faults
 
 
@@ -88,12 +130,14 @@ def unit(path: Place, value: Any) -> list[TreeFault]:
 
 def stated(read: Callable[[Any], object]) -> Check:
     """Returns the check of a value that a function reads, which raises Refused for a wrong one."""
+
     def check(path: Place, value: Any) -> list[TreeFault]:
         try:
             read(value)
         except Refused as why:
             return [TreeFault(RANGE, path, why.what, why.advice)]
         return []
+
     return check
 
 
@@ -108,8 +152,15 @@ def conditions(path: Place, value: Any) -> list[TreeFault]:
 
 
 # The checks of keys by the kind of their word.
-CHECKS: dict[str, Check] = {"text": text, "column": text, "texts": texts, "flag": flag, "date": date, "cost": cost,
-                            "price": price}
+CHECKS: dict[str, Check] = {
+    "text": text,
+    "column": text,
+    "texts": texts,
+    "flag": flag,
+    "date": date,
+    "cost": cost,
+    "price": price,
+}
 
 
 def check_of(word: Option) -> Check:
@@ -134,8 +185,14 @@ def rule_of(word: Option) -> Key | Table:
     """Returns what may stand at the key of a word. Of texts by name each is checked alone."""
     if word.kind != "pairs":
         return Key(check_of(word), word.needed, word.default)
-    one = "choice" if word.choices else "whole" if word.range else "stated" if word.read else "text"
-    return Table({}, other=Key(check_of(replace(word, kind=one))))
+    kind = "text"
+    if word.choices:
+        kind = "choice"
+    elif word.range:
+        kind = "whole"
+    elif word.read:
+        kind = "stated"
+    return Table({}, other=Key(check_of(replace(word, kind=kind))))
 
 
 def rules_of(table: str) -> dict[str, Key | Table]:
@@ -145,8 +202,10 @@ def rules_of(table: str) -> dict[str, Key | Table]:
 
 def settings_rules() -> Table:
     """Returns the rules of an item's settings."""
-    tables = {name: Table(rules_of(f"settings.{name}"), name in NEEDED, elsewhere=GONE.get(name, {}))
-              for name in table_of("settings")}
+    tables = dict[str, Key | Table]()
+    for name in table_of("settings"):
+        rules, gone = rules_of(f"settings.{name}"), GONE.get(name, {})
+        tables[name] = Table(rules, name in NEEDED, elsewhere=gone)
     return Table(tables, elsewhere=GONE_TABLES)
 
 
@@ -154,8 +213,14 @@ def file_rules() -> Table:
     """Returns the rules of how a single file is written."""
     sign = rule_of(option("plan.decimal"))
     assert isinstance(sign, Key)
-    return Table({"delimiter": rule_of(option("plan.delimiter")), "encoding": Key(text),
-                  "day_first": Table({"/": Key(flag), "-": Key(flag)}), "decimal": Table({}, other=sign)})
+    return Table(
+        {
+            "delimiter": rule_of(option("plan.delimiter")),
+            "encoding": Key(text),
+            "day_first": Table({"/": Key(flag), "-": Key(flag)}),
+            "decimal": Table({}, other=sign),
+        }
+    )
 
 
 def catalogue_rules() -> Table:
@@ -164,7 +229,10 @@ def catalogue_rules() -> Table:
     for word in within(PLAN):
         match word.name:
             case "columns":
-                keys |= {kind: Table(dict.fromkeys(roles, Key(column_name))) for kind, roles in ROLES.items()}
+                keys |= {
+                    kind: Table(dict.fromkeys(roles, Key(column_name)))
+                    for kind, roles in ROLES.items()
+                }
             case "units":
                 keys["units"] = Table(dict.fromkeys(COLUMNS, Key(unit)))
             case "names":
@@ -185,42 +253,86 @@ def _lead_faults(lead: Mapping[str, Any], folder: Path) -> Iterator[TreeFault]:
     """Yields the faults of the way in which lead times are given."""
     ways = [way for way in LEADS if way in lead]
     if len(ways) != 1:
-        what = f"{' and '.join(ways)} are there: keep one" if ways else "there are no lead times"
-        yield TreeFault(MISSING, ("lead",), what,
-                        "write file and column, or orders, ordered and received, or times = [2, 3, 2]")
+        what = "there are no lead times"
+        if ways:
+            what = f"{' and '.join(ways)} are there: keep one"
+        yield TreeFault(
+            MISSING,
+            ("lead",),
+            what,
+            "write file and column, or orders, ordered and received, or times = [2, 3, 2]",
+        )
         return
     way = ways[0]
     for name in lead.keys() - {way, *LEADS[way], "fit"}:
-        yield TreeFault(RANGE, ("lead", name), f"this key is not used with {way}", "remove it")
+        yield TreeFault(
+            RANGE, ("lead", name), f"this key is not used with {way}", "remove it"
+        )
     if way == "file" and "column" not in lead:
-        yield TreeFault(MISSING, ("lead", "file"), "the key column is missing",
-                        "write the name of the column of lead times in the file")
+        yield TreeFault(
+            MISSING,
+            ("lead", "file"),
+            "the key column is missing",
+            "write the name of the column of lead times in the file",
+        )
     if way != "times" and not (folder / lead[way]).is_file():
-        yield TreeFault(MISSING, ("lead", way), f"there is no file {folder / lead[way]}",
-                        "name one, from the folder of this file")
+        yield TreeFault(
+            MISSING,
+            ("lead", way),
+            f"there is no file {folder / lead[way]}",
+            "name one, from the folder of this file",
+        )
 
 
-def _joint_faults(folder: Path, path: Place, tree: Mapping[str, Any], good: Container[str]) -> list[TreeFault]:
-    """Returns the faults of keys beside each other, in the tables whose keys have no fault by themselves."""
-    tables = {name: table for name, table in tree.items() if name in good}
-    history, lead, today = tables.get("history", {}), tables.get("lead", {}), tables.get("today")
-    faults: list[TreeFault] = []
+def _history_faults(
+    history: Mapping[str, Any], lead: Mapping[str, Any]
+) -> Iterator[TreeFault]:
+    """Yields the faults of a history without the keys that dates need, or of these without dates."""
     for name in NEED_DATE:
         if history.get(name) and "date" not in history:
-            faults.append(TreeFault(RANGE, ("history", name), "this key needs the column of dates",
-                                    "write date and every too, or remove it"))
+            yield TreeFault(
+                RANGE,
+                ("history", name),
+                "this key needs the column of dates",
+                "write date and every too, or remove it",
+            )
     if history and ("date" in history or "orders" in lead) and "every" not in history:
-        faults.append(TreeFault(MISSING, ("history",), "the key every is missing",
-                                'write every = "week", or day or month'))
+        yield TreeFault(
+            MISSING,
+            ("history",),
+            "the key every is missing",
+            'write every = "week", or day or month',
+        )
+
+
+def _joint_faults(
+    folder: Path, path: Place, tree: Mapping[str, Any], good: Container[str]
+) -> list[TreeFault]:
+    """Returns the faults of keys beside each other, in the tables whose keys have no fault by themselves."""
+    tables = {name: table for name, table in tree.items() if name in good}
+    lead, today = tables.get("lead", {}), tables.get("today")
+    faults = [*_history_faults(tables.get("history", {}), lead)]
     if "lead" in tables:
         faults += _lead_faults(lead, folder)
     has_fill = "fill" in tables["run"] if "run" in tables else "run" in tree
     if "costs" in tables and "backlog" not in tables["costs"] and not has_fill:
-        faults.append(TreeFault(MISSING, ("costs",), "there is neither a backlog cost nor a wanted fill rate",
-                                "write backlog, or [run] fill"))
+        faults.append(
+            TreeFault(
+                MISSING,
+                ("costs",),
+                "there is neither a backlog cost nor a wanted fill rate",
+                "write backlog, or [run] fill",
+            )
+        )
     if today and today["s"] > today["S"]:
-        faults.append(TreeFault(RANGE, ("today", "s"), f"s = {today['s']} is above S = {today['S']}",
-                                "interchange them, or raise S"))
+        faults.append(
+            TreeFault(
+                RANGE,
+                ("today", "s"),
+                f"s = {today['s']} is above S = {today['S']}",
+                "interchange them, or raise S",
+            )
+        )
     return faults
 
 
@@ -233,10 +345,10 @@ def read_settings(path: str | Path) -> Tables:
     folder = Path(path).parent
     rules = replace(RULES, joint=partial(_joint_faults, folder))
     tables = RULES.completed(read_tables(path, rules))
-    costs, run, lead = tables["costs"], tables["run"], tables["lead"]
-    for name, amount in costs.items():
-        costs[name] = number_of(amount)
-    run["fill"] = number_of(run["fill"])
+    for place in EXACT:
+        table, _, name = place.partition(".")
+        tables[table][name] = number_of(tables[table][name])
+    lead = tables["lead"]
     file = lead["file"] or lead["orders"]
     lead["path"] = folder / file if file else None
     return tables

@@ -8,9 +8,9 @@ from dataclasses import replace
 from functools import cached_property
 
 from ..law import Law
-from ..records.columns import periods_a_year
-from ..records.item import UNORDERED, Item
-from ..records.items import Reject
+from ..read.columns import periods_a_year
+from ..read.item import UNORDERED, Item
+from ..read.items import Reject
 from ..remarks import Remark
 from .answer import Answer, Laws
 from .catalogue import PlannedFolder
@@ -41,11 +41,22 @@ class Survey:
         self._folder, self.classes = folder, defaultdict[str, Totals](Totals)
         self.faults, self.asked = list[Reject](), list[float]()
         # The greatest decisions so far, the least of them first, by their size and their place from the end.
-        self._most, self._kept, self._draws = most, list[tuple[float, int, Decided]](), Draws()
-        self._masters, self._periods = folder.counts["files"]["items"]["name"], float(periods_a_year(folder.every))
+        self._most, self._kept, self._draws = (
+            most,
+            list[tuple[float, int, Decided]](),
+            Draws(),
+        )
+        self._masters, self._periods = folder.counts["files"]["items"]["name"], float(
+            periods_a_year(folder.every)
+        )
 
     @classmethod
-    def of(cls, folder: PlannedFolder, most: int = 0, answers: Iterable[Decided] | None = None) -> Survey:
+    def of(
+        cls,
+        folder: PlannedFolder,
+        most: int = 0,
+        answers: Iterable[Decided] | None = None,
+    ) -> Survey:
         """Returns what all items of a folder come to, whose answers are perhaps given."""
         survey = cls(folder, most)
         for _ in survey.seen(folder.answers() if answers is None else answers):
@@ -80,9 +91,26 @@ class Survey:
             yield item, answer
 
     def _note_fault(self, item: Item, fault: Remark) -> None:
-        self.faults.append(Reject("item", self._masters, item.line, item.name, "", "", fault, item.rows, item.value))
+        self.faults.append(
+            Reject(
+                "item",
+                self._masters,
+                item.line,
+                item.name,
+                "",
+                "",
+                fault,
+                item.rows,
+                item.value,
+            )
+        )
         if item.price is not None:
-            self.asked.append(self._periods * float(item.price) * sum(item.counts) / max(len(item.counts), 1))
+            self.asked.append(
+                self._periods
+                * float(item.price)
+                * sum(item.counts)
+                / max(len(item.counts), 1)
+            )
 
     def _note(self, item: Item, answer: Answer | Remark) -> None:
         if isinstance(answer, Answer) and answer.is_compared:
@@ -96,4 +124,6 @@ class Survey:
             return
         if isinstance(answer, Answer):
             answer = replace(answer, laws=NO_LAWS)
-        (heapq.heapreplace if is_full else heapq.heappush)(self._kept, (size, -place, (item, answer)))
+        (heapq.heapreplace if is_full else heapq.heappush)(
+            self._kept, (size, -place, (item, answer))
+        )

@@ -18,15 +18,15 @@ import numpy as np
 
 from ..chances import Floats
 from ..decide.sensitivity import changed_demand
-from ..digests import digest_of
+from ..store.digests import digest_of
 from ..errors import Refused
-from ..files import IN_KEPT, Folder
-from ..jobs import Scheduler, workers_of
+from ..store.files import IN_KEPT, Folder
+from ..store.means import Means
 from ..law import Law
-from ..records.item import Item
+from ..read.item import Item
 from ..remarks import Remark
-from ..stored import Store
-from ..work import Work
+from ..store.stored import Store
+from ..store.work import Work
 from .answer import CHOSEN, TODAY as TODAY_POLICY, Answer
 from .catalogue import PlannedFolder
 from .drawn import Drawn, Estimate, estimated
@@ -41,7 +41,9 @@ VERSION = 2  # Answers of others are not used again.
 # What differs, and how many tenths of it there are.
 HOLDING, BACKLOG, DEMAND, LEADS, NOTHING = "holding", "backlog", "demand", "lead", ""
 LAWS = DEMAND, LEADS
-CASES = tuple((what, tenths) for what in (HOLDING, BACKLOG, *LAWS) for tenths in (12, 8))
+CASES = tuple(
+    (what, tenths) for what in (HOLDING, BACKLOG, *LAWS) for tenths in (12, 8)
+)
 # The part of the cost of a policy that changes with a cost.
 PARTS = {HOLDING: "holding", BACKLOG: "late"}
 CELLS = 200  # steps of the largest demand and order, by which theory is some hundredths of a percent off
@@ -82,14 +84,15 @@ def case_of(terms: Terms, what: str, tenths: int) -> Case:
 def swing_of(terms: Terms, chosen: Levels) -> Swing:
     """Returns the figures of an item with a policy of today, and a chosen one in boxes. What it does not have can't
     change."""
-    theory, today = terms.theory(), terms.levels
+    theory, today = terms.theory, terms.levels
     assert today is not None
     rows = list[tuple[float, ...]]()
     for what, tenths in CASES:
-        known = None if what in LAWS else theory
         try:
             case = case_of(terms, what, tenths).of(terms)
-            _, (best, kept, base) = figures_in(case, [chosen, today], known)
+            if what not in LAWS:
+                case = replace(case, known=theory)
+            _, (best, kept, base) = figures_in(case, [chosen, today])
         except Refused:
             rows.append(())
         else:
@@ -97,32 +100,40 @@ def swing_of(terms: Terms, chosen: Levels) -> Swing:
     return Swing(tuple(rows))
 
 
-def swing_batch(batch: Sequence[tuple[Item, Answer]], settings: Settings) -> list[Swing | Remark]:
-    """Returns the figures of items with their answers, or why an item has none."""
-    swings = list[Swing | Remark]()
-    for item, answer in batch:
+def swing_on(item: Item, answer: Answer, settings: Settings) -> Swing:
+    """Returns the figures of an item with its answer."""
+    chosen = answer.chosen.point // item.box, answer.chosen.level // item.box
+    terms = terms_of(item, answer.laws, settings)
+    return swing_of(replace(terms, cells=CELLS), chosen)
 
-        def asked(item: Item, answer: Answer = answer) -> Swing:
-            chosen = answer.chosen.point // item.box, answer.chosen.level // item.box
-            return swing_of(replace(terms_of(item, answer.laws, settings), cells=CELLS), chosen)
-        swings.append(or_fault(asked, item))
-    return swings
+
+def swing_asked(asked: tuple[Item, Answer], settings: Settings) -> Swing | Remark:
+    """Returns the figures of an item with its answer, or why it has none."""
+    item, answer = asked
+    return or_fault(item, swing_on, answer, settings)
 
 
 def drawn_items(folder: PlannedFolder, survey: Survey) -> dict[str, str]:
     """Returns the items of a survey that are drawn, each with the digest of all that its figures depend on."""
-    return {name: digest_of(folder.store.digest_for(name), VERSION) for name in survey.drawn.names}
+    return {
+        name: digest_of(folder.store.digest_for(name), VERSION)
+        for name in survey.drawn.names
+    }
 
 
-def keep_swings(own: Folder, folder: PlannedFolder, survey: Survey, *, jobs: int | None = None, address: Scheduler | None = None,
-                shown: bool = False) -> None:
+def keep_swings(
+    own: Folder, folder: PlannedFolder, survey: Survey, means: Means
+) -> None:
     """Computes the figures of a planned folder that are not kept yet, and keeps them."""
     with contextlib.closing(Store(own.store(SWINGS), Swing)) as kept:
         drawn = sorted(drawn_items(folder, survey).items())
-        work = Work(kept, lambda: drawn, folder.item, swing_batch, (folder.settings,), batch=1)
-        if work.now:  # One item has this process load the compiled loops, which workers then have from the start.
-            swing_batch([folder.item(kept.lacking(drawn)[0][0])], folder.settings)
-        work.finish(workers_of(jobs, address), shown=shown)
+        work = Work(
+            kept, lambda: drawn, folder.item, swing_asked, (folder.settings,), batch=1
+        )
+        if work.now:
+            # One item has this process load the compiled loops, which workers then have from the start.
+            swing_asked(folder.item(kept.lacking(drawn)[0][0]), folder.settings)
+        work.finish(means.workers(), shown=means.shown)
 
 
 def kept_swings(folder: PlannedFolder, survey: Survey) -> Swings | None:
@@ -132,10 +143,14 @@ def kept_swings(folder: PlannedFolder, survey: Survey) -> Swings | None:
         return None
     with contextlib.closing(Store(path, Swing)) as kept:
         digests, drawn = dict(kept.digests()), drawn_items(folder, survey)
-        if not drawn or any(digests.get(name) != digest for name, digest in drawn.items()):
+        if not drawn or any(
+            digests.get(name) != digest for name, digest in drawn.items()
+        ):
             return None
         pairs = [(folder.item(name), kept.answer(name)) for name in drawn]
-    known = [Known(*planned, swing) for planned, swing in pairs if isinstance(swing, Swing)]
+    known = [
+        Known(*planned, swing) for planned, swing in pairs if isinstance(swing, Swing)
+    ]
     return swings_of(known, survey.drawn, survey.totals)
 
 
@@ -183,7 +198,9 @@ class Sample:
     others have chances. `lacking` items are not in the case.
     """
 
-    def __init__(self, known: Sequence[Known], place: int, drawn: Drawn, totals: Totals) -> None:
+    def __init__(
+        self, known: Sequence[Known], place: int, drawn: Drawn, totals: Totals
+    ) -> None:
         """Takes the items that have the case at a place of `CASES`."""
         taken, others, lost = list[Known](), list[Known](), 0.0
         for one in known:
@@ -207,16 +224,23 @@ class Sample:
         else:
             self.asked = np.ones(len(some))
             self.demand, met = float(totals.compared), totals["fill_chosen"]
-        self.unmet = self.asked * np.array([1 - answer.chosen.fill for answer in self.answers])
+        self.unmet = self.asked * np.array(
+            [1 - answer.chosen.fill for answer in self.answers]
+        )
         self.all_unmet = self.demand - met
 
     def sum_of(self, parts: Floats, sizes: Floats, total: float) -> Estimate:
         """Returns the sum of a figure over all items from its parts. That of items that are not taken for certain
         follows the sum of their sizes, as `total` is that of all."""
-        taken, left = self._taken, total - float(sizes[:self._taken].sum())
+        taken, left = self._taken, total - float(sizes[: self._taken].sum())
         if not self._is_enough:
             return Estimate(0.0, math.inf)
-        others = estimated(parts[taken:], sizes[taken:], self._chances, left if left > CLOSE * total else 0.0)
+        others = estimated(
+            parts[taken:],
+            sizes[taken:],
+            self._chances,
+            left if left > CLOSE * total else 0.0,
+        )
         return others.plus(float(parts[:taken].sum()))
 
     def money_of(self, parts: Floats) -> Estimate:
@@ -241,8 +265,15 @@ def cost_case(what: str, tenths: int, sample: Sample, totals: Totals) -> CaseSum
     more = tenths / 10 - 1
     today, chosen = (more * cost for cost in part_costs(what, totals))
     beyond = sample.money_of(sample.rows[:, KEPT] - sample.rows[:, BEST])
-    return CaseSum(what, tenths, Estimate(totals["cost_chosen"] + chosen), Estimate(totals["saving"] + today - chosen),
-                   beyond, planned_unmet(totals), sample.lacking)
+    return CaseSum(
+        what,
+        tenths,
+        Estimate(totals["cost_chosen"] + chosen),
+        Estimate(totals["saving"] + today - chosen),
+        beyond,
+        planned_unmet(totals),
+        sample.lacking,
+    )
 
 
 def law_case(what: str, tenths: int, sample: Sample, totals: Totals) -> CaseSum:
@@ -250,12 +281,20 @@ def law_case(what: str, tenths: int, sample: Sample, totals: Totals) -> CaseSum:
     estimated."""
     rows = sample.rows
     planned = np.array([answer.chosen.cost for answer in sample.answers])
-    planned_today = np.array([answer.today.cost if answer.today else math.nan for answer in sample.answers])
+    planned_today = np.array(
+        [answer.today.cost if answer.today else math.nan for answer in sample.answers]
+    )
     chosen, today = rows[:, KEPT] - planned, rows[:, TODAY] - planned_today
     unmet = sample.unmet_share(rows[:, KEPT_FILL]) if sample.demand else None
-    return CaseSum(what, tenths, sample.money_of(chosen).plus(totals["cost_chosen"]),
-                   sample.money_of(today - chosen).plus(totals["saving"]),
-                   sample.money_of(rows[:, KEPT] - rows[:, BEST]), unmet, sample.lacking)
+    return CaseSum(
+        what,
+        tenths,
+        sample.money_of(chosen).plus(totals["cost_chosen"]),
+        sample.money_of(today - chosen).plus(totals["saving"]),
+        sample.money_of(rows[:, KEPT] - rows[:, BEST]),
+        unmet,
+        sample.lacking,
+    )
 
 
 def planned_unmet(totals: Totals) -> Estimate | None:
@@ -266,8 +305,17 @@ def planned_unmet(totals: Totals) -> Estimate | None:
 
 def swings_of(known: Sequence[Known], drawn: Drawn, totals: Totals) -> Swings | None:
     """Returns the catalogue as it is, and all cases that some of the items have; None without such a case."""
-    cases = [CaseSum(NOTHING, 10, Estimate(totals["cost_chosen"]), Estimate(totals["saving"]), Estimate(0.0),
-                     planned_unmet(totals), 0)]
+    cases = [
+        CaseSum(
+            NOTHING,
+            10,
+            Estimate(totals["cost_chosen"]),
+            Estimate(totals["saving"]),
+            Estimate(0.0),
+            planned_unmet(totals),
+            0,
+        )
+    ]
     for place, (what, tenths) in enumerate(CASES):
         sample = Sample(known, place, drawn, totals)
         if not sample.answers:
@@ -279,4 +327,9 @@ def swings_of(known: Sequence[Known], drawn: Drawn, totals: Totals) -> Swings | 
     if len(cases) == 1:
         return None
     taken = [size_of(one.answer) for one in known if one.item.name in drawn.taken]
-    return Swings(cases, len(known), len(taken), sum(taken) / (totals["cost_today"] + totals["cost_chosen"]))
+    return Swings(
+        cases,
+        len(known),
+        len(taken),
+        sum(taken) / (totals["cost_today"] + totals["cost_chosen"]),
+    )

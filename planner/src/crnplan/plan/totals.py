@@ -1,23 +1,21 @@
 """Adds up the answers to the items of a catalogue."""
 from __future__ import annotations
 
+import json
 import math
 from collections import Counter
 from collections.abc import Iterable
 from dataclasses import dataclass, field
+from fractions import Fraction
 from statistics import NormalDist
-from typing import Any
 
-from ..records.classes import xyz_of
-from ..records.item import ENDED, NO_DEMAND, UNORDERED, Item
+from ..read.classes import xyz_of
+from ..read.item import ENDED, NO_DEMAND, UNORDERED, Item
 from ..remarks import Remark
-from ..table import Json
 from .answer import CHOSEN, OURS, RUN, TODAY, Answer, CostParts, Figures
-from .exact_sums import ExactSums
 
-COUNTERS = "verdicts", "letters", "corrected"
-COUNTS = "compared", "faults", "broken", "by_run", "without_interval", "promised", "covered", "priced", "overridden"
-UNCOMPARED = "uncompared"  # the name of sums over chosen policies that are compared with none
+# The name of sums over chosen policies that are compared with none.
+UNCOMPARED = "uncompared"
 
 
 def asked_value(item: Item, answer: Answer) -> float:
@@ -25,7 +23,9 @@ def asked_value(item: Item, answer: Answer) -> float:
     return float(item.price or 0) * answer.law.mean
 
 
-def policy_sums(name: str, item: Item, answer: Answer, figures: Figures, cost: float) -> dict[str, float]:
+def policy_sums(
+    name: str, item: Item, answer: Answer, figures: Figures, cost: float
+) -> dict[str, float]:
     """Returns what a policy of an item adds to the sums of its name."""
     parts = CostParts.of(item, figures, cost)
     return {
@@ -36,12 +36,13 @@ def policy_sums(name: str, item: Item, answer: Answer, figures: Figures, cost: f
         f"value_{name}": float(item.price or 0) * figures.stock,
         f"met_{name}": asked_value(item, answer) * figures.fill,
         f"fill_{name}": figures.fill,
-        f"orders_{name}": figures.orders}
+        f"orders_{name}": figures.orders,
+    }
 
 
 @dataclass
 class Totals:
-    """What adds up over items. Sums are without rounding but at the end.
+    """What adds up over items. Sums are exact, so that they are those of any order, and are rounded at the end.
 
     Sums of the policies of today and the chosen ones, over the items that have both, as `totals["cost_today"]` and
     `totals["cost_chosen"]`, and over the chosen ones of other planned items, as `totals["cost_uncompared"]`: of money a
@@ -63,7 +64,7 @@ class Totals:
     with a price.
     """
 
-    parts: ExactSums = field(default_factory=ExactSums)
+    parts: dict[str, Fraction] = field(default_factory=dict)
     verdicts: Counter[str] = field(default_factory=Counter)
     compared: int = 0
     faults: int = 0
@@ -92,29 +93,33 @@ class Totals:
         elif item.past in UNORDERED:
             self.verdicts[item.past] += 1
             name = "value_idle" if item.past == NO_DEMAND else "value_ended"
-            self.parts.add(name, float(item.value or 0))
+            self.add_to(name, float(item.value or 0))
         else:
             self.faults += 1
             self.broken += answer.code in OURS
 
+    def add_to(self, name: str, value: float) -> None:
+        """Adds a value to a sum."""
+        self.parts[name] = self.parts.get(name, 0) + Fraction(value)
+
     @classmethod
-    def together(cls, trees: Iterable[Any]) -> Totals:
-        """Adds up totals that were written by `tree`."""
-        totals = cls()
-        for tree in trees:
-            totals.parts.add_tree(tree["parts"])
-            for counts in COUNTERS:
-                getattr(totals, counts).update(dict(tree[counts]))
-            for count in COUNTS:
-                setattr(totals, count, getattr(totals, count) + tree[count])
+    def parse(cls, text: str) -> Totals:
+        """Returns totals of a text that `json` has made. Raises ValueError, LookupError or TypeError for another one."""
+        tree = json.loads(text)
+        totals = cls(**tree)
+        totals.parts = {name: Fraction(part) for name, part in tree["parts"].items()}
+        totals.verdicts, totals.letters = Counter(totals.verdicts), Counter(
+            totals.letters
+        )
+        totals.corrected = Counter(dict(tree["corrected"]))
         return totals
 
     @property
-    def tree(self) -> Json:
-        """Returns the totals as plain data."""
-        return {"parts": self.parts.tree,
-                **{counts: [[*pair] for pair in sorted(getattr(self, counts).items())] for counts in COUNTERS},
-                **{count: getattr(self, count) for count in COUNTS}}
+    def json(self) -> str:
+        """Returns the totals as a text of JSON, without rounding."""
+        parts = {name: str(part) for name, part in self.parts.items()}
+        corrected = sorted(self.corrected.items())
+        return json.dumps({**vars(self), "parts": parts, "corrected": corrected})
 
     @property
     def planned(self) -> int:
@@ -136,7 +141,8 @@ class Totals:
         return self.planned - self.compared
 
     def __getitem__(self, name: str) -> float:
-        return self.parts[name]
+        """Returns a sum, rounded once; 0 if nothing was added."""
+        return float(self.parts.get(name, 0))
 
     def add(self, item: Item, answer: Answer) -> None:
         self.verdicts[answer.verdict] += 1
@@ -147,18 +153,22 @@ class Totals:
         values = {
             "confidence_cost": answer.confidence_cost or 0.0,
             "coverage_cost": answer.coverage_cost or 0.0,
-            "override_cost": answer.override_cost or 0.0}
+            "override_cost": answer.override_cost or 0.0,
+        }
         if answer.correction and item.fill is not None:
+            holding = float(item.holding)
             self.corrected[float(item.fill)] += 1
-            values["held"] = float(item.holding) * answer.chosen.stock
-            values["held_plain"] = float(item.holding) * answer.correction.plain_stock
+            values["held"] = holding * answer.chosen.stock
+            values["held_plain"] = holding * answer.correction.plain_stock
         if answer.is_compared:
             values |= self._compared(item, answer)
         else:
-            values |= policy_sums(UNCOMPARED, item, answer, answer.chosen, answer.cost_chosen)
+            values |= policy_sums(
+                UNCOMPARED, item, answer, answer.chosen, answer.cost_chosen
+            )
             values[f"demand_{UNCOMPARED}"] = asked_value(item, answer)
         for name, value in values.items():
-            self.parts.add(name, value)
+            self.add_to(name, value)
 
     def _compared(self, item: Item, answer: Answer) -> dict[str, float]:
         """Counts an item that is compared with a policy of today, and returns what it adds to sums."""
@@ -168,10 +178,15 @@ class Totals:
         self.without_interval += run.error is None
         self.priced += bool(item.price)
         assert answer.today is not None
-        return {"saving": saving, f"saving {answer.verdict}": saving, "run_saving": run.saving or 0.0,
-                "run_variance": (run.error or 0.0)**2, "demand": asked_value(item, answer),
-                **policy_sums(TODAY, item, answer, answer.today, answer.cost_today or 0.0),
-                **policy_sums(CHOSEN, item, answer, answer.chosen, answer.cost_chosen)}
+        return {
+            "saving": saving,
+            f"saving {answer.verdict}": saving,
+            "run_saving": run.saving or 0.0,
+            "run_variance": (run.error or 0.0) ** 2,
+            "demand": asked_value(item, answer),
+            **policy_sums(TODAY, item, answer, answer.today, answer.cost_today or 0.0),
+            **policy_sums(CHOSEN, item, answer, answer.chosen, answer.cost_chosen),
+        }
 
     def fill(self, policy: str) -> float | None:
         """Returns the share of demand by value that policies meet at once, which are `today`, `chosen` or `uncompared`;
@@ -181,18 +196,25 @@ class Totals:
 
     def service(self, policy: str) -> float | None:
         """Returns the share of demand met at once: by value, or the mean over items if none has a price."""
-        fill, items = self.fill(policy), self.uncompared if policy == UNCOMPARED else self.compared
-        return self[f"fill_{policy}"] / items if fill is None and items else fill
+        fill = self.fill(policy)
+        items = self.uncompared if policy == UNCOMPARED else self.compared
+        if fill is None and items:
+            return self[f"fill_{policy}"] / items
+        return fill
 
     def stock_and_service(self, policy: str) -> tuple[float, float] | None:
         """Returns what items with a price hold and serve with the policies of today, or with the chosen ones: the value of
         the mean stock, and the share of demand, by value, that is met at once. An item without a policy today counts
         with its chosen one. None if no item has a price."""
         asked = self["demand"] + self[f"demand_{UNCOMPARED}"]
-        value, met = (self[f"{name}_{policy}"] + self[f"{name}_{UNCOMPARED}"] for name in ("value", "met"))
-        return (value, met / asked) if asked else None
+        if not asked:
+            return None
+        value = self[f"value_{policy}"] + self[f"value_{UNCOMPARED}"]
+        met = self[f"met_{policy}"] + self[f"met_{UNCOMPARED}"]
+        return value, met / asked
 
     def run_ends(self, level: float) -> tuple[float, float]:
         """Returns the interval of all savings by runs. Those of different items are independent."""
-        half, saving = NormalDist().inv_cdf((1 + level) / 2) * math.sqrt(self["run_variance"]), self["run_saving"]
+        error, saving = math.sqrt(self["run_variance"]), self["run_saving"]
+        half = NormalDist().inv_cdf((1 + level) / 2) * error
         return saving - half, saving + half

@@ -13,25 +13,18 @@ from ..errors import Refused
 from ..law import Law
 from ..remarks import Remark
 from ..scenario import Levels
-from ..table import DataTable, Result, number, text, whole
-from ..theory.long_run import LongRun
+from ..columns import columns_of
+from ..table import DataTable, Result
 from ..words import sentence
 from .answer import Figures
-from .choice import best_of, figures_of
+from .choice import best_of
 from .question import Terms, rates_of
 
 AS_IT_IS = "as it is"
 COSTS = "setup", "holding", "backlog"
 TIMES = {"halved": Fraction(1, 2), "doubled": Fraction(2)}
 LEADS_LONGER = "lead times one period longer"
-COLUMNS = (
-    text("case", "what differs; all else is as it is").by("words"),
-    whole("s", "items", "reorder point of the best policy there").by("s"),
-    whole("S", "items", "its order-up-to level").by("S"), number("cost", "money a period", "its cost", "", ".2f").by("cost"),
-    number("fill", "share", "demand that it meets at once", "", ".2%").by("fill"),
-    number("kept_cost", "money a period", "cost of the chosen policy there", "", ".2f").by("kept_cost"),
-    number("kept_more", "share", "how much more than the best that is", "", "+.2%").by("kept_more"),
-    number("kept_fill", "share", "demand that the chosen policy meets at once", "", ".2%").by("kept_fill"))
+COLUMNS = columns_of("plan", "moves")
 
 
 @dataclass(frozen=True)
@@ -46,18 +39,18 @@ class Case:
         """Returns the terms of an item in this case. Raises Refused if its costs are too far apart."""
         item = dataclasses.replace(terms.item, **self.facts)
         rates, scale, _ = rates_of(item)
-        return dataclasses.replace(terms, item=item, rates=rates, scale=scale, **self.laws)
+        return dataclasses.replace(
+            terms, item=item, rates=rates, scale=scale, **self.laws
+        )
 
 
-def figures_in(terms: Terms, policies: Sequence[Levels], known: LongRun | None = None) -> tuple[Levels, list[Figures]]:
-    """Returns s and S of the best policy in boxes, and its figures followed by those of other policies.
-
-    Theory of the same laws and other costs may be known. Raises Refused if there is no best policy.
-    """
-    theory = terms.theory(known)
-    best, _ = best_of(theory, terms)
-    levels = best.point, best.level
-    return levels, [figures_of(terms, theory, policy) for policy in (levels, *policies)]
+def figures_in(
+    terms: Terms, policies: Sequence[Levels]
+) -> tuple[Levels, list[Figures]]:
+    """Returns s and S of the best policy in boxes, and its figures followed by those of other policies. Raises Refused
+    if there is no best policy."""
+    levels = best_of(terms)[0].levels
+    return levels, [*map(terms.figures, (levels, *policies))]
 
 
 @dataclass(frozen=True)
@@ -90,9 +83,12 @@ class Moves(Result):
     @property
     def notes(self) -> str:
         """Returns what the columns mean, and the remarks."""
-        lines = ["", "case: what differs; all else is as it is. s, S, cost, fill: of the best policy in that case",
-                 f"kept_cost, kept_more, kept_fill: of {self.kept}, and how much more than the best it costs",
-                 "by theory in the long run, rounded and unproved; costs of a period, in the scenario's money"]
+        lines = [
+            "",
+            "case: what differs; all else is as it is. s, S, cost, fill: of the best policy in that case",
+            f"kept_cost, kept_more, kept_fill: of {self.kept}, and how much more than the best it costs",
+            "by theory in the long run, rounded and unproved; costs of a period, in the scenario's money",
+        ]
         if self.remarks:
             lines += ["", *map(sentence, self.remarks)]
         return "\n".join([*lines, ""])
@@ -105,7 +101,8 @@ class Moves(Result):
 
 def cases_of(terms: Terms, notes: list[Remark]) -> Iterator[Case]:
     """Yields all cases: each cost that there is halved and doubled, half and twice as much demand that need not be met
-    at once, and other laws. What cannot be changed exactly, or at all, goes to the notes."""
+    at once, and other laws. What cannot be changed exactly, or at all, goes to the notes.
+    """
     yield Case(AS_IT_IS)
     for name in COSTS:
         cost = getattr(terms.item, name)
@@ -116,7 +113,9 @@ def cases_of(terms: Terms, notes: list[Remark]) -> Iterator[Case]:
         for unmet_times in (0.5, 2.0):
             fill = 1 - unmet_times * (1 - float(terms.item.fill))
             if fill > 0:
-                yield Case(f"fill rate of {100 * fill:.4g}% wanted", {"fill": Fraction(fill)})
+                yield Case(
+                    f"fill rate of {100 * fill:.4g}% wanted", {"fill": Fraction(fill)}
+                )
     for change, laws in law_cases(terms.demand, terms.lead, notes):
         yield Case(LEADS_LONGER if change.key == "lead" else change.words, laws=laws)
 
@@ -126,7 +125,9 @@ def move_of(terms: Terms, case: Case, kept: Levels) -> Move:
     (s, S), (best, own) = figures_in(case.of(terms), [kept])
     more = own.cost / best.cost - 1 if best.cost else math.nan
     box = terms.item.box
-    return Move(case.words, s * box, S * box, best.cost, best.fill, own.cost, more, own.fill)
+    return Move(
+        case.words, s * box, S * box, best.cost, best.fill, own.cost, more, own.fill
+    )
 
 
 def moves_of(terms: Terms, name: str, kept: Levels) -> Moves:
@@ -136,5 +137,7 @@ def moves_of(terms: Terms, name: str, kept: Levels) -> Moves:
         try:
             moves.append(move_of(terms, case, kept))
         except Refused as fault:
-            notes.append(Remark("case refused", {"case": case.words, "reason": str(fault)}))
+            notes.append(
+                Remark("case refused", {"case": case.words, "reason": str(fault)})
+            )
     return Moves(name, tuple(moves), tuple(notes))

@@ -60,7 +60,8 @@ class Feasible:
 
     def gap_in(self, cell: Places, step: int, exact: bool) -> Places:
         """Returns S - s for cells of a lattice: the least in the cell; if the lattice is not exact, one from its middle
-        on if there is one, and room for it up to the greatest gap. If there is none in the cell, it is beyond."""
+        on if there is one, and room for it up to the greatest gap. If there is none in the cell, it is beyond.
+        """
         low = cell * step
         if exact and self.has_narrow_gaps:
             return low
@@ -76,12 +77,20 @@ class Feasible:
     def has(self, point: Any, level: Any) -> Any:
         """Returns whether pairs may be chosen, whatever S - s is but for multiples."""
         is_within = (self.least <= point) & (point <= level) & (level <= self.top)
-        return is_within if self.multiple == 1 else (
-            is_within & (point % self.multiple == 0) & (level % self.multiple == 0))
+        return (
+            is_within
+            if self.multiple == 1
+            else (
+                is_within & (point % self.multiple == 0) & (level % self.multiple == 0)
+            )
+        )
 
     def allows(self, point: int, level: int) -> bool:
         """Returns whether a pair may be chosen."""
-        return bool(self.has(point, level)) and self.least_gap <= level - point <= self.most_gap
+        return (
+            bool(self.has(point, level))
+            and self.least_gap <= level - point <= self.most_gap
+        )
 
 
 ALL = Feasible()

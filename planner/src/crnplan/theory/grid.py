@@ -22,7 +22,9 @@ def gap_grid(most: int) -> list[int]:
     return [*gaps, most]
 
 
-def search(policies_of: Callable[[Sequence[int]], Iterable[Candidate]], most: int) -> Candidate:
+def search(
+    policies_of: Callable[[Sequence[int]], Iterable[Candidate]], most: int
+) -> Candidate:
     """Returns the cheapest policy over the gaps up to the most: on a grid of gaps, and then ever finer beside the best.
 
     Costs may have several valleys over the gaps, so beyond the grid's first gaps a better one can be missed:
@@ -33,7 +35,11 @@ def search(policies_of: Callable[[Sequence[int]], Iterable[Candidate]], most: in
     while True:
         gaps = sorted(known)
         least = min(known.values()).cost
-        place, best = next((place, gap) for place, gap in enumerate(gaps) if known[gap].cost <= CLOSE * least)
+        place, best = next(
+            (place, gap)
+            for place, gap in enumerate(gaps)
+            if known[gap].cost <= CLOSE * least
+        )
         below = gaps[max(place - 1, 0)]
         above = gaps[min(place + 1, len(gaps) - 1)]
         between = sorted({(below + best) // 2, (best + above + 1) // 2} - known.keys())

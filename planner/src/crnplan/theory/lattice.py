@@ -14,6 +14,7 @@ import numpy as np
 
 from ..errors import Refused
 from ..formats import MOST_ITEMS
+from ..law import Law
 from ..scenario import Scenario
 from .feasible import ALL, Feasible
 from .grid import gap_grid
@@ -60,7 +61,10 @@ class Shape:
     @property
     def gap(self) -> int:
         """Returns the largest gap that is looked at."""
-        return min(MOST_ITEMS, max(int(3 * self.order + 3 * self.high), self.least_gap + 3 * self.high))
+        return min(
+            MOST_ITEMS,
+            max(int(3 * self.order + 3 * self.high), self.least_gap + 3 * self.high),
+        )
 
     @property
     def spread(self) -> float:
@@ -74,11 +78,18 @@ class Shape:
 
     def has_room(self, step: int) -> bool:
         """Returns whether the laws of the scenario on this lattice have room."""
-        return self.height * 4 / step <= MOST_TRANSFORM and (self.spread + self.gap) / step <= MOST_CELLS
+        return (
+            self.height * 4 / step <= MOST_TRANSFORM
+            and (self.spread + self.gap) / step <= MOST_CELLS
+        )
 
     def late_work(self, step: int, gap: float) -> float:
         """Returns how much work a gap has, in cells, if orders may overtake one another: see `work_of`."""
-        under_way = self.lead * (self.mean + self.rise) + 9 * math.sqrt(self.lead) * self.deviation + 2 * self.high
+        under_way = (
+            self.lead * (self.mean + self.rise)
+            + 9 * math.sqrt(self.lead) * self.deviation
+            + 2 * self.high
+        )
         return work_of(gap + (under_way + self.height) / step, self.lead)
 
     def is_small(self, step: int, widest: int, most_gaps: int) -> bool:
@@ -94,44 +105,76 @@ class Shape:
         return work <= MOST_WORK
 
 
+def check_net(demand: float, back: float) -> None:
+    """Raises NoTheory if there is nothing to order in the long run, by the mean demand and the mean returns."""
+    if demand == 0:
+        raise NoTheory(
+            "no item is ever asked for; give a demand above 0 a weight", "demand"
+        )
+    if demand - back <= 1e-9 * demand:
+        raise NoTheory(
+            f"on average {back:g} items come back and {demand:g} are asked for in a period, so there is "
+            "nothing to order in the long run; look at the tables demand and returns",
+            "demand",
+        )
+
+
+def height_of(demand: Law, returns: Law, step: int) -> float:
+    """Returns how far returns may lift the stock above S, in items: beyond, the chance is below any rounding."""
+    back = LatticeLaw.of(returns, step)
+    net = sum_of(LatticeLaw.of(demand, step), back.reflected)
+    return step * DIGITS / decay_of(net) if net.low < 0 else 0.0
+
+
 def shape_of(scenario: Scenario, least_gap: int = 0) -> Shape:
     """Returns the shape of a scenario. Raises NoTheory if it has no best policy."""
     costs = scenario.costs
-    tables = net_tables(scenario)
     for name, cost in (("holding", costs.holding), ("backlog", costs.backlog)):
         if cost == 0:
-            raise NoTheory(f"the cost {name} is 0, so there is no best policy: stock, or being short, costs nothing; "
-                           "give it a cost above 0", "costs", name)
-    laws = [chances_in(table) for table in tables]
-    means = [float(chances @ values) for values, chances in laws]
-    demand, back = means[0], sum(means[1:])
-    mean = demand - back
+            raise NoTheory(
+                f"the cost {name} is 0, so there is no best policy: stock, or being short, costs nothing; "
+                "give it a cost above 0",
+                "costs",
+                name,
+            )
+    laws = [chances_in(table) for table in net_tables(scenario)]
+    demand, *others = [float(chances @ values) for values, chances in laws]
+    back = sum(others)
+    check_net(demand, back)
     squares = float(sum(chances @ values**2 for values, chances in laws))
     variance = squares - demand**2 - back**2
-    if demand == 0:
-        raise NoTheory("no item is ever asked for; give a demand above 0 a weight", "demand")
-    if mean <= 1e-9 * demand:
-        raise NoTheory(f"on average {back:g} items come back and {demand:g} are asked for in a period, so there is "
-                       "nothing to order in the long run; look at the tables demand and returns", "demand")
-    rate = 2 * costs.setup * (costs.holding + costs.backlog) / (costs.holding * costs.backlog)
-    order = math.sqrt(rate * mean) + (rate * variance)**(1 / 3)
+    both = costs.holding + costs.backlog
+    rate = 2 * costs.setup * both / (costs.holding * costs.backlog)
+    order = math.sqrt(rate * (demand - back)) + (rate * variance) ** (1 / 3)
     occurring = np.concatenate([values for values, _ in laws])
-    base = int(np.gcd.reduce(occurring))
     high = int(occurring.max())
     leads = [*scenario.lead.chances]
     height = rise = 0.0
-    if len(tables) > 1:
-        rise = max(0, max(tables[1].values) - min(tables[0].values))
-    if back:
-        step = max(1, high // CELLS_OF_SHAPE)
-        net = sum_of(LatticeLaw.of(tables[0], step), LatticeLaw.of(tables[1], step).reflected)
-        if net.low < 0:  # Returns may lift the stock so far above S: beyond, the chance is below any rounding.
-            height = step * DIGITS / decay_of(net)
-    return Shape(base, mean, math.sqrt(variance), high, leads[-1], len(leads), order, height, rise, least_gap)
+    if scenario.returns:
+        rise = max(0, max(scenario.returns.values) - min(scenario.demand.values))
+        if back:
+            step = max(1, high // CELLS_OF_SHAPE)
+            height = height_of(scenario.demand, scenario.returns, step)
+    return Shape(
+        int(np.gcd.reduce(occurring)),
+        demand - back,
+        math.sqrt(variance),
+        high,
+        leads[-1],
+        len(leads),
+        order,
+        height,
+        rise,
+        least_gap,
+    )
 
 
-def finest(base: int, largest: float, excess: Callable[[int], float],
-           growth: Callable[[float], float] = lambda excess: GROWTH) -> int | None:
+def finest(
+    base: int,
+    largest: float,
+    excess: Callable[[int], float],
+    growth: Callable[[float], float] = lambda excess: GROWTH,
+) -> int | None:
     """Returns the finest step, a multiple of the base, of a lattice whose tables are small enough; None if it had fewer
     than `LEAST_CELLS` in the largest number. `excess` says how many times too large the tables of a step are, and
     `growth` by how much the next step is then coarser."""
@@ -143,23 +186,34 @@ def finest(base: int, largest: float, excess: Callable[[int], float],
     return base * times
 
 
-def lattice_of(scenario: Scenario, shape: Shape, widest: int, most_gaps: int = MOST_GAPS) -> tuple[int, bool]:
+def lattice_of(
+    scenario: Scenario, shape: Shape, widest: int, most_gaps: int = MOST_GAPS
+) -> tuple[int, bool]:
     """Returns the step of the lattice, and whether it is exact. With one lead time it has at most so many gaps. If it
     is not exact, that of some coarser steps is taken that adds the least variance."""
     base = shape.base
-    least = finest(base, max(shape.high, shape.order, shape.least_gap),
-                   lambda step: 1 if shape.is_small(step, widest, most_gaps) else math.inf)
+    least = finest(
+        base,
+        max(shape.high, shape.order, shape.least_gap),
+        lambda step: 1 if shape.is_small(step, widest, most_gaps) else math.inf,
+    )
     if least is None:
-        raise NoTheory("the numbers of this scenario are too far apart for the theory's tables: what comes back is "
-                       "nearly what is asked for, or one order lasts for far too long; compare policies of your own by "
-                       "runs")
+        raise NoTheory(
+            "the numbers of this scenario are too far apart for the theory's tables: what comes back is "
+            "nearly what is asked for, or one order lasts for far too long; compare policies of your own by "
+            "runs"
+        )
     if least == base:
         return base, True
     laws = [chances_in(table) for table in net_tables(scenario)]
 
     def blur(step: int) -> float:
         """Returns the variance that a lattice adds to the demand and the returns of a period."""
-        return sum(float(chances @ (values % step * (step - values % step))) for values, chances in laws)
+        return sum(
+            float(chances @ (values % step * (step - values % step)))
+            for values, chances in laws
+        )
+
     return min(range(least, int(COARSER * least) + 1, base), key=blur), False
 
 
@@ -171,8 +225,14 @@ def rough_lattice(shape: Shape, cells: int) -> tuple[int, bool]:
     return step, step == shape.base
 
 
-def theory_on(scenario: Scenario, shape: Shape, step: int, exact: bool, feasible: Feasible = ALL,
-              known: LongRun | None = None) -> LongRun:
+def theory_on(
+    scenario: Scenario,
+    shape: Shape,
+    step: int,
+    exact: bool,
+    feasible: Feasible = ALL,
+    known: LongRun | None = None,
+) -> LongRun:
     """Returns the theory of a scenario on a lattice. It has the tables of a known one of the same laws, whatever that
     costs, if both are on one lattice."""
     most = -(-shape.gap // step)
@@ -181,7 +241,9 @@ def theory_on(scenario: Scenario, shape: Shape, step: int, exact: bool, feasible
     return LongRun(scenario, step, exact, most, feasible)
 
 
-def theories_of(scenario: Scenario, widest: int | None = None) -> tuple[LongRun, LongRun | None]:
+def theories_of(
+    scenario: Scenario, widest: int | None = None
+) -> tuple[LongRun, LongRun | None]:
     """Returns the theory of a scenario, and the one on a lattice twice as coarse, or None if the lattice is exact.
 
     `widest` is the greatest S - s, in items, that is looked at beside the best: by default that of the first policy.
@@ -191,4 +253,5 @@ def theories_of(scenario: Scenario, widest: int | None = None) -> tuple[LongRun,
         widest = scenario.policies[0].S - scenario.policies[0].s
     shape = shape_of(scenario)
     step, exact = lattice_of(scenario, shape, widest)
-    return theory_on(scenario, shape, step, exact), None if exact else theory_on(scenario, shape, 2 * step, False)
+    theory = theory_on(scenario, shape, step, exact)
+    return theory, None if exact else theory_on(scenario, shape, 2 * step, False)

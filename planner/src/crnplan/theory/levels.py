@@ -25,6 +25,17 @@ class Lows(NamedTuple):
     weights: Floats
 
 
+class Bounds(NamedTuple):
+    """Levels that may be chosen, in items: multiples up to the `top`, and none if the best of all is above the `cut`. A
+    table has the level 0 at its place `origin`, and a place for each `step`."""
+
+    origin: int
+    step: int
+    multiple: int
+    top: int
+    cut: int
+
+
 @compiled
 def sum_at(lows: Lows, place: int, row: int) -> float:
     """Returns the sum of a figure over the lows of a gap, of which the highest is at a place: see `walked`."""
@@ -33,7 +44,7 @@ def sum_at(lows: Lows, place: int, row: int) -> float:
         last_sums = lows.evened[row + 3, place] - lows.evened[row + 3, place - size]
         total: float = lows.evened[row, place] + lows.weights[0] * last_sums
     else:
-        total = np.dot(lows.table[row, place - size + 1:place + 1], lows.weights)
+        total = np.dot(lows.table[row, place - size + 1 : place + 1], lows.weights)
     return total
 
 
@@ -75,30 +86,39 @@ def least_place(lows: Lows, floor: int, near: int, allowed: float, ratio: float)
 
 
 @compiled
-def spare_at(lows: Lows, place: int, allowed: float, ratio: float) -> float:
-    """Returns how far below a place, as a share of a cell, a level is enough: see `least_place`."""
-    if sum_at(lows, place - 1, 2) < ratio:
-        return 0.0
-    unmet = sum_at(lows, place, 1)
-    slope = sum_at(lows, place - 1, 1) - unmet
-    return (allowed - unmet) / slope if slope > 0 else 1.0
+def level_at(
+    lows: Lows, bounds: Bounds, place: int, least: int, allowed: float, ratio: float
+) -> int:
+    """Returns the level of a place that is enough, or less by as many items of a cell as are not needed."""
+    level = (place - bounds.origin) * bounds.step
+    if bounds.step == 1:
+        return level
+    share = 0.0
+    if sum_at(lows, place - 1, 2) >= ratio:
+        unmet = sum_at(lows, place, 1)
+        slope = sum_at(lows, place - 1, 1) - unmet
+        share = (allowed - unmet) / slope if slope > 0 else 1.0
+    spare = int(min(bounds.step * share + NEAR, bounds.step - 1.0))
+    return level - min(spare, level - least)
 
 
 @compiled
-def cheaper_of(lows: Lows, level: int, origin: int, step: int, multiple: int, least: int, top: int, cut: int,
-               allowed: float) -> tuple[int, float]:
+def cheaper_of(
+    lows: Lows, bounds: Bounds, level: int, least: int, allowed: float
+) -> tuple[int, float]:
     """Returns the cheapest level that may be chosen, and the sum of its stock costs, if some level is the cheapest of
-    all; infinity if there is none, or if that level is above the `cut`. Costs are convex in the level, so it is one of
+    all; infinity if there is none, or if that level is above the cut. Costs are convex in the level, so it is one of
     both multiples beside that one, or beyond the greatest level that one."""
     best = -1
     least_cost = np.inf
-    if level > cut:
+    if level > bounds.cut:
         return best, least_cost
-    for rest in (0, multiple - 1):
-        chosen = min((level + rest) // multiple * multiple, top)
+    for rest in (0, bounds.multiple - 1):
+        chosen = (level + rest) // bounds.multiple * bounds.multiple
+        chosen = min(chosen, bounds.top)
         if chosen < least:
             continue
-        cells = chosen / step + origin
+        cells = chosen / bounds.step + bounds.origin
         if chosen != level and allowed < np.inf:
             unmet = sum_between(lows, cells, 1)
             if unmet > allowed * (1 + NEAR):
@@ -113,33 +133,63 @@ def cheaper_of(lows: Lows, level: int, origin: int, step: int, multiple: int, le
 
 
 @compiled
-def walked(gaps: Whole, leasts: Whole, fixed: Whole, chances: Floats, turned: Floats, table: Floats, evened: Floats,
-           even: int, origin: int, step: int, multiple: int, top: int, cut: int, setup: float, base: float, rise: float,
-           allowed: float, ratio: float, known: float, is_nested: bool, is_pruned: bool) -> tuple[Whole, Floats]:
+def best_level(
+    lows: Lows,
+    bounds: Bounds,
+    least: int,
+    before: int,
+    near: int,
+    allowed: float,
+    ratio: float,
+) -> tuple[int, int, float]:
+    """Returns the least place that is enough, not before a place and near another one, and what `cheaper_of` does."""
+    first = max(bounds.origin - (-least // bounds.step), before)
+    first = min(first, lows.table.shape[1] - 1)
+    place = least_place(lows, first, near, allowed, ratio)
+    level = level_at(lows, bounds, place, least, allowed, ratio)
+    level, cost = cheaper_of(lows, bounds, level, least, allowed)
+    return place, level, cost
+
+
+@compiled
+def walked(
+    gaps: Whole,
+    leasts: Whole,
+    fixed: Whole,
+    chances: Floats,
+    turned: Floats,
+    table: Floats,
+    evened: Floats,
+    even: int,
+    bounds: Bounds,
+    setup: float,
+    base: float,
+    rise: float,
+    allowed: float,
+    ratio: float,
+    known: float,
+    is_nested: bool,
+    is_pruned: bool,
+) -> tuple[Whole, Floats]:
     """Returns for each of some rising gaps the best level, in items, and what both cost a period: infinity if there is
     none, or if the gap is left out. If the gaps are nested, each has the lows up to its own.
 
-    `leasts` has the least feasible level of each gap, in items. Feasible ones are multiples up to the `top`, and a gap
-    has none if the best of all is above the `cut`. If there are `fixed` levels, each gap has its one. `chances` are
-    those of the lows up to the widest gap. `turned` has the chances of how far a low is below S, the farthest one
-    first: a row for each gap, or one for all if they are nested. `table` has, by level of a low in cells, the stock
-    costs, the unmet demand and the chance of no backlog of a period; its place `origin` is the highest low of the level
-    0. From the gap `even` on, sums follow from `evened`: rows with what the lows before `even` add to these three at
-    each level, as far as they have other chances than the last low, and rows with the sums of the table up to each.
+    `leasts` has the least feasible level of each gap, in items. If there are `fixed` levels, each gap has its one.
+    `chances` are those of the lows up to the widest gap. `turned` has the chances of how far a low is below S, the
+    farthest one first: a row for each gap, or one for all if they are nested. `table` has, by level of a low in cells,
+    the stock costs, the unmet demand and the chance of no backlog of a period. From the gap `even` on, sums follow from
+    `evened`: rows with what the lows before `even` add to these three at each level, as far as they have other chances
+    than the last low, and rows with the sums of the table up to each.
 
     A level is enough if the mean unmet demand is at most `allowed`, and the mean chance of no backlog at least `ratio`.
     `setup` is the cost of a cycle. If `is_pruned`, gaps are left out that cost more than `known`, or, if they are
     nested, than one before: see `long_run.py`. All but orders costs at least `base`, and `rise` more by cell, but for
     the first gap.
     """
-    width = turned.shape[1]
-    is_sought = len(fixed) == 0
     least_cost = table[0].min()
     limit = CLOSE * known
-    total = 0.0
-    due = 0.0
-    added = 0
-    place = 0
+    total = due = 0.0
+    added = place = 0
     levels = np.full(len(gaps), -1)
     costs = np.full(len(gaps), np.inf)
     for each, gap in enumerate(gaps):
@@ -152,27 +202,25 @@ def walked(gaps: Whole, leasts: Whole, fixed: Whole, chances: Floats, turned: Fl
         weights = turned[0 if is_nested else each]
         size = 1.0
         if is_nested:
-            weights = weights[width - gap - 1:]
+            weights = weights[len(weights) - gap - 1 :]
             size = total
         lows = Lows(table, evened, gap >= even, weights)
-        if is_sought:
-            first = origin - (-leasts[each] // step)
-            if is_nested:  # The least level that is enough does not fall from one gap to the next.
-                first = max(first, place)
-            first = min(first, table.shape[1] - 1)
-            place = least_place(lows, first, place, allowed * size, ratio * size)
-            level = (place - origin) * step
-            if step > 1:
-                share = spare_at(lows, place, allowed * size, ratio * size)
-                level -= min(int(min(step * share + NEAR, step - 1.0)), level - leasts[each])
-            level, cost = cheaper_of(lows, level, origin, step, multiple, leasts[each], top,
-                                     cut, allowed * size)
+        if len(fixed):
+            levels[each] = fixed[each]
+            cost = sum_between(lows, fixed[each] / bounds.step + bounds.origin, 0)
         else:
-            level = fixed[each]
-            cost = sum_between(lows, level / step + origin, 0)
-        levels[each] = level
+            # The least level that is enough does not fall from one nested gap to the next.
+            place, levels[each], cost = best_level(
+                lows,
+                bounds,
+                leasts[each],
+                place if is_nested else 0,
+                place,
+                allowed * size,
+                ratio * size,
+            )
         costs[each] = setup / total + cost / size
         limit = min(limit, CLOSE * costs[each])
-        if is_nested and is_sought and cost < np.inf and limit > least_cost:
+        if is_nested and not len(fixed) and cost < np.inf and limit > least_cost:
             due = total + max(0.0, setup + cost - total * limit) / (limit - least_cost)
     return levels, costs

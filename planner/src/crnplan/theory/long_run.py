@@ -1,9 +1,4 @@
-"""Computes what each (s,S) policy of a scenario costs in the long run, and searches for the cheapest.
-
-Let m be the longest lead time. All orders of the reviews up to period t have arrived in period t + m. So the stock at
-the end of that period follows from the position after the review of period t (`Walk`) and from what happens in the m
-periods after it: see `shortfalls.py`. With one lead time L, it is that position less the net demand of L + 1 periods
-(Zipkin, Foundations of Inventory Management, 2000, chapter 9).
+"""Searches for the (s,S) policy of a scenario that costs least in the long run.
 
 A search looks at all gaps S - s that may be best, unless these take too long. Let m(j) be the chance that the place j
 cells below S is a low of a cycle, and M(g) their sum up to the gap g. A policy with the gap g costs a period
@@ -34,38 +29,27 @@ from __future__ import annotations
 
 import copy
 import math
-from collections.abc import Callable, Iterable, Iterator, Sequence
+from collections.abc import Callable, Iterator, Sequence
 from functools import cached_property
 from typing import Any, NamedTuple
 
 import numpy as np
 
 from ..chances import Floats, Whole
-from ..scenario import Costs, Policy, Scenario
+from ..scenario import Costs, Scenario
 from .feasible import ALL, Feasible, Places
+from .figures import Figured
 from .grid import CLOSE, gap_grid, search
-from .levels import NEAR, walked
-from .shortfalls import Shortfalls, lateness, work_of
-from .walk import LatticeLaw, Surplus, Walk, convolved, figures_at, power_of, sum_of
+from .levels import NEAR, Bounds, walked
+from .shortfalls import work_of
+from .walk import convolved, power_of
 
 FEW = 4  # Of the gaps of a grid, one in so many is looked at for a first policy. So many are looked at without floors.
-MOST_CELLS = 50_000  # of tables with a row for each of many gaps
 MOST_WORK = 20_000_000  # for all gaps of a search with several lead times, by `work_of`
 MOST_WALKED = 1_000  # Up to so many lows, sums over them take less time than those of all levels at once.
 EVEN = 1e-10  # Chances that differ by no more than this share are taken as the same by a search, not for figures.
 MOST_LEVEL = 1 << 60
 NONE = np.empty(0, int)
-UNMET, STOCK_LEFT = 1, 3  # rows of `LongRun.figures_from`
-
-
-class Figures(NamedTuple):
-    """What a policy amounts to in a period of the long run: stock in items, `fill` and `short` as shares."""
-
-    cost: float
-    fill: float
-    short: float
-    stock: float
-    orders: float
 
 
 class Candidate(NamedTuple):
@@ -74,6 +58,10 @@ class Candidate(NamedTuple):
     cost: float
     point: int
     level: int
+
+    @property
+    def levels(self) -> tuple[int, int]:
+        return self.point, self.level
 
 
 NO_POLICY = Candidate(math.inf, 0, 0)
@@ -95,47 +83,44 @@ class Sought(NamedTuple):
     to_the_top: bool = False
 
 
+def evened(lows: Floats, table: Floats) -> tuple[Floats, int]:
+    """Returns the rows of sums of `walked`, and the place from which on lows have the same chance."""
+    if len(lows) < MOST_WALKED:
+        return table, len(lows)
+    low = lows[-1]
+    even = int(np.flatnonzero(np.append(True, abs(lows - low) > EVEN * low))[-1])
+    added = np.zeros_like(table[:3])
+    if even:
+        for row, figures in enumerate(table[:3]):
+            added[row] = convolved(lows[:even] - low, figures)[: len(figures)]
+    return np.concatenate([added, np.cumsum(table[:3], axis=1)]), even
+
+
 def place_of_least(costs: Floats, ratio: float = 1 + NEAR) -> int:
     """Returns the place of the least cost, the first one if others are equal but for rounding: up to a ratio."""
     return int((costs <= costs.min() * ratio).argmax())
 
 
-class LongRun(Walk):
+class LongRun(Figured):
     """The figures of a scenario's policies on a lattice, and searches for the cheapest of feasible ones, which look at
     all gaps that matter, unless these take too long."""
 
     # Whether a search looked at a grid of gaps alone. Else its policy is the best of all feasible pairs.
     is_searched = False
 
-    def __init__(self, scenario: Scenario, step: int, exact: bool, most: int, feasible: Feasible = ALL) -> None:
+    def __init__(
+        self,
+        scenario: Scenario,
+        step: int,
+        exact: bool,
+        most: int,
+        feasible: Feasible = ALL,
+    ) -> None:
         """Makes the laws of a scenario. `most` is the largest gap that a search looks at."""
         super().__init__(scenario, step, exact)
         self.feasible = feasible
         self.found = dict[float, Candidate]()
-        costs = scenario.costs
-        leads = scenario.lead.chances
-        self.setup = costs.setup
-        self.holding = costs.holding
-        self.backlog = costs.backlog
         self.most = most
-        self.shorts = dict[int, Floats]()
-        self.figured = dict[tuple[int, int], Figures]()
-        self.asked = self.demand.mean * step  # the mean demand of a period, in items
-        # How far the mean stock less the mean backlog is below the mean low, in items.
-        self.offset = step * (self.above_low.mean + self.net.mean * float(scenario.lead.mean + 1))
-        # What is independently lost of a stock before a period's net demand, and how many cells a gap's row in a table
-        # has beside those of the gap, about.
-        self.late, self.longest, under_way = lateness(leads), max(leads), power_of(self.net, min(leads))
-        self.above = len(self.late) * max(0, -self.net.low) - self.above_low.low
-        self.beside = self.above + max(self.net.high, power_of(self.net, len(self.late)).high)
-        self.has_one_lead = len(leads) == 1
-        if self.has_one_lead:
-            under_way = sum_of(under_way, self.above_low)
-            self.above = 0
-            self.beside = under_way.high
-        self.after = sum_of(under_way, self.net)
-        self.one_period = Surplus(self.after, step)
-        self.one_before = Surplus(sum_of(under_way, self.back.reflected), step)
 
     def within(self, feasible: Feasible) -> LongRun:
         """Returns the same theory with other feasible policies."""
@@ -175,47 +160,15 @@ class LongRun(Walk):
         """Returns the share of periods without backlog that is best for a newsvendor, but for rounding."""
         return self.backlog / (self.backlog + self.holding) * (1 - NEAR)
 
-    def figures_from(self, levels: Whole) -> Floats:
-        """Returns rows with stock costs, unmet demand, the chance of no backlog and the stock at the end of a period
-        that starts from lows at these levels, in items."""
-        return figures_at(levels, self.step, *self.one_period.sums, *self.one_before.sums, self.holding, self.backlog)
-
-    def lows_below(self, gaps: Sequence[int]) -> list[Floats]:
-        """Returns for each gap the chances of how far a low of `figures_from` is below S, from the cell -above on."""
-        if self.has_one_lead:
-            lows = self.lows_of(max(gaps))
-            return [lows[:gap + 1] / lows[:gap + 1].sum() for gap in gaps]
-        for some in self.parts(sorted({*gaps} - self.shorts.keys())):
-            self.keep(some, self.shortfalls.chances(some))
-        return [self.shorts[gap] for gap in gaps]
-
-    def rows_of(self, gaps: Whole) -> Floats:
-        """Returns what `lows_below` does, a row for each gap."""
-        lows = self.lows_below(gaps.tolist())
-        chances = np.zeros((len(lows), max(map(len, lows))))
-        for row, its in zip(chances, lows):
-            row[:len(its)] = its
-        return chances
-
-    def keep(self, gaps: Whole, rows: Floats) -> None:
-        """Keeps the chances of the shortfalls of some gaps."""
-        ends = rows.shape[1] - np.argmax(rows[:, ::-1] > 0, axis=1)
-        self.shorts.update((gap, row[:end]) for gap, row, end in zip(gaps.tolist(), rows, ends.tolist()))
-
-    @cached_property
-    def shortfalls(self) -> Shortfalls:
-        """Returns the shortfalls of the gaps, by which the stock before and after the demand of a period is known."""
-        return Shortfalls(self, self.late, self.above, self.beside, (self.one_before.law, self.one_period.law))
-
-    def below(self, gap: int) -> LatticeLaw:
-        """Returns the law of how far the stock at the end of a period is below S, in cells."""
-        lows, = self.lows_below([gap])
-        return sum_of(LatticeLaw.scaled(-self.above, lows), self.after)
-
     def widest(self, cost: float, lowest: int) -> int:
         """Returns the greatest gap of a policy with s of at least `lowest` that costs no more: see the module."""
         reach = CLOSE * cost / self.holding + self.offset  # of lows on average, at most
-        return int(min(self.feasible.widest // self.step, max(0, 2 * (reach - lowest) // self.step)))
+        return int(
+            min(
+                self.feasible.widest // self.step,
+                max(0, 2 * (reach - lowest) // self.step),
+            )
+        )
 
     def items(self, gap: Places) -> Places:
         """Returns S - s of a gap: see `Feasible.gap_in`."""
@@ -235,48 +188,14 @@ class LongRun(Walk):
         kept: Whole = gaps[self.is_gap(gaps) & (self.items(gaps) <= widest)]
         return kept
 
-    def gaps(self, first: int, most: int) -> list[int]:
-        """Returns these as a list."""
-        return [*map(int, self.every_gap(first, most))]
-
-    def grid(self) -> list[int]:
+    def grid(self) -> Whole:
         """Returns a few gaps that feasible policies may have, further apart as they grow; none if there are none."""
-        gaps = self.gaps(0, self.most)
-        return [gaps[place] for place in gap_grid(len(gaps) - 1)[::FEW]] if gaps else []
+        gaps = self.every_gap(0, self.most)
+        return gaps[gap_grid(len(gaps) - 1)[::FEW]] if len(gaps) else gaps
 
     def floor(self, gap: Places) -> Places:
         """Returns the least feasible level of a gap, in cells."""
         return -(-(self.items(gap) + self.feasible.least) // self.step)
-
-    def figures(self, point: int, level: int) -> Figures:
-        """Returns the figures of a policy; if the lattice is not exact, between those of the gaps beside its own."""
-        (gap, share), *others = self.gaps_of(point, level)
-        figures = self.figures_of_gap(gap, level)
-        for other, rest in others:
-            pairs = zip(figures, self.figures_of_gap(other, level))
-            figures = Figures(*(share * here + rest * there for here, there in pairs))
-        return figures
-
-    def pairs_of(self, policies: Iterable[Policy]) -> set[tuple[int, int]]:
-        """Returns the gaps, each with an order-up-to level, whose figures those of policies are means of."""
-        return {(gap, policy.S) for policy in policies for gap, _ in self.gaps_of(policy.s, policy.S)}
-
-    def figures_of_gap(self, gap: int, level: int) -> Figures:
-        """Returns the figures of a gap and an order-up-to level."""
-        self.figure({(gap, level)})
-        return self.figured[gap, level]
-
-    def figure(self, asked: set[tuple[int, int]]) -> None:
-        """Computes the figures of gaps, each with an order-up-to level: together they take less time."""
-        if not (new := sorted(asked - self.figured.keys())):
-            return
-        for (gap, level), row in zip(new, self.lows_below([gap for gap, _ in new])):
-            levels = level - self.step * np.arange(-self.above, len(row) - self.above)
-            table = self.figures_from(levels)
-            orders = 1 / self.periods(gap)
-            stock_cost, unmet, held, stock = (table @ row).tolist()
-            cost = self.setup * orders + stock_cost
-            self.figured[gap, level] = Figures(cost, 1 - unmet / self.asked, 1 - held, stock, orders)
 
     def policy(self, gap: int, level: int, point: int | None = None) -> Candidate:
         """Returns the policy of a gap with a level, and perhaps a point; none if it is not feasible."""
@@ -289,72 +208,88 @@ class LongRun(Walk):
         """Returns whether policies are feasible and have these gaps."""
         items = self.items(gap)
         span = level - point
-        is_of_gap = (items <= span) & (span < (gap + 1) * self.step) & (span <= self.feasible.most_gap)
+        is_of_gap = (
+            (items <= span)
+            & (span < (gap + 1) * self.step)
+            & (span <= self.feasible.most_gap)
+        )
         return is_of_gap & self.feasible.has(point, level)
 
     def allowed(self, share: float) -> float:
         """Returns how much demand of a period may not be met at once, in items, if this share is to be met."""
         return (1 - share) * self.asked * (1 + NEAR) if share else math.inf
 
-    def parts(self, gaps: Sequence[int] | Whole) -> Iterator[Whole]:
-        """Yields rising gaps in parts, whose tables are small. With one lead time all have one table."""
-        left = np.array(gaps, int)
-        while len(left):
-            cells = np.arange(1, len(left) + 1) * (self.beside + left)
-            count = len(left)
-            if not self.has_one_lead:
-                count = max(1, int(np.searchsorted(cells, MOST_CELLS, "right")))
-            yield left[:count]
-            left = left[count:]
-
-    def evened(self, lows: Floats, table: Floats, needed: Sequence[int]) -> tuple[Floats, int]:
-        """Returns the needed rows of sums of `walked`, and the place from which on lows have the same chance."""
-        if len(lows) < MOST_WALKED:
-            return table, len(lows)
-        low, rows = lows[-1], table[:3]
-        even = int(np.flatnonzero(np.append(True, abs(lows - low) > EVEN * low))[-1])
-        added = np.zeros_like(rows)
-        for row in needed if even else ():
-            added[row] = convolved(lows[:even] - low, rows[row])[:rows.shape[1]]
-        return np.concatenate([added, np.cumsum(rows, axis=1)]), even
-
-    def walk(self, gaps: Whole, leasts: Whole, fixed: Whole = NONE, *, allowed: float = math.inf, ratio: float = 0.0,
-             is_nested: bool = True, feasible: Feasible | None = None, cut: int = MOST_LEVEL, base: float = -math.inf,
-             known: float | None = None) -> Levels:
+    def walk(
+        self,
+        gaps: Whole,
+        leasts: Whole,
+        fixed: Whole = NONE,
+        *,
+        allowed: float = math.inf,
+        ratio: float = 0.0,
+        is_nested: bool = True,
+        feasible: Feasible | None = None,
+        cut: int = MOST_LEVEL,
+        base: float = -math.inf,
+        known: float | None = None,
+    ) -> Levels:
         """Returns the best or fixed levels of some rising gaps with what they cost: see `walked`. Nested gaps have the
         lows of one lead time. Any level is feasible if no bounds are given, and no gap is left out if no
         cost is known."""
         lows = self.lows_of(int(gaps[-1]))
-        above = 0
-        turned = lows[None, ::-1].copy()
-        if not is_nested:
-            turned = self.rows_of(gaps)[:, ::-1].copy()
-            above = self.above
+        above = 0 if is_nested else self.above
+        turned = (lows[None] if is_nested else self.rows_of(gaps))[:, ::-1].copy()
         width = turned.shape[1]
         # Levels are no less than their gaps, if these are nested and levels have bounds.
         origin = 2 if is_nested and feasible else width
-        top = max(int(self.floor(gaps[-1])), width - above + self.after.high) + 1  # With less, nothing is ever owed.
-        table = self.figures_from(self.step * np.arange(above - origin, above + top + 1))
-        evened, even = table, MOST_LEVEL
-        if is_nested:
-            needed = [0] if len(fixed) else [0, 2] if allowed == math.inf else [0, 1, 2]
-            evened, even = self.evened(lows, table, needed)
-        multiple, highest = (feasible.multiple, feasible.top) if feasible else (1, MOST_LEVEL)
-        return walked(gaps, leasts, fixed, lows, turned, table, evened, even, origin, self.step, multiple, highest,
-                      cut, self.setup / self.span, base, self.holding * self.step / 2, allowed, ratio,
-                      math.inf if known is None else known, is_nested, known is not None)
+        # With a level below the last one, nothing is ever owed.
+        last = max(int(self.floor(gaps[-1])), width - above + self.after.high) + 1
+        cells = np.arange(above - origin, above + last + 1)
+        table = self.figures_from(self.step * cells)
+        multiple, top = 1, MOST_LEVEL
+        if feasible:
+            multiple, top = feasible.multiple, feasible.top
+        return walked(
+            gaps,
+            leasts,
+            fixed,
+            lows,
+            turned,
+            table,
+            *(evened(lows, table) if is_nested else (table, MOST_LEVEL)),
+            Bounds(origin, self.step, multiple, top, cut),
+            self.setup / self.span,
+            base,
+            self.holding * self.step / 2,
+            allowed,
+            ratio,
+            math.inf if known is None else known,
+            is_nested,
+            known is not None,
+        )
 
-    def levels_with_fill(self, gaps: Sequence[int], shares: Sequence[float]) -> Iterator[tuple[int, list[int]]]:
+    def levels_with_fill(
+        self, gaps: Sequence[int], shares: Sequence[float]
+    ) -> Iterator[tuple[int, list[int]]]:
         """Yields rising gaps, each with the least levels, in items, that meet these shares of demand at once."""
         for some in self.parts(gaps):
-            levels = [self.walk(some, 0 * some, allowed=self.allowed(share), is_nested=self.has_one_lead)[0]
-                      for share in shares]
+            levels = [
+                self.walk(
+                    some,
+                    0 * some,
+                    allowed=self.allowed(share),
+                    is_nested=self.has_one_lead,
+                )[0]
+                for share in shares
+            ]
             yield from zip(some.tolist(), np.transpose(levels).tolist())
 
     def floors(self, share: float, gaps: Whole) -> Floats:
         """Returns what a policy that meets a share of demand at once costs at least, by some rising gaps: see the
         module."""
-        _, costs = self.walk(gaps, 0 * gaps, allowed=self.allowed(share), ratio=self.ratio)
+        _, costs = self.walk(
+            gaps, 0 * gaps, allowed=self.allowed(share), ratio=self.ratio
+        )
         return costs - self.holding * self.step * self.net.mean * float(self.late.sum())
 
     def first_gap(self, cost: float, most: int) -> int:
@@ -387,15 +322,25 @@ class LongRun(Walk):
         base = self.holding * (sought.lowest - self.offset)
         start = 0
         for some in self.parts(gaps[looked]):
-            here = looked[start:start + len(some)]
+            here = looked[start : start + len(some)]
             start += len(some)
             levels[here], costs[here] = self.walk(
-                some, self.items(some) + self.feasible.least, fixed[here] if len(fixed) else NONE,
-                allowed=self.allowed(sought.share), ratio=self.ratio, is_nested=self.has_one_lead,
-                feasible=self.feasible, cut=cut, base=base, known=known)
+                some,
+                self.items(some) + self.feasible.least,
+                fixed[here] if len(fixed) else NONE,
+                allowed=self.allowed(sought.share),
+                ratio=self.ratio,
+                is_nested=self.has_one_lead,
+                feasible=self.feasible,
+                cut=cut,
+                base=base,
+                known=known,
+            )
         return levels, costs
 
-    def least_of(self, gaps: Whole, sought: Sought, known: float = math.inf) -> Candidate:
+    def least_of(
+        self, gaps: Whole, sought: Sought, known: float = math.inf
+    ) -> Candidate:
         """Returns the cheapest of `levels_of`, with its gap in place of the reorder point."""
         if not len(gaps):
             return NO_POLICY
@@ -411,23 +356,30 @@ class LongRun(Walk):
         usual = min(self.most, round(self.usual_gap))
         most = self.most
         known = NO_POLICY
-        for some in (self.gaps(usual, usual) or grid[-1:], grid):
+        first = self.every_gap(usual, usual)
+        for gaps in (first if len(first) else grid[-1:], grid):
             if known.cost == math.inf or not self.has_one_lead:
-                gaps = np.array([gap for gap in some if gap <= most], int)
-                known = min(known, self.least_of(gaps, sought, known.cost))
+                few = self.least_of(gaps[gaps <= most], sought, known.cost)
+                known = min(known, few)
                 if known.cost < math.inf:
                     most = self.widest(known.cost, sought.lowest)
         if known.cost == math.inf:
             return NO_POLICY
         if not sought.fixed:
-            sought = sought._replace(lowest=max(sought.lowest, self.lowest_point(known.cost)))
+            sought = sought._replace(
+                lowest=max(sought.lowest, self.lowest_point(known.cost))
+            )
         most = self.widest(known.cost, sought.lowest)
-        work = (most + 1) * work_of(power_of(self.net, self.longest).high + most, self.longest)
+        work = (most + 1) * work_of(
+            power_of(self.net, self.longest).high + most, self.longest
+        )
         if work > MOST_WORK and not self.has_one_lead:
             self.is_searched = True
             return self.searched(sought, known.cost, most)
         gaps = self.every_gap(self.first_gap(known.cost, most), most)
-        found = self.least_of(gaps, sought._replace(to_the_top=self.has_one_lead), known.cost)
+        found = self.least_of(
+            gaps, sought._replace(to_the_top=self.has_one_lead), known.cost
+        )
         return found if found.cost <= CLOSE * known.cost else known
 
     def searched(self, sought: Sought, known: float, most: int) -> Candidate:
@@ -440,6 +392,7 @@ class LongRun(Walk):
             levels, costs = self.levels_of(gaps[gaps <= most], sought, known)
             policies = [*map(Candidate, costs.tolist(), gaps.tolist(), levels.tolist())]
             return policies + [NO_POLICY] * (len(gaps) - len(policies))
+
         return search(policies_of, len(every) - 1)
 
     def best(self, share: float = 0.0) -> Candidate:
@@ -451,12 +404,18 @@ class LongRun(Walk):
                 point = free.level - self.items(self.gap_of(free.point, free.level))
                 self.found[share] = free._replace(point=point)
             else:
-                self.found[share] = self.at_gap(self.cheapest(Sought(share, lowest=self.feasible.least)))
+                self.found[share] = self.at_gap(
+                    self.cheapest(Sought(share, lowest=self.feasible.least))
+                )
         return self.found[share]
 
     def at_gap(self, found: Candidate, point: int | None = None) -> Candidate:
         """Returns the policy of what a search has found, and perhaps a point."""
-        return self.policy(found.point, found.level, point) if found.cost < math.inf else NO_POLICY
+        return (
+            self.policy(found.point, found.level, point)
+            if found.cost < math.inf
+            else NO_POLICY
+        )
 
     def cheapest_of_gaps(self, gaps: Sequence[int], share: float) -> Candidate:
         """Returns the cheapest feasible policy of rising gaps that meets a share of demand at once."""
@@ -475,7 +434,11 @@ class LongRun(Walk):
         """
         rests = sorted({0, -point % self.step, self.step - 1}) if self.exact else [0]
         most_less = self.feasible.multiple - 1
-        found = [self.best_with_rest(point, rest, less) for rest in rests for less in sorted({0, most_less})]
+        found = [
+            self.best_with_rest(point, rest, less)
+            for rest in rests
+            for less in sorted({0, most_less})
+        ]
         top = self.feasible.top_of(point)
         if len(rests) > 1 and top < ALL.most_level:
             found.append(self.policy(self.gap_of(point, top), top, point))
@@ -484,15 +447,21 @@ class LongRun(Walk):
     def best_with_rest(self, point: int, rest: int, less: int) -> Candidate:
         """Returns the cheapest feasible policy with a reorder point and a rest of S. If that S is not feasible, it is
         the first from there on, or from so many items less on."""
+
         def fixed(gaps: Whole) -> tuple[Whole, Whole]:
             spans: Whole = self.items(gaps)
             if self.exact:
-                spans = np.maximum(spans, self.feasible.gap(gaps * self.step + rest - less))
+                spans = np.maximum(
+                    spans, self.feasible.gap(gaps * self.step + rest - less)
+                )
             return np.full(len(gaps), point), point + spans
+
         return self.at_gap(self.cheapest(Sought(lowest=point, fixed=fixed)), point)
 
     def best_with_level(self, level: int) -> Candidate:
         """Returns the cheapest feasible policy with an order-up-to level."""
+
         def fixed(gaps: Whole) -> tuple[Whole, Whole]:
             return level - self.items(gaps), np.full(len(gaps), level)
+
         return self.at_gap(self.cheapest(Sought(fixed=fixed)))

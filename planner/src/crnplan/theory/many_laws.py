@@ -26,8 +26,8 @@ from ..law import Law
 from ..scenario import Policy, Scenario
 from .feasible import ALL, Feasible
 from .lattice import NoTheory, Shape, finest, shape_of, theory_on
-from .long_run import NO_POLICY, Candidate, Figures, LongRun, Sought, place_of_least
-from .shortfalls import falling_under, transforms_of
+from .long_run import NO_POLICY, Candidate, LongRun, Sought, place_of_least
+from .shortfalls import chances_of, demands_of, falling, transforms_of
 from .walk import Walk, room_for
 
 DEVIATIONS = 8  # of the net demand of the lead time, which have room
@@ -46,7 +46,9 @@ CHECKED = 3  # laws on a coarse lattice that are computed again on one twice as 
 CONFIDENCE = 0.8
 FACTORS = tuple(1.1**power for power in range(-5, 7))  # of the gap without a promise
 FEWER = (0.0, 0.125, 0.25, 0.5)  # further factors if S has a bound
-BESIDE = 8  # laws on each side of the confidence's place that are looked at for other gaps
+BESIDE = (
+    8  # laws on each side of the confidence's place that are looked at for other gaps
+)
 MOST_LEVELS = 1_500  # cells, with one lead time, in the mean of the laws
 MOST_LATE_WORK = 60_000  # for late orders with a gap, by `work_of`, in the mean
 
@@ -69,7 +71,9 @@ class LawFigures:
     error: float | None
 
 
-def under_laws(scenario: Scenario, laws: Iterable[tuple[Law, Law]]) -> Iterator[tuple[Scenario, Shape | None]]:
+def under_laws(
+    scenario: Scenario, laws: Iterable[tuple[Law, Law]]
+) -> Iterator[tuple[Scenario, Shape | None]]:
     """Yields the scenario under each law of demand and of lead times, with its shape: None if there is nothing to order
     in the long run."""
     for demand, lead in laws:
@@ -80,10 +84,16 @@ def under_laws(scenario: Scenario, laws: Iterable[tuple[Law, Law]]) -> Iterator[
         yield own, shape
 
 
-def run_of(scenario: Scenario, shape: Shape, widest: int, feasible: Feasible = ALL, made: LongRun | None = None
-           ) -> LongRun | None:
+def run_of(
+    scenario: Scenario,
+    shape: Shape,
+    widest: int,
+    feasible: Feasible = ALL,
+    made: LongRun | None = None,
+) -> LongRun | None:
     """Returns the long run of a scenario on the finest lattice that is computed in time for gaps up to so many items;
-    None if its numbers are too far apart for that. It is the one `made` with other costs if that has this lattice."""
+    None if its numbers are too far apart for that. It is the one `made` with other costs if that has this lattice.
+    """
     periods = shape.lead + 1
     last = shape.lead if shape.leads > 1 else 0
     of_cell = OF_CELL + OF_PERIOD * last + OF_PAIR * last * periods / 2
@@ -96,10 +106,19 @@ def run_of(scenario: Scenario, shape: Shape, widest: int, feasible: Feasible = A
         walk = made if made and is_made else Walk(scenario, step, exact)
         net = walk.net
         above = -walk.above_low.low + shape.lead * max(0, -net.low) + walk.back.high
-        likely = periods * net.mean + DEVIATIONS * math.sqrt(periods * net.variance) + net.high
+        likely = (
+            periods * net.mean
+            + DEVIATIONS * math.sqrt(periods * net.variance)
+            + net.high
+        )
         gap = -(-widest // step)
-        return room_for(above + gap + int(min(periods * net.high, likely)) + 3) / allowed
-    step = finest(shape.base, max(shape.high, shape.order), excess, lambda size: 0.8 * size)
+        return (
+            room_for(above + gap + int(min(periods * net.high, likely)) + 3) / allowed
+        )
+
+    step = finest(
+        shape.base, max(shape.high, shape.order), excess, lambda size: 0.8 * size
+    )
     if step is None:
         return None
     return theory_on(scenario, shape, step, step == shape.base, feasible, made)
@@ -115,24 +134,23 @@ def compute_shortfalls(asked: Iterable[tuple[LongRun, Iterable[int]]]) -> None:
             alike[len(theory.late)].append((theory, new))
     for pairs in alike.values():
         for first in range(0, len(pairs), TOGETHER):
-            keep_shortfalls(pairs[first:first + TOGETHER])
+            keep_shortfalls(pairs[first : first + TOGETHER])
 
 
 def keep_shortfalls(pairs: Sequence[tuple[LongRun, list[int]]]) -> None:
     """Computes the shortfalls of rising gaps under each of some laws whose orders are late for equally long at most."""
-    theories, gaps = zip(*pairs)
-    room = room_for(1 + max(own[-1] + theory.beside for theory, own in pairs))
-    cycles = np.zeros((len(pairs), room))
-    for row, (theory, own) in zip(cycles, pairs):
-        row[:own[-1] + 1] = theory.span * theory.lows_of(own[-1])
-    moves = transforms_of([theory.net for theory in theories], room)
-    late = np.transpose([theory.late for theory in theories])
-    laws = np.repeat(np.arange(len(pairs)), [*map(len, gaps)])
-    rows = falling_under(cycles, moves, late, laws, np.concatenate(gaps))
-    start = 0
-    for theory, own in pairs:
-        theory.keep(np.array(own), rows[start:start + len(own)])
-        start += len(own)
+    room = room_for(1 + max(gaps[-1] + theory.beside for theory, gaps in pairs))
+    moves = transforms_of([theory.net for theory, _ in pairs], room)
+    demands = demands_of(moves, len(pairs[0][0].late), room)
+    rows = []
+    for place, (theory, gaps) in enumerate(pairs):
+        cycle = theory.span * theory.lows_of(gaps[-1])
+        words = demands[:, place], np.array(gaps), moves[place], theory.late
+        rows.append(falling(cycle, *words))
+    chances = chances_of(np.concatenate(rows), room)
+    for theory, gaps in pairs:
+        theory.keep(np.array(gaps), chances[: len(gaps)])
+        chances = chances[len(gaps) :]
 
 
 class Narrowing:
@@ -141,7 +159,7 @@ class Narrowing:
 
     def __init__(self, theory: LongRun, most: int) -> None:
         self.theory = theory
-        self.allowed = theory.gaps(0, most)
+        self.allowed = theory.every_gap(0, most).tolist()
         self.least = math.nan
         self.places = list[int]()
         self.low = 0
@@ -151,7 +169,9 @@ class Narrowing:
         """Returns the gaps that are looked at next, about so many; none if no gap is allowed."""
         if self.allowed:
             power = 2 if self.high == len(self.allowed) - 1 else 1
-            places = self.low + (self.high - self.low) * np.linspace(0, 1, count)**power
+            places = (
+                self.low + (self.high - self.low) * np.linspace(0, 1, count) ** power
+            )
             self.places = np.unique(np.rint(places).astype(int)).tolist()
         return [self.allowed[place] for place in self.places]
 
@@ -168,8 +188,7 @@ class Narrowing:
 
 
 def least_costs(asked: Iterable[tuple[LongRun, int]]) -> list[float]:
-    """Returns the least cost of a feasible policy under each of some laws with a gap up to the most: see `Narrowing`.
-    """
+    """Returns the least cost of a feasible policy under each of some laws with a gap up to the most: see `Narrowing`."""
     searches = [Narrowing(theory, most) for theory, most in asked]
     for count in GAPS:
         rounds = [(search, search.gaps(count)) for search in searches]
@@ -177,6 +196,11 @@ def least_costs(asked: Iterable[tuple[LongRun, int]]) -> list[float]:
         for search, gaps in rounds:
             search.look(gaps)
     return [search.least for search in searches]
+
+
+def costs_of(theory: LongRun, policies: Sequence[Policy]) -> list[float]:
+    """Returns the costs of policies."""
+    return [theory.figures(policy.s, policy.S).cost for policy in policies]
 
 
 class OwnRun(NamedTuple):
@@ -194,19 +218,21 @@ class OwnRun(NamedTuple):
         is_long = self.shape.leads > 1 and self.shape.lead > LONG_LEAD
         return -1 if is_long else -(-self.widest // self.theory.step) + 1
 
-    def figures(self, policies: Sequence[Policy]) -> list[Figures]:
-        """Returns the figures of policies."""
-        return [self.theory.figures(policy.s, policy.S) for policy in policies]
-
-    def error(self, policies: Sequence[Policy], figures: Sequence[Figures]) -> float:
+    def error(self, policies: Sequence[Policy]) -> float:
         """Returns how far the costs of policies are at most from those on a lattice twice as coarse, as a share."""
         coarse = theory_on(self.scenario, self.shape, 2 * self.theory.step, False)
-        costs = [coarse.figures(policy.s, policy.S).cost for policy in policies]
-        return max(abs(cost / known.cost - 1) for cost, known in zip(costs, figures))
+        rough = np.array(costs_of(coarse, policies))
+        ratios = rough / costs_of(self.theory, policies)
+        return float(np.abs(ratios - 1).max())
 
 
-def own_runs(scenario: Scenario, laws: Sequence[tuple[Law, Law]], given: int, feasible: Feasible,
-             made: Mapping[int, LongRun]) -> Iterator[OwnRun]:
+def own_runs(
+    scenario: Scenario,
+    laws: Sequence[tuple[Law, Law]],
+    given: int,
+    feasible: Feasible,
+    made: Mapping[int, LongRun],
+) -> Iterator[OwnRun]:
     """Yields the long run of each law that has one on a lattice, for gaps up to the given one and to wide ones."""
     for place, (own, shape) in enumerate(under_laws(scenario, laws)):
         if shape is None:
@@ -217,29 +243,42 @@ def own_runs(scenario: Scenario, laws: Sequence[tuple[Law, Law]], given: int, fe
             yield OwnRun(place, own, shape, widest, theory)
 
 
-def figures_of_laws(scenario: Scenario, laws: Sequence[tuple[Law, Law]], policies: Sequence[Policy],
-                    feasible: Feasible = ALL, made: Mapping[int, LongRun] = {}) -> LawFigures:
+def figures_of_laws(
+    scenario: Scenario,
+    laws: Sequence[tuple[Law, Law]],
+    policies: Sequence[Policy],
+    feasible: Feasible = ALL,
+    made: Mapping[int, LongRun] = {},
+) -> LawFigures:
     """Returns the figures of policies under laws, each of demand and of lead times; all else is the scenario's. Each
     law's own best policy is a feasible one. `made` may have long runs under some laws, by their places: see `Promises`.
 
     A lattice is as fine as `MOST_WORK` allows. Raises NoTheory if the scenario has no best policy.
     """
     shape_of(scenario)
-    runs = [*own_runs(scenario, laws, max(policy.S - policy.s for policy in policies), feasible, made)]
+    widest = max(policy.S - policy.s for policy in policies)
+    runs = [*own_runs(scenario, laws, widest, feasible, made)]
     if not runs:
-        raise NoTheory("no law of demand has a long run: as much comes back as is asked for", "demand")
+        raise NoTheory(
+            "no law of demand has a long run: as much comes back as is asked for",
+            "demand",
+        )
     asked = [(run.theory, run.theory.pairs_of(policies)) for run in runs]
     compute_shortfalls((theory, (gap for gap, _ in pairs)) for theory, pairs in asked)
+    figures = []
     for theory, pairs in asked:
         theory.figure(pairs)
-    figures = [run.figures(policies) for run in runs]
-    coarse = [(run, own) for run, own in zip(runs, figures) if not run.theory.exact]
-    errors = [run.error(policies, own) for run, own in coarse[:CHECKED]]
+        figures.append([theory.figures(policy.s, policy.S) for policy in policies])
     table = np.array(figures)
-    least = least_costs((run.theory, run.most) for run in runs)
-    step = max(run.theory.step for run in runs)
-    return LawFigures(tuple(run.place for run in runs), table[..., 0], table[..., 1], np.array(least), step,
-                      max(errors, default=None))
+    rough = [run for run in runs if not run.theory.exact]
+    return LawFigures(
+        tuple(run.place for run in runs),
+        table[..., 0],
+        table[..., 1],
+        np.array(least_costs((run.theory, run.most) for run in runs)),
+        max(run.theory.step for run in runs),
+        max((run.error(policies) for run in rough[:CHECKED]), default=None),
+    )
 
 
 class Promises:
@@ -249,22 +288,38 @@ class Promises:
     counted in steps of `step` items, exact but for rounding if `exact` says so.
     """
 
-    def __init__(self, scenario: Scenario, theory: LongRun, gap: int, laws: Sequence[Law], leads: Sequence[Law],
-                 shares: Sequence[float], confidence: float = CONFIDENCE) -> None:
+    def __init__(
+        self,
+        scenario: Scenario,
+        theory: LongRun,
+        gap: int,
+        laws: Sequence[Law],
+        leads: Sequence[Law],
+        shares: Sequence[float],
+        confidence: float = CONFIDENCE,
+    ) -> None:
         """Takes laws of demand and, perhaps, as many of lead times, which belong together one by one.
 
         `theory` is that of the scenario, and `gap` that of a good policy, in its cells. Raises Refused if there is no
         law, if the numbers differ, or if the confidence is not above 0 and at most 1.
         """
         if not laws or len(leads) not in (0, len(laws)):
-            raise Refused(f"there are {len(laws)} laws of demand and {len(leads)} of lead times; give as many of both")
+            raise Refused(
+                f"there are {len(laws)} laws of demand and {len(leads)} of lead times; give as many of both"
+            )
         if not 0 < confidence <= 1:
-            raise Refused(f"the confidence is {confidence:g}; it is above 0, and at most 1")
+            raise Refused(
+                f"the confidence is {confidence:g}; it is above 0, and at most 1"
+            )
         self.theory = theory
         self.shares = shares
         self.confidence = confidence
-        scenarios = [*under_laws(scenario, zip(laws, leads or [scenario.lead] * len(laws)))]
-        self.step = self.step_for([shape for _, shape in scenarios if shape], gap * theory.step)
+        scenarios = [
+            *under_laws(scenario, zip(laws, leads or [scenario.lead] * len(laws)))
+        ]
+        self.step = self.step_for(
+            [shape for _, shape in scenarios if shape], gap * theory.step
+        )
         self.exact = theory.exact and self.step == theory.step
         self.made = dict[int, LongRun]()
         for place, (own, shape) in enumerate(scenarios):
@@ -276,6 +331,7 @@ class Promises:
 
     def step_for(self, shapes: Sequence[Shape], span: int) -> int:
         """Returns the finest step on which levels for S - s of a span of items are found in time."""
+
         def time_of(shape: Shape, step: int) -> float:
             if shape.leads == 1:
                 return shape.level / step / MOST_LEVELS
@@ -284,18 +340,27 @@ class Promises:
         def excess(step: int) -> float:
             """Returns by how many times it takes too long to find levels, in the mean of the laws."""
             return sum(time_of(shape, step) for shape in shapes) / max(len(shapes), 1)
-        return finest(self.theory.step, math.inf, excess, lambda excess: 1) or self.theory.step
+
+        return (
+            finest(self.theory.step, math.inf, excess, lambda excess: 1)
+            or self.theory.step
+        )
 
     def prepare(self, laws: Sequence[int], gaps: Sequence[int]) -> None:
         """Computes the levels of rising gaps under some laws at once, which is faster than one by one."""
-        asked = [(law, [gap for gap in gaps if (law, gap) not in self.levels]) for law in laws]
+        asked = [
+            (law, [gap for gap in gaps if (law, gap) not in self.levels])
+            for law in laws
+        ]
         asked = [(law, new) for law, new in asked if new]
         compute_shortfalls((self.theories[law], new) for law, new in asked)
         for law, new in asked:
             for gap, levels in self.theories[law].levels_with_fill(new, self.shares):
                 self.levels[law, gap] = dict(zip(self.shares, levels))
 
-    def level_at(self, place: int, laws: Sequence[int], gap: int, share: float) -> float:
+    def level_at(
+        self, place: int, laws: Sequence[int], gap: int, share: float
+    ) -> float:
         """Returns the level at a place in the order of the least S of a gap under some laws, by their numbers. It is
         infinite beyond them: the others have no long run."""
         self.prepare(laws, [gap])
@@ -303,8 +368,7 @@ class Promises:
         return levels[place] if place < len(levels) else math.inf
 
     def policy(self, gap: int, level: float, share: float) -> Candidate:
-        """Returns the cheapest feasible policy of a gap with S of at least a level that meets a share by the own law.
-        """
+        """Returns the cheapest feasible policy of a gap with S of at least a level that meets a share by the own law."""
         feasible = self.theory.feasible
         own = self.theory.gap_of(0, feasible.gap_in(gap, self.step, self.exact))
         least = self.theory.cheapest_of_gaps([own], share)
@@ -317,12 +381,18 @@ class Promises:
     @property
     def place(self) -> int:
         """Returns how many laws, in the order of the least S that they allow, come before the one that decides."""
-        return max(0, math.ceil(self.confidence * (len(self.theories) + self.lacking) - 1e-9) - 1)
+        return max(
+            0,
+            math.ceil(self.confidence * (len(self.theories) + self.lacking) - 1e-9) - 1,
+        )
 
     def keeps(self, point: int, level: int, share: float) -> bool:
         """Returns whether a policy meets a share under enough laws."""
         laws = range(len(self.theories))
-        return self.level_at(self.place, laws, (level - point) // self.step, share) <= level
+        return (
+            self.level_at(self.place, laws, (level - point) // self.step, share)
+            <= level
+        )
 
     def cheapest(self, plain: Candidate, share: float) -> Candidate:
         """Returns the cheapest feasible policy found that meets a share under enough laws. `plain` is the one by the
@@ -334,14 +404,20 @@ class Promises:
         first = (plain.level - plain.point) // self.step
         low = max(0, place - BESIDE)
         self.prepare(laws, [first])
-        near = sorted(laws, key=lambda law: self.levels[law, first][share])[low:place + BESIDE + 1]
+        near = sorted(laws, key=lambda law: self.levels[law, first][share])[
+            low : place + BESIDE + 1
+        ]
         others = self.others(first)
         self.prepare(near, others)
 
         def near_policy(gap: int) -> Candidate:
             return self.policy(gap, self.level_at(place - low, near, gap, share), share)
+
         best = min(others, key=near_policy, default=first)
-        return min(self.policy(gap, self.level_at(place, laws, gap, share), share) for gap in (first, best))
+        return min(
+            self.policy(gap, self.level_at(place, laws, gap, share), share)
+            for gap in (first, best)
+        )
 
     def others(self, first: int) -> list[int]:
         """Returns the gaps around one that are looked at too."""

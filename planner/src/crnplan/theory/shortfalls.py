@@ -35,7 +35,7 @@ import numpy as np
 import numpy.typing as npt
 from scipy import fft
 
-from ..chances import Floats, Whole
+from ..chances import Floats, Whole, add_times
 from ..compiled import compiled
 from .walk import LatticeLaw, Walk, room_for
 
@@ -63,7 +63,14 @@ def chances_of(transforms: Transforms, room: int) -> Floats:
     return rows
 
 
-def waiting(begun: Transforms, gaps: Whole, move: Transforms, reviews: int, room: int, above: int) -> Transforms:
+def waiting(
+    begun: Transforms,
+    gaps: Whole,
+    move: Transforms,
+    reviews: int,
+    room: int,
+    above: int,
+) -> Transforms:
     """Returns the part K of some laws that no order has left, as transforms: a table for each law of the position's
     depth below S, with rows by review from 0 on, and in each row one for each gap.
 
@@ -94,7 +101,7 @@ def renewed(kept: Transforms, move: Transforms, late: Floats) -> list[Transforms
         placed.append(kept[:, time - 1] * move - kept[:, time])
         tables = slice(0, -1) if time < len(late) else slice(-1, None)
         total = kept[tables, time].copy()
-        for orders, share, left in zip(placed, late[time - 1::-1], reversed(solved)):
+        for orders, share, left in zip(placed, late[time - 1 :: -1], reversed(solved)):
             amount = share * orders[tables]
             amount += (1 - share) * orders[tables, ..., :1]
             amount *= left
@@ -104,87 +111,68 @@ def renewed(kept: Transforms, move: Transforms, late: Floats) -> list[Transforms
     return shortfalls
 
 
-def lasting(kept: Transforms, move: Transforms, late: Floats) -> Transforms:
-    """Returns the shortfall in the long run times the reviews of a cycle, for each of some gaps. `kept` has a row with
-    C, and one for each of K(1), K(2), .. of fewer reviews than an order may be late."""
-    waits = np.concatenate([np.ones_like(kept[:1]), kept[1:]])
-    shortfalls = [waits[0], *(laws[0] for laws in renewed(np.stack([waits, waits]), move, late[:-1]))]
-    under_way = sum(share * shortfall for share, shortfall in zip(late, shortfalls))
-    last: Transforms = kept[0] * (1 + (move - 1) * under_way)
-    return last
-
-
 @compiled
 def grow(kept: Floats, free: Floats, roots: Transforms, cells: Sequence[int]) -> bool:
     """Adds to `kept` what `free` has in some cells, and returns whether that is more than a part of C."""
     root = np.empty_like(kept[0])
-    width = kept.shape[2]
     is_more = False
     for cell in cells:
         turn = 0
-        k = 0
-        while k < width:
+        for k in range(kept.shape[2]):
             root[0, k] = roots[turn].real
             root[1, k] = roots[turn].imag
-            turn = turn + cell
-            k = k + 1
+            turn += cell
             if turn >= len(roots):
                 turn -= len(roots)
         for row in np.flatnonzero(free[:, cell]):
-            its = kept[row]
-            share = free[row, cell]
-            k = 0
-            while k < width:
-                its[0, k] += share * root[0, k]
-                its[1, k] += share * root[1, k]
-                k += 1
+            add_times(kept[row, 0], root[0], free[row, cell])
+            add_times(kept[row, 1], root[1], free[row, cell])
             is_more = is_more or row > 0
     return is_more
 
 
 @compiled
+def add_product(total: Floats, left: Floats, right: Floats) -> None:
+    """Adds a product of complex numbers: each argument has a row with real parts and one with imaginary parts. Numba
+    makes fast code of a loop over each row."""
+    for k in range(total.shape[1]):
+        total[0, k] += left[0, k] * right[0, k] - left[1, k] * right[1, k]
+    for k in range(total.shape[1]):
+        total[1, k] += left[0, k] * right[1, k] + left[1, k] * right[0, k]
+
+
+@compiled
+def add_orders(law: Floats, orders: Floats, left: Floats, share: float) -> None:
+    """Adds to a law what a review's orders add, by what is left after them and the share of them that is late."""
+    sure = (1 - share) * orders[0, 0]
+    for k in range(law.shape[1]):
+        in_time = share * orders[0, k] + sure
+        law[0, k] += in_time * left[0, k] - share * orders[1, k] * left[1, k]
+    for k in range(law.shape[1]):
+        in_time = share * orders[0, k] + sure
+        law[1, k] += in_time * left[1, k] + share * orders[1, k] * left[0, k]
+
+
+@compiled
 def solved_for(kept: Floats, moves: Floats, late: Floats) -> Floats:
     """Returns R(1), R(2), .. of a gap, from row 1 on: numbers as rows with their real and imaginary parts. `kept` has
-    rows with C, K(1), K(2), .., and `moves` is z. Numba makes fast code of `while` and of few arrays in a loop."""
-    placed = np.empty_like(kept)
-    solved = np.empty_like(kept)
-    start = np.zeros_like(moves)
-    width = moves.shape[1]
-    start[0] = 1.0
+    rows with C, K(1), K(2), .., and `moves` is z."""
+    placed = -kept
+    solved = kept.copy()
+    before = np.zeros_like(moves)
+    before[0] = 1.0
     for time in range(1, len(late)):
-        before = kept[time - 1] if time > 1 else start
-        here = kept[time]
         orders = placed[time]
         law = solved[time]
-        k = 0
-        while k < width:
-            orders[0, k] = before[0, k] * moves[0, k] - before[1, k] * moves[1, k] - here[0, k]
-            k += 1
-        k = 0
-        while k < width:
-            orders[1, k] = before[0, k] * moves[1, k] + before[1, k] * moves[0, k] - here[1, k]
-            k += 1
-        k = 0
+        add_product(orders, before, moves)
+        before = kept[time]
         sure = (1 - late[0]) * orders[0, 0]
-        while k < width:
-            law[0, k] = here[0, k] + late[0] * orders[0, k] + sure
-            law[1, k] = here[1, k] + late[0] * orders[1, k]
-            k += 1
+        for k in range(moves.shape[1]):
+            law[0, k] = law[0, k] + late[0] * orders[0, k] + sure
+        add_times(law[1], orders[1], late[0])
         for ago in range(1, time):
-            first = placed[ago]
-            rest = solved[time - ago]
-            share = late[time - ago]
-            k = 0
-            if first[0, 0] <= LEAST_CHANCE:
-                continue
-            sure = (1 - share) * first[0, 0]
-            while k < width:
-                law[0, k] += (share * first[0, k] + sure) * rest[0, k] - share * first[1, k] * rest[1, k]
-                k += 1
-            k = 0
-            while k < width:
-                law[1, k] += (share * first[0, k] + sure) * rest[1, k] + share * first[1, k] * rest[0, k]
-                k += 1
+            if placed[ago, 0, 0] > LEAST_CHANCE:
+                add_orders(law, placed[ago], solved[time - ago], late[time - ago])
     return solved
 
 
@@ -192,66 +180,62 @@ def solved_for(kept: Floats, moves: Floats, late: Floats) -> Floats:
 def left_by(solved: Floats, moves: Floats, late: Floats) -> Floats:
     """Returns by what C is multiplied in the module's last equation, from what `solved_for` returns."""
     under_way = np.zeros_like(moves)
-    left = np.empty_like(moves)
-    width = moves.shape[1]
     under_way[0] = late[0]
     for time in range(1, len(late)):
-        law = solved[time]
-        k = 0
-        while k < width:
-            under_way[0, k] += late[time] * law[0, k]
-            under_way[1, k] += late[time] * law[1, k]
-            k += 1
-    k = 0
-    while k < width:
-        left[0, k] = 1.0 - under_way[0, k] + (moves[0, k] * under_way[0, k] - moves[1, k] * under_way[1, k])
-        left[1, k] = 0.0 - under_way[1, k] + (moves[0, k] * under_way[1, k] + moves[1, k] * under_way[0, k])
-        k += 1
+        add_times(under_way[0], solved[time, 0], late[time])
+        add_times(under_way[1], solved[time, 1], late[time])
+    left = -under_way
+    left[0] += 1.0
+    add_product(left, moves, under_way)
     return left
 
 
 @compiled
-def last_shortfalls(cycles: Transforms, waits: Transforms, is_far: Truths, free: Floats, gaps: Whole,
-                    roots: Transforms, move: Transforms, late: Floats) -> Transforms:
-    """Returns a row for each of some rising gaps: what `lasting` returns.
+def set_parts(row: Floats, numbers: Transforms) -> None:
+    """Sets the real and the imaginary parts of complex numbers."""
+    for k in range(len(numbers)):
+        row[0, k] = numbers[k].real
+        row[1, k] = numbers[k].imag
 
-    `cycles` and `waits` have the rows that it takes for each gap that `is_far`, the first row and all others; the last
-    of `waits` is that of all further gaps. For other gaps these are the transforms, by some roots of unity, of `free`
-    up to the gap.
+
+@compiled
+def last_shortfalls(
+    cycles: Transforms,
+    waits: Transforms,
+    is_far: Truths,
+    free: Floats,
+    gaps: Whole,
+    roots: Transforms,
+    move: Transforms,
+    late: Floats,
+) -> Transforms:
+    """Returns the shortfall in the long run times the reviews of a cycle, a row for each of some rising gaps.
+
+    For each gap that `is_far`, `cycles` has C, and `waits` a row for each of K(1), K(2), .. of fewer reviews than an
+    order may be late; the last of `waits` is that of all further gaps. For other gaps these are the transforms, by some
+    roots of unity, of `free` up to the gap.
     """
-    reviews = len(late)
-    width = len(move)
     far = 0
     last = 0
-    kept = np.empty((reviews, 2, width))
     moves = np.stack((move.real, move.imag))
-    found = np.empty((len(gaps), width), np.complex128)
+    kept = np.empty((len(late), *moves.shape))
+    found = np.empty((len(gaps), len(move)), np.complex128)
     left = moves
-
-    def split(row: Floats, numbers: Transforms) -> None:
-        """Sets the real and the imaginary parts."""
-        k = 0
-        while k < width:
-            row[0, k] = numbers[k].real
-            row[1, k] = numbers[k].imag
-            k += 1
     for place, gap in enumerate(gaps):
         is_same = place > 0 and (not is_far[place] or far >= len(waits))
         if is_far[place]:
-            split(kept[0], cycles[far])
-            for row in range(1, 1 if is_same else reviews):
-                split(kept[row], waits[far, row - 1])
+            set_parts(kept[0], cycles[far])
+            for row in range(1, 1 if is_same else len(late)):
+                set_parts(kept[row], waits[far, row - 1])
             far = far + 1
             last = gap
         is_same = not grow(kept, free, roots, range(last + 1, gap + 1)) and is_same
         last = gap
-        whole = kept[0]
-        k = 0
         left = left if is_same else left_by(solved_for(kept, moves, late), moves, late)
-        while k < width:
-            found[place, k] = complex(whole[0, k] * left[0, k] - whole[1, k] * left[1, k],
-                                      whole[0, k] * left[1, k] + whole[1, k] * left[0, k])
-            k += 1
+        whole = np.zeros_like(moves)
+        add_product(whole, kept[0], left)
+        for k in range(len(move)):
+            found[place, k] = complex(whole[0, k], whole[1, k])
     return found
 
 
@@ -266,52 +250,75 @@ def roots_of(room: int) -> Transforms:
 def demands_of(move: Transforms, reviews: int, room: int) -> Floats:
     """Returns the chances of the net demand of 1, 2, .. less than so many reviews, a row each for each transform of
     that of one review."""
-    powers = np.array([move**count for count in range(1, reviews)]).reshape(-1, *move.shape)
+    powers = np.array([move**count for count in range(1, reviews)]).reshape(
+        -1, *move.shape
+    )
     chances: Floats = fft.irfft(powers, room)
     chances[chances <= LEAST_CHANCE] = 0.0
     return chances
 
 
-def falling(cycle: Floats, demands: Floats, gaps: Whole, move: Transforms, late: Floats) -> Transforms:
-    """Returns what `lasting` returns for each of some rising gaps, if nothing comes back: then what waits is all that is
-    within the gap. `cycle` has C up to the widest gap, by depth, and `demands` is that of `demands_of`."""
+def falling(
+    cycle: Floats, demands: Floats, gaps: Whole, move: Transforms, late: Floats
+) -> Transforms:
+    """Returns what `last_shortfalls` does, if nothing comes back: then what waits is all that is within the gap. `cycle`
+    has C up to the widest gap, by depth, and `demands` is that of `demands_of`.
+    """
     is_far = np.append(True, gaps[1:] - gaps[:-1] >= FAR)
     free = np.empty((len(late), len(cycle)))
     free[0] = cycle
-    free[1:] = demands[:, :len(cycle)]
+    free[1:] = demands[:, : len(cycle)]
     room = demands.shape[1]
     up_to = np.arange(len(cycle)) <= gaps[is_far, None]
     # All demand is within a gap that is wide enough, and all further ones.
     most = int(np.flatnonzero(np.append(True, free[1:].any(axis=0)))[-1]) - 1
-    narrow = up_to[:int(np.searchsorted(gaps[is_far], most)) + 1, None]
-    cycles, waits = (fft.rfft(np.where(some, its, 0.0), room) for some, its in ((up_to, cycle), (narrow, free[1:])))
-    return last_shortfalls(cycles, waits, is_far, free, gaps, roots_of(room), move, late)
+    narrow = up_to[: int(np.searchsorted(gaps[is_far], most)) + 1, None]
+    cycles, waits = (
+        fft.rfft(np.where(some, its, 0.0), room)
+        for some, its in ((up_to, cycle), (narrow, free[1:]))
+    )
+    return last_shortfalls(
+        cycles, waits, is_far, free, gaps, roots_of(room), move, late
+    )
 
 
-def falling_under(cycles: Floats, moves: Transforms, late: Floats, laws: Whole, gaps: Whole) -> Floats:
-    """Returns the chances of the shortfalls of some gaps, a row each, under some laws without returns. `laws` has the
-    place of each gap's law. Each law has a row in `cycles` with C and room for a transform, one in `moves` with the
-    transform of its net demand, and a column in `late`."""
-    room = cycles.shape[1]
-    most = int(gaps.max())
-    free = np.stack([cycles, *demands_of(moves, len(late), room)], axis=1)[..., :most + 1]
-    kept = fft.rfft(np.where(np.arange(most + 1) <= gaps[:, None, None], free[laws], 0.0), room)
-    return chances_of(lasting(kept.swapaxes(0, 1), moves[laws], late[:, laws, None]), room)
-
-
-def moving(cycle: Transforms, gaps: Whole, move: Transforms, late: Floats, room: int, above: int) -> Transforms:
-    """Returns what `lasting` returns for each of some gaps, if items come back: see `waiting`. `cycle` has C."""
-    waits = waiting(np.ones((1, *cycle.shape), complex), gaps, move, len(late) - 1, room, above)[0, 1:]
+def moving(
+    cycle: Transforms,
+    gaps: Whole,
+    move: Transforms,
+    late: Floats,
+    room: int,
+    above: int,
+) -> Transforms:
+    """Returns what `last_shortfalls` does for each of some gaps, if items come back: see `waiting`. `cycle` has C."""
+    waits = waiting(
+        np.ones((1, *cycle.shape), complex), gaps, move, len(late) - 1, room, above
+    )[0, 1:]
     is_far = np.ones(len(gaps), bool)
     free = np.empty((len(late), 0))
-    return last_shortfalls(cycle, np.ascontiguousarray(waits.swapaxes(0, 1)), is_far, free, gaps,
-                           np.empty(room, complex), move, late)
+    return last_shortfalls(
+        cycle,
+        np.ascontiguousarray(waits.swapaxes(0, 1)),
+        is_far,
+        free,
+        gaps,
+        np.empty(room, complex),
+        move,
+        late,
+    )
 
 
 class Shortfalls:
     """The shortfalls of the gaps of a walk, in rooms of cells: those below 0 stand at the end."""
 
-    def __init__(self, walk: Walk, late: Floats, above: int, beside: int, taken: Sequence[LatticeLaw]) -> None:
+    def __init__(
+        self,
+        walk: Walk,
+        late: Floats,
+        above: int,
+        beside: int,
+        taken: Sequence[LatticeLaw],
+    ) -> None:
         """Takes how many cells a shortfall has above S, and beside those of its gap; and the laws of what is taken from
         the stock before a period's demand, and with it."""
         self.walk = walk
@@ -325,7 +332,9 @@ class Shortfalls:
         """Returns the transforms of the net demand, of how far it is above a low, and of what is taken; and the net
         demand of some reviews: see `demands_of`."""
         if room not in self.rooms:
-            laws = transforms_of([self.walk.net, self.walk.above_low, *self.taken], room)
+            laws = transforms_of(
+                [self.walk.net, self.walk.above_low, *self.taken], room
+            )
             self.rooms[room] = laws, demands_of(laws[0], len(self.late), room)
         return self.rooms[room]
 
@@ -335,7 +344,10 @@ class Shortfalls:
         cycle = self.walk.span * self.walk.lows_of(int(gaps[-1]))
         if self.walk.net.low >= 0:
             return falling(cycle, demands, gaps, move, self.late)
-        begun = fft.rfft(np.where(np.arange(len(cycle)) <= gaps[:, None], cycle, 0.0), room) * above
+        begun = (
+            fft.rfft(np.where(np.arange(len(cycle)) <= gaps[:, None], cycle, 0.0), room)
+            * above
+        )
         return moving(begun, gaps, move, self.late, room, self.above)
 
     def chances(self, gaps: Whole) -> Floats:
@@ -346,17 +358,24 @@ class Shortfalls:
 
     def stocks(self, gaps: Whole) -> tuple[Floats, int]:
         """Returns the chances of how far the stock before a period's demand is below S, and after it: a table each, with
-        a row for each of some rising gaps, times the reviews of a cycle; and the first cell of all."""
+        a row for each of some rising gaps, times the reviews of a cycle; and the first cell of all.
+        """
         low = min(0, *(law.low for law in self.taken)) - self.above
-        room = room_for(int(gaps[-1]) + self.beside + max(law.high for law in self.taken) + 1 - low)
-        chances = fft.irfft(self.transforms(gaps, room) * self.in_room(room)[0][2:, None], room)
+        room = room_for(
+            int(gaps[-1]) + self.beside + max(law.high for law in self.taken) + 1 - low
+        )
+        chances = fft.irfft(
+            self.transforms(gaps, room) * self.in_room(room)[0][2:, None], room
+        )
         return np.roll(chances, -low, axis=2) if low else chances, low
 
 
 def lateness(chances: Mapping[int, float]) -> Floats:
     """Returns the chances that an order is late, by its age after the shortest lead time; `chances` is by lead time."""
     ages = range(min(chances), max(chances))
-    return np.array([sum(chance for lead, chance in chances.items() if lead > age) for age in ages])
+    return np.array(
+        [sum(chance for lead, chance in chances.items() if lead > age) for age in ages]
+    )
 
 
 def work_of(room: float, last: int) -> float:

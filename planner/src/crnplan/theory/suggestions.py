@@ -13,37 +13,49 @@ from __future__ import annotations
 
 import itertools
 import math
-from collections.abc import Sequence
+from collections.abc import Iterator, Sequence
 from dataclasses import dataclass
 
 from ..formats import MOST_ITEMS, POLICIES
 from ..law import Law
 from ..remarks import Remark
 from ..scenario import BY_ITS_LAWS, Policy, Scenario
-from ..table import Cell, DataTable, Json, Result, number, text, whole
+from ..columns import columns_of
+from ..table import DataTable, Json, Result
 from ..toml.documents import read_document
 from ..toml.scenarios import head_of, plain_text
 from ..words import sentence
+from .figures import Figures
 from .lattice import theories_of
-from .long_run import Candidate, Figures, LongRun
+from .long_run import Candidate, LongRun
 from .many_laws import CONFIDENCE, Promises
 from .walk import net_tables
 
 FILLS = {"95": 0.95, "98": 0.98, "99": 0.99, "995": 0.995}
-ORDERS = {"fewer_orders": 1.5, "more_orders": 0.65, "fewest_orders": 2.2, "most_orders": 0.4}  # times the best gap
-NEIGHBOURS = [(1, "higher"), (-1, "lower"), (2, "higher_2"), (-2, "lower_2"), (3, "higher_3"), (-3, "lower_3")]
+ORDERS = {
+    "fewer_orders": 1.5,
+    "more_orders": 0.65,
+    "fewest_orders": 2.2,
+    "most_orders": 0.4,
+}  # times the best gap
+NEIGHBOURS = {
+    "higher": 1,
+    "lower": -1,
+    "higher_2": 2,
+    "lower_2": -2,
+    "higher_3": 3,
+    "lower_3": -3,
+}
 ROUGH = 0.05
 # In percent: how much dearer than the best of all a policy of a search was in planner/studies/search.csv.
 MOST_EXCESS = 0.7
-COLUMNS = (
-    text("policy", "name of the policy"), whole("s", "items", "reorder point"),
-    whole("S", "items", "order-up-to level"),
-    number("cost", "money a period", "cost in the long run, without `unit`", ".10g", ".2f"),
-    number("fill", "share", "demand met at once", ".10g", ".2%"),
-    number("short", "share", "periods that end with items owed", ".10g", ".2%"),
-    number("stock", "items", "mean stock at the end of a period", ".10g", ".1f"),
-    number("orders", "orders a period", "mean number of orders", ".10g", ".4f"))
-REASONS = text("reasons", "why it is suggested")
+
+
+def reasons_of(suggestion: Suggestion) -> str:
+    return "; ".join(suggestion.reasons)
+
+
+COLUMNS = columns_of("theory", "suggestions", {"reasons": reasons_of})
 
 
 class Depths:
@@ -51,7 +63,9 @@ class Depths:
 
     def __init__(self, scenario: Scenario) -> None:
         """Takes the net demands that occur."""
-        nets = {demand - sum(back) for demand, *back in itertools.product(*(it.chances for it in net_tables(scenario)))}
+        tables = [table.chances for table in net_tables(scenario)]
+        pairs = itertools.product(*tables)
+        nets = {demand - sum(back) for demand, *back in pairs}
         self.divisor = math.gcd(*nets)
         self.falls = sorted(net for net in nets if net > 0)
         self.rises = min(nets) < 0
@@ -84,8 +98,10 @@ class Chosen:
     def __init__(self, scenario: Scenario) -> None:
         """Starts with today's policy, the first of the scenario, if there is one."""
         self.depths = Depths(scenario)
-        self.policies = {self.depths.behaviour(today.s, today.S): (today, [Remark("today's policy")])
-                         for today in scenario.policies[:1]}
+        self.policies = {
+            self.depths.behaviour(today.s, today.S): (today, [Remark("today's policy")])
+            for today in scenario.policies[:1]
+        }
         self.left_out: list[str] = []
 
     def add(self, name: str, policy: Candidate, reason: Remark) -> None:
@@ -98,24 +114,29 @@ class Chosen:
         elif len(self.policies) == POLICIES[1]:
             self.left_out.append(name)
         else:
-            while name in {other.name for other, _ in self.policies.values()}:
+            names = {other.name for other, _ in self.policies.values()}
+            while name in names:
                 name = f"{name[:15]}_"
-            self.policies[behaviour] = Policy(name, policy.point, policy.level), [reason]
+            own = Policy(name, policy.point, policy.level)
+            self.policies[behaviour] = own, [reason]
 
 
 def add_fills(chosen: Chosen, theory: LongRun, promises: Promises | None) -> None:
     """Adds the cheapest policies with fill rates, and beside each the cheapest that promises it."""
     for name, share in FILLS.items():
         plain = theory.best(share)
-        chosen.add(f"fill_{name}", plain, Remark("fill rate", {"fill": 100 * share}))
+        fill = {"fill": 100 * share}
+        chosen.add(f"fill_{name}", plain, Remark("fill rate", fill))
         if promises:
             sure = promises.cheapest(plain, share)
             more = sure.cost / plain.cost - 1 if plain.cost else 0.0
-            chosen.add(f"sure_{name}", sure, Remark("sure fill rate", {
-                "fill": 100 * share, "percent": 100 * promises.confidence, "more": more}))
+            facts = {**fill, "percent": 100 * promises.confidence, "more": more}
+            chosen.add(f"sure_{name}", sure, Remark("sure fill rate", facts))
 
 
-def chosen_policies(scenario: Scenario, theory: LongRun, best: Candidate, promises: Promises | None) -> Chosen:
+def chosen_policies(
+    scenario: Scenario, theory: LongRun, best: Candidate, promises: Promises | None
+) -> Chosen:
     """Returns the suggested policies of a scenario, of which the best is known. All but today's are feasible."""
     chosen = Chosen(scenario)
     chosen.add("best", best, Remark("the best"))
@@ -125,15 +146,16 @@ def chosen_policies(scenario: Scenario, theory: LongRun, best: Candidate, promis
     add_fills(chosen, theory, promises)
     gap = theory.gap_of(best.point, best.level)
     for name, factor in ORDERS.items():
-        changed = max(round(gap * factor), gap + 1) if factor > 1 else min(round(gap * factor), gap - 1)
+        bound = max if factor > 1 else min
+        changed = bound(round(gap * factor), gap + (1 if factor > 1 else -1))
         if changed >= 0:
             changed = theory.gap_of(0, theory.feasible.gap(changed * theory.step))
             chosen.add(name, theory.cheapest_of_gaps([changed], 0.0), Remark(name))
     shift = theory.feasible.up(max(1, round(theory.deviation / 2)))
-    for times, name in NEIGHBOURS:
+    for name, times in NEIGHBOURS.items():
         point = best.point + times * shift
         if 0 <= point <= MOST_ITEMS:
-            reason = Remark("higher s" if times > 0 else "lower s", {"by": abs(times) * shift})
+            reason = Remark(f"{name.split('_')[0]} s", {"by": abs(times) * shift})
             chosen.add(name, theory.best_with_point(point), reason)
     return chosen
 
@@ -157,8 +179,10 @@ class Suggestion:
         policy = self.policy
         cost = self.figures.cost
         fill = self.figures.fill
-        return (f"\n# {'; '.join(self.reasons)} (by theory {cost:.2f} a period, fill {fill:.2%})\n[[policy]]\n"
-                f'name = "{policy.name}"\ns = {policy.s}\nS = {policy.S}\n')
+        return (
+            f"\n# {'; '.join(self.reasons)} (by theory {cost:.2f} a period, fill {fill:.2%})\n[[policy]]\n"
+            f'name = "{policy.name}"\ns = {policy.s}\nS = {policy.S}\n'
+        )
 
 
 @dataclass(frozen=True)
@@ -186,37 +210,47 @@ class Suggestions(Result):
     @property
     def table(self) -> DataTable:
         """Returns the figures of all policies, today's first, with the reasons of each."""
-        rows: list[list[Cell]] = [[row.policy.name, row.policy.s, row.policy.S, *row.figures, "; ".join(row.reasons)]
-                                  for row in self.rows]
-        return DataTable([*COLUMNS, REASONS], rows)
+        return DataTable.of(COLUMNS, self.rows)
 
     @property
     def text(self) -> str:
         """Returns the table without the reasons, and the notes."""
-        return DataTable(COLUMNS, [row[:-1] for row in self.table.rows]).text + self.notes
+        names = [column.name for column in COLUMNS[:-1]]
+        return self.table.with_columns(names).text + self.notes
 
     @property
     def tree(self) -> dict[str, Json]:
         """Returns all as data, without rounding."""
-        return {"initial": self.initial, "position": self.position, "error": self.error, "step": self.step,
-                "policies": self.table.records}
+        return {
+            "initial": self.initial,
+            "position": self.position,
+            "error": self.error,
+            "step": self.step,
+            "policies": self.table.records,
+        }
 
     @property
     def notes(self) -> str:
         """Returns the lines below the table: what its columns mean, and what is known of the error and of a run."""
         unit = self.scenario.costs.unit
-        error = Remark("exact figures")
-        if self.error is not None:
-            facts = {"step": self.step, "error": max(self.error, 1e-4), "twice": 2 * self.step}
-            error = Remark("rough figures" if self.error > ROUGH else "rounded figures", facts)
-        run = [Remark("initial", {"mean": self.position, "today": self.scenario.initial, "initial": self.initial})]
-        run += [Remark("unit of a run")] if unit > 0 else []
-        remarks = [Remark("figures of suggestions", {"unit": unit * self.net}), error, *self.remarks, *run]
-        return "".join(f"{line}\n" for line in ("", BY_ITS_LAWS, *map(sentence, remarks)))
+        remarks = [Remark("figures of suggestions", {"unit": unit * self.net})]
+        if self.error is None:
+            remarks.append(Remark("exact figures"))
+        else:
+            kind = "rough figures" if self.error > ROUGH else "rounded figures"
+            facts = {"step": self.step, "error": max(self.error, 1e-4)}
+            remarks.append(Remark(kind, {**facts, "twice": 2 * self.step}))
+        start = {"mean": self.position, "today": self.scenario.initial}
+        remarks += self.remarks
+        remarks.append(Remark("initial", {**start, "initial": self.initial}))
+        if unit > 0:
+            remarks.append(Remark("unit of a run"))
+        return "\n".join(["", BY_ITS_LAWS, *map(sentence, remarks), ""])
 
     def toml(self, *, initial: bool = False, unit_zero: bool = False) -> str:
         """Returns the scenario with the suggested policies as TOML, each with its reasons and its cost as a comment.
-        The comment at the top stays. `initial` writes the proposed start, `unit_zero` an item cost of 0."""
+        The comment at the top stays. `initial` writes the proposed start, `unit_zero` an item cost of 0.
+        """
         source = self.scenario.toml()
         tree, _ = read_document(source.encode())
         tree["policy"] = []
@@ -224,11 +258,17 @@ class Suggestions(Result):
             tree["initial"] = self.initial
         if unit_zero:
             tree["costs"]["unit"] = 0
-        return "".join([head_of(source), plain_text(tree), *(row.text for row in self.rows)])
+        return "".join(
+            [head_of(source), plain_text(tree), *(row.text for row in self.rows)]
+        )
 
 
-def suggestions_of(scenario: Scenario, laws: Sequence[Law] = (), leads: Sequence[Law] = (),
-                   confidence: float = CONFIDENCE) -> Suggestions:
+def suggestions_of(
+    scenario: Scenario,
+    laws: Sequence[Law] = (),
+    leads: Sequence[Law] = (),
+    confidence: float = CONFIDENCE,
+) -> Suggestions:
     """Returns the suggested policies of a scenario, at most 16 with today's.
 
     With laws of demand that a history allows, and perhaps as many of lead times, policies that keep a fill rate under
@@ -237,21 +277,47 @@ def suggestions_of(scenario: Scenario, laws: Sequence[Law] = (), leads: Sequence
     """
     theory, coarse = theories_of(scenario)
     best = theory.best()
-    promises = Promises(scenario, theory, theory.gap_of(best.point, best.level), laws, leads, [*FILLS.values()],
-                        confidence) if laws or leads else None
+    promises = None
+    if laws or leads:
+        gap = theory.gap_of(best.point, best.level)
+        fills = [*FILLS.values()]
+        promises = Promises(scenario, theory, gap, laws, leads, fills, confidence)
     chosen = chosen_policies(scenario, theory, best, promises)
-    rows = tuple(Suggestion(policy, tuple(reasons), theory.figures(policy.s, policy.S))
-                 for policy, reasons in chosen.policies.values())
-    error = None if coarse is None else max(
-        abs(coarse.figures(row.policy.s, row.policy.S).cost - row.figures.cost) / row.figures.cost for row in rows)
-    remarks = [Remark("search of all pairs")]
+    rows = []
+    errors = []
+    for policy, reasons in chosen.policies.values():
+        figures = theory.figures(policy.s, policy.S)
+        rows.append(Suggestion(policy, tuple(reasons), figures))
+        if coarse:
+            cost = coarse.figures(policy.s, policy.S).cost
+            errors.append(abs(cost - figures.cost) / figures.cost)
+    return Suggestions(
+        scenario,
+        tuple(rows),
+        theory.step,
+        max(errors, default=None),
+        theory.mean_position(best.point, best.level),
+        theory.net.mean * theory.step,
+        tuple(remarks_of(theory, chosen, promises)),
+    )
+
+
+def remarks_of(
+    theory: LongRun, chosen: Chosen, promises: Promises | None
+) -> Iterator[Remark]:
+    """Yields how policies were found, what promises are counted on, and which policies have no place."""
     if theory.is_searched:
-        remarks = [Remark("search of a grid", {"most": MOST_EXCESS})]
+        yield Remark("search of a grid", {"most": MOST_EXCESS})
+    else:
+        yield Remark("search of all pairs")
     if promises:
-        remarks.append(Remark("promises", {
-            "percent": 100 * promises.confidence, "laws": len(laws), "lacking": promises.lacking,
-            "step": None if promises.exact else promises.step}))
+        facts = {
+            "percent": 100 * promises.confidence,
+            "laws": len(promises.theories) + promises.lacking,
+            "lacking": promises.lacking,
+            "step": None if promises.exact else promises.step,
+        }
+        yield Remark("promises", facts)
     if chosen.left_out:
-        remarks.append(Remark("left out", {"most": POLICIES[1], "names": ", ".join(chosen.left_out)}))
-    return Suggestions(scenario, rows, theory.step, error, theory.mean_position(best.point, best.level),
-                       theory.net.mean * theory.step, tuple(remarks))
+        names = ", ".join(chosen.left_out)
+        yield Remark("left out", {"most": POLICIES[1], "names": names})

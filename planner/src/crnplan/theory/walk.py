@@ -54,7 +54,7 @@ def cut(chances: Floats) -> tuple[int, Floats]:
         first += 1
     while chances[last] <= least:
         last -= 1
-    kept = np.maximum(chances[first:last + 1], 0.0)
+    kept = np.maximum(chances[first : last + 1], 0.0)
     total = 0.0
     for chance in kept:
         total += chance
@@ -93,7 +93,10 @@ class LatticeLaw:
         cells, rests = np.divmod(values, step)
         above = chances * rests / step
         shares = np.transpose([chances - above, above]).ravel()
-        return cls.scaled(0, np.bincount(np.transpose([cells, cells + 1]).ravel(), shares).astype(float))
+        return cls.scaled(
+            0,
+            np.bincount(np.transpose([cells, cells + 1]).ravel(), shares).astype(float),
+        )
 
     @property
     def high(self) -> int:
@@ -114,17 +117,17 @@ class LatticeLaw:
 
     @property
     def variance(self) -> float:
-        return float(self.chances @ (self.cells - self.mean)**2)
+        return float(self.chances @ (self.cells - self.mean) ** 2)
 
     def between(self, low: int, high: int) -> Floats:
         """Returns the chances of the cells from low to high, among which all of the law are."""
         chances = np.zeros(high - low + 1)
-        chances[self.low - low:self.high - low + 1] = self.chances
+        chances[self.low - low : self.high - low + 1] = self.chances
         return chances
 
     def above(self, cell: int) -> float:
         """Returns the chance of the cells above one."""
-        return float(self.chances[max(cell + 1 - self.low, 0):].sum())
+        return float(self.chances[max(cell + 1 - self.low, 0) :].sum())
 
     @cached_property
     def reflected(self) -> LatticeLaw:
@@ -157,7 +160,9 @@ def sum_of(left: LatticeLaw, right: LatticeLaw) -> LatticeLaw:
     for law, other in ((left, right), (right, left)):
         if len(other.chances) == 1:
             return LatticeLaw(left.low + right.low, law.chances) if other.low else law
-    return LatticeLaw.scaled(left.low + right.low, convolved(left.chances, right.chances))
+    return LatticeLaw.scaled(
+        left.low + right.low, convolved(left.chances, right.chances)
+    )
 
 
 def power_of(law: LatticeLaw, count: int) -> LatticeLaw:
@@ -172,17 +177,33 @@ def power_of(law: LatticeLaw, count: int) -> LatticeLaw:
 
 
 @compiled
-def figures_at(levels: Whole, step: int, low: int, below: Floats, taken: Floats, before: int, below_before: Floats,
-               taken_before: Floats, holding: int, backlog: int) -> Floats:
+def figures_at(
+    levels: Whole,
+    step: int,
+    low: int,
+    below: Floats,
+    taken: Floats,
+    before: int,
+    below_before: Floats,
+    taken_before: Floats,
+    holding: int,
+    backlog: int,
+) -> Floats:
     """Returns rows with stock costs, unmet demand, the chance of no backlog and the stock at the end of a period, by the
-    sums of the law of what is taken from a level up to then, and of that up to the period's demand: see `Surplus`."""
+    sums of the law of what is taken from a level up to then, and of that up to the period's demand: see `Surplus`.
+    """
     figures = np.empty((4, len(levels)))
     for each, level in enumerate(levels):
         place = min(max(level // step - low + 1, 0), len(below) - 1)
         placed = min(max(level // step - before + 1, 0), len(below_before) - 1)
         stock = level * below[place] - taken[place]
         owed = stock - level + taken[-1]
-        lacking = level * below_before[placed] - taken_before[placed] - level + taken_before[-1]
+        lacking = (
+            level * below_before[placed]
+            - taken_before[placed]
+            - level
+            + taken_before[-1]
+        )
         figures[0, each] = holding * stock + backlog * owed
         figures[1, each] = owed - lacking
         figures[2, each] = below[place]
@@ -192,7 +213,8 @@ def figures_at(levels: Whole, step: int, low: int, below: Floats, taken: Floats,
 
 class Surplus:
     """What is expected to be left of a level, and to be lacking, if a random amount is taken from it. `sums` has the
-    first cell of its law, and the sums from there on, so that each level takes one look: see `summed`."""
+    first cell of its law, and the sums from there on, so that each level takes one look: see `summed`.
+    """
 
     def __init__(self, law: LatticeLaw, step: int) -> None:
         self.law = law
@@ -202,7 +224,9 @@ class Surplus:
 
     def costs(self, levels: Whole, holding: int, backlog: int) -> Floats:
         """Returns what is expected to be paid for the items that are left of levels, and for those that are lacking."""
-        costs: Floats = figures_at(levels, self.step, *self.sums, *self.sums, holding, backlog)[0]
+        costs: Floats = figures_at(
+            levels, self.step, *self.sums, *self.sums, holding, backlog
+        )[0]
         return costs
 
 
@@ -213,11 +237,13 @@ def net_tables(scenario: Scenario) -> list[Law]:
 
 def decay_of(net: LatticeLaw) -> float:
     """Returns the rate at which the chance of a height above the last low falls, from one cell to the next."""
+
     def excess(rate: float) -> float:
         """Returns the logarithm of the mean of e^(-rate * net demand)."""
         powers = -rate * net.cells
         top = powers.max()
         return float(top + math.log(net.chances @ np.exp(powers - top)))
+
     high = 1e-12
     while excess(high) < 0:
         high *= 2
@@ -241,16 +267,22 @@ def factors_of(net: LatticeLaw) -> tuple[Floats, Floats]:
         return np.array([1 / (1 - stay)]), falls / (1 - stay)
     decay = decay_of(net)
     tilt = min(decay / 2, 10 / net.high)
-    room = 1 << math.ceil(math.log2(max(2 * DIGITS / tilt, 2 * DIGITS / (decay - tilt), 4 * len(net.chances))))
+    room = 1 << math.ceil(
+        math.log2(
+            max(2 * DIGITS / tilt, 2 * DIGITS / (decay - tilt), 4 * len(net.chances))
+        )
+    )
     tilted = np.zeros(room)
     tilted[net.cells % room] = net.chances * np.exp(-tilt * net.cells)
     logarithm = np.fft.ifft(np.log(1 - np.fft.fft(tilted))).real
     down = logarithm.copy()
     up = logarithm
     down[0] = 0
-    down[room // 2:] = 0
-    up[1:room // 2] = 0
-    falls = -np.fft.ifft(np.exp(np.fft.fft(down))).real[:net.high + 1] * np.exp(tilt * np.arange(net.high + 1))
+    down[room // 2 :] = 0
+    up[1 : room // 2] = 0
+    falls = -np.fft.ifft(np.exp(np.fft.fft(down))).real[: net.high + 1] * np.exp(
+        tilt * np.arange(net.high + 1)
+    )
     falls[0] = 0.0
     visits = np.fft.ifft(np.exp(-np.fft.fft(up))).real[-np.arange(room // 2) % room]
     visits = np.clip(visits * np.exp(-tilt * np.arange(room // 2)), 0, None)
@@ -262,18 +294,19 @@ def factors_of(net: LatticeLaw) -> tuple[Floats, Floats]:
 @compiled
 def renewal_sequence(lows: Floats, falls: Floats, count: int) -> Floats:
     """Returns the chances that each of the first `count` places is a low of the walk. `lows` are the first of them.
-    Each is a mean of as many chances before it as a fall has cells. So once these are equal, all others are."""
+    Each is a mean of as many chances before it as a fall has cells. So once these are equal, all others are.
+    """
     longer = np.zeros(count)
     reach = len(falls) - 1
-    longer[:len(lows)] = lows
+    longer[: len(lows)] = lows
     turned = falls[:0:-1].copy()
     for place in range(len(lows), count):
-        before = longer[max(place - reach, 0):place]
+        before = longer[max(place - reach, 0) : place]
         is_due = place >= reach and (place % LOOK_EVERY == 0 or place == len(lows))
         if is_due and before.max() - before.min() <= EQUAL * longer[place - 1]:
             longer[place:] = longer[place - 1]
             break
-        longer[place] = np.dot(turned[reach - len(before):], before)
+        longer[place] = np.dot(turned[reach - len(before) :], before)
     return longer
 
 
@@ -286,12 +319,16 @@ class Walk:
         self.step = step
         self.exact = exact
         self.demand = LatticeLaw.of(scenario.demand, step)
-        self.back = LatticeLaw.of(scenario.returns, step) if scenario.returns else NOTHING
+        self.back = (
+            LatticeLaw.of(scenario.returns, step) if scenario.returns else NOTHING
+        )
         self.net = sum_of(self.demand, self.back.reflected)
         visits, self.falls = factors_of(self.net)
         self.span = float(visits.sum())
         self.lows: Floats = NOTHING.chances
-        self.above_low = LatticeLaw.scaled(0, visits).reflected if self.net.low < 0 else NOTHING
+        self.above_low = (
+            LatticeLaw.scaled(0, visits).reflected if self.net.low < 0 else NOTHING
+        )
 
     @property
     def deviation(self) -> float:
@@ -302,7 +339,7 @@ class Walk:
         """Returns the chances of the places S, S - 1, .. to be a low of a cycle."""
         if gap >= len(self.lows):
             self.lows = renewal_sequence(self.lows, self.falls, gap + 1)
-        return self.lows[:gap + 1]
+        return self.lows[: gap + 1]
 
     def cycles(self, most: int) -> Floats:
         """Returns the mean number of periods from one order to the next, of the gaps up to the most."""
@@ -324,7 +361,11 @@ class Walk:
         """Returns the gap of a policy with the share 1, or the two gaps beside it with their shares if the lattice is
         not exact."""
         gap = self.gap_of(point, level)
-        share = 0.0 if self.exact else (level - point - (self.step - 1) / 2) / self.step - gap
+        share = (
+            0.0
+            if self.exact
+            else (level - point - (self.step - 1) / 2) / self.step - gap
+        )
         if abs(share) * self.step <= 0.5 or gap + share < 0:
             return [(gap, 1.0)]
         return [(gap, 1 - abs(share)), (gap + (1 if share > 0 else -1), abs(share))]
@@ -334,5 +375,7 @@ class Walk:
         depth = 0.0
         for gap, share in self.gaps_of(point, level):
             lows = self.lows_of(gap)
-            depth += share * float(lows @ np.arange(gap + 1) / lows.sum())  # A half is one to the last bit.
+            depth += share * float(
+                lows @ np.arange(gap + 1) / lows.sum()
+            )  # A half is one to the last bit.
         return level - self.step * (depth + self.above_low.mean + self.net.mean)

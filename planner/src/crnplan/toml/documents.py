@@ -23,16 +23,23 @@ from ..errors import Fault, Refused
 from ..formats import MOST_BYTES, MOST_LEVELS
 
 TEXT = r'"""(?:\\.|[^\\])*?"{3,5}|\'\'\'.*?\'{3,5}|"(?:\\.|[^"\\\n])*"|\'[^\'\n]*\''
-TOKEN = re.compile(rf"{TEXT}|#[^\n]*|(?<![+0-9-])[0-9]{{2}}:[0-9]{{2}}(?::[0-9]{{2}})?|[^\S\n]+|.", re.DOTALL)
+TOKEN = re.compile(
+    rf"{TEXT}|#[^\n]*|(?<![+0-9-])[0-9]{{2}}:[0-9]{{2}}(?::[0-9]{{2}})?|[^\S\n]+|.",
+    re.DOTALL,
+)
 SHORT_TIME = re.compile("[0-9]{2}:[0-9]{2}")
 ESCAPE = re.compile(r"\\(?:x([0-9A-Fa-f]{2})|(e)|.)", re.DOTALL)
 # Blanks, line ends and comments, and the character behind them.
 NEXT = re.compile(r"(?:\s|#[^\n]*)*(.?)")
 # What to do about what stands in a document and should not.
-ADVICE: dict[str, Any] = tomllib.loads(FilePath(__file__).with_name("advice.toml").read_text("utf-8"))
-INSTEAD = {sign: advice for advice, signs in ADVICE["instead"].items() for sign in signs}
+ADVICE: dict[str, Any] = tomllib.loads(
+    FilePath(__file__).with_name("advice.toml").read_text("utf-8")
+)
+INSTEAD = {
+    sign: advice for advice, signs in ADVICE["instead"].items() for sign in signs
+}
 NOT_ASCII = re.compile(r"[^\x00-\x7f]")
-FULL_WIDTH = range(0xff01, 0xff5f)
+FULL_WIDTH = range(0xFF01, 0xFF5F)
 APOSTROPHES = re.compile(r"(?<![\w'\"])[0-9]{1,3}(?:'[0-9]{3})+(?![\w'])")
 NUMBER = r"(?:^|[=\[,])\s*[+-]?"
 
@@ -76,7 +83,7 @@ def older_text(text: str) -> str:
         token = spelt = match[0]
         if token in ('"', "'"):
             # A text that does not end: nothing after it is known, and no reader takes it.
-            return "".join(older) + text[match.start():]
+            return "".join(older) + text[match.start() :]
         if brackets and brackets[-1] == "{" and token[0] in "\n#,":
             if _is_newer(text, match, last):
                 spelt = " " * len(token)
@@ -88,10 +95,9 @@ def older_text(text: str) -> str:
             spelt = ESCAPE.sub(_older_escape, token)
         elif SHORT_TIME.fullmatch(token):
             spelt = f"{token}:00"
+        dots += token == "."
         if token in "=,[]{}\n":
             dots = 0
-        elif token == ".":
-            dots += 1
         if max(len(brackets), dots + 1) > MOST_LEVELS:
             raise RecursionError
         if not token.isspace() and not token.startswith("#"):
@@ -106,14 +112,13 @@ def odd_advice(text: str) -> str:
     if odd is None:
         return ""
     character = odd[0]
-    digit = unicodedata.digit(character, None)
-    name = ADVICE["names"].get(character) or unicodedata.name(character, "unnamed character").lower()
+    name = unicodedata.name(character, "unnamed character").lower()
+    name = ADVICE["names"].get(character, name)
+    digit = unicodedata.digit(character, "")
+    advice = f"write {digit}" if digit != "" else "write ASCII characters here"
+    advice = INSTEAD.get(character, advice)
     if ord(character) in FULL_WIDTH:
         advice = f"write {chr(ord(character) - 0xfee0)}"
-    elif character in INSTEAD:
-        advice = INSTEAD[character]
-    else:
-        advice = "write ASCII characters here" if digit is None else f"write {digit}"
     return f"it has U+{ord(character):04X} ({name}): {advice}"
 
 
@@ -136,7 +141,11 @@ def usual_cause(text: str, offset: int, message: str) -> str:
     odd = NOT_ASCII.search(code)
     if odd:
         return f"column {odd.start() + 1}: {odd_advice(code)}"
-    advice: str = next(advice for beginning, advice in ADVICE["messages"] if message.startswith(beginning))
+    advice: str = next(
+        advice
+        for beginning, advice in ADVICE["messages"]
+        if message.startswith(beginning)
+    )
     if message.startswith("Cannot declare"):
         return advice
     if message == "Invalid value" and re.match(r"\s*\[\[?[A-Za-z]+\]", code):
@@ -156,16 +165,20 @@ MARK = b"\xef\xbb\xbf"
 BYTE_ORDER_MARKS = (b"\xff\xfe", b"\xfe\xff")
 OWN = r'"\u0000"'  # a key that stands for its table
 DOCUMENT = "the document"
+IN_RANGE = "write a number within its range"
 
 Tree = dict[str, Any]
 # Keys, and numbers of entries, counted from 1: ("policy", 3, "s").
 Path = tuple[str | int, ...]
-Place = tuple[int, int]  # a line and a column, each counted from 1; 0 if it is not known
+Place = tuple[
+    int, int
+]  # a line and a column, each counted from 1; 0 if it is not known
 
 
 class TreeFault(NamedTuple):
     """A fault of a document: the number of its rule (of a scenario, as in docs/FORMATS.md), its path, what is wrong,
-    what to do, and how many others like it are in the same list; then its place, 0 if not known, and that in words."""
+    what to do, and how many others like it are in the same list; then its place, 0 if not known, and that in words.
+    """
 
     rule: int
     path: Path
@@ -189,11 +202,19 @@ class TreeFault(NamedTuple):
 
     @property
     def record(self) -> dict[str, int | str]:
-        return {"rule": self.rule, "line": self.line, "column": self.column, "where": self.where, "reason": self.reason}
+        return {
+            "rule": self.rule,
+            "line": self.line,
+            "column": self.column,
+            "where": self.where,
+            "reason": self.reason,
+        }
 
     def fault(self, file: str) -> Fault:
         where = "" if self.rule == 1 and self.line else f"{self.where}: "
-        return Fault(f"fault {self.rule}: {where}{self.reason}", file, self.line, self.column)
+        return Fault(
+            f"fault {self.rule}: {where}{self.reason}", file, self.line, self.column
+        )
 
 
 class SpeltFloat(float):
@@ -209,21 +230,26 @@ class SpeltFloat(float):
         return value
 
 
-def _no_document(what: str, advice: str, text: str = "", offset: int | None = None, end: str = "") -> TreeFault:
+def _no_document(
+    what: str, advice: str, text: str = "", offset: int | None = None, end: str = ""
+) -> TreeFault:
     """Returns fault 1 at an offset of a text, or of the whole document."""
     if offset is None:
         return TreeFault(1, (), what, advice)
     line, column = text.count("\n", 0, offset) + 1, offset - text.rfind("\n", 0, offset)
-    return TreeFault(1, (), what, advice, 0, line, column, f"line {line}, column {column}{end}")
+    return TreeFault(
+        1, (), what, advice, 0, line, column, f"line {line}, column {column}{end}"
+    )
 
 
-def _unread(text: str, older: str, fault: tomllib.TOMLDecodeError) -> TreeFault:
+def _unread(text: str, fault: tomllib.TOMLDecodeError) -> TreeFault:
     """Returns fault 1 of a text that is no TOML document, as Python's reader reports it of the older spelling."""
     message, _, at = str(fault).rpartition(" (at ")
     place = re.match(r"line ([0-9]+), column ([0-9]+)", at)
     offset, end = len(text), ", the end"
     if place:
-        offset, end = line_starts(older)[int(place[1]) - 1] + int(place[2]) - 1, ""
+        starts = line_starts(older_text(text))
+        offset, end = starts[int(place[1]) - 1] + int(place[2]) - 1, ""
     return _no_document(message, usual_cause(text, offset, message), text, offset, end)
 
 
@@ -237,8 +263,8 @@ def _huge_fault(text: str, huge: int) -> TreeFault:
     spelt = None
     if huge.bit_length() < 1000:
         spelt = re.search(rf"(?<![0-9]){'_?'.join(str(huge))}(?![0-9])", text)
-    return _no_document(f"the integer {shown(huge)} is beyond 64 bits", "write a number within its range", text,
-                        spelt.start() if spelt else None)
+    what = f"the integer {shown(huge)} is beyond 64 bits"
+    return _no_document(what, IN_RANGE, text, spelt.start() if spelt else None)
 
 
 def read_bytes(path: str | FilePath) -> bytes:
@@ -255,8 +281,10 @@ def read_bytes(path: str | FilePath) -> bytes:
 def check_size(data: bytes, name: str) -> bytes:
     """Returns the bytes. Raises Refused if they are more than crnsim reads."""
     if len(data) > MOST_BYTES:
-        raise Refused(f"{name or 'the scenario'}: crnsim reads no scenario of more than {MOST_BYTES:,} bytes (leave "
-                      "out comments)")
+        raise Refused(
+            f"{name or 'the scenario'}: crnsim reads no scenario of more than {MOST_BYTES:,} bytes (leave "
+            "out comments)"
+        )
     return data
 
 
@@ -265,32 +293,39 @@ def text_of_document(data: bytes) -> str:
     return data.removeprefix(MARK).decode("utf-8").replace("\r\n", "\n")
 
 
+def _not_utf8(data: bytes, offset: int) -> TreeFault:
+    """Returns fault 1 of bytes that are no UTF-8 from an offset on."""
+    if data[:2] in BYTE_ORDER_MARKS:
+        what = "this is UTF-16, not UTF-8"
+        advice = "a spreadsheet or an editor has saved it so; save it as UTF-8"
+        return TreeFault(1, (), what, advice, line=1, where="line 1")
+    what = f"the byte {data[offset]:#04x} is no UTF-8"
+    before = data[:offset].decode("utf-8")
+    return _no_document(what, "save the file as UTF-8", before, offset)
+
+
 def read_document(data: bytes) -> tuple[Tree, list[TreeFault]]:
     """Returns the tree of a document, and its faults 1."""
-    text = older = ""
+    text = ""
     try:
         text = text_of_document(data)
-        older = older_text(text)
-        tree = tomllib.loads(older, parse_float=SpeltFloat)
+        tree = tomllib.loads(older_text(text), parse_float=SpeltFloat)
     except UnicodeDecodeError as fault:
-        if data[:2] in BYTE_ORDER_MARKS:
-            advice = "a spreadsheet or an editor has saved it so; save it as UTF-8"
-            return {}, [TreeFault(1, (), "this is UTF-16, not UTF-8", advice, line=1, where="line 1")]
-        before = data[:fault.start].decode("utf-8")
-        return {}, [_no_document(f"the byte {data[fault.start]:#04x} is no UTF-8", "save the file as UTF-8", before,
-                                 fault.start)]
+        return {}, [_not_utf8(data, fault.start)]
     except tomllib.TOMLDecodeError as fault:
-        return {}, [_unread(text, older, fault)]
+        return {}, [_unread(text, fault)]
     except OverflowError as fault:
-        return {}, [_no_document(f"the number {str(fault)[:40]} is too great", "write a number within its range")]
+        return {}, [
+            _no_document(f"the number {str(fault)[:40]} is too great", IN_RANGE)
+        ]
     except RecursionError:
-        return {}, [_no_document(f"lists and tables within each other, or parts of a key, are more than {MOST_LEVELS}",
-                                 "a scenario needs three")]
+        what = f"lists and tables within each other, or parts of a key, are more than {MOST_LEVELS}"
+        return {}, [_no_document(what, "a scenario needs three")]
     except ValueError:
-        return {}, [_no_document("an integer is beyond 64 bits", "write a number within its range")]
+        return {}, [_no_document("an integer is beyond 64 bits", IN_RANGE)]
     faults = []
     for _, value in parts_of(tree):
-        if type(value) is int and not -2**63 <= value < 2**63:
+        if type(value) is int and not -(2**63) <= value < 2**63:
             faults.append(_huge_fault(text, value))
     return tree, faults
 
@@ -308,7 +343,8 @@ def parts_of(value: Any, path: Path = ()) -> Iterator[tuple[Path, Any]]:
 
 def marked_text(text: str) -> str:
     """Returns a document that tomllib has read with marks in place of its values: the offset of each entry of a list,
-    and of the key of any other value. Lists end with their own mark, and tables have it at the key OWN, as texts."""
+    and of the key of any other value. Lists end with their own mark, and tables have it at the key OWN, as texts.
+    """
     marked: list[str] = []
     opened: list[str] = []
     state, start = "line", 0
@@ -361,10 +397,13 @@ def places_of(text: str, tree: Any) -> dict[Path, Place]:
         line = bisect_right(starts, offset)
         for length in range(1, len(path) + 1):
             places.setdefault(path[:length], (line, offset - starts[line - 1] + 1))
-    return places if places.keys() == {path for path, _ in parts_of(tree) if path} else {}
+    of_tree = {path for path, _ in parts_of(tree) if path}
+    return places if places.keys() == of_tree else {}
 
 
-def read_judged(data: bytes, judge: Callable[[Tree], list[TreeFault]]) -> tuple[Tree, list[TreeFault]]:
+def read_judged(
+    data: bytes, judge: Callable[[Tree], list[TreeFault]]
+) -> tuple[Tree, list[TreeFault]]:
     """Returns the tree of a document, and with their places its faults 1, or else those that a judge finds in it."""
     tree, faults = read_document(data)
     if faults:

@@ -18,7 +18,17 @@ from typing import Any
 from .. import formats
 from ..errors import Fault, RefusedFaults
 from ..table import names_of
-from .documents import ADVICE, DOCUMENT, Path, Tree, TreeFault, odd_advice, read_bytes, read_judged, shown
+from .documents import (
+    ADVICE,
+    DOCUMENT,
+    Path,
+    Tree,
+    TreeFault,
+    odd_advice,
+    read_bytes,
+    read_judged,
+    shown,
+)
 
 # A check of a value at a path: it returns its faults.
 Check = Callable[[Path, Any], list[TreeFault]]
@@ -26,10 +36,18 @@ Check = Callable[[Path, Any], list[TreeFault]]
 JointCheck = Callable[[Path, Mapping[str, Any], Container[str]], list[TreeFault]]
 # Rules of scenarios: a key that should not be there, one that is missing, a value of a wrong kind, and one that is out
 # of its range or not of its form.
-UNKNOWN, MISSING, KIND, RANGE = (formats.RULES[name] for name in ("UnknownKey", "MissingKey", "Kind", "Range"))
+UNKNOWN, MISSING, KIND, RANGE = (
+    formats.RULES[name] for name in ("UnknownKey", "MissingKey", "Kind", "Range")
+)
 MOST_NAMED = 3  # of the texts that may stand at a key
-KINDS = {bool: "true or false", int: "a whole number", float: "a number with a point", str: "a text", list: "a list",
-         dict: "a table"}
+KINDS = {
+    bool: "true or false",
+    int: "a whole number",
+    float: "a number with a point",
+    str: "a text",
+    list: "a list",
+    dict: "a table",
+}
 # What to do about a number above its range, by its key.
 LESS = {key: advice for advice, keys in ADVICE["above"].items() for key in keys}
 
@@ -124,14 +142,18 @@ def once_each(faults: Iterable[tuple[Hashable, TreeFault]]) -> list[TreeFault]:
 
 def number(least: int, most: int) -> Check:
     """Returns the check of a whole number in a range."""
+
     def check(path: Path, value: Any) -> list[TreeFault]:
         if type(value) is not int:
             return wrong_kind(path, value, "a whole number")
         if least <= value <= most:
             return []
         what = f"{shown(value)} is not from {least:,} to {most:,}"
-        advice = f"write {least} or more" if value < least else advice_on_more(path, most)
+        advice = f"write {least} or more"
+        if value > most:
+            advice = advice_on_more(path, most)
         return [TreeFault(RANGE, path, what, advice)]
+
     return check
 
 
@@ -151,21 +173,26 @@ def numbers(least: int, most: int) -> Check:
         if not isinstance(value, list):
             return wrong_kind(path, value, "a list of whole numbers")
         if not value:
-            return [TreeFault(RANGE, path, "the list is empty", "write at least one number")]
-        if {*map(type, value)} == {int} and least <= min(value) and max(value) <= most:  # nearly always
+            what, advice = "the list is empty", "write at least one number"
+            return [TreeFault(RANGE, path, what, advice)]
+        is_whole = {*map(type, value)} == {int}
+        if is_whole and least <= min(value) and max(value) <= most:  # nearly always
             return []
         faults: list[tuple[Hashable, TreeFault]] = []
         for place, entry in enumerate(value, 1):
             kind = entry < least if type(entry) is int else kind_of(entry)
             faults += [(kind, fault) for fault in one((*path, place), entry)]
         return once_each(faults)
+
     return check
 
 
 def kind_check(kind: str, is_of_kind: Callable[[Any], bool]) -> Check:
     """Returns the check of the kind of a value."""
+
     def check(path: Path, value: Any) -> list[TreeFault]:
         return [] if is_of_kind(value) else wrong_kind(path, value, kind)
+
     return check
 
 
@@ -204,15 +231,19 @@ def money(path: Path, value: Any) -> list[TreeFault]:
 
 def share(example: str) -> Check:
     """Returns the check of a share between 0 and 1. `example` says what to write for what."""
+
     def check(path: Path, value: Any) -> list[TreeFault]:
         if isinstance(value, float) and 0 < value < 1:
             return []
-        return [TreeFault(RANGE, path, f"{shown(value)} is not between 0 and 1", f"write {example}")]
+        what = f"{shown(value)} is not between 0 and 1"
+        return [TreeFault(RANGE, path, what, f"write {example}")]
+
     return check
 
 
 def choice(*values: str) -> Check:
     """Returns the check of one of some texts. If they are many, the first ones are named."""
+
     def check(path: Path, value: Any) -> list[TreeFault]:
         if value in values:
             return []
@@ -220,6 +251,7 @@ def choice(*values: str) -> Check:
         advice = " or ".join(f'"{name}"' for name in near)
         what = f"{shown(value)} is none of {names_of(values, MOST_NAMED)}"
         return [TreeFault(RANGE, path, what, f"write {advice}")]
+
     return check
 
 
@@ -239,14 +271,19 @@ class Judge:
     A key that is missing is no fault beside an unknown one that is spelt like it, unless `says_both`.
     """
 
-    def __init__(self, rules: Table, newest: Table | None = None, says_both: bool = False) -> None:
+    def __init__(
+        self, rules: Table, newest: Table | None = None, says_both: bool = False
+    ) -> None:
         """Notes where each key of a document belongs, in words."""
-        self.rules, self.says_both, self.tables = rules, says_both, (newest or rules).keys
+        self.rules, self.says_both = rules, says_both
+        self.tables = (newest or rules).keys
         self.homes: dict[str, list[str]] = {}
         for name, rule in self.tables.items():
             keys, home = [name], f"{DOCUMENT}, above its first table"
             if isinstance(rule, Table):
-                keys, home = [*rule.keys], f"[[{name}]]" if rule.is_list else f"[{name}]"
+                keys, home = [*rule.keys], f"[{name}]"
+                if rule.is_list:
+                    home = f"[{home}]"
             for key in keys:
                 self.homes.setdefault(key, []).append(home)
 
@@ -265,11 +302,14 @@ class Judge:
         if odd:
             return odd
         close = meant(key, rules.keys)
-        alike = [name for name in (*self.homes, *self.tables) if name.lower() == key.lower()]
-        close = close or next(iter(alike), "")
-        if close:
-            return f"write {close}"
-        return "remove it" if self.says_both else f"remove it; the keys here are {', '.join(rules.keys)}"
+        alike = [
+            name for name in (*self.homes, *self.tables) if name.lower() == key.lower()
+        ]
+        if close or alike:
+            return f"write {close or alike[0]}"
+        if self.says_both:
+            return "remove it"
+        return f"remove it; the keys here are {', '.join(rules.keys)}"
 
     def _of_table(self, path: Path, table: Any, rules: Table) -> list[TreeFault]:
         """Returns the faults of a table: unknown and missing keys, values, and what stands beside each other."""
@@ -280,21 +320,25 @@ class Judge:
         instead: set[str] = set()
         if rules.other is None:
             for key in others:
+                what = "there should be no such key"
                 advice = self._advice_on_unknown(key, rules)
-                faults.append(TreeFault(UNKNOWN, (*path, key), "there should be no such key", advice))
+                faults.append(TreeFault(UNKNOWN, (*path, key), what, advice))
             if not self.says_both:
                 instead = {meant(key, rules.keys) for key in others}
         for key, rule in rules.keys.items():
             if rule.needed and key not in table and key not in instead:
+                what = f"the key {key} is missing"
                 advice = _advice_on_missing(path, key, rule)
-                faults.append(TreeFault(MISSING, path, f"the key {key} is missing", advice))
+                faults.append(TreeFault(MISSING, path, what, advice))
         for key, rule in rules.keys.items():
             if key in table:
                 faults += self._of_value((*path, key), table[key], rule)
         if rules.other is not None:
             for key in others:
                 faults += self._of_value((*path, key), table[key], rules.other)
-        spoilt = {fault.path[len(path)] for fault in faults if len(fault.path) > len(path)}
+        spoilt = {
+            fault.path[len(path)] for fault in faults if len(fault.path) > len(path)
+        }
         return faults + rules.joint(path, table, table.keys() - spoilt)
 
     def _of_value(self, path: Path, value: Any, rule: Key | Table) -> list[TreeFault]:
@@ -313,10 +357,14 @@ class Judge:
 def _advice_on_missing(path: Path, key: str, rule: Key | Table) -> str:
     """Returns what to do about a key that is missing."""
     if isinstance(rule, Key):
-        return "write it in this table" if path else "write it at the top, above the first table"
+        if path:
+            return "write it in this table"
+        return "write it at the top, above the first table"
     needed = [name for name, inner in rule.keys.items() if inner.needed]
     if rule.is_list:
-        return f"write [[{key}]], and below it {', '.join(needed[:-1])} and {needed[-1]}"
+        return (
+            f"write [[{key}]], and below it {', '.join(needed[:-1])} and {needed[-1]}"
+        )
     return f"write a table [{'.'.join(map(str, (*path, key)))}]"
 
 
@@ -333,7 +381,10 @@ def _place_text(path: Path, rules: Table) -> str:
         tables.append(str(part))
     if not tables:
         return f"[{path[0]}]"
-    rest = [f"entry {part}" if isinstance(part, int) else part for part in path[len(tables):]]
+    rest = [
+        f"entry {part}" if isinstance(part, int) else part
+        for part in path[len(tables) :]
+    ]
     return " ".join([f"[{'.'.join(tables)}]", ", ".join(rest)]).strip()
 
 

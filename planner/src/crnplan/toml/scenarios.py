@@ -9,17 +9,48 @@ import itertools
 import json
 import re
 import tomllib
-from collections.abc import Container, Hashable, Mapping
+from collections.abc import Container, Hashable, Iterator, Mapping
+from operator import attrgetter
 from typing import Any, TypeGuard
 
 from .. import formats
 from ..errors import ScenarioError
-from .documents import DOCUMENT, Path, Tree, TreeFault, odd_advice, older_text, read_judged, shown
-from .rules import RANGE, Check, JointCheck, Judge, Key, Table, no_faults, number, numbers, once_each, wrong_kind
+from .documents import (
+    DOCUMENT,
+    Path,
+    Tree,
+    TreeFault,
+    odd_advice,
+    older_text,
+    read_judged,
+    shown,
+)
+from .rules import (
+    RANGE,
+    Check,
+    Judge,
+    Key,
+    Table,
+    no_faults,
+    number,
+    numbers,
+    once_each,
+    wrong_kind,
+)
 
 VERSION, LENGTHS, ORDER, SUM, LEVELS, NAME, RING, COUNT = (
-    formats.RULES[name] for name in ("Version", "Lengths", "Order", "WeightSum", "Levels", "Name", "RingSize",
-                                     "PolicyCount"))
+    formats.RULES[name]
+    for name in (
+        "Version",
+        "Lengths",
+        "Order",
+        "WeightSum",
+        "Levels",
+        "Name",
+        "RingSize",
+        "PolicyCount",
+    )
+)
 LONGEST_NAME = 20
 # So many faults are in the text of an error. Its `faults` has all.
 MOST_SHOWN = 20
@@ -30,19 +61,10 @@ COMMENT_AT_END = re.compile(r"\n\n(#[^\n]*\n)+\Z")
 def _advice_on_word(word: str) -> str:
     if formats.WORD.fullmatch(word.lower()):
         return "write a-f in lower case"
-    odd = odd_advice(word)
-    if odd:
-        return odd
-    return "write digits of 0-9a-f alone" if len(word) == 16 else f"it has {len(word)} characters"
-
-
-def _word_faults(path: Path, word: Any) -> list[TreeFault]:
-    """Returns the faults of a word of the key."""
-    if not isinstance(word, str):
-        return wrong_kind(path, word, "a text of 16 digits of 0-9a-f")
-    if formats.WORD.fullmatch(word):
-        return []
-    return [TreeFault(RANGE, path, f"{shown(word)} is not 16 digits of 0-9a-f", _advice_on_word(word))]
+    is_whole = len(word) == formats.DIGITS_OF_WORD
+    advice = f"it has {len(word)} characters"
+    advice = "write digits of 0-9a-f alone" if is_whole else advice
+    return odd_advice(word) or advice
 
 
 def _key_faults(path: Path, value: Any) -> list[TreeFault]:
@@ -51,12 +73,21 @@ def _key_faults(path: Path, value: Any) -> list[TreeFault]:
         return wrong_kind(path, value, "a list of four texts")
     faults: list[tuple[Hashable, TreeFault]] = []
     for place, word in enumerate(value, 1):
-        for fault in _word_faults((*path, place), word):
-            faults.append((fault.advice if fault.rule == RANGE else fault.rule, fault))
-    count = []
+        at = (*path, place)
+        if not isinstance(word, str):
+            (fault,) = wrong_kind(at, word, "a text of 16 digits of 0-9a-f")
+            faults.append((fault.rule, fault))
+        elif not formats.WORD.fullmatch(word):
+            what, advice = f"{shown(word)} is not 16 digits of 0-9a-f", _advice_on_word(
+                word
+            )
+            faults.append((advice, TreeFault(RANGE, at, what, advice)))
+    found = once_each(faults)
     if len(value) != formats.WORDS_OF_KEY:
-        count.append(TreeFault(RANGE, path, f"there are {len(value)} texts, not 4", "write four, each of 16 digits"))
-    return count + once_each(faults)
+        what = f"there are {len(value)} texts, not 4"
+        count = TreeFault(RANGE, path, what, "write four, each of 16 digits")
+        found.insert(0, count)
+    return found
 
 
 def name_faults(path: Path, name: Any) -> list[TreeFault]:
@@ -82,37 +113,49 @@ def _ring_faults(path: Path, value: Any) -> list[TreeFault]:
         return wrong_kind(path, value, "a whole number")
     if value in formats.RING_SIZES:
         return []
-    return [TreeFault(RING, path, f"{shown(value)} is not one of {RINGS}", f"write ring = {formats.RING_SIZES[-1]}")]
+    what = f"{shown(value)} is not one of {RINGS}"
+    return [TreeFault(RING, path, what, f"write ring = {formats.RING_SIZES[-1]}")]
 
 
 def _are_whole(values: Any) -> TypeGuard[list[int]]:
     return isinstance(values, list) and {*map(type, values)} <= {int}
 
 
-def _draws_faults(path: Path, table: Mapping[str, Any], _good: Container[str]) -> list[TreeFault]:
+def _falls(path: Path, values: list[int]) -> Iterator[tuple[Hashable, TreeFault]]:
+    """Yields the fault of each value that is not above the one before it."""
+    advice = "write each value once, rising, with its weight"
+    for entry, (low, high) in enumerate(itertools.pairwise(values), 2):
+        if low >= high:
+            what = f"{shown(high)} is not above the {shown(low)} before it"
+            yield ORDER, TreeFault(ORDER, (*path, entry), what, advice)
+
+
+def _draws_faults(
+    path: Path, table: Mapping[str, Any], _good: Container[str]
+) -> list[TreeFault]:
     """Returns the faults of values and weights beside each other: their numbers, values that do not rise, the sum."""
     values, weights = table.get("values"), table.get("weights")
     faults: list[TreeFault] = []
-    if isinstance(values, list) and isinstance(weights, list) and len(values) != len(weights):
-        faults.append(TreeFault(LENGTHS, path, f"there are {len(values)} values and {len(weights)} weights",
-                                "write one weight for each value"))
-    if _are_whole(values) and values != sorted({*values}):
-        falls: list[tuple[Hashable, TreeFault]] = []
-        for entry, (low, high) in enumerate(itertools.pairwise(values), 2):
-            if low >= high:
-                what = f"{shown(high)} is not above the {shown(low)} before it"
-                falls.append((ORDER, TreeFault(ORDER, (*path, "values", entry), what,
-                                               "write each value once, rising, with its weight")))
-        faults += once_each(falls)
+    if isinstance(values, list) and isinstance(weights, list):
+        if len(values) != len(weights):
+            what = f"there are {len(values)} values and {len(weights)} weights"
+            advice = "write one weight for each value"
+            faults.append(TreeFault(LENGTHS, path, what, advice))
+    if _are_whole(values):
+        faults += once_each(_falls((*path, "values"), values))
     least, most = formats.WEIGHT_SUMS
     if _are_whole(weights) and not least <= sum(weights) <= most:
-        advice = "divide all weights by the same number" if sum(weights) > 0 else "give some value a weight above 0"
+        advice = "give some value a weight above 0"
+        if sum(weights) > 0:
+            advice = "divide all weights by the same number"
         what = f"they come to {shown(sum(weights))}, which is not from {least:,} to {most:,}"
         faults.append(TreeFault(SUM, (*path, "weights"), what, advice))
     return faults
 
 
-def _levels_faults(path: Path, policy: Mapping[str, Any], _good: Container[str]) -> list[TreeFault]:
+def _levels_faults(
+    path: Path, policy: Mapping[str, Any], _good: Container[str]
+) -> list[TreeFault]:
     """Returns the fault of a policy whose reorder point is above its order-up-to level."""
     point, level = policy.get("s"), policy.get("S")
     if type(point) is not int or type(level) is not int or point <= level:
@@ -127,18 +170,28 @@ def _policies_faults(path: Path, policies: list[Any]) -> list[TreeFault]:
     seen: dict[str, int] = {}
     least, most = formats.POLICIES
     if not least <= len(policies) <= most:
-        advice = "split them over several scenarios, with the same first policy" if policies else "write one at least"
-        faults.append(TreeFault(COUNT, path, f"there are {len(policies)} policies, not {least} to {most}", advice))
+        what = f"there are {len(policies)} policies, not {least} to {most}"
+        advice = "write one at least"
+        if policies:
+            advice = "split them over several scenarios, with the same first policy"
+        faults.append(TreeFault(COUNT, path, what, advice))
     for entry, policy in enumerate(policies, 1):
         name = policy.get("name") if isinstance(policy, dict) else None
         if isinstance(name, str) and seen.setdefault(name, entry) != entry:
             what = f"{shown(name)} is the name of policy {seen[name]} too"
-            faults.append(TreeFault(NAME, (*path, entry, "name"), what, "write another name"))
+            faults.append(
+                TreeFault(NAME, (*path, entry, "name"), what, "write another name")
+            )
     return faults
 
 
 # The version is judged by itself: with another one, the rest is judged as the version that fits it.
-CHECKS: dict[str, Check] = {"version": no_faults, "key": _key_faults, "ring": _ring_faults, "name": name_faults}
+CHECKS: dict[str, Check] = {
+    "version": no_faults,
+    "key": _key_faults,
+    "ring": _ring_faults,
+    "name": name_faults,
+}
 
 
 def _rules(version: int) -> Table:
@@ -146,23 +199,35 @@ def _rules(version: int) -> Table:
     for key in formats.KEYS:
         if key.since <= version:
             in_range = numbers if key.table in formats.DRAWS else number
-            check = CHECKS.get(key.name) or in_range(*formats.limits(key.table, key.name))
-            tables.setdefault(key.table, {})[key.name] = Key(check, needed=key.name != "version")
+            check = CHECKS.get(key.name)
+            if check is None:
+                check = in_range(*formats.limits(key.table, key.name))
+            own = Key(check, needed=key.name != "version")
+            tables.setdefault(key.table, {})[key.name] = own
     document = tables.pop("")
     for name, keys in tables.items():
-        joint: JointCheck = no_faults
+        document[name] = Table(keys, True)
         if name in formats.DRAWS:
-            joint = _draws_faults
-        document[name] = Table(keys, True, joint=joint)
-    document["policy"] = Table(tables["policy"], True, is_list=True, joint=_levels_faults,
-                               joint_of_list=_policies_faults)
-    newer = {key: f"write version = {since}, which has {key}" for key, since in formats.SINCE.items()
-             if since > version}
+            document[name] = Table(keys, True, joint=_draws_faults)
+    document["policy"] = Table(
+        tables["policy"],
+        True,
+        is_list=True,
+        joint=_levels_faults,
+        joint_of_list=_policies_faults,
+    )
+    newer = {}
+    for name, since in formats.SINCE.items():
+        if since > version:
+            newer[name] = f"write version = {since}, which has {name}"
     return Table(document, elsewhere=newer)
 
 
 NEWEST = _rules(formats.VERSIONS[-1])
-JUDGES = {version: Judge(_rules(version), NEWEST, says_both=True) for version in formats.VERSIONS}
+JUDGES = {
+    version: Judge(_rules(version), NEWEST, says_both=True)
+    for version in formats.VERSIONS
+}
 
 
 def _advice_on_version() -> str:
@@ -171,7 +236,9 @@ def _advice_on_version() -> str:
     ways: list[str] = []
     for version in formats.VERSIONS:
         way = f"version = {version}"
-        added = [key for key, since in formats.SINCE.items() if first < since == version]
+        added = [
+            key for key, since in formats.SINCE.items() if first < since == version
+        ]
         if added:
             way += f" with a table {' and '.join(added)}"
         ways.append(way)
@@ -185,7 +252,12 @@ def _place_text(path: Path, tree: Any) -> str:
     parts, rest = [DOCUMENT], path
     if isinstance(NEWEST.keys.get(str(path[0])), Table):
         parts, rest = [f"table {path[0]}"], path[1:]
-    if path[0] == "policy" and rest and isinstance(rest[0], int) and isinstance(tree["policy"], list):
+    if (
+        path[0] == "policy"
+        and rest
+        and isinstance(rest[0], int)
+        and isinstance(tree["policy"], list)
+    ):
         parts, rest = [_policy_text(rest[0], tree["policy"][rest[0] - 1])], rest[1:]
     for part in rest:
         if isinstance(part, int):
@@ -210,14 +282,16 @@ def faults_of(tree: dict[str, Any]) -> list[TreeFault]:
     faults: list[TreeFault] = []
     version, known = tree.get("version"), formats.VERSIONS
     if "version" not in tree:
-        faults.append(TreeFault(VERSION, (), "the key version is missing", _advice_on_version()))
+        what = "the key version is missing"
+        faults.append(TreeFault(VERSION, (), what, _advice_on_version()))
     elif type(version) is not int or version not in known:
-        either = " or ".join(map(str, known))
-        faults.append(TreeFault(VERSION, ("version",), f"{shown(version)} is not {either}", _advice_on_version()))
+        what = f"{shown(version)} is not {' or '.join(map(str, known))}"
+        faults.append(TreeFault(VERSION, ("version",), what, _advice_on_version()))
     if type(version) is not int or faults:
         version = formats.version_with(tree)
-    return [fault._replace(where=_place_text(fault.path, tree))
-            for fault in sorted(faults + JUDGES[version].faults(tree), key=lambda fault: fault.rule)]
+    faults += JUDGES[version].faults(tree)
+    faults.sort(key=attrgetter("rule"))
+    return [fault._replace(where=_place_text(fault.path, tree)) for fault in faults]
 
 
 def read_scenario(data: bytes) -> tuple[Tree, list[TreeFault]]:
@@ -230,7 +304,9 @@ def error_of(faults: list[TreeFault], file: str = "") -> ScenarioError:
     named = [fault.fault(file) for fault in faults]
     lines = [str(fault) for fault in named[:MOST_SHOWN]]
     if len(faults) > MOST_SHOWN:
-        lines.append(f"and {len(faults) - MOST_SHOWN} more faults; crnplan why says all")
+        lines.append(
+            f"and {len(faults) - MOST_SHOWN} more faults; crnplan why says all"
+        )
     return ScenarioError(named, "\n".join(lines))
 
 
@@ -239,7 +315,11 @@ def checked_tree(tree: Tree, any_number: bool = False) -> Tree:
 
     With `any_number` it may have more policies than the program takes in one run.
     """
-    faults = [fault for fault in faults_of(tree) if not any_number or fault.rule != COUNT or not tree["policy"]]
+    faults = [
+        fault
+        for fault in faults_of(tree)
+        if not any_number or fault.rule != COUNT or not tree["policy"]
+    ]
     if faults:
         raise error_of(faults)
     return tree
@@ -247,8 +327,13 @@ def checked_tree(tree: Tree, any_number: bool = False) -> Tree:
 
 def plain_text(tree: Tree) -> str:
     """Returns a tree without comments: the keys of the document, its tables, its policies."""
-    tables = [("", {key: value for key, value in tree.items() if key != "policy" and not isinstance(value, dict)})]
-    tables += [(f"\n[{name}]\n", table) for name, table in tree.items() if isinstance(table, dict)]
+    own: Tree = {}
+    tables = [("", own)]
+    for key, value in tree.items():
+        if isinstance(value, dict):
+            tables.append((f"\n[{key}]\n", value))
+        elif key != "policy":
+            own[key] = value
     tables += [("\n[[policy]]\n", policy) for policy in tree["policy"]]
     lines: list[str] = []
     for heading, table in tables:
@@ -261,7 +346,8 @@ def plain_text(tree: Tree) -> str:
 
 def head_of(source: str) -> str:
     """Returns the comment lines at the top of a text."""
-    return "".join(itertools.takewhile(lambda line: line.startswith("#"), source.splitlines(keepends=True)))
+    lines = source.splitlines(keepends=True)
+    return "".join(itertools.takewhile(re.compile("#").match, lines))
 
 
 def _merge(old: Any, tree: Tree) -> None:
@@ -282,17 +368,21 @@ def _merged_text(source: str, tree: Tree) -> str:
     Policies keep theirs only if all names and their order are the same.
     """
     import tomlkit
+
     document: Any = tomlkit.parse(source)
-    others = {key: value for key, value in tree.items() if key != "policy"}
-    if [policy["name"] for policy in document["policy"]] == [policy["name"] for policy in tree["policy"]]:
-        for table, policy in zip(document["policy"], tree["policy"]):
+    others = {**tree}
+    policies = others.pop("policy")
+    names = [policy["name"] for policy in policies]
+    if names == [policy["name"] for policy in document["policy"]]:
+        for table, policy in zip(document["policy"], policies):
             _merge(table, policy)
         _merge(document, {**others, "policy": document["policy"]})
         return str(document.as_string())
     del document["policy"]
-    document = tomlkit.parse(COMMENT_AT_END.sub("\n", f"{document.as_string().rstrip()}\n"))
+    without = COMMENT_AT_END.sub("\n", f"{document.as_string().rstrip()}\n")
+    document = tomlkit.parse(without)
     _merge(document, others)
-    return str(document.as_string()) + plain_text({"policy": tree["policy"]})
+    return str(document.as_string()) + plain_text({"policy": policies})
 
 
 def toml_text(tree: Tree, source: str) -> str:
@@ -302,6 +392,7 @@ def toml_text(tree: Tree, source: str) -> str:
     if tomllib.loads(older) == tree:
         return source
     from tomlkit.exceptions import TOMLKitError
+
     with contextlib.suppress(TOMLKitError, tomllib.TOMLDecodeError):
         text = _merged_text(older, tree)
         if tomllib.loads(text) == tree:

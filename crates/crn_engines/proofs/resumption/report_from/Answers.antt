@@ -8,9 +8,8 @@ use Rattle.crn_engines.proofs.resumption.report_from.Goals as goal
 
 pub returns-clause-made : goal.returns-clause-made
 returns-clause-made g c =
-    let s = c.in_ok-scenario.scenario in
     IfOk-weaker c.report_onward.result _ _ (λ text made. record {
-      scenario = s;
+      scenario = c.in_ok-scenario.scenario;
       bytes = made.bytes;
       read = record { scenario = c.in_ok-scenario.ensures.reads; checkpoint = made.read };
       answer = made.answer;

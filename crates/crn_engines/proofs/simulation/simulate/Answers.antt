@@ -1,9 +1,10 @@
+use Rattle.std.proofs.Common.{rules}
 use Rattle.crn_engines.proofs.Refused.{of_each, output_of_simulation, scenario_of_report}
 use Rattle.crn_engines.proofs.Sent.{sent, sent_front}
 use Rattle.crn_engines.proofs.simulation.simulate.Goals as goal
 
 pub returns-clause-wrote : goal.returns-clause-wrote
-returns-clause-wrote g c = sent _ _ _ c.in_ok-text.text.items c.in_ok-text.ensures.made c.send_made.result c.send_made.ensures.whole
+returns-clause-wrote g c = sent _ _ _ c.in_ok-text.text.items c.in_ok-text.ensures.made c.send_made.result (search (rules, c.send_made.ensures.whole))
 
 pub returns-clause-front : goal.returns-clause-front
 returns-clause-front g c = sent_front _ _ _ c.in_ok-text.text.items c.in_ok-text.ensures.made c.send_made.result _ c.send_made.ensures.front

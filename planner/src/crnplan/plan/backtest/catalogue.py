@@ -10,13 +10,13 @@ from dataclasses import dataclass
 from pathlib import Path
 
 from ...demand.learning import Prior
-from ...files import IN_KEPT, Folder, faults_of
-from ...jobs import Scheduler, workers_of
-from ...records.catalogue_reading import READ, Catalogued
-from ...records.item import Item
+from ...store.files import IN_KEPT, Folder, faults_of
+from ...store.means import Means
+from ...read.catalogue_reading import READ, Catalogued
+from ...read.item import Item
 from ...remarks import Remark
-from ...stored import Store
-from ...work import Work
+from ...store.stored import Store
+from ...store.work import Work
 from ..catalogue import PlannedFolder, whole_digest
 from ..learned import learned_of
 from ..question import Settings
@@ -24,7 +24,9 @@ from .one import Backtest, Walk, backtest_item
 from .sums import ALL_ITEMS, Sums, sums_of
 
 TESTS = f"{IN_KEPT}backtest.sqlite"
-TESTED = "tested"  # a fact of the store: the text that all digests have, and the settings
+TESTED = (
+    "tested"  # a fact of the store: the text that all digests have, and the settings
+)
 
 
 class Records(Catalogued):
@@ -69,7 +71,8 @@ class Tested:
 @dataclass(frozen=True)
 class Past:
     """What the test in the folder of a plan says of all its items, None if it tests none. `is_old` says whether it is
-    of other rows or settings than the plan, `corrects` whether the plan corrects fill rates, which no test does."""
+    of other rows or settings than the plan, `corrects` whether the plan corrects fill rates, which no test does.
+    """
 
     sums: Sums | None
     is_old: bool
@@ -92,30 +95,49 @@ def past_of(planned: PlannedFolder) -> Past | None:
             return None
         common, settings = json.loads(fact)
         if settings != dataclasses.asdict(uncorrected(planned.settings)) or (
-                tests.digest != whole_digest(planned.read, common)):
+            tests.digest != whole_digest(planned.read, common)
+        ):
             return Past(None, True, False)
         kept = (test for _, _, test in tests.answers() if isinstance(test, Backtest))
         return Past(whole_of(sums_of(kept)), False, planned.settings.correct)
 
 
-def backtest_batch(batch: Sequence[Item], settings: Settings, prior: Prior, walk: Walk) -> list[Backtest | Remark]:
-    return [backtest_item(item, settings, prior, walk) for item in batch]
-
-
-def backtest_into(folder: Folder, settings: Settings, walk: Walk, *, jobs: int | None = None,
-                  address: Scheduler | None = None, shown: bool = False) -> Tested:
+def backtest_into(
+    folder: Folder, settings: Settings, walk: Walk, means: Means
+) -> Tested:
     """Tests the catalogue that was read into a folder, and keeps all tests there. Items learn from one another as they
     would have at the end of their records."""
-    with (faults_of(folder.path),
-          contextlib.closing(Records(folder.path / READ, walk.record, settings.window)) as read,
-          contextlib.closing(Store(folder.store(TESTS), Backtest)) as tests):
-        prior, usual, learned, _ = learned_of(tests, read, settings, again=True)
-        settings = dataclasses.replace(uncorrected(settings), borrow=usual, every=read.fact("every"))
-        common = settings.common(repr(walk), prior)
-        work = Work(tests, lambda: read.digests(common), read.whole_item, backtest_batch, (settings, prior, walk))
-        work.finish(workers_of(jobs, address), {TESTED: json.dumps([common, dataclasses.asdict(settings)])}, shown=shown)
-        answers = (test for _, _, test in tests.answers())
-        items = [*zip(read.whole_items(), answers, strict=True)]
-        sums = sums_of(test for _, test in items if isinstance(test, Backtest))
-        return Tested(walk, read.fact("every"), read.fact("decimals"), read.fact("counts")["items"]["named"], items,
-                      sums, learned, work.now, work.kept)
+    path = folder.path / READ
+    with (
+        faults_of(folder.path),
+        contextlib.closing(Records(path, walk.record, settings.window)) as read,
+        contextlib.closing(Store(folder.store(TESTS), Backtest)) as tests,
+    ):
+        every, learned = read.fact("every"), learned_of(tests, read, settings, True)
+        settings = dataclasses.replace(
+            uncorrected(settings), borrow=learned.usual, every=every
+        )
+        common = settings.common(repr(walk), learned.prior)
+        work = Work(
+            tests,
+            lambda: read.digests(common),
+            read.whole_item,
+            backtest_item,
+            (settings, learned.prior, walk),
+        )
+        fact = json.dumps([common, dataclasses.asdict(settings)])
+        work.finish(means.workers(), {TESTED: fact}, shown=means.shown)
+        items = list[tuple[Item, Backtest | Remark]]()
+        for item, (_, _, test) in zip(read.whole_items(), tests.answers(), strict=True):
+            items.append((item, test))
+        return Tested(
+            walk,
+            every,
+            read.fact("decimals"),
+            read.fact("counts")["items"]["named"],
+            items,
+            sums_of(test for _, test in items if isinstance(test, Backtest)),
+            learned.remarks,
+            work.now,
+            work.kept,
+        )

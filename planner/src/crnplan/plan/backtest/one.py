@@ -7,6 +7,7 @@ from __future__ import annotations
 
 import contextlib
 import dataclasses
+import operator
 import statistics
 from collections.abc import Iterator, Sequence
 from dataclasses import dataclass
@@ -15,11 +16,10 @@ import numpy as np
 
 from ...demand.learning import Prior
 from ...errors import Refused, argument
-from ...records.item import Item
+from ...read.item import Item
 from ...remarks import Remark
-from ...theory.long_run import LongRun
 from ..answer import Figures
-from ..choice import choice_of, figures_of
+from ..choice import choice_of
 from ..one import or_fault
 from ..question import Levels, Question, Settings, question_of
 from .outcomes import Happened, Outcome
@@ -41,7 +41,8 @@ class Walk:
     least_gain: float | None = None
 
     def __post_init__(self) -> None:
-        for name, number in (("record", self.record), ("every", self.every), ("window", self.window)):
+        for name in ("record", "every", "window"):
+            number = getattr(self, name)
             if number < 1:
                 raise Refused(f"{argument(name, str(number))} is not at least 1")
 
@@ -83,23 +84,26 @@ def ratio(demands: Sequence[int], record: int) -> float | None:
     return max(demands[record:]) / before if before else None
 
 
-def chosen(question: Question, theory: LongRun) -> tuple[Figures, Figures]:
+def chosen(question: Question) -> tuple[Figures, Figures]:
     """Returns the best policy and the one that is chosen beside that of an earlier plan, as theory sees them."""
-    choice = choice_of(theory, question)
-    return figures_of(question, theory, choice.best), figures_of(question, theory, choice.levels)
+    choice = choice_of(question)
+    return question.figures(choice.best), question.figures(choice.levels)
 
 
 class Walked:
     """An item's periods, in an order, and what its policies come to on them."""
 
-    def __init__(self, item: Item, settings: Settings, prior: Prior, walk: Walk) -> None:
+    def __init__(
+        self, item: Item, settings: Settings, prior: Prior, walk: Walk
+    ) -> None:
         """Plans an item as it was at the end of its record. Raises Refused if it could not be planned then."""
         self.item, self.prior, self.walk = item, prior, walk
         self.settings = dataclasses.replace(settings, least_gain=walk.least_gain)
         self.question = self._asked(0, walk.record)
-        self.happened = Happened(item, self.question.lead, self.question.seed("past"), walk.record)
-        self.theory = self.question.theory()
-        self.plan, _ = chosen(self.question, self.theory)
+        self.happened = Happened(
+            item, self.question.lead, self.question.seed("past"), walk.record
+        )
+        self.plan, _ = chosen(self.question)
 
     def _asked(self, start: int, stop: int, before: Levels | None = None) -> Question:
         item = self.item.part(start, stop).last(self.settings.window)
@@ -113,18 +117,18 @@ class Walked:
         """Returns what today's policy comes to, with what the plan said of it; None if there is none."""
         if self.question.levels is None:
             return None
-        today = figures_of(self.question, self.theory, self.question.levels)
+        today = self.question.figures(self.question.levels)
         return self.happened.of_figures([today] * self.happened.later)
 
     def refitted(self) -> tuple[Outcome, Outcome | None]:
         """Returns what refitted plans come to, and what they do if levels stay that others gain little beside; None
         without a least gain. If a window has no plan, the last one is kept."""
-        plans, damped, plan, kept = list[Figures](), list[Figures](), self.plan, self.plan
+        plans, damped = list[Figures](), list[Figures]()
+        plan = kept = self.plan
         for start, origin, end in self.walk.stretches(len(self.item.counts)):
             if origin > self.walk.record:
                 with contextlib.suppress(Refused):
-                    question = self._asked(start, origin, kept.levels)
-                    plan, kept = chosen(question, question.theory())
+                    plan, kept = chosen(self._asked(start, origin, kept.levels))
             plans += [plan] * (end - origin)
             damped += [kept] * (end - origin)
         outcome = self.happened.of_figures
@@ -134,14 +138,17 @@ class Walked:
         """Returns what the rule of thumb comes to."""
         past, lead = self.happened.past, self.question.lead.figures
         net = [asked - back for asked, back in zip(past.demands, past.returns)]
-        return self.happened.outcome(smoothed_levels(self.item, net, lead.mean, lead.variance or 0))
+        return self.happened.outcome(
+            smoothed_levels(self.item, net, lead.mean, lead.variance or 0)
+        )
 
 
 def shuffled(item: Item, seed: int) -> Item:
     """Returns an item whose periods come in a random order."""
     order = np.random.default_rng(seed).permutation(len(item.counts)).tolist()
-    return dataclasses.replace(item, counts=tuple(item.counts[place] for place in order),
-                               returns=tuple(item.returns[place] for place in order) if item.returns else ())
+    pick = operator.itemgetter(*order)
+    returns = pick(item.returns) if item.returns else ()
+    return dataclasses.replace(item, counts=pick(item.counts), returns=returns)
 
 
 def backtest_one(item: Item, settings: Settings, prior: Prior, walk: Walk) -> Backtest:
@@ -152,14 +159,29 @@ def backtest_one(item: Item, settings: Settings, prior: Prior, walk: Walk) -> Ba
         beside: Outcome | None = Walked(other, settings, prior, walk).kept()
     except Refused:
         beside = None
-    return Backtest(item.name, item.category, record, item.first + record, statistics.fmean(item.counts),
-                    item.counts[record:], ratio(item.counts, record), walked.today(), walked.kept(), *walked.refitted(),
-                    walked.smoothed(), beside, other.counts[record:], ratio(other.counts, record))
+    return Backtest(
+        item.name,
+        item.category,
+        record,
+        item.first + record,
+        statistics.fmean(item.counts),
+        item.counts[record:],
+        ratio(item.counts, record),
+        walked.today(),
+        walked.kept(),
+        *walked.refitted(),
+        walked.smoothed(),
+        beside,
+        other.counts[record:],
+        ratio(other.counts, record),
+    )
 
 
-def backtest_item(item: Item, settings: Settings, prior: Prior, walk: Walk) -> Backtest | Remark:
+def backtest_item(
+    item: Item, settings: Settings, prior: Prior, walk: Walk
+) -> Backtest | Remark:
     """Returns an item's test on its past, or why it has none."""
     needed = walk.record + walk.every
     if len(item.counts) < needed:
         return Remark(SHORT_RECORD, {"periods": len(item.counts), "needed": needed})
-    return or_fault(lambda asked: backtest_one(asked, settings, prior, walk), item)
+    return or_fault(item, backtest_one, settings, prior, walk)

@@ -16,7 +16,7 @@ import numpy as np
 
 from ...crnsim.periods import Past, Rates, periods_of
 from ...demand.fitted import FittedLaw
-from ...records.item import Item
+from ...read.item import Item
 from ..answer import Figures
 from ..question import Levels
 
@@ -48,7 +48,9 @@ class Happened:
         """Draws the lead times of orders from their law."""
         periods, self.record = len(item.counts), record
         random = np.random.default_rng(seed)
-        self.past = Past(item.counts, item.returns or (0,) * periods, lead.draws(random, periods))
+        self.past = Past(
+            item.counts, item.returns or (0,) * periods, lead.draws(random, periods)
+        )
         self.start = float(random.random())
         self.rates = Rates(item.setup, 0, item.holding, item.backlog or Fraction(0))
 
@@ -57,26 +59,41 @@ class Happened:
         """Returns how many later periods there are."""
         return len(self.past.demands) - self.record
 
-    def outcome(self, levels: Iterable[Levels], promises: Sequence[tuple[float, float]] = ()) -> Outcome:
+    def outcome(
+        self, levels: Iterable[Levels], promises: Sequence[tuple[float, float]] = ()
+    ) -> Outcome:
         """Returns what s and S of each period come to, with promises of cost and fill for each later one."""
-        record, levels = self.record, [*levels]
+        record, levels, mean = self.record, [*levels], statistics.fmean
         s, S = levels[0]
-        periods = periods_of(self.past, levels, s + round(self.start * (S - s)))[record:]
-        unmet = [period.unmet for period in periods]
-        costs = [float(period.cost(self.rates)) for period in periods]
+        start = s + round(self.start * (S - s))
+        unmet, stocks = list[int](), list[int]()
+        costs, orders = list[float](), list[bool]()
+        for period in periods_of(self.past, levels, start)[record:]:
+            unmet.append(period.unmet)
+            costs.append(float(period.cost(self.rates)))
+            stocks.append(max(period.stock, 0))
+            orders.append(period.ordered > 0)
         promised: tuple[float | None, float | None] = None, None
         if promises:
-            promised = statistics.fmean(cost for cost, _ in promises), statistics.fmean(fill for _, fill in promises)
-        asked = sum(self.past.demands[record:])
-        fill = 1 - sum(unmet) / asked if asked else None
-        stock = statistics.fmean(max(period.stock, 0) for period in periods)
-        orders = statistics.fmean(period.ordered > 0 for period in periods)
-        changes = sum(old != new for old, new in itertools.pairwise(levels[record:]))
-        return Outcome(*levels[record], *promised, statistics.fmean(costs), fill, stock, orders, changes, tuple(costs),
-                       tuple(unmet))
+            costs_promised, fills = zip(*promises)
+            promised = mean(costs_promised), mean(fills)
+        asked, changes = sum(self.past.demands[record:]), 0
+        for old, new in itertools.pairwise(levels[record:]):
+            changes += old != new
+        return Outcome(
+            *levels[record],
+            *promised,
+            mean(costs),
+            1 - sum(unmet) / asked if asked else None,
+            mean(stocks),
+            mean(orders),
+            changes,
+            tuple(costs),
+            tuple(unmet),
+        )
 
     def of_figures(self, figures: Sequence[Figures]) -> Outcome:
         """Returns what the policies of the later periods come to, the first of them also in the record."""
-        before = [figures[0].levels] * self.record
-        return self.outcome([*before, *(policy.levels for policy in figures)],
-                            [(policy.cost, policy.fill) for policy in figures])
+        levels = [figures[0].levels] * self.record
+        levels += [policy.levels for policy in figures]
+        return self.outcome(levels, [(policy.cost, policy.fill) for policy in figures])

@@ -12,7 +12,7 @@ from collections.abc import Iterator, Sequence
 
 from scipy.special import ndtr
 
-from ...records.item import Item
+from ...read.item import Item
 from ..question import Levels
 
 SMOOTHING = 0.1  # the weight of the last period, for both
@@ -25,7 +25,7 @@ def smoothed(demands: Sequence[int]) -> Iterator[tuple[float, float]]:
     these periods."""
     first = demands[:FIRST]
     mean = sum(first) / len(first)
-    square = sum((demand - mean)**2 for demand in first) / max(1, len(first) - 1)
+    square = sum((demand - mean) ** 2 for demand in first) / max(1, len(first) - 1)
     for place, demand in enumerate(demands):
         yield mean, square
         if place >= FIRST:
@@ -36,7 +36,9 @@ def smoothed(demands: Sequence[int]) -> Iterator[tuple[float, float]]:
 
 def loss(factor: float) -> float:
     """Returns the mean of what a standard normal number is above a factor."""
-    return math.exp(-factor**2 / 2) / math.sqrt(2 * math.pi) - factor * float(ndtr(-factor))
+    return math.exp(-(factor**2) / 2) / math.sqrt(2 * math.pi) - factor * float(
+        ndtr(-factor)
+    )
 
 
 def safety_factor(share: float, quantity: float) -> float:
@@ -46,6 +48,7 @@ def safety_factor(share: float, quantity: float) -> float:
 
     def lacking(factor: float) -> float:
         return loss(factor) - loss(factor + quantity) - quantity * (1 - share)
+
     ends = lacking(-MOST_FACTOR), lacking(MOST_FACTOR)
     if min(ends) > 0 or max(ends) < 0:
         return math.copysign(MOST_FACTOR, ends[1])
@@ -61,7 +64,9 @@ def wanted_share(item: Item) -> float:
     return float(item.backlog / (item.backlog + item.holding))
 
 
-def smoothed_levels(item: Item, demands: Sequence[int], lead: float, variance: float) -> Iterator[Levels]:
+def smoothed_levels(
+    item: Item, demands: Sequence[int], lead: float, variance: float
+) -> Iterator[Levels]:
     """Yields s and S of each period by the demand before it. An order must last for its lead time, in periods of this
     mean and variance, and a period."""
     share, setup, holding = wanted_share(item), float(item.setup), float(item.holding)
@@ -70,6 +75,8 @@ def smoothed_levels(item: Item, demands: Sequence[int], lead: float, variance: f
         periods = lead + 1
         deviation = math.sqrt(periods * square + mean**2 * variance)
         quantity = max(math.sqrt(2 * setup * mean / holding), mean, 1.0)
-        safety = deviation * safety_factor(share, quantity / deviation) if deviation else 0.0
+        safety = 0.0
+        if deviation:
+            safety = deviation * safety_factor(share, quantity / deviation)
         s = max(0, math.ceil(periods * mean + safety))
         yield s, s + math.ceil(quantity)

@@ -78,7 +78,8 @@ class Ratio:
     @property
     def by_block(self) -> Floats:
         """Returns the ratio of each block in which something stands below the line."""
-        above, below = np.bincount(self.blocks, self.above), np.bincount(self.blocks, self.below)
+        above = np.bincount(self.blocks, self.above)
+        below = np.bincount(self.blocks, self.below)
         ratios: Floats = above[below > 0] / below[below > 0]
         return ratios
 
@@ -95,7 +96,8 @@ class Ratio:
     def less(self, other: Ratio) -> Estimate:
         """Returns what this ratio is above another one of the same items."""
         influence = np.concatenate([self.influence, -other.influence])
-        items, blocks = (np.concatenate(pair) for pair in ((self.items, other.items), (self.blocks, other.blocks)))
+        items = np.concatenate([self.items, other.items])
+        blocks = np.concatenate([self.blocks, other.blocks])
         return Estimate(self.value - other.value, *error_of(influence, items, blocks))
 
 
@@ -112,7 +114,8 @@ def error_of(influence: Floats, items: Whole, blocks: Whole) -> tuple[float, flo
     common = 0.0
     if timed.any():
         pairs = items * (blocks.max() + 1) + blocks
-        common = squares(influence[timed], blocks[timed]) - squares(influence[timed], pairs[timed])
+        common = squares(influence[timed], blocks[timed])
+        common -= squares(influence[timed], pairs[timed])
         several.append(len(np.unique(blocks[timed])))
     quantile = t_quantile(ALARM, max(1, min(several) - 1))
     return math.sqrt(squares(influence, items) + max(0.0, common)), quantile
@@ -146,8 +149,11 @@ class Group:
 
     def _promised(self, plans: Iterable[Outcome | None]) -> Floats:
         """Returns the share of demand that plans promised not to meet at once, in each period."""
-        shares: Floats = np.array([1 - (plan and plan.promised_fill or 0.0) for plan in plans])[self.items]
-        return shares
+        shares = list[float]()
+        for plan in plans:
+            shares.append(1 - (plan and plan.promised_fill or 0.0))
+        each: Floats = np.array(shares)[self.items]
+        return each
 
     def promised(self) -> Ratio:
         """Returns the share of demand that the kept plan promised not to meet at once."""
@@ -162,7 +168,11 @@ class Group:
         plans = [test.shuffled for test in tests]
         asked = joined(test.shuffled_demands for test in tests) / self.means
         unmet = joined(plan.unmet for plan in plans if plan) / self.means
-        return Ratio(unmet - self._promised(plans) * asked, asked, self.items, np.full(len(self.items), NO_BLOCK))
+        missed, untimed = (
+            unmet - self._promised(plans) * asked,
+            self.blocks * 0 + NO_BLOCK,
+        )
+        return Ratio(missed, asked, self.items, untimed)
 
     def costs(self, policy: str) -> Floats:
         """Returns the costs of a policy by item and period."""
@@ -170,12 +180,14 @@ class Group:
 
     def dearer(self) -> Ratio:
         """Returns what the kept plan cost more than it promised, as a share of the promise."""
-        promised = np.array([outcome.promised_cost or 0.0 for outcome in self.outcomes(KEPT)])[self.items]
+        costs = [outcome.promised_cost or 0.0 for outcome in self.outcomes(KEPT)]
+        promised = np.array(costs)[self.items]
         return self._ratio(self.costs(KEPT) - promised, promised)
 
     def changes(self, policy: str) -> float:
         """Returns how often the levels of an item change in a period, by a policy."""
-        return sum(outcome.changes for outcome in self.outcomes(policy)) / len(self.items)
+        changes = sum(outcome.changes for outcome in self.outcomes(policy))
+        return changes / len(self.items)
 
     def beside(self, policy: str) -> Ratio:
         """Returns what a policy cost more than the kept plan, as a share of what that cost."""
@@ -218,7 +230,8 @@ class Sums:
         """Adds up tests."""
         parts = Group(tests)
         missed, chance = parts.missed(), parts.by_chance(tests)
-        unmet, beside, changes = dict[str, Estimate](), dict[str, Estimate](), dict[str, float]()
+        unmet, beside = dict[str, Estimate](), dict[str, Estimate]()
+        changes = dict[str, float]()
         for policy, own in groups_of(tests).items():
             unmet[policy] = own.unmet(policy).estimate
             if policy != KEPT:
@@ -230,8 +243,20 @@ class Sums:
             fill = test.kept.fill
             broken += fill is not None and (test.kept.promised_fill or 0) - fill > SLACK
             above += (test.above or math.inf) > 1
-        return cls(group, len(tests), 1 - parts.promised().value, unmet, parts.dearer().estimate, beside, missed.estimate,
-                   chance.estimate, missed.less(chance), broken, above, changes)
+        return cls(
+            group,
+            len(tests),
+            1 - parts.promised().value,
+            unmet,
+            parts.dearer().estimate,
+            beside,
+            missed.estimate,
+            chance.estimate,
+            missed.less(chance),
+            broken,
+            above,
+            changes,
+        )
 
     @property
     def verdict(self) -> str:
@@ -258,7 +283,8 @@ def summed(test: Backtest) -> bool:
 
 def is_asked(tests: Sequence[Backtest]) -> bool:
     """Returns whether anything is asked for in the later periods, in time and in a random order."""
-    return any(any(test.demands) for test in tests) and any(any(test.shuffled_demands) for test in tests)
+    in_time = sum(sum(test.demands) for test in tests)
+    return bool(in_time and sum(sum(test.shuffled_demands) for test in tests))
 
 
 def groups_of(tests: Sequence[Backtest]) -> dict[str, Group]:

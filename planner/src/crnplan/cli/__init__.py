@@ -1,0 +1,231 @@
+"""The command crnplan. Subcommands are in the modules of this folder, each imported only if it is asked for.
+
+There is no arithmetic in a command: it reads its words, calls the package and prints.
+"""
+from __future__ import annotations
+
+import contextlib
+import difflib
+import importlib
+import io
+import os
+import shlex
+import sys
+import tomllib
+import traceback
+from collections.abc import Callable
+from contextlib import redirect_stderr, redirect_stdout
+from dataclasses import dataclass
+from pathlib import Path
+from typing import Any, TextIO
+
+import click
+
+from .. import __version__
+from ..errors import CrnplanError, Failed, Refused, escaped, spelt, worded
+from ..store.files import faults_of
+from ..store.interrupts import heed_interrupt, heeding_interrupts
+from ..options import Option, declared, option
+
+# The threads of linear algebra gain nothing here. Beside other work they wait for one another, busily.
+for _threads in ("OMP_NUM_THREADS", "OPENBLAS_NUM_THREADS"):
+    os.environ.setdefault(_threads, "1")
+
+INTERRUPTED = 130
+STREAMS = "stdin", "stdout", "stderr"  # in the order of their numbers
+# The subcommands: the module of each, its help, and its options in order.
+COMMANDS: dict[str, dict[str, Any]] = tomllib.loads(
+    Path(__file__).with_name("help.toml").read_text("utf-8")
+)
+
+
+def options_of(command: str) -> list[Option]:
+    """Returns the options of a command. A name without its table is that of an own option, or else of a common one."""
+    options = []
+    for name in COMMANDS[command]["options"]:
+        place = name
+        if "." not in name:
+            table = command if name in declared().get(command, ()) else "common"
+            place = f"{table}.{name}"
+        options.append(option(place))
+    return options
+
+
+@dataclass
+class Spelling:
+    """Spells arguments of the library as the options that have their names: of the subcommand that runs, else of
+    `crnplan catalogue`, since pages and tables tell what that has read. The words of `crnplan item` are settings.
+    """
+
+    command: str = ""
+
+    def __call__(self, name: str, value: str) -> str:
+        """Returns an argument as an option, perhaps with a value."""
+        if self.command == "item" and name not in ("out", "program"):
+            from ..plan.settings import as_setting
+
+            return as_setting(name, value)
+        flag = f"--{name.replace('_', '-')}"
+        for command in filter(None, ("catalogue", self.command)):
+            for option in options_of(command):
+                if option.name == name and not option.positional:
+                    flag = option.flag
+        return f"{flag} {shlex.quote(value)}" if value else flag
+
+
+class Group(click.Group):
+    """A group whose subcommands are imported when they are asked for."""
+
+    def list_commands(self, ctx: click.Context) -> list[str]:
+        return list(COMMANDS)
+
+    def get_command(self, ctx: click.Context, cmd_name: str) -> click.Command | None:
+        if cmd_name not in COMMANDS:
+            return None
+        module = importlib.import_module(f"{__name__}.{COMMANDS[cmd_name]['module']}")
+        command: click.Command = getattr(module, cmd_name)
+        return command
+
+    def resolve_command(
+        self, ctx: click.Context, args: list[str]
+    ) -> tuple[str | None, click.Command | None, list[str]]:
+        """Finds the subcommand, or suggests those that are spelt like it."""
+        name = args[0]
+        if name in COMMANDS and isinstance(ctx.obj, Spelling):
+            ctx.obj.command = name
+        elif name not in COMMANDS and not name.startswith("-"):
+            close = difflib.get_close_matches(name, COMMANDS, 2)
+            advice = f"; they are {', '.join(COMMANDS)}"
+            if close:
+                advice = f"; did you mean {' or '.join(close)}?"
+            raise click.UsageError(f"there is no command '{name}'{advice}", ctx)
+        return super().resolve_command(ctx, args)
+
+    def format_commands(
+        self, ctx: click.Context, formatter: click.HelpFormatter
+    ) -> None:
+        """Lists the subcommands without importing them."""
+        with formatter.section("Commands"):
+            lines = [(name, page["line"]) for name, page in COMMANDS.items()]
+            formatter.write_dl(lines)
+
+
+@click.group(
+    cls=Group,
+    context_settings={"help_option_names": ["-h", "--help"], "max_content_width": 100},
+    epilog="Example: crnplan item history.csv settings.toml --out plan",
+)
+@click.version_option(
+    __version__, "-V", "--version", prog_name="crnplan", message="%(prog)s %(version)s"
+)
+def group() -> None:
+    """Lead from a history of demand to a stock decision.
+
+    What the program crnsim computes is exact and proved for its stream; what theory computes is rounded and unproved.
+    """
+
+
+def note(message: str) -> None:
+    """Prints the lines of a message on standard error, with the options of the command for the arguments of the
+    library, or whatever stands for them in the block `errors.spelt`."""
+    for line in worded(message).splitlines():
+        click.echo(f"crnplan: {line}", err=True)
+
+
+def main() -> None:
+    """Runs the command. Ends with status 0; 1 if the answer is no; 2 if an input or a word is refused; 3 if no input is
+    to blame; 130 if interrupted."""
+    status, spelling = Failed.status, Spelling()
+    open_streams()
+    output: Any = _Shown(sys.stdout, BrokenPipeError)
+    errors: Any = _Shown(sys.stderr, OSError)
+    with redirect_stdout(output), redirect_stderr(errors), spelt(
+        spelling
+    ), heeding_interrupts():
+        try:
+            with faults_of(Path("crnplan")):
+                result: Any = group.main(
+                    prog_name="crnplan", standalone_mode=False, obj=spelling
+                )
+                print(end="", flush=True)
+            status = result if isinstance(result, int) else 0
+        except click.ClickException as refusal:
+            note(_with_help(refusal))
+            status = Refused.status
+        except CrnplanError as refusal:
+            note(refusal.message)
+            status = refusal.status
+        except (KeyboardInterrupt, click.Abort):
+            heed_interrupt()
+            note("interrupted")
+            status = INTERRUPTED
+        except MemoryError:
+            note("out of memory; close other programs, or use a machine with more")
+        except Exception as crash:
+            last = traceback.extract_tb(crash.__traceback__)[-1]
+            place = f"{Path(last.filename).name}:{last.lineno}"
+            note(
+                f"a fault of crnplan itself: {type(crash).__name__}: {crash} ({place}); please report this line"
+            )
+    sys.exit(status)
+
+
+def _with_help(refusal: click.ClickException) -> str:
+    """Returns what is wrong with the words of a command, and where its help is."""
+    message, context = refusal.format_message(), getattr(refusal, "ctx", None)
+    if context:
+        end = "" if message.endswith(("?", ".")) else "."
+        message += f"{end} {context.command_path} --help shows the words."
+    return message
+
+
+def open_streams() -> None:
+    """Opens the null device in place of each standard stream that is closed: what is printed there is read by nobody, as
+    if its reader had gone. Else the next file that is opened would have its number, and be written into.
+    """
+    for number, name in enumerate(STREAMS):
+        with contextlib.suppress(OSError):
+            if not is_open(number):
+                os.open(
+                    os.devnull, os.O_RDWR
+                )  # It gets the lowest number that is free.
+        if getattr(sys, name) is None:
+            mode = "r" if name == "stdin" else "w"
+            setattr(sys, name, open(number, mode, encoding="utf-8", closefd=False))
+
+
+def is_open(number: int) -> bool:
+    """Returns whether a descriptor is open."""
+    try:
+        os.fstat(number)
+    except OSError:
+        return False
+    return True
+
+
+class _Shown:
+    """A standard stream on which texts of others may be shown: control characters are escaped. That its reader has gone
+    is no fault, and nor is any error of `faults`: what is left is dropped, and the command goes on.
+    """
+
+    def __init__(self, stream: TextIO, faults: type[OSError]) -> None:
+        if isinstance(stream, io.TextIOWrapper):
+            stream.reconfigure(errors="backslashreplace")
+        self.stream, self.faults = stream, faults
+
+    def __getattr__(self, name: str) -> Any:
+        return getattr(self.stream, name)
+
+    def write(self, text: str) -> int:
+        self._try(self.stream.write, escaped(text))
+        return len(text)
+
+    def flush(self) -> None:
+        self._try(self.stream.flush)
+
+    def _try(self, step: Callable[..., object], *words: str) -> None:
+        """Takes a step, after which nothing is written any more if that can't be."""
+        try:
+            step(*words)
+        except self.faults:
+            os.dup2(os.open(os.devnull, os.O_WRONLY), self.stream.fileno())

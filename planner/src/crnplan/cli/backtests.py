@@ -1,0 +1,58 @@
+"""The command that tests plans on a catalogue's own past."""
+from __future__ import annotations
+
+from collections.abc import Sequence
+from pathlib import Path
+
+import click
+
+from ..backtesting import write_backtest
+from ..errors import Refused
+from ..store.files import own_folder
+from ..store.means import Means
+from ..plan.backtest.one import Walk
+from ..plan.catalogue import planned_folder
+from ..plan.settings import read_config
+from ..read.catalogue_reading import CATALOGUE, read_into
+from .catalogues import words_of
+from .words import command
+
+
+@command()
+def backtest(
+    tables: Sequence[Path],
+    orders: str | None,
+    out: Path | None,
+    record: int,
+    every: int,
+    window: int | None,
+    least_gain: float | None,
+    config: str | None,
+    jobs: int | None,
+    cluster: str | None,
+) -> None:
+    words = None
+    if len(tables) == 1:
+        if out or orders or config:
+            raise Refused(
+                "a planned folder has its own --out, --orders and --config: leave them out"
+            )
+        with planned_folder(tables[0]) as planned:
+            settings = planned.settings
+    elif len(tables) == 2 and out:
+        words, settings = words_of({}, read_config(config))
+    else:
+        raise Refused("name a folder of crnplan catalogue, or two tables and --out")
+    walk = Walk(
+        record,
+        every,
+        window or settings.window or Walk.window,
+        least_gain or settings.least_gain,
+    )
+    with own_folder(out or tables[0], CATALOGUE) as folder:
+        if words is not None:
+            files = {"demand": tables[0], "items": tables[1], "orders": orders}
+            read_into(folder, files, words, jobs)
+        means = Means(jobs, cluster, shown=True)
+        tests = write_backtest(folder, settings, walk, means)
+    click.echo(tests.text, nl=False)

@@ -1,0 +1,76 @@
+"""The commands that say what to order today, by themselves and on the pages of a plan: by the same words."""
+from __future__ import annotations
+
+from pathlib import Path
+from typing import Any
+
+import click
+
+import crnplan as crn
+from ..store.files import own_folder
+from ..show.catalogue_page import file_of
+from ..show.catalogue_tables import hardly_read
+from ..show.today_tables import TODAY, OrdersToday, has_stock, orders_today
+from ..plan.settings import read_config
+from .catalogues import status_of, words_of
+from .words import command
+
+
+def orders_by(
+    folder: Path,
+    *,
+    stock: str | None,
+    on_order: str | None,
+    date: str | None,
+    config: str | None,
+    **reading: Any,
+) -> OrdersToday:
+    """Returns what to order on a day by the words of both commands."""
+    words, _ = words_of(reading, read_config(config))
+    return orders_today(folder, {"stock": stock, "on_order": on_order}, words, date)
+
+
+@command()
+def today(
+    folder: Path, anyway: bool, table: str | None, out: Path | None, **asked: Any
+) -> int:
+    orders = orders_by(folder, **asked)
+    if out:
+        with own_folder(out, TODAY) as kept:
+            orders.write(kept)
+    click.echo(orders.tables[table].csv if table else orders.text, nl=False)
+    return status_of([] if anyway else hardly_read(orders.today.counts))
+
+
+@command()
+def report(
+    folder: Path,
+    anyway: bool,
+    items: tuple[str, ...],
+    xlsx: Path | None,
+    jobs: int | None,
+    cluster: str | None,
+    program: str | None,
+    **asked: Any,
+) -> int:
+    orders = None
+    if asked["stock"] or asked["on_order"] or has_stock(folder):
+        orders = orders_by(folder, **asked)
+    if xlsx:
+        crn.Plan(folder).to_excel(xlsx, orders)
+        click.echo(xlsx)
+    page = crn.report(
+        folder,
+        items,
+        orders=orders,
+        jobs=jobs,
+        cluster=cluster,
+        program=program,
+        progress=True,
+    )
+    for name in items:
+        click.echo(file_of(folder, name))
+    click.echo(page)
+    if orders is None or anyway:
+        return 0
+    return status_of(hardly_read(orders.today.counts))

@@ -1,0 +1,49 @@
+"""Reads the columns of tables, which each package declares in its columns.toml: the form, the cell and the meaning of
+each. The forms are in columns.toml here."""
+from __future__ import annotations
+
+import functools
+import tomllib
+from collections.abc import Callable, Mapping, Sequence
+from pathlib import Path
+from types import MappingProxyType
+from typing import Any
+
+from .table import Column
+
+Cells = Mapping[str, Callable[[Any], Any]]
+NO_CELLS: Cells = MappingProxyType({})
+
+
+@functools.cache
+def declared(file: str) -> dict[str, dict[str, Any]]:
+    """Returns what a TOML file of the package declares, by table."""
+    return tomllib.loads((Path(__file__).parent / file).read_text("utf-8"))
+
+
+def whole_entry(package: str, entry: Sequence[str]) -> Sequence[str]:
+    """Returns the form, the path and the meaning of a column, which may be that of another table by a path of its own."""
+    place, *own = entry
+    if "." not in place:
+        return entry
+    table, name = place.split(".")
+    tables = declared(f"{package}/columns.toml")
+    form, path, meaning = whole_entry(package, tables[table][name])
+    return form, own[0] if own else path, meaning
+
+
+def columns_of(
+    package: str, table: str, cells: Cells = NO_CELLS, **words: object
+) -> tuple[Column, ...]:
+    """Returns the columns of a table of a package in their order.
+
+    `cells` has the functions that make the cells of columns without a path, by their declared names. `words` stand in
+    place of the words in braces.
+    """
+    columns = []
+    for name, entry in declared(f"{package}/columns.toml")[table].items():
+        form, path, meaning = whole_entry(package, entry)
+        traits: dict[str, Any] = {"unit": ""} | declared("columns.toml")[form]
+        column = Column(name.format(**words), meaning=meaning.format(**words), **traits)
+        columns.append(column.by(path.format(**words) if path else cells[name]))
+    return tuple(columns)

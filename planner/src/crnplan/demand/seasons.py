@@ -1,0 +1,91 @@
+"""The seasons that a history is tested for: of the calendar, or of a stated number of periods."""
+from __future__ import annotations
+
+import datetime
+import functools
+from typing import NamedTuple
+
+import numpy as np
+
+from ..chances import Whole
+from ..errors import Refused
+from ..read.dates import first_day
+from ..remarks import Remark, Value
+
+# The seasons of dated periods: their names, with how many periods each has.
+CALENDAR: dict[str | None, dict[str, int]] = {
+    None: {},
+    "day": {"weekday": 7, "season": 365},
+    "week": {"season": 52},
+    "month": {"season": 12},
+}
+YEARS = 2  # of a season, before it is tested
+MOST_PARTS, PARTS = 7, 4  # A longer season is divided into so many parts.
+
+
+class Season(NamedTuple):
+    """A season of a history: its name, how many periods it has, the part of each period, how many parts there are, and
+    of what: weekdays, quarters or places in the season."""
+
+    name: str
+    length: int
+    part_of: Whole
+    parts: int
+    unit: str
+
+    def ends(self, part: int) -> tuple[int, int]:
+        """Returns the first and the last weekday, quarter or place of a part, from 1 on."""
+        length = self.length if self.unit == "place" else self.parts
+        return -(-part * length // self.parts) + 1, -(
+            -(part + 1) * length // self.parts
+        )
+
+
+@functools.lru_cache(256)
+def season_of(
+    name: str, length: int, every: str | None, first: int, size: int
+) -> Season:
+    """Returns a season of the calendar; without dates one that begins with the first period. A week belongs to the
+    quarter of its Thursday."""
+    if every is None:
+        parts = PARTS
+        if length <= MOST_PARTS:
+            parts = length
+        return Season(
+            name, length, np.arange(size) % length * parts // length, parts, "place"
+        )
+    middle = datetime.timedelta(3 if every == "week" else 0)
+    days = [first_day(first + place, every) + middle for place in range(size)]
+    if name == "weekday":
+        return Season(name, length, np.array([day.weekday() for day in days]), 7, name)
+    return Season(
+        name, length, np.array([(day.month - 1) // 3 for day in days]), 4, "quarter"
+    )
+
+
+def seasons_of(
+    every: str | None, first: int, size: int, length: int | None
+) -> tuple[list[Season], list[Remark]]:
+    """Returns the seasons that so many periods are tested for, and remarks on those for which they are too few. One of
+    a named length takes the place of those of the calendar. Raises Refused for one of less than 2 periods.
+    """
+    if length is not None and length < 2:
+        raise Refused(f"a season of {length} periods is none; say 2 or more")
+    lengths, calendar = CALENDAR[every], every
+    if length is not None:
+        lengths, calendar = {"season": length}, None
+    if not lengths:
+        return [], [Remark("season untested without dates")]
+    seasons = list[Season]()
+    untested = list[Remark]()
+    for name, own in lengths.items():
+        if size >= YEARS * own:
+            seasons.append(season_of(name, own, calendar, first, size))
+        else:
+            facts: dict[str, Value] = {
+                "season": name,
+                "periods": YEARS * own,
+                "unit": every or "period",
+            }
+            untested.append(Remark("season untested", facts))
+    return seasons, untested

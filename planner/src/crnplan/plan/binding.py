@@ -1,0 +1,110 @@
+"""Says what the bounds of an item cost, each beside the best policy without it."""
+from __future__ import annotations
+
+import math
+from collections.abc import Iterator, Mapping, Sequence
+from dataclasses import replace
+from typing import Any, NamedTuple
+
+from ..read.bounds import Bounds
+from ..remarks import Remark, Value
+from ..theory.feasible import ALL
+from .answer import BOUNDED
+from .bounds import COVERAGE, ORDER_COVERAGE, SHELF_LIFE, feasible_of
+from .choice import Choice
+from .question import Levels, Question
+
+# What stands in place of each bound if it is left out.
+LEFT_OUT = {
+    COVERAGE: None,
+    ORDER_COVERAGE: None,
+    SHELF_LIFE: None,
+    "order_min": None,
+    "s_min": None,
+    "pack": 1,
+}
+
+
+class Bound(NamedTuple):
+    """A bound of an item that binds: its name, the best policy without it in boxes, and what it costs a period."""
+
+    name: str
+    without: Levels
+    cost: float
+
+
+def bounds_of(question: Question, choice: Choice) -> Iterator[Bound]:
+    """Yields the bounds that bind: those that the best policy would leave if it could. If no policy within them has the
+    wanted fill rate, none is looked for, and a least s that nobody has stated is none.
+
+    Nothing binds if the best of all policies is feasible. S, or S - s, that a bound lets cover more may do so without it
+    too: else a policy without that bound could be dearer.
+    """
+    theory, share, bounded = question.theory, question.aim or 0.0, question.bounds
+    if choice.is_bounded or theory.has(theory.free.best(share)):
+        return
+    is_stated = (question.item.bounds.s_min, question.settings.s_min) != (None, None)
+    own, cost = theory.feasible, question.figures(choice.plain).cost
+    for name, value in LEFT_OUT.items():
+        other: dict[str, Any] = {name: value}
+        bounds = replace(bounded, **other)
+        feasible = feasible_of(bounds, question.item.box, question.demand)
+        feasible = replace(
+            feasible,
+            most_level=max(own.most_level, feasible.most_level),
+            most_gap=max(own.most_gap, feasible.most_gap),
+        )
+        if feasible == own or name == "s_min" and not is_stated:
+            continue
+        free = theory.free if feasible == ALL else theory.within(feasible)
+        best = free.best(share)
+        if best.cost < math.inf and not theory.has(best):
+            more = cost - question.figures(best.levels).cost
+            yield Bound(name, best.levels, more)
+
+
+def shortest(bounds: Bounds) -> Mapping[str, Value]:
+    """Returns the name of the bound of S that is stated, of two the shorter one, with its periods, as facts."""
+    stated = (bounds.coverage, COVERAGE), (bounds.shelf_life, SHELF_LIFE)
+    periods, name = min((span, name) for span, name in stated if span is not None)
+    return {"bound": name, "periods": float(periods)}
+
+
+def remarks_of_today(question: Question, choice: Choice) -> Iterator[Remark]:
+    """Yields what must be said of today's policy: that it is out of bounds, or stays."""
+    if question.levels and not question.theory.feasible.allows(*question.levels):
+        yield Remark("today out of bounds", question.items(question.levels))
+    if choice.worse:
+        today, worse = question.figures(choice.levels), question.figures(choice.worse)
+        more = choice.more_by_run
+        facts = {
+            "cost": worse.cost - today.cost if more is None else more,
+            "fill": worse.fill,
+            "today": today.fill,
+        }
+        yield Remark("today stays", question.items(choice.worse) | facts)
+
+
+def remarks_of_bounds(
+    question: Question, choice: Choice, bounds: Sequence[Bound]
+) -> Iterator[Remark]:
+    """Yields what must be said of the bounds of an item: what each costs that binds, in money of a period."""
+    share, theory, plain = question.aim or 0.0, question.theory, choice.plain
+    if choice.is_bounded:
+        free = theory.free.best(share).levels
+        facts = {
+            "cost": question.figures(free).cost,
+            "wanted": share,
+            "fill": question.figures(plain).fill,
+        }
+        known = facts | shortest(question.bounds)
+        yield Remark(BOUNDED, question.items(free) | known)
+        return
+    for name, without, cost in bounds:
+        facts = {"cost": cost, "bound": float(getattr(question.bounds, name))}
+        yield Remark(f"bound of {name}", question.items(without) | facts)
+    if plain[0] == 0:
+        later = theory.within(replace(theory.feasible, least_point=1)).best(share)
+        if later.cost < math.inf:
+            cost = question.figures(later.levels).cost - question.figures(plain).cost
+            yield Remark("s of 0", {"cost": cost})

@@ -1,0 +1,230 @@
+"""Says what an item of a plan stands at on a day: its position, whether it is ordered, and how long its stock lasts.
+
+The position of an item is its stock, less what is owed, plus all that is on order. If it is below s, the item is
+ordered up to S. The chance of a shortage before delivery is that of the net demand of a lead time and one more period
+exceeding what is there by then. It assumes the laws of the plan, independent periods, and that what is on order comes
+when it is due; what has no date, or is overdue, comes in time.
+"""
+from __future__ import annotations
+
+import datetime
+import math
+from collections import Counter
+from collections.abc import Iterable, Iterator, Mapping, Sequence
+from dataclasses import dataclass
+from fractions import Fraction
+from functools import cached_property
+
+from ..law import Law
+from ..read.columns import DAYS
+from ..read.item import Item
+from ..read.observed import Day
+from ..read.stock import NONE, Arrival, OnHand
+from ..remarks import Remark, Value
+from ..theory.walk import NOTHING, LatticeLaw, power_of, sum_of
+from .answer import Answer, Laws
+
+MOST_DAYS = 36_525  # from today to a latest date
+Money = Fraction | None  # None if an item has no price
+
+
+def items_of(arrivals: Iterable[Arrival]) -> Fraction:
+    """Returns how many items arrive."""
+    return sum((arrival.items for arrival in arrivals), NONE)
+
+
+def demands_of(
+    laws: Laws, horizons: Mapping[int, float]
+) -> Iterator[tuple[int, float, LatticeLaw]]:
+    """Yields numbers of periods, which rise, each with its chance and with the law of the net demand of so many, in
+    boxes."""
+    total, before, net = NOTHING, 0, LatticeLaw.of(laws.demand, 1)
+    if laws.returns:
+        net = sum_of(net, LatticeLaw.of(laws.returns, 1).reflected)
+    for periods, chance in horizons.items():
+        total, before = sum_of(total, power_of(net, periods - before)), periods
+        yield periods, chance, total
+
+
+@dataclass(frozen=True)
+class Standing:
+    """An item of a plan on a day, of a catalogue whose period is `every`. Amounts are in items. One that is phased out has
+    no answer: what is owed of it is ordered. Nor needs one whose planner has set levels.
+    """
+
+    item: Item
+    answer: Answer | None
+    hand: OnHand
+    arrivals: Sequence[Arrival]
+    day: Day
+    every: str
+
+    @property
+    def levels(self) -> tuple[int, int]:
+        """Returns s and S by which the item is ordered: those that its planner has set, else those of the plan."""
+        override = self.item.override and self.item.override.levels
+        return override or (self.answer.chosen.levels if self.answer else (0, 0))
+
+    @cached_property
+    def laws(self) -> Laws:
+        """Returns the laws of the plan; of an item that is phased out those by which nothing more is asked for."""
+        if self.answer:
+            return self.answer.laws
+        return Laws(
+            self.item.box, Law((0,), (1,)), Law.of(Counter(self.item.leads)), None
+        )
+
+    @property
+    def there(self) -> Fraction:
+        """Returns the stock less what is owed."""
+        return self.hand.stock - self.hand.owed
+
+    @cached_property
+    def on_order(self) -> Fraction:
+        return items_of(self.arrivals)
+
+    @cached_property
+    def position(self) -> Fraction:
+        return self.there + self.on_order
+
+    @cached_property
+    def is_due(self) -> bool:
+        """Returns whether the policy orders: the position is below s."""
+        return self.position < self.levels[0]
+
+    @property
+    def to_level(self) -> Fraction:
+        """Returns what lacks up to S; below 0 if the position is above it."""
+        return self.levels[1] - self.position
+
+    @property
+    def above(self) -> Fraction:
+        """Returns what stands above S; 0 if nothing does."""
+        return max(-self.to_level, NONE)
+
+    @property
+    def packs(self) -> int:
+        """Returns the packs of an order up to S."""
+        return math.ceil(self.to_level / self.item.bounds.pack)
+
+    @property
+    def placed(self) -> int:
+        """Returns an order up to S in whole packs."""
+        return self.packs * self.item.bounds.pack
+
+    def worth(self, items: Fraction | int) -> Money:
+        """Returns what so many items are worth."""
+        return None if self.item.price is None else items * self.item.price
+
+    @cached_property
+    def mean(self) -> float:
+        """Returns the mean net demand of a period by the laws of the plan."""
+        net = self.laws.demand.mean
+        if self.laws.returns:
+            net -= self.laws.returns.mean
+        return float(net * self.laws.box)
+
+    def weeks_of(self, items: Fraction) -> float | None:
+        """Returns the weeks of mean demand that so many items are; 0 for less than none, None if nothing is used."""
+        if self.mean <= 0:
+            return None
+        periods = max(0.0, float(items) / self.mean)
+        return periods * float(DAYS[self.every] / DAYS["week"])
+
+    @cached_property
+    def weeks(self) -> float | None:
+        """Returns the weeks until a shortage at mean demand if nothing arrived: of the stock less what is owed."""
+        return self.weeks_of(self.there)
+
+    @property
+    def weeks_above(self) -> float | None:
+        """Returns the weeks of mean demand that the position is above s."""
+        return self.weeks_of(self.position - self.levels[0])
+
+    @property
+    def last_day(self) -> Day:
+        """Returns the day on which an order has to leave so that it arrives, at mean demand and after the mean lead
+        time, before the position is used up; the day itself if that is past."""
+        periods = 0.0
+        if self.mean > 0:
+            periods = float(self.position) / self.mean - float(self.laws.lead.mean)
+        days = math.floor(periods * float(DAYS[self.every]))
+        return self.day + datetime.timedelta(min(max(0, days), MOST_DAYS))
+
+    @property
+    def lead_days(self) -> Fraction:
+        """Returns the mean lead time in days."""
+        return Fraction(self.laws.lead.mean) * DAYS[self.every]
+
+    @property
+    def due(self) -> Day:
+        """Returns the day on which an order of the day is expected: after the mean lead time, in days rounded up."""
+        return self.day + datetime.timedelta(math.ceil(self.lead_days))
+
+    @cached_property
+    def overdue(self) -> list[Arrival]:
+        """Returns what should have come before the day."""
+        return [
+            arrival
+            for arrival in self.arrivals
+            if arrival.due and arrival.due < self.day
+        ]
+
+    def there_within(self, periods: int) -> Fraction:
+        """Returns the stock less what is owed, and what arrives within so many periods from the day on."""
+        end = DAYS[self.every] * periods
+        return self.there + items_of(
+            arrival
+            for arrival in self.arrivals
+            if arrival.due is None or (arrival.due - self.day).days < end
+        )
+
+    @property
+    def horizons(self) -> dict[int, float]:
+        """Returns the chances of the periods of a lead time and one more."""
+        return {lead + 1: chance for lead, chance in self.laws.lead.chances.items()}
+
+    @cached_property
+    def chance(self) -> float:
+        """Returns the chance of a shortage before delivery: see the module."""
+        total = 0.0
+        for periods, chance, demand in demands_of(self.laws, self.horizons):
+            boxes = math.floor(self.there_within(periods) / self.laws.box)
+            total += chance * demand.above(boxes)
+        return total
+
+    @property
+    def time(self) -> float:
+        """Returns the weeks until a shortage of an item that is ordered, by which the most urgent one comes first."""
+        return math.inf if not self.is_due or self.weeks is None else self.weeks
+
+    @property
+    def urgency(self) -> tuple[float, str]:
+        """Returns what sorts the most urgent of items with one time first."""
+        return -self.chance if self.is_due else 0.0, self.item.name
+
+    @property
+    def reason(self) -> Remark:
+        """Returns why the item is ordered."""
+        up_to: dict[str, Value] = {"order": float(self.to_level), "S": self.levels[1]}
+        if self.hand.owed:
+            return Remark("items owed", {"owed": float(self.hand.owed), **up_to})
+        if not self.hand.stock:
+            return Remark("no stock left", up_to)
+        return Remark(
+            "below s", {"position": float(self.position), "s": self.levels[0], **up_to}
+        )
+
+    @property
+    def reasons(self) -> list[Remark]:
+        """Returns why so many items are ordered."""
+        reasons = [self.reason]
+        if self.item.override is not None:
+            reasons.append(Remark("by override"))
+        if self.placed != self.to_level:
+            reasons.append(
+                Remark(
+                    "whole packs", {"packs": self.packs, "pack": self.item.bounds.pack}
+                )
+            )
+        return reasons

@@ -1,0 +1,161 @@
+"""Says what a cell of a table is, and what is wrong with one."""
+from __future__ import annotations
+
+import datetime
+import re
+import tomllib
+import unicodedata
+from collections.abc import Callable, Collection, Iterable, Mapping, Sequence
+from dataclasses import dataclass
+from fractions import Fraction
+from pathlib import Path
+from types import MappingProxyType
+from typing import Any, Union
+
+import numpy as np
+import numpy.typing as npt
+
+from ..errors import worded
+from ..remarks import Remark, Value
+from ..words import message
+
+
+@dataclass(frozen=True)
+class Shown:
+    """A number of a workbook with what its format shows before and behind it, as `$` and ` kg`. `digits` is the number in
+    full, with the point as its decimal sign."""
+
+    before: str
+    digits: str
+    behind: str
+
+    def __str__(self) -> str:
+        return f"{self.before}{self.digits}{self.behind}"
+
+
+# A cell of a file is a text; one of a sheet or a frame may be a number or a date too.
+Cell = Union[str, int, float, datetime.date, Shown, None]
+CellFault = tuple[str, Cell, Remark]  # a role, its cell, and what is wrong
+Numbers = npt.NDArray[np.int64]
+Flags = npt.NDArray[np.bool_]
+MOST_NAMED = 8  # lines of a note
+# Letters that are no letter with an accent.
+LETTERS = str.maketrans({"ł": "l", "ø": "o", "æ": "ae"})
+UNPRINTABLE = re.compile(r"[\x00-\x1f\x7f-\x9f\u2028\u2029]+")
+HEADINGS = tomllib.loads(Path(__file__).with_name("headings.toml").read_text("utf-8"))
+# A row that has the sum of those above.
+TOTAL = re.compile(
+    rf"\W*(?:grand |sub)?(?:{'|'.join(HEADINGS['total']['words'])})\b", re.IGNORECASE
+)
+
+
+def fault(role: str, cell: Cell, code: str, **facts: Value) -> CellFault:
+    return role, cell, Remark(code, facts)
+
+
+class Unreadable(ValueError):
+    """A cell that is no number or no date. Its remark says why."""
+
+    def __init__(self, code: str, cell: object = None, **facts: Value) -> None:
+        super().__init__(code)
+        self.remark = Remark(
+            code, facts if cell is None else {"text": shown(str(cell)), **facts}
+        )
+
+    def __str__(self) -> str:
+        return worded(message(self.remark))
+
+
+class RowReader:
+    """Reads the cells of rows by their roles, each distinct one once."""
+
+    def __init__(
+        self,
+        readers: Mapping[str, Callable[[Cell], Any]],
+        needed: Collection[str] = (),
+        factors: Mapping[str, Fraction] = MappingProxyType({}),
+    ) -> None:
+        """Takes by role what returns the value of a cell, or raises Unreadable, and by what numbers are multiplied. An
+        empty cell of a role that is not needed has no value."""
+        self.readers = readers
+        self.needed = needed
+        self.factors = factors
+        self.known: dict[tuple[str, Cell], Any] = {}  # a value, or what is wrong
+
+    def value(self, role: str, cell: Cell, faults: list[CellFault]) -> Any:
+        """Returns the value of a cell; None if it has none, or has a fault, which is added."""
+        key = role, cell
+        if key not in self.known:
+            self.known[key] = self._read(role, cell)
+        value = self.known[key]
+        if isinstance(value, Remark):
+            faults.append((role, cell, value))
+            return None
+        return value
+
+    def _read(self, role: str, cell: Cell) -> Any:
+        if cell == "" and role not in self.needed:
+            return None
+        try:
+            value = self.readers[role](cell)
+        except Unreadable as why:
+            return why.remark
+        return value * self.factors[role] if role in self.factors else value
+
+    def read(self, cells: Mapping[str, Cell]) -> tuple[dict[str, Any], list[CellFault]]:
+        """Returns the values of a row by role, and what is wrong with its cells."""
+        faults = list[CellFault]()
+        values = dict[str, Any]()
+        for role, cell in cells.items():
+            values[role] = self.value(role, cell, faults)
+        return values, faults
+
+
+def shown(text: str) -> str:
+    """Returns a text, cut if it is long."""
+    return text if len(text) <= 30 else f"{text[:30]}..."
+
+
+def on_one_line(text: str) -> str:
+    """Returns a text, cut if it is long, with escapes for its control characters."""
+    return UNPRINTABLE.sub(
+        lambda signs: signs[0].encode("unicode_escape").decode(), shown(text)
+    )
+
+
+def without_accents(text: str) -> str:
+    letters = unicodedata.normalize("NFKD", text)
+    return "".join(letter for letter in letters if not unicodedata.combining(letter))
+
+
+def plain_name(name: str) -> str:
+    """Returns the words of a name in lower case, without signs and accents; s and S stay as they are."""
+    words: list[str] = re.findall(r"[^\W_]+|%", re.sub("/ *(?=[0-9])", " per ", name))
+    plain = without_accents(" ".join(words).casefold().translate(LETTERS))
+    return words[0] + plain[1:] if words[:1] in (["s"], ["S"]) else plain
+
+
+def some_of(texts: Iterable[str], most: int) -> str:
+    """Returns texts with commas between, at most so many, and `..` for the others."""
+    some = [*texts]
+    if len(some) > most:
+        some[most:] = [".."]
+    return ", ".join(some)
+
+
+def named_lines(lines: Sequence[int | str]) -> str:
+    """Returns `line 3` or `lines 3, 5, 8`. Only the first lines are named."""
+    text = some_of(map(str, lines), MOST_NAMED)
+    return f"lines {text}" if len(lines) > 1 else f"line {text}"
+
+
+def text_of(cell: Cell) -> str:
+    """Returns a cell as a text without blanks around it."""
+    if isinstance(cell, str):
+        return cell.strip()
+    return "" if cell is None else str(cell)
+
+
+def bare_cell(cell: Cell) -> Cell:
+    """Returns a cell without blanks around it; the empty text if it has nothing."""
+    return cell.strip() if isinstance(cell, str) else "" if cell is None else cell

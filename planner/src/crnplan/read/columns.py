@@ -1,0 +1,409 @@
+"""Finds the columns of a table and their units, by the names that a planner states, else by usual names; and converts
+numbers into the unit in which their role counts.
+
+A name that is found is said as a guess. Two columns that could both be meant are refused, never chosen between. Days,
+weeks, months and years are of 1, 7, 30.4375 and 365.25 days, so a year has 52.18 weeks.
+"""
+from __future__ import annotations
+
+import re
+from collections.abc import Iterable, Mapping, Sequence
+from dataclasses import replace
+from fractions import Fraction
+from typing import TYPE_CHECKING
+
+from ..errors import Fault, RefusedFaults
+from ..remarks import Remark, Value
+from .amounts import CODES, ITEM, SIGNS, UNITS
+from .cells import HEADINGS, plain_name
+from .sources import WIDE_ROLES, Column, Sheet
+from .wide import NO_WIDE_ROLE, wide_sheet
+
+if TYPE_CHECKING:
+    from .items import Words
+
+# The roles of each table in order, and those that each must have. s and S differ by their case.
+ROLES = {
+    kind: ["item", *HEADINGS[kind]]
+    for kind in ("demand", "items", "orders", "stock", "on_order", "overrides")
+}
+COLUMNS = [f"{kind}.{role}" for kind, roles in ROLES.items() for role in roles]
+NEEDED = {
+    "demand": {"item", "date", "quantity"},
+    "items": {"item", "setup", "holding"},
+    "orders": {"item", "ordered", "received"},
+    "stock": {"item", "stock"},
+    "on_order": {"item", "quantity"},
+    "overrides": {"item"},
+}
+# Each needs the other one.
+LEVELS = {"s": "S", "S": "s", "override_s": "override_S", "override_S": "override_s"}
+# The roles with money, whose decimals say what the smallest unit is.
+MONEY = ("setup", "holding", "backlog", "price", "supplier_min")
+# Roles that a column has by its whole name alone: others that begin so say something else, as a supplier's lead time.
+WHOLE_NAMES = {"supplier"}
+BESIDE = {*HEADINGS["beside"]["words"]}
+IMPLIED = {name: unit for unit, names in HEADINGS["implied"].items() for name in names}
+DAYS = {
+    "day": Fraction(1),
+    "week": Fraction(7),
+    "month": Fraction(487, 16),
+    "year": Fraction(1461, 4),
+}
+# What the numbers of a role may count.
+COUNTED = HEADINGS["counted"]
+# Currencies by the plain words of their codes and signs. A sign without letters may stand anywhere in a heading.
+CURRENCIES = {
+    plain_name(word): SIGNS.get(word, word)
+    for word in (*SIGNS, *CODES)
+    if plain_name(word)
+}
+SYMBOL = re.compile(
+    "|".join(
+        re.escape(sign)
+        for sign in (*SIGNS, *CODES)
+        if not sign[-1].isalpha() and sign[-1] != "."
+    )
+)
+ROLE_UNITS = {role: kind for kind, its in COUNTED.items() for role in its["roles"]}
+SHARES = COUNTED["share"]["units"]
+TIMES = ("length", "span")  # the kinds of roles that count times
+MOST_NAME = 100
+NO_ROW = Remark("no row")
+
+
+def counts_items(role: str, column: Column | None) -> bool:
+    """Returns whether the numbers of a column count items one by one."""
+    return ROLE_UNITS.get(role) in ("count", "size") and (
+        column is None or column.unit in ("", ITEM)
+    )
+
+
+def unit_fault(role: str, unit: str) -> str | None:
+    """Returns why the numbers of a role can't be converted from a unit; None if they can."""
+    kind = ROLE_UNITS.get(role)
+    if kind is None:
+        return f"the {role} has no unit"
+    counted = COUNTED[kind]
+    known = [*counted["units"]]
+    may_be_packs = counted["may_be_packs"]
+    if unit in known or may_be_packs and unit.isdecimal() and int(unit):
+        return None
+    if may_be_packs:
+        known.append("or a number, as 12 for packs of 12")
+    return f"the {role} counts {counted['what']}, and {unit!r} is none of its units: {', '.join(known)}"
+
+
+def periods_a_year(every: str) -> Fraction:
+    """Returns how many days, weeks or months a year has."""
+    return DAYS["year"] / DAYS[every]
+
+
+def conversion(role: str, unit: str, every: str) -> tuple[Fraction, str]:
+    """Returns by what the numbers of a role are multiplied, and the words for it. A share is one of a year."""
+    kind = ROLE_UNITS.get(role)
+    if unit.isdecimal():
+        if kind == "price":
+            return 1 / Fraction(unit), f"a price for {unit} to items"
+        return Fraction(unit), f"packs of {unit} to items"
+    if unit in DAYS:
+        periods = DAYS[unit] / DAYS[every]
+        if kind not in TIMES:
+            return 1 / periods, f"money a {unit} to money a {every}"
+        placed = ", for orders that are placed on any day" * (kind == "length")
+        return periods, f"{unit}s to {every}s{placed}"
+    if kind == "size":
+        return Fraction(1), "money to items, by their price"
+    share = Fraction(1, 100) if unit == "percent" else Fraction(1)
+    if kind == "rate":
+        words = f"{unit} of the price and year to money an item and {every}"
+        return share / periods_a_year(every), words
+    return share, f"{unit} to shares"
+
+
+def factors_of(columns: Mapping[str, Column], every: str) -> dict[str, Fraction]:
+    """Returns by what the numbers of each column with a unit are multiplied, by role."""
+    factors = dict[str, Fraction]()
+    for role, column in columns.items():
+        if column.unit:
+            factors[role], _ = conversion(role, column.unit, every)
+    return factors
+
+
+def is_converted(column: Column, every: str) -> bool:
+    """Returns whether the numbers of a column are converted from its unit."""
+    return column.unit not in ("", "period", every)
+
+
+def converted(column: Column, role: str, every: str) -> str:
+    """Returns how the numbers of a column are converted from its unit."""
+    return f"column {column.name!r}: {role}: converted from {conversion(role, column.unit, every)[1]}"
+
+
+def periods_of(lead: Fraction) -> tuple[int, ...]:
+    """Returns the lead times in whole periods of an order that takes so many periods, and may be placed at any time of
+    one: as those of dated orders, of which an order takes at least 1."""
+    low = int(lead)
+    rest = (lead - low).limit_denominator(7)
+    leads = [max(1, low)] * (rest.denominator - rest.numerator)
+    leads += [low + 1] * rest.numerator
+    return tuple(leads) if len({*leads}) > 1 else (leads[0],)
+
+
+def is_number(words: Sequence[str], place: int) -> bool:
+    """Returns whether a word of a name is a number of items, as in `per 100` and `pack of 12`, and no year."""
+    word = words[place]
+    if place == 0 or not word.isdecimal() or not word.isascii():
+        return False
+    before = words[place - 1]
+    is_beside = before in BESIDE or UNITS.get(before) == "pack"
+    return is_beside and int(word) > 1 and not 1900 <= int(word) <= 2200
+
+
+def rank_of(unit: str) -> tuple[bool, bool, bool]:
+    """Returns what sorts the units of a name: a number says more than a share, that more than a time, and that more than
+    items."""
+    return not unit.isdecimal(), unit not in SHARES, unit == ITEM
+
+
+def bare_name(name: str) -> tuple[str, str]:
+    """Returns a plain name without the words of its unit, and the unit: one of headings.toml, a number of items, or the
+    empty text."""
+    words = name.split()
+    bare = list[str]()
+    units = list[str]()
+    for place, word in enumerate(words):
+        unit = word if is_number(words, place) else UNITS.get(word)
+        if unit:
+            units.append(unit)
+        elif word not in BESIDE:
+            bare.append(word)
+    if not units or len(words) == 1:
+        return name, IMPLIED.get(name, "")
+    return " ".join(bare), min(units, key=rank_of)
+
+
+def currency_in_name(name: str) -> str:
+    """Returns the currency that the name of a column says; empty if it says none."""
+    sign = SYMBOL.search(name)
+    if sign:
+        return SIGNS.get(sign[0], sign[0])
+    words = plain_name(name).split()[1:]
+    return next(filter(None, map(CURRENCIES.get, words)), "")
+
+
+class Finder:
+    """Finds the columns of a table in its heading, by the words of a planner and by usual names."""
+
+    def __init__(self, kind: str, words: Words, is_wide: bool = False) -> None:
+        self.kind = kind
+        self.every = words.every
+        self.is_wide = is_wide
+        self.needed = NEEDED[kind] - words.defaults.roles
+        self.stated = words.columns.get(kind, {})
+        self.units = words.units.get(kind, {})
+        if is_wide:
+            self.stated = {NO_WIDE_ROLE: "", **self.stated, **WIDE_ROLES}
+        more = words.names.get(kind, {})
+        self.role_of = dict[str, str]()
+        for role in ROLES[kind]:
+            names = [*HEADINGS["all"].get(role, ()), *HEADINGS[kind].get(role, ())]
+            for name in (*names, *map(plain_name, more.get(role, ()))):
+                self.role_of.setdefault(name, role)
+        self.columns: dict[str, Column] = {}
+        self.wrong: list[Remark] = []
+
+    def _match(self, plain: str) -> tuple[str | None, bool, list[str]]:
+        """Returns the role that a plain name may have, whether it is the very name of one, and the words of it that are not
+        known. Else it is the name of the role with a unit, or the longest that it begins with: a minimum order value is
+        no minimum order."""
+        role = self.role_of.get(plain)
+        if role:
+            return role, True, []
+        role = self.role_of.get(bare_name(plain)[0])
+        if role in ROLE_UNITS:
+            return role, False, []
+        words = plain.split()
+        for count in range(len(words) - 1, 0, -1):
+            name = " ".join(words[:count])
+            if len(name) > 1 and name in self.role_of:
+                begun = self.role_of[name]
+                unknown = self._unknown(begun, words, count)
+                return (begun if role in (None, begun) else None), False, unknown
+        return None, False, []
+
+    def usual_role(self, cell: str) -> str | None:
+        """Returns the role of which a cell has a usual name."""
+        role, _, unknown = self._match(plain_name(cell))
+        return None if unknown else role
+
+    @property
+    def may_be_wide(self) -> bool:
+        """Returns whether a table without a column of dates may have them in its heading."""
+        stated = {
+            role: self.stated.get(role, name) for role, name in WIDE_ROLES.items()
+        }
+        is_open = self.kind == "demand" and stated == WIDE_ROLES
+        return is_open and "date" not in self.columns
+
+    def find(self, heading: Sequence[str]) -> tuple[dict[str, Column], list[Remark]]:
+        """Returns the column of each role that the heading has, and what is wrong. Names are compared whole first, for
+        all roles, so that no column with the very name of one role goes to another one.
+        """
+        self.plain = [*map(plain_name, heading)]
+        self.matches = [*map(self._match, self.plain)]
+        stated, self.wrong = stated_columns(heading, self.stated)
+        for role, column in stated.items():
+            self._add(role, column)
+        if self.is_wide and self.stated[NO_WIDE_ROLE]:
+            self._refuse("no role of a wide table", NO_WIDE_ROLE)
+        for role in ROLES[self.kind]:
+            if not self.stated.get(role):
+                self._find(role, heading)
+        return self.columns, self.wrong
+
+    def _find(self, role: str, heading: Sequence[str]) -> None:
+        """Adds the column that has a role, or says what is wrong. One that is stated as none is not looked for."""
+        places, unclear = ([], {}) if role in self.stated else self._places(role)
+        if len(places) > 1:
+            names = " and ".join(repr(heading[place]) for place in places)
+            self._refuse("two columns", role, names=names)
+        elif places:
+            self._add(role, Column(heading[places[0]], places[0], True))
+        elif unclear:
+            for place, words in unclear.items():
+                unknown = ", ".join(map(repr, words))
+                self._refuse("unknown words", role, name=heading[place], words=unknown)
+        elif role in self.needed or role not in self.stated and self._has_other(role):
+            code = "no column" + f" of {role}" * (role in ("setup", "holding"))
+            self._refuse(code, role, columns=listed(heading))
+
+    def _has_other(self, role: str) -> bool:
+        """Returns whether a role is s or S, and there is a column of the other one."""
+        other = LEVELS.get(role)
+        if other is None or other in self.columns:
+            return other is not None
+        return other not in self.stated and self._places(other)[0] != []
+
+    def _refuse(self, code: str, role: str, **facts: Value) -> None:
+        own = {"role": role, "place": f"{self.kind}.{role}", "every": self.every}
+        self.wrong.append(Remark(code, {**own, **facts}))
+
+    def _places(self, role: str) -> tuple[list[int], dict[int, list[str]]]:
+        """Returns the places of the columns that have a role, and those that may have it, each with what is not known
+        behind its name. A column has one by its very name; if none has, by its name with a unit, or with words behind it
+        that are known. No other role has it, nor its very name."""
+        taken = {column.place for column in self.columns.values()}
+        exact = list[int]()
+        near = list[int]()
+        unclear = dict[int, list[str]]()
+        for place, (own, is_exact, unknown) in enumerate(self.matches):
+            if place in taken or own != role:
+                continue
+            if unknown:
+                unclear[place] = unknown
+            else:
+                (exact if is_exact else near).append(place)
+        return (exact, {}) if exact or role in WHOLE_NAMES else (near, unclear)
+
+    def _unknown(self, role: str, words: Sequence[str], first: int) -> list[str]:
+        """Returns the words of a name, from a place on, that may not stand behind a name of a role. A description may have
+        any."""
+        if role == "description":
+            return []
+        has_unit = role in ROLE_UNITS or role in MONEY
+        known = {*BESIDE, *HEADINGS["behind"].get(role, ())}
+        if has_unit:
+            known |= UNITS.keys() | CURRENCIES.keys()
+        unknown = list[str]()
+        for place, word in enumerate(words):
+            is_known = word in known or has_unit and is_number(words, place)
+            if place >= first and not is_known:
+                unknown.append(word)
+        return unknown
+
+    def _add(self, role: str, column: Column) -> None:
+        """Adds the column of a role with its unit: the stated one, else that of its heading; and with the currency that
+        this says."""
+        plain = self.plain[column.place]
+        stated = self.units.get(role)
+        kind = ROLE_UNITS.get(role)
+        is_money = role in MONEY
+        is_plain = (
+            kind is None or self.role_of.get(plain) == role and plain not in IMPLIED
+        )
+        currency = currency_in_name(column.name) * (kind is not None or is_money)
+        unit = stated or ("" if is_plain else bare_name(plain)[1])
+        if currency and not stated and not is_money:
+            unit = "money" if kind == "size" else currency
+        reason = unit_fault(role, unit) if unit else None
+        if reason:
+            self._refuse(
+                "wrong unit" if stated else "wrong unit in the heading",
+                role,
+                unit=unit,
+                why=reason,
+                name=column.name,
+            )
+        if kind == "rate" and not unit and self.every != "week":
+            self._refuse("no unit", role, name=column.name)
+        own = {ITEM, "period", "order", self.every}
+        is_own = unit in own or role == "fill" and unit == "share"
+        self.columns[role] = replace(
+            column,
+            unit=unit * (kind in TIMES or not is_own),
+            counts=unit,
+            currency=currency * is_money,
+        )
+
+
+def listed(heading: Sequence[str]) -> str:
+    return ", ".join(name[:MOST_NAME] for name in heading if name) or "none"
+
+
+def stated_columns(
+    heading: Sequence[str], names: Mapping[str, str]
+) -> tuple[dict[str, Column], list[Remark]]:
+    """Returns the columns that are stated for roles, and what is wrong with those that a heading doesn't have once. A
+    heading may name packs of so many items, and a time of lead times. Other units are the item's own, as kilograms.
+    """
+    columns = dict[str, Column]()
+    wrong = list[Remark]()
+    for role, name in names.items():
+        count = heading.count(name)
+        if name and count != 1:
+            facts = {"name": name, "role": role, "columns": listed(heading)}
+            wrong.append(Remark("same columns" if count else "no stated column", facts))
+        elif name:
+            _, unit = bare_name(plain_name(name))
+            kind = ROLE_UNITS.get(role)
+            is_pack = kind in ("count", "size") and unit.isdecimal()
+            is_known = is_pack or kind in TIMES and unit in DAYS
+            columns[role] = Column(name, heading.index(name), unit=unit * is_known)
+    return columns, wrong
+
+
+def find_columns(kind: str, sheet: Sheet, words: Words) -> Sheet:
+    """Returns a table of a catalogue with its heading, its columns and its first rows. Raises RefusedFaults with all
+    that is wrong with them."""
+    finder = Finder(kind, words)
+    sheet.find_heading([*filter(None, finder.stated.values())], finder.usual_role)
+    if sheet.fault:
+        raise RefusedFaults([sheet.fault])
+    sheet.columns, wrong = {}, [NO_ROW]
+    if sheet.heading:
+        sheet.columns, wrong = finder.find(sheet.heading)
+    wide = wide_sheet(sheet) if finder.may_be_wide else None
+    if wide:
+        sheet = wide
+        finder = Finder(kind, words, is_wide=True)
+        sheet.columns, wrong = finder.find(sheet.heading)
+        wide.mark_used()
+    if wrong:
+        raise refused_heading(sheet, wrong)
+    return sheet
+
+
+def refused_heading(sheet: Sheet, wrong: Iterable[Remark]) -> RefusedFaults:
+    """Returns the error of a heading."""
+    return RefusedFaults([Fault(what, sheet.name, sheet.line) for what in wrong])

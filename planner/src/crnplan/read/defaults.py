@@ -1,0 +1,178 @@
+"""What holds for items of a catalogue whose masters say nothing: costs, a wanted fill rate, and a currency."""
+from __future__ import annotations
+
+import re
+from collections.abc import Callable, Collection, Mapping, Sequence
+from dataclasses import dataclass, field
+from fractions import Fraction
+from typing import Any, TypeVar
+
+from ..errors import Refused, argument
+from ..money import Number
+from ..options import PLAN, option
+from ..table import names_of
+from ..words import message
+from .amounts import SIGNS
+from .cells import HEADINGS, Cell, Unreadable
+from .times import TimeReader
+
+Value = TypeVar("Value")
+ABC = (80, 95)
+# What is done with rows that stand twice, and with items with far amounts.
+KEEP, LEAVE_OUT = "keep", "leave-out"
+MOST_CLASSES = 10  # that are named
+SOURCES = MASTERS, CLASS, ORDERS, DEFAULT = (
+    "masters",
+    "class",
+    "orders",
+    "default",
+)  # where a value is from
+# The currencies that an ambiguous sign may stand for.
+MAY_BE: Mapping[str, Collection[str]] = HEADINGS["money"]["may_be"]
+CODE = re.compile("[A-Z]{3}")
+
+
+@dataclass(frozen=True)
+class Defaults:
+    """What a planner states for all items: `setup`, money an order; `holding_rate`, the share of the price that a year
+    of holding costs; `fill`, the share of demand that is wanted at once, also by class (`service`); `lead`, the lead time,
+    or several, with their units. What the row of an item says counts first, then its class, or its receipts. `currency`
+    is that of all amounts, empty if only the files say it. The classes A and B end at these shares of the value of
+    demand, in percent (`abc`). `supplier_min` is the least value of an order by supplier, beside those of the masters.
+    """
+
+    setup: Fraction | None = None
+    holding_rate: Fraction | None = None
+    fill: Fraction | None = None
+    service: Mapping[str, Fraction] = field(default_factory=dict)
+    lead: str = ""
+    currency: str = ""
+    abc: tuple[int, int] = ABC
+    supplier_min: Mapping[str, Fraction] = field(default_factory=dict)
+
+    @classmethod
+    def of(cls, **stated: Any) -> Defaults:
+        """Reads what is stated by the name of a field. Shares are numbers below 1 or texts such as 20%. Raises
+        Refused."""
+        values: dict[str, Any] = {}
+        for name, value in stated.items():
+            word = option(f"{PLAN}.{name}")
+            if word.kind == "pairs":
+                values[name] = {
+                    key: read_argument(name, part, word.read)
+                    for key, part in value.items()
+                    if part is not None
+                }
+            else:
+                values[name] = read_argument(name, value, word.read)
+        return cls(**values)
+
+    @property
+    def roles(self) -> set[str]:
+        """Returns the roles of masters that each item needs and for which there is a default."""
+        roles = set()
+        if self.setup is not None:
+            roles.add("setup")
+        if self.holding_rate is not None:
+            roles.add("holding")
+        return roles
+
+    def leads(self, every: str) -> tuple[int, ...]:
+        """Returns the lead times in whole periods of an item for which nothing else says one; none without a default.
+        Raises Refused."""
+        if not self.lead:
+            return ()
+        try:
+            return tuple(TimeReader().leads(self.lead, "", every))
+        except Unreadable as why:
+            raise Refused(
+                f"{argument('lead', self.lead)}: {message(why.remark)}"
+            ) from why
+
+    def fill_of(self, group: str, own: Fraction | None) -> tuple[Fraction | None, str]:
+        """Returns the wanted fill of an item of a class, and where it is from; None and no source if there is none."""
+        for source, fill in (
+            (MASTERS, own),
+            (CLASS, self.service.get(group)),
+            (DEFAULT, self.fill),
+        ):
+            if fill is not None:
+                return fill, source
+        return None, ""
+
+    def check_classes(self, groups: Collection[str]) -> None:
+        """Raises Refused if a fill is wanted for a class that no item has."""
+        for name, fill in self.service.items():
+            if name not in groups:
+                stated = argument("service", f"{name}={float(fill):g}")
+                known = names_of(sorted(filter(None, groups)), MOST_CLASSES)
+                raise Refused(
+                    f"{stated}: no item has the class {name!r}",
+                    f"the classes are {known}",
+                )
+
+
+def read_argument(name: str, value: Any, read: Callable[[Any], Value]) -> Value:
+    """Returns an argument as it is read. Raises Refused with its name."""
+    try:
+        return read(value)
+    except Refused as why:
+        raise Refused(f"{argument(name)}: {why.what}", why.advice) from why
+
+
+def lead_of(value: Any) -> str:
+    """Returns a lead time, or several, each with its unit. Raises Refused."""
+    text = str(value).strip()
+    try:
+        TimeReader().leads(text, "", "month")
+    except Unreadable as why:
+        if why.remark.code != "lead range":
+            raise Refused(message(why.remark)) from why
+    return text
+
+
+def cuts_of(value: str | Sequence[Number]) -> tuple[int, int]:
+    """Returns two rising shares in percent, such as "80,95" or (80, 95). Raises Refused."""
+    parts: list[str] = []
+    if isinstance(value, str):
+        parts = value.split(",")
+    elif isinstance(value, Sequence):
+        parts = [*map(str, value)]
+    if len(parts) == 2 and all(part.strip().isdecimal() for part in parts):
+        first, second = map(int, parts)
+        if 0 < first < second < 100:
+            return first, second
+    raise Refused(
+        f"{value!r} are no two rising whole numbers of percent", "write 80,95"
+    )
+
+
+def currency_of(cell: Cell) -> str:
+    """Returns the code of a currency, or its sign. Raises Refused for anything else."""
+    text = str(cell).strip()
+    sign = SIGNS.get(text, text)
+    if sign in MAY_BE:
+        return sign
+    code = sign.upper()
+    if not CODE.fullmatch(code):
+        raise Refused(
+            f"{text!r} is no code of a currency", "write three letters, as EUR"
+        )
+    return code
+
+
+def currency_in(cell: Cell) -> str:
+    """Returns the currency of a cell. Raises Unreadable."""
+    try:
+        return currency_of(cell)
+    except Refused as why:
+        raise Unreadable("no currency", cell) from why
+
+
+def distinct(currencies: Mapping[str, str]) -> dict[str, str]:
+    """Returns currencies without those ambiguous signs that another one of them may mean: $ beside USD is USD."""
+    return {
+        code: text
+        for code, text in currencies.items()
+        if not currencies.keys() & {*MAY_BE.get(code, ())}
+    }

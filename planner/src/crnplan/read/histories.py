@@ -1,0 +1,367 @@
+"""Reads the record of one item: demand by period or by dated movements, and lead times or the dates of orders. All
+faults and notes are collected in one pass."""
+from __future__ import annotations
+
+import datetime
+from collections.abc import Mapping, Sequence
+from fractions import Fraction
+from typing import Any
+
+import numpy as np
+
+from ..errors import Refused, RefusedFaults
+from ..formats import MOST_WEIGHT
+from ..remarks import Remark
+from ..words import message
+from .cells import Numbers, named_lines
+from .columns import conversion, periods_of
+from .dates import (
+    EVERY,
+    NEED_PERIOD,
+    first_day,
+    period_name,
+    period_of,
+    periods_of_days,
+)
+from .faults import RefusedFiles
+from .observed import Day, History, LeadTimes, ends_of, summed
+from .opening import Table, opened
+from .reading import Reading, Said
+from .sources import Rules
+
+# By whether the first and the last period of a record may be partial.
+ENDS = {
+    (False, False): "all whole",
+    (True, False): "first",
+    (False, True): "last",
+    (True, True): "both",
+}
+
+
+def read_history(
+    table: Table,
+    *,
+    demand: str,
+    returns: str | None = None,
+    date: str | None = None,
+    every: str | None = None,
+    net: bool = False,
+    whole: bool = False,
+    start: Day | str | None = None,
+    end: Day | str | None = None,
+    delimiter: str | None = None,
+    encoding: str | None = None,
+    decimal: str | None = None,
+    date_formats: Sequence[str] = (),
+    item: Mapping[str, str] | None = None,
+    leave_out: bool = False,
+) -> History:
+    """Reads a history of demand from a CSV file (`-` is standard input), a sheet (FILE.xlsx!SHEET) or a DataFrame.
+    `demand`, `returns` and `date` name its columns. Numbers are converted into items if a heading says `packs of 12`.
+    Without `date` each row is a period. With it each row is a movement. They are summed by day, ISO week or month
+    (`every`), and a period without one has the demand 0. The record is from `start` to `end`, else from the first to
+    the last movement, of all items if `item` is given. With `whole` periods at its ends that may be partial are left
+    out. With `net` amounts below 0 are taken off their period. Further words are those of `Rules`: `delimiter`,
+    `encoding`, `decimal`, `date_formats`, `item` and `leave_out`.
+
+    Raises RefusedFaults with all faults of the file. With `leave_out` rows with faults are left out, and are in
+    `faults`.
+    """
+    rules = Rules(
+        delimiter, encoding, decimal, tuple(date_formats), item or {}, leave_out, every
+    )
+    names = {"quantity": demand} | ({} if returns is None else {"returned": returns})
+    if date is not None:
+        return _dated(table, rules, names, date, net, whole, (start, end))
+    given: dict[str, object] = {"undated every": every, "undated net": net or whole}
+    given["undated ends"] = start or end
+    for code in filter(given.get, given):
+        raise Refused(message(Remark(code)))
+    return _undated(table, rules, names)
+
+
+def read_lead_times(
+    table: Table,
+    *,
+    lead: str | None = None,
+    every: str | None = None,
+    ordered: str = "ordered",
+    received: str = "received",
+    delimiter: str | None = None,
+    encoding: str | None = None,
+    decimal: str | None = None,
+    date_formats: Sequence[str] = (),
+    item: Mapping[str, str] | None = None,
+    leave_out: bool = False,
+) -> LeadTimes:
+    """Reads lead times in whole periods from a CSV file (`-` is standard input), a sheet or a DataFrame.
+
+    With `lead`, the name of a column, each row is a lead time; if its heading names a unit of time, as `Days`, and
+    `every` is known, it is converted. Without it each row is an order, with the dates on which it was placed and
+    received, and `every` is day, week or month. An order that was placed on any day of period t and received on any day
+    of period t + L has lead time L, and 1 if both fell in one period. Orders not yet received are left out, with a
+    note. Further words are those of `Rules`. Raises RefusedFaults with all faults of the file.
+    """
+    rules = Rules(
+        delimiter, encoding, decimal, tuple(date_formats), item or {}, leave_out, every
+    )
+    if lead is None and every not in EVERY:
+        raise Refused(NEED_PERIOD)
+    with opened(table, "lead times" if lead else "orders", rules) as sheet:
+        if lead is not None:
+            return _lead_times(Reading(sheet, {"lead": lead}, own_item=True), every)
+        names = {"ordered": ordered, "received": received}
+        return _orders(Reading(sheet, names, own_item=True), str(every))
+
+
+def column_names(table: Table, rules: Rules) -> list[str]:
+    """Returns the names in the heading of a table, for a user who doesn't know them."""
+    with opened(table, "history", rules) as sheet:
+        sheet.find_heading()
+        return [*filter(None, sheet.heading)][:100]
+
+
+def _undated(table: Table, rules: Rules, names: Mapping[str, str]) -> History:
+    """Reads a history whose rows are periods."""
+    with opened(table, "history", rules) as sheet:
+        reading = Reading(sheet, names, counts_blank=True)
+        reading.check_count("quantity", "rows")
+        for role in names:
+            reading.read_amounts(role, "period")
+        reading.keep()
+        reading.suspect()
+        counts = dict[str, list[int]]()
+        cells = dict[str, list[Said]]()
+        for role in names:
+            counts[role] = reading.of(role)
+            cells[role] = reading.cells(role)
+        return reading.history(counts, cells)
+
+
+def _dated(
+    table: Table,
+    rules: Rules,
+    names: Mapping[str, str],
+    date: str,
+    net: bool,
+    whole: bool,
+    stated: tuple[Day | str | None, Day | str | None],
+) -> History:
+    """Reads a history whose rows are movements, and sums these by period."""
+    if rules.every not in EVERY:
+        raise Refused(NEED_PERIOD)
+    ends = ends_of(*stated)
+    with opened(table, "history", rules) as sheet:
+        reading = Reading(sheet, {**names, "date": date})
+        _read_movements(reading, [*names], net)
+        _cut(reading, *ends)
+        periods = _spanned(reading, rules.every, *ends, whole)
+        reading.suspect()
+        return _summed(reading, [*names], rules.every, periods)
+
+
+def _read_movements(reading: Reading, roles: Sequence[str], net: bool) -> None:
+    """Reads dated movements. A last row without a date that looks like a total has this fault alone."""
+    reading.numbers["date"] = reading.table.read_days("date")
+    for role in roles:
+        reading.read_amounts(role, "whole" if net else "movement")
+    rows = reading.used
+    wrong = reading.table.wrong
+    amounts = reading.numbers["quantity"]
+    if len(rows) and reading.rows.columns["date"].codes[rows[-1]] in wrong["date"]:
+        last, others = rows[-1], rows[:-1]
+        is_good = ~reading.rows.having("quantity", wrong["quantity"])
+        number = int(amounts[last]) if is_good[last] else None
+        numbers = amounts[others[is_good[others]]].tolist()
+        total = reading.total("undated", last, number, numbers)
+        if total:
+            reading.reject(total, last, "date")
+    reading.keep()
+
+
+def _cut(reading: Reading, start: Day | None, end: Day | None) -> None:
+    for code, bound, sign in (
+        ("before the record", start, 1),
+        ("after the record", end, -1),
+    ):
+        if bound is None:
+            continue
+        days = reading.numbers["date"][reading.used]
+        outside = sign * (days - bound.toordinal()) < 0
+        lines = reading.rows.lines[reading.used[outside]].tolist()
+        if lines:
+            named = named_lines(lines)
+            reading.note(code, day=str(bound), count=len(lines), lines=named)
+        reading.used = reading.used[~outside]
+    if not len(reading.used):
+        raise reading.refused(
+            "no row in the record",
+            start=str(start or "the beginning"),
+            end=str(end or "the end"),
+        )
+
+
+def _spanned(
+    reading: Reading, every: str, start: Day | None, end: Day | None, whole: bool
+) -> range:
+    """Returns the numbers of the periods of the record, with a note: of all items, if the rows are those of one. Raises
+    RefusedFaults for none, or for too many."""
+    days = reading.numbers["date"]
+    rows = reading.used
+    known = days[rows]
+    if reading.rules.item:
+        known = days[~reading.rows.having("date", reading.table.wrong["date"])]
+    first = period_of(start or Day.fromordinal(int(known.min())), every)
+    last = period_of(end or Day.fromordinal(int(known.max())), every)
+    partial = (
+        start is None or first_day(first, every) != start,
+        end is None or first_day(last + 1, every) - datetime.timedelta(days=1) != end,
+    )
+    periods = range(first + (whole and partial[0]), last + 1 - (whole and partial[1]))
+    if not periods:
+        raise reading.refused("no period", rows[0], "date", every=every)
+    if len(periods) > MOST_WEIGHT:
+        facts: dict[str, Any] = {"count": len(periods), "every": every}
+        facts["most"] = MOST_WEIGHT
+        if start or end:
+            raise reading.refused("too many periods", **facts)
+        latest = rows[days[rows] == known.max()]
+        row = latest[0] if len(latest) else None
+        raise reading.refused("too many days", row, "date" * len(latest[:1]), **facts)
+    filled = len({*periods} - {*periods_of_days(days[rows], every).tolist()})
+    ends = ENDS[partial]
+    if any(partial):
+        ends += " left out" if whole else " partial"
+    reading.note(
+        ends,
+        every=every,
+        filled=filled,
+        first=period_name(periods[0], every),
+        last=period_name(periods[-1], every),
+        count=len(periods),
+    )
+    return periods
+
+
+def _summed(
+    reading: Reading, roles: Sequence[str], every: str, periods: range
+) -> History:
+    """Returns the history of the movements: their sums by period, none of which may be negative."""
+    numbers = periods_of_days(reading.numbers["date"][reading.used], every) - periods[0]
+    inside = (numbers >= 0) & (numbers < len(periods))
+    rows = reading.used[inside]
+    numbers = numbers[inside]
+    counts = dict[str, list[int]]()
+    unmet = list[Said]()
+    for role in reversed(roles):
+        amounts = reading.numbers[role][rows]
+        counts[role], moved, place = summed(numbers, amounts, len(periods))
+        if moved:
+            reading.note("undone earlier", role=role, every=every, count=moved)
+        if place is not None:
+            unmet.append(
+                reading.said(
+                    Remark(
+                        "more undone",
+                        {
+                            "amount": int(amounts[place]),
+                            "every": every,
+                            "period": period_name(periods[numbers[place]], every),
+                        },
+                    ),
+                    rows[place],
+                    role,
+                )
+            )
+    if unmet:
+        raise RefusedFiles(reading.placed(unmet), reading.finish()[0])
+    cells = dict[str, list[Said | None]]()
+    for role, sums in counts.items():
+        cells[role] = _sum_cells(reading, role, rows, numbers, sums, every, periods)
+    return reading.history(counts, cells, every, periods[0])
+
+
+def _sum_cells(
+    reading: Reading,
+    role: str,
+    rows: Numbers,
+    numbers: Numbers,
+    sums: Sequence[int],
+    every: str,
+    periods: range,
+) -> list[Said | None]:
+    """Returns for each period the first of the rows whose amounts it has the sum of, by the numbers of their periods; None
+    if it has none."""
+    cells: list[Said | None] = [None] * len(periods)
+    present, firsts, sizes = np.unique(numbers, return_index=True, return_counts=True)
+    for number, first, count in zip(present.tolist(), firsts, sizes.tolist()):
+        remark = Remark(
+            "sum of rows" if count > 1 else "sum of a row",
+            {
+                "every": every,
+                "period": period_name(periods[number], every),
+                "amount": sums[number],
+                "rows": count,
+            },
+        )
+        cells[number] = reading.said(remark, rows[first], role)
+    return cells
+
+
+def _lead_times(reading: Reading, every: str | None) -> LeadTimes:
+    """Returns the lead times of a column, converted from the unit in its heading if the period is known."""
+    reading.check_count("lead", "rows")
+    reading.read_amounts("lead", "lead")
+    reading.keep()
+    reading.suspect()
+    unit = reading.sheet.columns["lead"].unit
+    factor = Fraction(1)
+    if unit and every is None:
+        reading.note("leads in periods", role="lead")
+    elif unit and unit != every:
+        reading.note_unit("lead", str(every))
+        factor, _ = conversion("lead", unit, str(every))
+    leads = list[int]()
+    cells = list[Said | None]()
+    for number, cell in zip(reading.of("lead"), reading.cells("lead")):
+        of_row = (number,) if factor == 1 else periods_of(number * factor)
+        leads += of_row
+        cells += [cell] * len(of_row)
+    return LeadTimes(tuple(leads), reading.places(cells), *reading.finish(), None)
+
+
+def _orders(reading: Reading, every: str) -> LeadTimes:
+    """Returns the lead times between the dates of orders and of their receipts."""
+    placed = reading.used
+    orders = reading.table.read_orders(every)
+    reading.used = placed[~orders.is_open[placed]]
+    is_open = len(placed) - len(reading.used)
+    if is_open and not len(reading.used):
+        raise reading.refused("no receipt", placed[0], "received")
+    reading.count -= is_open
+    reading.check_count("ordered", "orders")
+    for row in reading.used[(orders.days < 0)[reading.used]].tolist():
+        if not reading.table.faults(row):
+            texts = {role: reading.text(role, row) for role in reading.table.wrong}
+            reading.reject(Remark("received before", texts), row, "received")
+    reading.keep()
+    leads = orders.leads[reading.used].tolist()
+    reading.note("orders", every=every, count=len(leads), open=is_open)
+    reading.suspect()
+    cells = list[Said | None]()
+    for row, lead in zip(reading.used.tolist(), leads):
+        cells.append(
+            reading.said(
+                Remark(
+                    "lead of an order",
+                    {
+                        "lead": lead,
+                        "every": every,
+                        "ordered": reading.text("ordered", row),
+                    },
+                ),
+                row,
+                "received",
+            )
+        )
+    return LeadTimes(tuple(leads), reading.places(cells), *reading.finish(), every)

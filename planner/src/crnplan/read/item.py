@@ -1,0 +1,147 @@
+"""The facts of an item: what its plan depends on, and what is only shown of it."""
+from __future__ import annotations
+
+from collections.abc import Collection, Sequence
+from dataclasses import dataclass, replace
+from fractions import Fraction
+from functools import cached_property
+
+from ..formats import MOST_DEMAND
+from ..remarks import Remark
+from ..store.stored import columns_of
+from .bounds import Bounds
+from .overrides import DO_NOT_ORDER, Override
+
+# What an item's record says of its past: enough; too little, so that others say what to expect; that nothing was asked
+# for, or is no longer. Its master may say the last, or that its stock is used up.
+USUAL, NEW, NO_DEMAND, STOPPED, PHASE_OUT = (
+    "",
+    "new",
+    "no demand",
+    "stopped",
+    "phase out",
+)
+ENDED = (
+    STOPPED,
+    PHASE_OUT,
+    DO_NOT_ORDER,
+)  # the pasts of items that are ordered no longer, the last by their planner
+UNORDERED = NO_DEMAND, *ENDED  # those of items of which no order is planned
+TEACHING = USUAL, *ENDED  # those of items from which others learn
+# From whom an item may learn its law of demand: from no other, from those of its class, or from all.
+BORROW = ("none", "class", "all")
+
+
+def value_of(stock: Fraction | None, price: Fraction | None) -> Fraction | None:
+    """Returns what a stock is worth: nothing if it is below 0, None if it or the price is not known."""
+    return None if stock is None or price is None else max(stock, Fraction(0)) * price
+
+
+def some(amounts: Sequence[int]) -> tuple[int, ...]:
+    """Returns amounts by period; nothing if all are 0."""
+    return tuple(amounts) if any(amounts) else ()
+
+
+@dataclass(frozen=True)
+class Item:
+    """The facts of an item, the same for one item and for a million. All amounts are of items, and money is exact.
+
+    `counts` is the demand by period, `returns` what came back by period, empty if nothing did, `leads` the lead times
+    seen, in periods, and `levels` today's s and S, None if no policy is in use. `setup` is money an order, `holding`
+    and `backlog` money an item and period, `unit` money for each item ordered, which only counts over coming periods.
+    `fill` is the share of demand that is wanted at once; an item has a `backlog`, a `fill`, or both. `group` is its
+    class, `borrow` from whom it learns its law, perhaps empty. `bounds` are those of its orders and levels. `past` is
+    empty, NEW or one of UNORDERED. `override` is what the planner sets, whatever is chosen.
+
+    What follows is no part of the plan: `stock` is today's, `price` the money that an item of stock is worth,
+    `supplier_min` the money that an order of all items of the `supplier` comes to at least, `first` the number of the
+    first period, `line` and `rows` are the line of the master and the rows of demand. `abc` is the class by the value
+    of demand, empty without a price, and `category` the class that is shown: `group`, or `abc` if no item of the
+    catalogue has a class. `status` is what the master says of it, perhaps empty, and `predecessor` the item whose demand
+    it takes, if it succeeds one.
+    catalogue has a class. `receipts` are the days that its received orders took, and `stated` those of its master, in the
+    mean, None if it states none.
+    """
+
+    name: str
+    counts: tuple[int, ...]
+    leads: tuple[int, ...]
+    levels: tuple[int, int] | None
+    setup: Fraction
+    holding: Fraction
+    backlog: Fraction | None = None
+    fill: Fraction | None = None
+    unit: Fraction = Fraction(0)
+    returns: tuple[int, ...] = ()
+    group: str = ""
+    borrow: str = ""
+    bounds: Bounds = Bounds()
+    past: str = USUAL
+    override: Override | None = None
+    stock: Fraction | None = None
+    price: Fraction | None = None
+    description: str = ""
+    supplier: str = ""
+    supplier_min: Fraction | None = None
+    abc: str = ""
+    category: str = ""
+    status: str = ""
+    predecessor: str = ""
+    first: int = 0
+    line: int = 0
+    rows: int = 0
+    receipts: tuple[int, ...] = ()
+    stated: Fraction | None = None
+    remarks: tuple[Remark, ...] = ()
+
+    @cached_property
+    def box(self) -> int:
+        """Returns how many items are counted as one, so that the demand of a period is within the program's range."""
+        return max(1, -(-max((*self.counts, *self.returns), default=0) // MOST_DEMAND))
+
+    @property
+    def demands(self) -> int:
+        """Returns how many periods have demand."""
+        return len(self.counts) - self.counts.count(0)
+
+    @property
+    def value(self) -> Fraction | None:
+        """Returns what today's stock is worth: nothing if it is below 0, None if it or the price is not known."""
+        return value_of(self.stock, self.price)
+
+    def part(self, start: int, stop: int) -> Item:
+        """Returns the item as it is known by some of its periods alone: from one on, counted from 0, before another."""
+        return replace(
+            self,
+            counts=self.counts[start:stop],
+            returns=some(self.returns[start:stop]),
+            first=self.first + start,
+        )
+
+    def without(self, places: Collection[int]) -> Item:
+        """Returns the item without some of its periods, which are counted from 0."""
+        kept = [place for place in range(len(self.counts)) if place not in places]
+        counts = tuple(map(self.counts.__getitem__, kept))
+        returns = some([*map(self.returns.__getitem__, kept if self.returns else ())])
+        return replace(self, counts=counts, returns=returns)
+
+    def last(self, window: int | None) -> Item:
+        """Returns the item as it is known by its last so many periods, or by all if that is None."""
+        periods = len(self.counts)
+        if window is None or window >= periods:
+            return self
+        return self.part(periods - window, periods)
+
+
+def overridden(item: Item, override: Override | None) -> Item:
+    """Returns an item with an override, and what is to be said of it."""
+    if override is None:
+        return item
+    past = item.past if override.levels else DO_NOT_ORDER
+    return replace(
+        item, override=override, past=past, remarks=(*item.remarks, override.remark)
+    )
+
+
+# The columns of the facts that a plan depends on.
+PLANNED = columns_of(Item).names[: columns_of(Item).names.index("stock")]

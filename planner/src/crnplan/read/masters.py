@@ -1,0 +1,253 @@
+"""Reads the rows of masters: costs, a wanted share, lead times, today's levels, bounds and prices; and takes what a
+planner states for all items if a row lacks it."""
+from __future__ import annotations
+
+import math
+from collections.abc import Callable, Iterable, Mapping, Sequence
+from fractions import Fraction
+from functools import partial
+from typing import Any, NamedTuple
+
+from ..remarks import Value
+from .amounts import AMOUNTS, PERCENT
+from .bounds import Bounds
+from .cells import UNPRINTABLE, Cell, CellFault, RowReader, Unreadable, fault, shown
+from .columns import DAYS, MONEY, NEEDED, ROLES, SHARES, factors_of, periods_a_year
+from .dates import period_of
+from .defaults import DEFAULT, MASTERS, ORDERS, currency_in, distinct
+from .filed import SPANS, Whole
+from .item import BORROW, Item, value_of
+from .items import Words
+from .leads import counts_receipts, leads_from
+from .overrides import Override, level_faults, override_faults, word_of
+from .sources import Column
+from .status import status_of
+
+TEXTS = ("description", "class", "supplier", "override_reason")
+# The roles whose readers convert their numbers.
+CONVERTED = {"fill", *SPANS}
+OVERRIDE = "override_s", "override_S", "override", "override_reason"
+
+
+def borrowed_from(cell: Cell) -> str:
+    """Returns from whom an item learns its law. Raises Unreadable."""
+    source = str(cell).casefold()
+    if source not in BORROW:
+        raise Unreadable(
+            "no borrow", cell, known=f"{', '.join(BORROW[:-1])} or {BORROW[-1]}"
+        )
+    return source
+
+
+def printable(cell: Cell) -> str:
+    return UNPRINTABLE.sub(" ", str(cell))
+
+
+class Master(NamedTuple):
+    """An item without its demand, the decimals of its money, by role where a value that may have a default is from, and
+    the period since when there is the item, None if that is not said."""
+
+    item: Item
+    decimals: int
+    sources: Mapping[str, str]
+    since: int | None
+
+
+class Masters:
+    """Reads the rows of masters, with the unit of each column, and what holds if they say nothing."""
+
+    def __init__(
+        self, whole: Whole, words: Words, columns: Mapping[str, Column]
+    ) -> None:
+        self.whole = whole
+        self.words = words
+        self.defaults = words.defaults
+        self.units = {role: column.unit for role, column in columns.items()}
+        factors = factors_of(columns, words.every)
+        for role in CONVERTED & factors.keys():
+            del factors[role]
+        # Money is exact before it is converted.
+        self.money_factors = {role: factors.pop(role, Fraction(1)) for role in MONEY}
+        self.is_money = self.units.get("order_min") == "money"
+        holding = self.units.get("holding", "")
+        self.share = holding * (holding in SHARES)
+        self.currencies = distinct(whole.currencies)
+        self.usual_leads = self.defaults.leads(words.every)
+        needed = NEEDED["items"] - self.defaults.roles
+        self.cells = RowReader(self._readers(), needed, factors)
+
+    def _readers(self) -> dict[str, Callable[[Cell], Any]]:
+        """Returns what reads the cells of each role."""
+        amounts = self.whole.amounts
+        times = self.whole.times
+        every = self.words.every
+        readers: dict[str, Callable[[Cell], Any]] = {
+            "holding": self._holding,
+            "borrow": borrowed_from,
+            "currency": currency_in,
+            "override": word_of,
+            "status": partial(status_of, stated=self.words.statuses),
+            "since": lambda cell: period_of(self.whole.dates["items"].day(cell), every),
+            "fill": partial(
+                amounts["fill"].share, unit=self.units.get("fill", ""), role="fill"
+            ),
+        }
+        for role, reader in times.items():
+            read: Callable[..., Any] = reader.leads if role == "lead" else reader.span
+            unit = self.units.get(role, "")
+            readers[role] = partial(read, unit=unit, every=every)
+        for role, kind in AMOUNTS["items"].items():
+            readers.setdefault(role, partial(amounts[role].number, kind=kind))
+        return readers | dict.fromkeys(TEXTS, printable)
+
+    def _holding(self, cell: Cell) -> Fraction:
+        """Returns a holding cost: money, or a share of the price, which is in percent if the column is."""
+        reader = self.whole.amounts["holding"]
+        if self.share:
+            share = reader.share(cell, self.share, "holding")
+            return share * 100 if self.share == PERCENT else share
+        if cell != "" and reader.amount(cell).unit == PERCENT:
+            raise Unreadable("is share", cell)
+        return reader.number(cell, "cost")
+
+    def price(self, cells: Mapping[str, Cell]) -> Fraction | None:
+        """Returns the price of one item of a row; None if it has none that can be read."""
+        price = {role: cells.get(role, "") for role in ("price", "price_for")}
+        return self._price(self.cells.read(price)[0])
+
+    def value(self, cells: Mapping[str, Cell]) -> Fraction | None:
+        """Returns what the stock of a row is worth; None if its stock or its price is missing or can't be read."""
+        stock = self.cells.value("stock", cells.get("stock", ""), [])
+        return value_of(stock, self.price(cells))
+
+    def _price(self, read: Mapping[str, Any]) -> Fraction | None:
+        """Returns the price of one item by the values of its row."""
+        price: Fraction | None = read["price"]
+        if price is None:
+            return None
+        return price / (read["price_for"] or 1) * self.money_factors["price"]
+
+    def read(
+        self, cells: Mapping[str, Cell], observed: Sequence[int], group: str
+    ) -> tuple[dict[str, Any], list[CellFault]]:
+        """Returns the values of a row by role, None of an empty cell, and all that is wrong with the row. `observed`
+        are lead times of orders, for a row that says none, and `group` is the class of the item.
+        """
+        roles = ROLES["items"][1:]
+        read, faults = self.cells.read({role: cells.get(role, "") for role in roles})
+        unread = {role for role, _, _ in faults}
+
+        def add(role: str, code: str, **facts: Value) -> None:
+            faults.append(fault(role, cells.get(role, ""), code, **facts))
+
+        fill, _ = self.defaults.fill_of(group, read["fill"])
+        is_goal_read = not unread & {"backlog", "fill"}
+        if is_goal_read and read["backlog"] is None and fill is None:
+            add("backlog", "no goal")
+        has_leads = read["lead"] is not None or observed or self.usual_leads
+        if "lead" not in unread and not has_leads:
+            add("lead", "nothing of leads")
+        if not unread & {"s", "S"}:
+            faults += level_faults(cells, ("s", "S"), read["s"], read["S"])
+        s, S, word, _ = (read[role] for role in OVERRIDE)
+        if not unread & {*OVERRIDE}:
+            faults += override_faults(cells, OVERRIDE[:2], s, S, word)
+        if "price" not in unread and not read["price"]:
+            if self.share or read["holding"] is None and "holding" not in unread:
+                add("holding", "no price for share")
+            if self.is_money and read["order_min"]:
+                add("order_min", "no price for order")
+        if len(self.currencies) > 1:
+            texts = " and ".join(repr(shown(text)) for text in self.currencies.values())
+            add("currency", "currencies", texts=texts)
+        return read, faults
+
+    def item(
+        self,
+        name: str,
+        line: int,
+        read: dict[str, Any],
+        observed: Sequence[int],
+        group: str,
+    ) -> Master:
+        """Returns the master of an item of a class by the values of its row, of which money is without units."""
+        price = self._price(read)
+        stated = read["lead"] or ()
+        sources = self._sources(read, observed)
+        fill, sources["fill"] = self.defaults.fill_of(group, read["fill"])
+        read["setup"] = self.defaults.setup if read["setup"] is None else read["setup"]
+        status, predecessor = read["status"] or ("", "")
+        item = Item(
+            name,
+            (),
+            leads_from(stated, observed, self.words.lead_from) or self.usual_leads,
+            None if read["s"] is None else (int(read["s"]), int(read["S"])),
+            read["setup"] or Fraction(0),
+            self._holding_of(read["holding"], price),
+            read["backlog"] and read["backlog"] * self.money_factors["backlog"],
+            fill,
+            group=read["class"] or "",
+            borrow=read["borrow"] or "",
+            bounds=self._bounds(read, price),
+            override=Override.of(*(read[role] for role in OVERRIDE)),
+            stock=read["stock"],
+            price=price,
+            description=read["description"] or "",
+            supplier=read["supplier"] or "",
+            supplier_min=read["supplier_min"],
+            category=group,
+            status=status,
+            predecessor=predecessor,
+            line=line,
+            stated=self._days_of(stated),
+        )
+        return Master(item, decimals_of(map(read.get, MONEY)), sources, read["since"])
+
+    def _sources(
+        self, read: Mapping[str, Any], observed: Sequence[int]
+    ) -> dict[str, str]:
+        """Returns by role where the values of a row are from that may have a default."""
+        sources = dict[str, str]()
+        for role in ("setup", "holding", "lead"):
+            sources[role] = DEFAULT if read[role] is None else MASTERS
+        if counts_receipts(bool(read["lead"]), len(observed), self.words.lead_from):
+            sources["lead"] = ORDERS
+        return sources
+
+    def _holding_of(self, stated: Fraction | None, price: Fraction | None) -> Fraction:
+        """Returns the holding cost of an item and period: what is stated, which may be a share of the price, else the
+        usual share."""
+        if stated is None:
+            rate = self.defaults.holding_rate or Fraction(0)
+            return rate / periods_a_year(self.words.every) * (price or 0)
+        stated *= self.money_factors["holding"]
+        return stated * (price or 0) if self.share else stated
+
+    def _days_of(self, leads: Sequence[int]) -> Fraction | None:
+        """Returns the mean of lead times in days; None without any."""
+        if not leads:
+            return None
+        return Fraction(sum(leads), len(leads)) * DAYS[self.words.every]
+
+    def _bounds(self, read: Mapping[str, Any], price: Fraction | None) -> Bounds:
+        """Returns the bounds of an item with a price, by the values of its row without units. A 0 of a system states
+        none but for s."""
+        least = read["order_min"] or None
+        if least and price and self.is_money:
+            least /= price
+        return Bounds(
+            int(read["pack"] or 1),
+            least and math.ceil(least),
+            None if read["s_min"] is None else int(read["s_min"]),
+            read["coverage"] or None,
+            read["shelf_life"] or None,
+        )
+
+
+def decimals_of(amounts: Iterable[Fraction | None]) -> int:
+    """Returns the least number of decimals with which amounts of money are exact."""
+    unit = math.lcm(*(amount.denominator for amount in amounts if amount is not None))
+    decimals = 0
+    while 10**decimals % unit:
+        decimals += 1
+    return decimals

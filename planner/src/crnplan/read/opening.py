@@ -1,0 +1,93 @@
+"""Opens tables that can be read several times: CSV files, also gzipped, sheets of workbooks, DataFrames, and what a pipe
+gives once."""
+from __future__ import annotations
+
+import contextlib
+import gzip
+import sys
+import tempfile
+import zlib
+from collections.abc import Iterator
+from pathlib import Path
+from typing import TYPE_CHECKING, Any, Union
+
+from .frames import FrameSheet
+from .sources import Rules, Sheet, TextSheet, readable, refused
+from .workbooks import BOOKS, OLD, sheet_of_book
+
+if TYPE_CHECKING:
+    import pandas as pd
+
+Table = Union[str, Path, "pd.DataFrame"]
+# What a gzipped file may unpack to, and a pipe may give: a million items with 140 rows each have some 4 GB.
+MOST_UNPACKED = 8_000_000_000
+PIECE = 1 << 20
+# The first bytes of files that are no text, with what is wrong if their name says otherwise.
+PACKED = {
+    OLD: "old workbook",
+    b"PK\x03\x04": "named workbook",
+    b"\x1f\x8b": "packed file",
+}
+LOCK = "~$"  # begins the name of a file that Excel has while it has a workbook open
+
+
+def text_sheet(path: Path, name: str, rules: Rules) -> TextSheet:
+    """Returns a file of text. Raises RefusedFaults for a workbook or a packed file that has no name of one."""
+    with readable(name), path.open("rb") as file:
+        first = file.read(len(OLD))
+    for beginning, code in PACKED.items():
+        if first.startswith(beginning):
+            raise refused(code, name)
+    return TextSheet(path, name, rules)
+
+
+def copy_of(stream: Any, copy: Any, name: str) -> None:
+    """Copies a stream to a file. Raises RefusedFaults if it can't be unpacked, or has too much."""
+    rest = MOST_UNPACKED
+    try:
+        while data := stream.read(PIECE):
+            rest -= len(data)
+            if rest < 0:
+                raise refused("large table", name, most=MOST_UNPACKED)
+            copy.write(data)
+    except (gzip.BadGzipFile, EOFError, zlib.error) as fault:
+        raise refused("no gzip", name, fault=str(fault)) from fault
+
+
+@contextlib.contextmanager
+def opened(
+    table: Table, kind: str, rules: Rules, folder: Path | None = None
+) -> Iterator[Sheet]:
+    """Gives a table that can be read several times: a sheet of a workbook is FILE.xlsx!SHEET, the only one FILE.xlsx.
+    What a pipe gives once is copied, and a gzipped file (FILE.csv.gz) unpacked, into a folder, or for the time of the
+    block; `-` is standard input. A DataFrame has the name of its kind. Raises Refused and RefusedFaults for what can't
+    be read, or is more than MOST_UNPACKED."""
+    if not isinstance(table, (str, Path)):
+        yield FrameSheet(kind, table, rules)
+        return
+    is_input = str(table) == "-"
+    name = "standard input" if is_input else str(table)
+    path = Path(table)
+    if path.name.startswith(LOCK):
+        raise refused("lock file", name, book=path.name.removeprefix(LOCK))
+    book, sign, sheet = name.rpartition("!")
+    if sign and Path(book).suffix.lower() in BOOKS:
+        yield sheet_of_book(Path(book), sheet, rules)
+        return
+    with contextlib.ExitStack() as stack:
+        is_packed = path.suffix.lower() == ".gz" and path.is_file()
+        is_pipe = path.exists() and not (path.is_file() or path.is_dir())
+        if is_input or is_packed or is_pipe:
+            room = tempfile.TemporaryDirectory(prefix="crnplan-", dir=folder)
+            stem = path.stem if is_packed else Path(name).name
+            stream: Any = sys.stdin.buffer
+            if not is_input:
+                opens: Any = gzip.open if is_packed else open
+                stream = stack.enter_context(opens(path, "rb"))
+            path = Path(stack.enter_context(room)) / stem
+            with path.open("xb") as copy:
+                copy_of(stream, copy, name)
+        if path.suffix.lower() in BOOKS:
+            yield sheet_of_book(path, None, rules)
+        else:
+            yield text_sheet(path, name, rules)

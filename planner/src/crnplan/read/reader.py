@@ -1,0 +1,440 @@
+"""Makes items of the rows of a catalogue: their demand by period, lead times and masters, or why they are left out."""
+from __future__ import annotations
+
+import functools
+from collections import Counter
+from collections.abc import Callable, Iterator, Mapping, Sequence
+from dataclasses import replace
+from fractions import Fraction
+from typing import NamedTuple
+
+import numpy as np
+
+from ..formats import MOST_ITEMS, MOST_LEAD
+from ..remarks import Remark
+from .cells import UNPRINTABLE, Cell, Flags, Numbers, fault, named_lines, text_of
+from .choosing import named_values, places_of
+from .controls import Controls, controls_of, together
+from .dates import period_name, periods_of_days
+from .defaults import LEAVE_OUT
+from .filed import Whole
+from .item import PHASE_OUT, STOPPED, Item, overridden, some
+from .items import OUTSIDE, Reject, Words
+from .leads import remark_on
+from .masters import Master, Masters
+from .observed import summed, sums_of
+from .quiet import chance_of_quiet, months_of, quiet_periods
+from .repeated import is_called_total, total_rows
+from .rows import Rows, far_above
+from .status import BY_TEST, past_of
+from .tables import OPEN, PLACES, REJECTED, USED, WITH_ITEM, TableReader
+
+# What items are counted by.
+COUNTED = ("open_orders", "twice", "named", "ready", "left_out", "late")
+
+
+class Left(Exception):
+    """An item that is left out. Its arguments are the table and the line that say why, and what is wrong there."""
+
+
+class Moves(NamedTuple):
+    """The movements of an item in the order of their rows: lines, periods, amounts asked for and back."""
+
+    lines: Numbers
+    periods: Numbers
+    asked: Numbers
+    back: Numbers
+
+
+def quiet_remark(item: Item, every: str) -> Remark:
+    """Returns for how long nobody has asked for an item, and how likely that is of an active one."""
+    quiet = quiet_periods(item.counts)
+    return Remark(
+        "asked for no longer",
+        {
+            "periods": quiet,
+            "every": every,
+            "last": period_name(item.first + len(item.counts) - 1 - quiet, every),
+            "chance": chance_of_quiet(months_of(item.counts[1:], every)),
+        },
+    )
+
+
+class Reader:
+    """Makes the items of a catalogue, or of a part of it, and hands them on with what is left out."""
+
+    def __init__(
+        self,
+        rows: Mapping[str, Rows],
+        words: Words,
+        whole: Whole,
+        add: Callable[[Reject], None] | None = None,
+    ) -> None:
+        """Finds the movements of items in the rows, which may be those of a part of the items. What is left out or
+        suspicious is handed on to `add`, if it is given."""
+        self.rows = rows
+        self.words = words
+        self.whole = whole
+        self.record = whole.record
+        self.decimals = 0
+        self.names = rows["items"].names
+        self.tables = dict[str, TableReader]()
+        for kind, own in rows.items():
+            dates = whole.dates[kind]
+            self.tables[kind] = TableReader(kind, own, dates, whole.amounts, add)
+        self.demand = self.tables["demand"]
+        self.is_named = add is not None
+        masters = rows["items"]
+        for row in np.flatnonzero(total_rows(rows, whole.sums, whole.amounts)).tolist():
+            total = fault("item", masters.cell("item", row), "total")
+            self.tables["items"].reject(row, [total])
+            masters.good[row] = False
+        self.masters = Masters(whole, words, masters.sheet.columns)
+        self.masters_of = masters.by_item(masters.good)
+        self.first_masters = masters.firsts(masters.good)
+        self.sources = Counter[tuple[str, str]]()
+        self.letters = dict[int, str]()
+        self.twice = Counter[int]()
+        self.numbers = dict.fromkeys(COUNTED, 0)
+        self.moves_of, totals = self._moves()
+        known = set[int]()
+        for own in rows.values():
+            known.update(np.unique(own.items[own.good]).tolist())
+        self.items = sorted(known - totals, key=self.names.__getitem__)
+
+    @functools.cached_property
+    def named(self) -> Callable[[int], Numbers]:
+        """Returns the function that gives the rows of demand of an item."""
+        return self.demand.rows.by_item(self.demand.rows.good)
+
+    def values(self) -> list[Fraction | None]:
+        """Returns the value of the mean demand of each item, in order of names; None without a price or demand."""
+        return [self._value_of_demand(item) for item in self.items]
+
+    def _value_of_demand(self, item: int) -> Fraction | None:
+        moves = self.moves_of(item)
+        asked = int(moves.asked.sum())
+        price = self.masters.price(self._cells(self.masters_of(item)))
+        if asked <= 0 or price is None:
+            return None
+        first = self.record.first_of(int(moves.periods.min()))
+        return price * Fraction(asked, self.record.periods.stop - first)
+
+    def _cells(self, masters: Numbers) -> dict[str, Cell]:
+        """Returns the cells of the first of these rows of masters, by role; none without a row."""
+        return self.rows["items"].cells(int(masters[0])) if len(masters) else {}
+
+    def _are_equal(self, masters: Numbers) -> bool:
+        """Returns whether rows of masters are all the same."""
+        return len({*self.first_masters[masters].tolist()}) <= 1
+
+    def _sure_cells(self, item: int) -> dict[str, Cell]:
+        """Returns the cells of the master of an item; none if it has no master, or several."""
+        masters = self.masters_of(item)
+        return self._cells(masters) if self._are_equal(masters) else {}
+
+    def read(self, letters: Sequence[str]) -> Iterator[Item]:
+        """Yields all items in order of names, in which their classes by value are given. Those of totals alone are
+        none."""
+        self.letters = dict(zip(self.items, letters, strict=True))
+        receipts_of = self._receipts()
+        became = np.full(len(self.names), PLACES[OPEN], np.int8)
+        for item in self.items:
+            moves = self.moves_of(item)
+            self.numbers["named"] += 1
+            try:
+                yield self._item(item, moves, *receipts_of(item).tolist())
+                became[item] = PLACES[USED]
+                self.numbers["ready"] += 1
+            except Left as left:
+                kind, line, *faults = left.args
+                value = self.masters.value(self._sure_cells(item))
+                name, rows = self.names[item], len(moves.lines)
+                self.tables[kind].name("item", line, name, faults, rows, value)
+                became[item] = PLACES[WITH_ITEM]
+                self.numbers["left_out"] += 1
+        for table in self.tables.values():
+            table.close(became)
+
+    def controls(self) -> Controls:
+        """Returns the controls of all rows, after all items were read."""
+
+        @functools.cache
+        def price_of(item: int) -> Fraction | None:
+            return self.masters.price(self._sure_cells(item))
+
+        return together(
+            controls_of(table, price_of, self.words.factors)
+            for table in self.tables.values()
+        )
+
+    def _moves(self) -> tuple[Callable[[int], Moves], set[int]]:
+        """Returns the function that gives the movements of an item, and the items of totals alone. Rows with faults,
+        and twins if they are to be left out, are rejected."""
+        demand = self.demand
+        rows = demand.rows
+        words = self.words
+        days = demand.read_days("date", self.record.check)
+        is_net = words.net or words.negate
+        asked = demand.read_amounts("quantity", "whole" if is_net else "sales")
+        back = np.zeros_like(asked)
+        if "returned" in rows.columns:
+            back = demand.read_amounts("returned", "returns")
+        if words.negate:
+            asked = -asked
+        if "measure" in rows.columns and words.factors:
+            column = rows.columns["measure"]
+            units = map(text_of, column.distinct)
+            factors = (words.factors.get(unit, 1) for unit in units)
+            sizes = column.of_rows(factors, np.int64)
+            asked = asked * sizes
+            back = back * sizes
+        bad = demand.bad
+        totals = self._reject_moves(np.flatnonzero(rows.good & bad))
+        good = self._without_twins(rows.good & ~bad)
+        periods = periods_of_days(days, words.every)
+        moves = rows.by_item(good, np.stack([rows.lines, periods, asked, back]))
+        return lambda item: Moves(*moves(item)), totals
+
+    def _reject_moves(self, bad: Numbers) -> set[int]:
+        """Rejects rows of demand with what is wrong with their cells, and returns the items that are no items: those of
+        totals alone. A row is one if it looks so, and has no date."""
+        rows = self.demand.rows
+        totals = Counter[int]()
+        for row, item in zip(bad.tolist(), rows.items[bad].tolist()):
+            faults = self.demand.faults(row)
+            if rows.cell("date", row) == "" and is_called_total(self.names[item]):
+                faults = [fault("item", self.names[item], "total")]
+                totals[item] += 1
+            self.demand.reject(row, faults)
+        alone = {item for item in totals if totals[item] == len(self.named(item))}
+        for kind, others in self.rows.items():
+            if alone and kind != "demand":
+                alone -= {*others.items[others.good].tolist()}
+        return alone
+
+    def _without_twins(self, good: Flags) -> Flags:
+        """Names the rows that are the same as others, once for each item, and takes them out if that is wanted."""
+        demand = self.demand
+        leaves = self.words.twice == LEAVE_OUT
+        if not (self.is_named or leaves):
+            return good
+        lines = demand.rows.lines.tolist()
+        called = demand.rows.sheet.called
+        firsts = demand.rows.twins(good)
+        twins_of = dict[int, list[int]]()
+        for row in firsts:
+            twins_of.setdefault(int(demand.rows.items[row]), []).append(row)
+        for item, twins in sorted(twins_of.items()):
+            self.twice[item] = count = len(twins)
+            name = self.names[item]
+            twin = fault(
+                "item",
+                name,
+                "twins" if count > 1 else "twin",
+                count=count,
+                lines=named_lines([called(lines[row]) for row in twins]),
+                first=called(lines[firsts[twins[0]]]),
+            )
+            what = "row" if leaves else "suspicious"
+            demand.name(what, lines[twins[0]], name, [twin], count * leaves)
+        self.numbers["twice"] += len(firsts)
+        if leaves:
+            good = good.copy()
+            good[[*firsts]] = False
+            demand.states[[*firsts]] = PLACES[REJECTED]
+        return good
+
+    def _receipts(self) -> Callable[[int], Numbers]:
+        """Returns the function that gives what the received orders of an item took, in periods and in days. Orders with
+        faults are rejected."""
+        if "orders" not in self.tables:
+            return lambda item: np.zeros((2, 0), np.int64)
+        table = self.tables["orders"]
+        rows = table.rows
+        orders = table.read_orders(self.words.every)
+        is_open = rows.good & orders.is_open
+        received = rows.good & ~orders.is_open
+        is_early = orders.days < 0
+        bad = received & (table.bad | is_early | (orders.leads > MOST_LEAD))
+        for row in np.flatnonzero(bad).tolist():
+            received_cell = rows.cell("received", row)
+            lead = int(orders.leads[row])
+            wrong = fault(
+                "received", received_cell, "lead range", lead=lead, most=MOST_LEAD
+            )
+            if is_early[row]:
+                ordered = text_of(rows.cell("ordered", row))
+                wrong = fault(
+                    "received", received_cell, "before order", ordered=ordered
+                )
+            table.reject(row, table.faults(row) or [wrong])
+        self.numbers["open_orders"] += int(is_open.sum())
+        return rows.by_item(received & ~bad, np.stack([orders.leads, orders.days]))
+
+    def _item(
+        self, code: int, moves: Moves, leads: Sequence[int], receipts: Sequence[int]
+    ) -> Item:
+        """Returns an item by its code, with what its orders took in periods and in days. Raises Left."""
+        words = self.words
+        self._check_measures(code)
+        master = self._master(code, leads, moves)
+        self._check_far(moves)
+        first = self._first(master.since, moves)
+        asked, back, netted = self._counts(moves, first)
+        by_test = words.stopped == BY_TEST
+        item = replace(
+            master.item,
+            counts=tuple(asked),
+            returns=some(back),
+            past=past_of(master.item.status, asked, words.least, words.every, by_test),
+            first=first,
+            rows=len(moves.lines),
+            abc=self.letters.get(code, ""),
+            receipts=tuple(receipts),
+        )
+        if item.levels and round(item.levels[1] / item.box) > MOST_ITEMS:
+            wrong = fault("S", item.levels[1], "S too large", most=MOST_ITEMS)
+            raise Left("items", item.line, wrong)
+        self.decimals = max(self.decimals, master.decimals)
+        self.sources.update(master.sources.items())
+        remarks = list[Remark]()
+        masters = len(self.masters_of(code))
+        if masters > 1:
+            remarks.append(Remark("equal masters", {"masters": masters}))
+        if first > self.record.periods[0]:
+            self.numbers["late"] += master.since is None
+            start = "late" if master.since is None else "since"
+            remarks.append(Remark(start, {"period": period_name(first, words.every)}))
+        remarks += self._remarks(item, netted, self.twice[code])
+        if remarks:
+            item = replace(item, remarks=tuple(remarks))
+        return overridden(item, item.override)
+
+    def _remarks(self, item: Item, netted: int, twins: int) -> Iterator[Remark]:
+        """Yields what is to be said of an item and of its rows: of the amounts that were taken off earlier periods, and of
+        the rows that stand twice."""
+        if item.box > 1:
+            yield Remark("boxes", {"items": item.box})
+        if netted:
+            yield Remark("taken off earlier", {"amounts": netted})
+        if item.stock and item.stock < 0:
+            yield Remark("stock below 0", {"owed": float(-item.stock)})
+        if twins:
+            yield Remark("rows twice", {"rows": twins})
+        if item.past in (STOPPED, PHASE_OUT):
+            if item.status == item.past:
+                yield Remark("stated status", {"status": item.past})
+            else:
+                yield quiet_remark(item, self.words.every)
+        late = remark_on(item, self.words.lead_from)
+        if late:
+            yield late
+
+    def _first(self, since: int | None, moves: Moves) -> int:
+        """Returns where the history of an item begins: in the period since when its master has it, which may be behind the
+        record, or earlier if it was seen then. Without that as it is seen first, and with the record if it never is.
+        """
+        periods = self.record.periods
+        seen = [int(moves.periods.min())] if len(moves.lines) else []
+        if since is not None:
+            return min(max(min([since, *seen]), periods.start), periods.stop)
+        return self.record.first_of(seen[0]) if seen else periods.start
+
+    def _counts(self, moves: Moves, first: int) -> tuple[list[int], list[int], int]:
+        """Returns demand and returns by period from one on, and how many amounts were taken off earlier periods. Raises
+        Left."""
+        periods = self.record.periods.stop - first
+        if not len(moves.lines):
+            return [0] * periods, [], 0
+        asked, netted, unmet = summed(moves.periods - first, moves.asked, periods)
+        if unmet is not None:
+            amount = int(moves.asked[unmet])
+            period = period_name(int(moves.periods[unmet]), self.words.every)
+            wrong = fault(
+                "quantity", amount, "unmet return", amount=-amount, period=period
+            )
+            raise Left("demand", int(moves.lines[unmet]), wrong)
+        if not moves.back.any():
+            return asked, [], netted
+        back = sums_of(moves.periods - first, moves.back, periods).tolist()
+        returned = sum(back)
+        if returned >= sum(asked):
+            wrong = fault(
+                "quantity", returned, "all comes back", back=returned, asked=sum(asked)
+            )
+            raise Left("demand", 0, wrong)
+        return asked, back, netted
+
+    def _check_measures(self, item: int) -> None:
+        """Raises Left if the rows of an item are in several units of measure."""
+        rows = self.demand.rows
+        if "measure" not in rows.columns:
+            return
+        lines = dict[str, int]()
+        for row in self.named(item).tolist():
+            lines.setdefault(text_of(rows.cell("measure", row)), int(rows.lines[row]))
+        unknown = [unit for unit in lines if unit not in self.words.factors]
+        if len(unknown) > 1:
+            last = unknown[-1]
+            measures = " and ".join(map(repr, unknown))
+            wrong = fault("measure", last, "measures", measures=measures, text=last)
+            raise Left("demand", lines[last], wrong)
+
+    def _master(self, item: int, leads: Sequence[int], moves: Moves) -> Master:
+        """Returns the master of an item, whose orders took some lead times. Raises Left."""
+        name = self.names[item]
+        rows = self.masters_of(item)
+        if not len(rows):
+            kind = "orders" if leads and not len(moves.lines) else "demand"
+            line = int(moves.lines[0]) if len(moves.lines) else 0
+            raise Left(kind, line, fault("item", name, "no master"))
+        lines = self.rows["items"].lines[rows].tolist()
+        if not self._are_equal(rows):
+            column, places = places_of(self.rows["items"], rows)
+            several = fault(
+                "item",
+                name,
+                "masters of places" if column else "several masters",
+                masters=len(rows),
+                lines=named_lines(lines),
+                column=column,
+                first=str(next(iter(places), "")),
+                values=named_values(places),
+            )
+            raise Left("items", lines[1], several)
+        cells = self._cells(rows)
+        stated = UNPRINTABLE.sub(" ", text_of(cells.get("class")))
+        group = stated if any(self.whole.groups) else self.letters.get(item, "")
+        read, faults = self.masters.read(cells, leads, group)
+        if not faults and not len(moves.lines) and self._has_row_inside(item):
+            faults = [fault("item", name, "no rows")]
+        if faults:
+            raise Left("items", lines[0], *faults)
+        return self.masters.item(name, lines[0], read, leads, group)
+
+    def _has_row_inside(self, item: int) -> bool:
+        """Returns whether an item has a row of demand that is not outside the record."""
+        codes = self.demand.rows.columns["date"].codes[self.named(item)].tolist()
+        wrong = self.demand.wrong["date"]
+        return any(
+            code not in wrong or wrong[code].code not in OUTSIDE for code in codes
+        )
+
+    def _check_far(self, moves: Moves) -> None:
+        """Raises Left if some amounts are far above all others, as if counted a thousand times too large."""
+        if self.words.far != LEAVE_OUT:
+            return
+        called = self.demand.rows.sheet.called
+        for role, amounts in (("quantity", moves.asked), ("returned", moves.back)):
+            far = far_above(amounts)
+            if far:
+                ranked = np.argsort(-amounts, kind="stable")
+                lines = moves.lines[ranked[:far]].tolist()
+                largest, least, below = amounts[ranked[[0, far - 1, far]]].tolist()
+                named = named_lines([*map(called, lines)])
+                times = least // below
+                wrong = fault(
+                    role, largest, "far", lines=named, times=times, next=below
+                )
+                raise Left("demand", lines[0], wrong)

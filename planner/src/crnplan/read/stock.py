@@ -1,0 +1,194 @@
+"""Reads today's tables: the stock of items, what is owed to customers, and what is on order."""
+from __future__ import annotations
+
+from collections.abc import Callable, Iterable, Iterator, Mapping, Sequence
+from dataclasses import dataclass, field
+from fractions import Fraction
+from functools import partial
+from typing import Any
+
+import numpy as np
+
+from ..remarks import Remark
+from .amounts import AMOUNTS
+from .cells import Cell, CellFault, RowReader, fault
+from .choosing import said_of_marks, split_items
+from .columns import factors_of
+from .controls import Controls, controls_of, counts_of, no_rows, together
+from .items import FileCounts, Reject, Words
+from .observed import Day
+from .opening import Table
+from .several import open_tables
+from .sources import Sheet
+from .tables import OPEN, PLACES, USED, WITH_ITEM, TableReader
+
+STOCK, ON_ORDER = "stock", "on_order"  # the kinds of the tables
+NONE = Fraction(0)
+
+
+@dataclass(frozen=True)
+class OnHand:
+    """What an item has today, in items: its stock, and what is owed to customers. None of both is below 0."""
+
+    stock: Fraction
+    owed: Fraction = NONE
+
+    @classmethod
+    def of(cls, stock: Fraction, owed: Fraction = NONE) -> OnHand:
+        """Returns what a stock says, of which what is below 0 is owed, with more that is."""
+        return cls(max(stock, NONE), owed + max(-stock, NONE))
+
+    def __add__(self, other: OnHand) -> OnHand:
+        return OnHand(self.stock + other.stock, self.owed + other.owed)
+
+
+@dataclass(frozen=True)
+class Arrival:
+    """Items on order, and the day on which they are due; None if no table says that."""
+
+    items: Fraction
+    due: Day | None = None
+
+
+@dataclass(frozen=True)
+class Holdings:
+    """What tables say of today, by item. `on_hand` is None without a table of stock. `unread` are items with a row that
+    can't be read: what they have is not known. `counts` say what became of the rows of each table, `controls` what they
+    come to, and `remarks` what is to be said of them."""
+
+    on_hand: Mapping[str, OnHand] | None
+    arrivals: Mapping[str, Sequence[Arrival]]
+    unread: frozenset[str]
+    counts: Mapping[str, FileCounts]
+    rejects: tuple[Reject, ...]
+    remarks: tuple[Remark, ...] = ()
+    controls: Controls = field(default_factory=dict)
+
+
+class _Reader:
+    """Reads the rows of a table for the items of a plan, whose prices are known, and names those that it leaves out."""
+
+    def __init__(
+        self, kind: str, sheet: Sheet, prices: Mapping[str, Fraction | None], every: str
+    ) -> None:
+        self.prices = prices
+        self.unread = set[str]()
+        self.rejects = list[Reject]()
+        self.table = TableReader.of(kind, sheet, AMOUNTS[kind], self.rejects.append)
+        self.rows = self.table.rows
+        self.names = self.rows.names
+        readers = dict[str, Callable[[Cell], Any]]()
+        for role, number in AMOUNTS[kind].items():
+            readers[role] = partial(self.table.amounts[role].number, kind=number)
+        needed = {*readers}
+        if "due" in self.rows.columns:
+            readers["due"] = self.table.dates.day
+            for remark in self.table.dates.notes.values():
+                self.table.name("suspicious", 0, "", [("due", "", remark)])
+        self.reader = RowReader(readers, needed, factors_of(sheet.columns, every))
+
+    def _read(self, row: int) -> tuple[dict[str, Any], list[CellFault]]:
+        """Returns the values of a row by role, and what is wrong with its cells."""
+        cells = {role: self.rows.cell(role, row) for role in self.reader.readers}
+        values, faults = self.reader.read(cells)
+        stock = values.get("stock") or NONE
+        owed = values.get("owed") or NONE
+        if stock < 0 < owed:
+            facts = {
+                "stock": f"{float(stock):g}",
+                "least": f"{float(max(-stock, owed)):g}",
+                "most": f"{float(owed - stock):g}",
+            }
+            faults.append(fault("owed", cells["owed"], "owed twice", **facts))
+        return values, faults
+
+    @property
+    def controls(self) -> Controls:
+        """Returns what the rows come to, by file and by what became of them."""
+        controls = controls_of(
+            self.table, lambda item: self.prices.get(self.names[item]), {}
+        )
+        return together([no_rows(self.table.kind, self.rows.sheet), controls])
+
+    def remarks(self) -> Iterator[Remark]:
+        """Yields what is to be said of the rows: over which places items are summed, and states of rows."""
+        yield from said_of_marks(self.table.kind, self.rows, split_items(self.rows))
+
+    def items(self) -> Iterator[tuple[str, list[dict[str, Any]]]]:
+        """Yields the items of the plan with the values of their rows, but for those with a row that can't be read."""
+        good = self.rows.good
+        lines = self.rows.lines.tolist()
+        twins = self.rows.twins(good)
+        rows_of = self.rows.by_item(good)
+        became = np.full(len(self.names), PLACES[OPEN], np.int8)
+        for item in np.unique(self.rows.items[good]).tolist():
+            rows = rows_of(item).tolist()
+            name = self.names[item]
+            read = [self._read(row) for row in rows]
+            for row, (_, faults) in zip(rows, read):
+                if faults:
+                    self.unread.add(name)
+                    self.table.reject(row, faults)
+                if row in twins:
+                    first = self.rows.sheet.called(lines[twins[row]])
+                    twin = fault("item", name, "equal rows", first=first)
+                    self.table.name("suspicious", lines[row], name, [twin])
+            is_used = name in self.prices and name not in self.unread
+            became[item] = PLACES[USED if is_used else WITH_ITEM]
+            if is_used:
+                yield name, [values for values, _ in read]
+            elif name not in self.unread:
+                unknown = fault("item", name, "not in the plan")
+                self.table.name("item", lines[rows[0]], name, [unknown])
+        self.table.close(became)
+
+
+def read_holdings(
+    tables: Mapping[str, Table | None],
+    words: Words,
+    prices: Mapping[str, Fraction | None],
+) -> Holdings:
+    """Reads the tables of today, by kind, for the items of a plan, whose prices are known. Rows of one item add up. Raises
+    Refused and RefusedFaults for tables that can't be read. Rows with faults are in `rejects`.
+    """
+    with open_tables(tables, words) as sheets:
+        readers = {
+            kind: _Reader(kind, sheet, prices, words.every)
+            for kind, sheet in sheets.items()
+        }
+    on_hand = dict[str, OnHand]()
+    arrivals = dict[str, Sequence[Arrival]]()
+    for kind, reader in readers.items():
+        for name, rows in reader.items():
+            if kind == STOCK:
+                hands = [OnHand.of(row["stock"], row["owed"]) for row in rows]
+                on_hand[name] = sum(hands, OnHand(NONE))
+            else:
+                arrivals[name] = [
+                    Arrival(row["quantity"], row.get("due")) for row in rows
+                ]
+    return Holdings(
+        on_hand if STOCK in readers else None,
+        arrivals,
+        frozenset().union(*(reader.unread for reader in readers.values())),
+        *_said_by(readers.values()),
+    )
+
+
+def _said_by(
+    readers: Iterable[_Reader],
+) -> tuple[dict[str, FileCounts], tuple[Reject, ...], tuple[Remark, ...], Controls]:
+    """Returns what became of the rows of all tables, what is left out and said of them, and what they come to."""
+    rejects = list[Reject]()
+    remarks = list[Remark]()
+    counts = dict[str, FileCounts]()
+    controls: Controls = {}
+    for reader in readers:
+        rows, kind = reader.rows, reader.table.kind
+        rejects += reader.rejects
+        remarks += reader.remarks()
+        controls |= reader.controls
+        size, blank = len(rows), len(rows.blank)
+        counts[kind] = counts_of(kind, rows.sheet, size, blank, controls)
+    rejects.sort(key=lambda reject: (reject.file, reject.line))
+    return counts, tuple(rejects), tuple(remarks), controls

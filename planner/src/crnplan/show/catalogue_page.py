@@ -1,0 +1,419 @@
+"""Draws the plan of a catalogue as one HTML page (what it saves, the exchange curve, what is left out, all items), and
+writes all that a plan exports. None of it is read again, but by people."""
+from __future__ import annotations
+
+import itertools
+import math
+from collections import Counter
+from collections.abc import Iterable, Iterator, Mapping, Sequence
+from pathlib import Path
+from typing import NamedTuple
+from urllib.parse import quote
+
+from ..crnsim.program import find_program
+from ..curve.parts import Point
+from ..curve.exchange_curve import SAID, kept_curve
+from ..store.digests import sha256
+from ..store.files import Folder, own_folder
+from ..store.clusters import Scheduler
+from ..store.jobs import batched
+from ..store.means import Means
+from ..plan.answer import CHOSEN, TODAY, Answer
+from ..plan.backtest.catalogue import past_of
+from ..plan.catalogue import PlannedFolder, planned_folder
+from ..plan.item import Depth
+from ..plan.survey import Decided, Survey, saving_of
+from ..plan.swings import keep_swings
+from ..plan.totals import Totals
+from ..read.catalogue_reading import CATALOGUE, missing_of
+from ..read.item import Item
+from ..remarks import Remark
+from ..table import DataTable
+from .backtest_tables import past_line
+from .board import board_of
+from .catalogue_tables import (
+    DECISION_COLUMNS,
+    DECISIONS,
+    EXACT,
+    REJECTS,
+    Decision,
+    aims_of,
+    catalogue_summary,
+    decisions_of,
+    exact_of,
+    reasons_of,
+    rejects_of,
+)
+from .change_tables import CHANGES, change_lines, changes_of, moved_rows
+from ..columns import declared
+from .control_tables import controls_of
+from .curves import MARKERS, CurvePicture
+from .item_page import ItemWords, item_page
+from .lateness import LATENESS, lateness_of
+from .page import OF_CHOSEN, Line, Money, Plot, Scale, path_of, percent, rendered
+from .today_tables import OrdersToday, orders_by_masters
+from .verdicts import VERDICTS
+
+SUMMARY, PAGE, FOUND = "summary.txt", "report.html", "found.toml"
+CATALOGUE_FILES = (DECISIONS, EXACT, REJECTS, SUMMARY, PAGE, FOUND)
+ITEMS = "items"  # the folder of their pages
+MOST_ROWS = 5_000  # items in the table
+ROWS_AT_ONCE = 100  # of the tables that are written side by side
+ROWS_A_GROUP = 45  # which are laid out together; the first group is printed
+MOST_SAVINGS = 15
+MOST_REASONS = 12  # of each kind
+FIRST_REASONS = 3  # on the first screen
+# A name whose file would have more letters is cut, and its digest stands behind it. File systems allow 255 bytes.
+MOST_LETTERS, KEPT_LETTERS, DIGITS = 120, 80, 32
+MOST_DIGITS = 16  # of a number in the table of items
+PADDING, LETTER = 2, 1.25  # of a cell, and the width of a letter, in digits
+
+
+class Shown(NamedTuple):
+    """An item in the table, planned or without demand, with its cells as decisions.csv has them."""
+
+    item: Item
+    answer: Answer | Remark
+    cells: Mapping[str, str]
+
+    @property
+    def remarks(self) -> tuple[Remark, ...]:
+        return Decision.of(self.item, self.answer).remarks
+
+
+class ItemColumn(NamedTuple):
+    """A column of the table of items. Of a text a line has at most so many `letters`. An optional one is left out if no
+    item has a figure in it."""
+
+    name: str
+    heading: str = ""
+    letters: int = 0
+    is_printed: bool = False
+    is_optional: bool = False
+    width: int = 0
+
+    def is_filled(self, rows: Sequence[Shown]) -> bool:
+        return any(row.cells[self.name] for row in rows)
+
+    def among(self, rows: Sequence[Shown]) -> ItemColumn:
+        """Returns the column with its width in digits, with its padding: it has room for its texts up to a limit, and for
+        each word of its heading with the sign of its order."""
+        heading = self.heading or self.name.replace("_", " ")
+        longest = max((len(row.cells[self.name]) for row in rows), default=0)
+        widths = [min(longest, MOST_DIGITS)]
+        if self.letters:
+            widths = [math.ceil(min(longest, self.letters) * LETTER)]
+        widths += (len(word) + 2 for word in heading.split())
+        return self._replace(heading=heading, width=PADDING + max(widths))
+
+
+ITEM_COLUMNS = [
+    ItemColumn(name, **traits)
+    for name, traits in declared("show/words.toml")["items"].items()
+]
+
+
+class Bar(NamedTuple):
+    """What an item saves, with the interval of its run."""
+
+    shown: Shown
+    saving: float
+    low: float
+    high: float
+
+
+class NamedPoint(NamedTuple):
+    """A named point of the exchange curve: its style and form, and where it stands, in percent of the picture."""
+
+    name: str
+    figures: Point
+    css: str
+    form: str
+    x: float
+    y: float
+
+
+def catalogue_page(
+    folder: PlannedFolder, survey: Survey, orders: OrdersToday | None = None
+) -> str:
+    """Returns the page of a planned catalogue, with a link to the page of each item that has one, and perhaps with the
+    orders of a day."""
+    totals, currency, curve = survey.totals, folder.currency, kept_curve(folder.store)
+    money = Money(currency.code, currency.decimals)
+    rows = shown_items(survey.greatest, currency.digits)
+    shown_curve = curve or known_points(totals)
+    plot, points = exchange_plot(shown_curve, money) if shown_curve else (None, [])
+    return rendered(
+        "catalogue.html",
+        {
+            "folder": folder,
+            "totals": totals,
+            "money": money.exact,
+            "orders": orders,
+            "board": board_of(folder, survey, money),
+            "controls": controls_of(
+                folder.read.controls(), folder.currency.decimals, currency.code
+            ),
+            "aims": aims_of(folder, totals),
+            "lost": missing_of(folder.counts, totals.answered),
+            "past": past_line(past_of(folder)),
+            "changes": change_lines(folder),
+            "moved": moved_rows(folder),
+            "reasons": reasons_of(folder.read.rejects(survey.faults)),
+            "first_reasons": FIRST_REASONS,
+            "asked": math.fsum(survey.asked),
+            "most_reasons": MOST_REASONS,
+            "plot": plot,
+            "points": points,
+            "curve": curve,
+            "verdicts": VERDICTS,
+            **bars_facts(rows),
+            **table_facts(folder.path, rows),
+        },
+    )
+
+
+def bars_facts(rows: Sequence[Shown]) -> dict[str, object]:
+    """Returns what the picture of the greatest savings has."""
+    bars = bars_of(rows)
+    ends = [0.0]
+    for bar in bars:
+        ends += bar.saving, bar.low, bar.high
+    together = math.fsum(bar.saving for bar in bars)
+    return {"bars": bars, "bar_scale": Scale.of(ends), "together": together}
+
+
+def table_facts(folder: Path, rows: Sequence[Shown]) -> dict[str, object]:
+    """Returns what the table of items has, and the codes by which it filters."""
+    codes = Counter[str]()
+    for row in rows:
+        codes.update({remark.code for remark in row.remarks})
+    columns = []
+    for column in ITEM_COLUMNS:
+        if not column.is_optional or column.is_filled(rows):
+            columns.append(column.among(rows))
+    return {
+        "rows": rows,
+        "rows_a_group": ROWS_A_GROUP,
+        "columns": columns,
+        "pages": pages_of(folder, rows),
+        "codes": sorted(codes.items()),
+        "warned": sum(row.cells["warnings"] != "" for row in rows),
+    }
+
+
+def rank_of(decided: Decided) -> tuple[bool, float, str]:
+    """Returns what sorts items by falling saving; those without one come last."""
+    item, answer = decided
+    saving = saving_of(answer)
+    return saving is None, -(saving or 0.0), item.name
+
+
+def shown_items(decided: Iterable[Decided], digits: int) -> list[Shown]:
+    """Returns the items of the table by falling saving; those without one come last. Money has so many digits."""
+    kept = sorted(decided, key=rank_of)
+    decisions = [Decision.of(item, answer) for item, answer in kept]
+    cells = DataTable.of(DECISION_COLUMNS, decisions, digits, "").cells(is_shown=True)
+    return [Shown(item, answer, own) for (item, answer), own in zip(kept, cells)]
+
+
+def pages_of(folder: Path, rows: Iterable[Shown]) -> dict[str, str]:
+    """Returns the addresses of the pages of items that are there."""
+    there = {path.name for path in (folder / ITEMS).glob("*.html")}
+    if not there:
+        return {}
+    files = {row.item.name: file_name(row.item.name) for row in rows}
+    return {
+        name: quote(f"{ITEMS}/{file}") for name, file in files.items() if file in there
+    }
+
+
+def bars_of(rows: Iterable[Shown]) -> list[Bar]:
+    """Returns the items with the greatest savings, each with the interval of its run, by falling saving."""
+    bars = []
+    for row in rows:
+        saving = saving_of(row.answer)
+        if isinstance(row.answer, Answer) and saving and saving > 0:
+            low, high = row.answer.run.low, row.answer.run.high
+            ends = (saving, saving) if low is None or high is None else (low, high)
+            bars.append(Bar(row, saving, *ends))
+    return bars[:MOST_SAVINGS]
+
+
+def clipped(
+    points: Sequence[tuple[float, float]], right: float, bottom: float
+) -> list[tuple[float, float]]:
+    """Returns the part of a rising curve up to a value and above a share, with the points where it crosses these. One
+    point is left of a curve that lies elsewhere."""
+    import numpy as np
+
+    values, shares = np.array(sorted(points)).T
+    places = np.unique(np.clip(values, np.interp(bottom, shares, values), right))
+    return [*zip(places.tolist(), np.interp(places, values, shares).tolist())]
+
+
+def known_points(totals: Totals) -> list[tuple[str, Point]]:
+    """Returns the points of the exchange curve that are known before it is drawn, without their orders and costs."""
+    points = []
+    for name in (TODAY, CHOSEN) if totals.compared else (CHOSEN,):
+        figures = totals.stock_and_service(name)
+        if figures:
+            points.append((SAID[name], Point(*figures, math.nan, math.nan)))
+    return points
+
+
+def exchange_plot(
+    curve: Sequence[tuple[str, Point]], money: Money
+) -> tuple[Plot, list[NamedPoint]]:
+    """Returns the exchange curve as a line, if it has one, and its named points."""
+    named = {name: point for name, point in curve if name}
+    shown = CurvePicture(named, money)
+    across, up = Scale.of([shown.right or 1.0]), Scale.between(shown.bottom, 100.0)
+    points, said = [], []
+    for place, (name, point) in enumerate(named.items()):
+        value, share = shown.place(point)
+        x, y = round(across.at(value) / 10, 2), round(100 - up.at(share) / 10, 2)
+        form = MARKERS[place].path
+        points.append(NamedPoint(name, point, f"point-{place}", form, x, y))
+        met = percent(point.fill, 2)
+        said.append(
+            f"{name}: {met} met at once with a stock of {money.exact(point.value)}"
+        )
+    title, lines = "Demand met at once against the value of the stock", []
+    line = [shown.place(point) for name, point in curve if not name]
+    if line:
+        title = "Exchange curve: demand met at once against the value of the stock"
+        ends = clipped(line, across.high, shown.bottom)
+        lines = [Line("", OF_CHOSEN, path_of(across, up, ends))]
+    plot = Plot(
+        title=title,
+        description=f"{'; '.join(said)}.",
+        scale=up,
+        marks=across.marks,
+        across=shown.across,
+        lines=lines,
+    )
+    return plot, points
+
+
+def file_name(name: str) -> str:
+    """Returns the name of the file of an item's page: plain ASCII, and a name of its own for each item.
+
+    Letters, digits, - and _ stand as they are, and so does a dot that does not come first. All else is percent-encoded
+    (RFC 3986, section 2.1). Some file systems ignore the case of letters. So behind a tilde, which encoding never
+    leaves, stands which letters are small: a bit for each, in hexadecimal. Item numbers in capitals have no tilde.
+    """
+    plain = quote(name, safe="").replace("~", "%7E")
+    if plain.startswith("."):
+        plain = "%2E" + plain[1:]
+    if len(plain) > MOST_LETTERS:
+        return f"{plain[:KEPT_LETTERS]}~~{sha256(name)[:DIGITS]}.html"
+    small = sum(1 << place for place, letter in enumerate(plain) if letter.islower())
+    if small:
+        return f"{plain}~{small:x}.html"
+    return f"{plain}.html"
+
+
+def file_of(folder: Path, name: str) -> Path:
+    """Returns the path of an item's page in a planned folder."""
+    return folder / ITEMS / file_name(name)
+
+
+def tabled(
+    folder: Folder, planned: PlannedFolder, answers: Iterable[Decided]
+) -> Iterator[Decided]:
+    """Yields items with their answers, and writes them into the tables of decisions and of exact figures."""
+    nothing: list[Decided] = []
+    with folder.writing(DECISIONS) as decisions, folder.writing(EXACT) as exact:
+        decisions.writelines(decisions_of(planned, nothing).lines)
+        exact.writelines(exact_of(nothing).lines)
+        for pairs in batched(answers, ROWS_AT_ONCE):
+            decisions.writelines(
+                itertools.islice(decisions_of(planned, pairs).lines, 1, None)
+            )
+            exact.writelines(itertools.islice(exact_of(pairs).lines, 1, None))
+            yield from pairs
+
+
+def write_tables(
+    folder: Folder, planned: PlannedFolder, answers: Iterable[Decided]
+) -> Survey:
+    """Writes the tables of all items of a catalogue as they are planned, and returns what they come to."""
+    return Survey.of(planned, MOST_ROWS, tabled(folder, planned, answers))
+
+
+def write_catalogue(
+    folder: Folder,
+    planned: PlannedFolder,
+    survey: Survey,
+    learned: Sequence[Remark],
+    missing: Sequence[str],
+) -> str:
+    """Writes what a planned catalogue has beside its tables, the summary and the page, and returns the summary."""
+    folder.write(REJECTS, rejects_of(planned.read.rejects(survey.faults)).lines)
+    folder.remove(CHANGES, LATENESS)
+    if planned.planned.earlier:
+        folder.write(CHANGES, changes_of(planned).lines)
+    lateness = lateness_of(planned.read)
+    if lateness.rows:
+        folder.write(LATENESS, lateness.lines)
+    summary = catalogue_summary(
+        planned, survey.totals, learned, change_lines(planned), missing
+    )
+    folder.write(SUMMARY, summary)
+    folder.write(PAGE, catalogue_page(planned, survey))
+    return summary
+
+
+def write_item(
+    own: Folder, planned: PlannedFolder, name: str, program: str | Path | None
+) -> None:
+    """Writes the page of an item of a planned folder."""
+    item, answer = planned.item(name)
+    own.claim(f"{ITEMS}/", in_place=True)
+    (own.path / ITEMS).mkdir(exist_ok=True)
+    depth = Depth(planned.question(item), answer, str(find_program(program)))
+    own.write(
+        f"{ITEMS}/{file_name(name)}",
+        item_page(ItemWords(depth, planned.every, planned.currency)),
+    )
+
+
+def report(
+    folder: str | Path,
+    items: Iterable[str] = (),
+    *,
+    orders: OrdersToday | None = None,
+    jobs: int | None = None,
+    cluster: Scheduler | None = None,
+    program: str | Path | None = None,
+    progress: bool = False,
+) -> Path:
+    """Writes the page of a planned folder, report.html, and returns its path.
+
+    `folder` is that of `plan`, or of `crnplan catalogue`, in which the run has ended. The page has what the plan saves
+    a year, with service and stock before and after, what would change that, the exchange curve if `exchange_curve` has
+    drawn it, the greatest savings, what was left out and why, and a table of all items, which sorts and filters; above
+    5,000 items, of those with the greatest saving or loss. It has the `orders` that `Plan.orders_today` gives, or without
+    them those of today by the stock of the masters, if these have one: that it is not known what is on order is said. It
+    is one file that asks for no other; the same plan and orders give the same bytes.
+
+    What would change the answer is computed for at most 120 items by `jobs` processes or a Dask `cluster`, and kept in
+    the folder.
+
+    `items` get pages of their own first, below `items` in the folder, to which the table links. These need the program
+    crnsim, found as `program` says. Raises Refused for a folder without a finished plan of the rows that were read
+    last, for an item that is not planned, and for a folder that cannot be written; and ProgramError.
+    """
+    path = Path(folder)
+    orders = orders or orders_by_masters(path)
+    with planned_folder(path) as planned, own_folder(path, CATALOGUE) as own:
+        planned.check()
+        if orders:
+            orders.check(planned)
+        for name in items:
+            write_item(own, planned, name, program)
+        survey = Survey.of(planned, MOST_ROWS)
+        keep_swings(own, planned, survey, Means(jobs, cluster, shown=progress))
+        own.write(PAGE, catalogue_page(planned, survey, orders))
+    return path / PAGE

@@ -1,0 +1,409 @@
+"""The tables of a planned catalogue (decisions, exact figures, what was left out), and its summary as a text."""
+from __future__ import annotations
+
+from collections.abc import Iterable, Iterator, Mapping, Sequence
+from dataclasses import dataclass, field
+from fractions import Fraction
+from functools import cached_property
+from typing import TYPE_CHECKING, Any, NamedTuple
+
+from ..plan.aims import CLASSES, Tried
+from ..plan.answer import RUN, THEORY, Answer, Figures
+from ..read.catalogue_reading import defaulted
+from ..read.classes import xyz_of
+from ..read.item import NO_DEMAND, UNORDERED, Item
+from ..read.items import OUTSIDE, Reject
+from ..read.lateness import receipt_remarks
+from ..remarks import Remark
+from ..table import DataTable
+from ..words import advice, counted, pattern, sentence
+from ..columns import columns_of
+from .control_tables import controls_of
+from .page import rendered
+
+if TYPE_CHECKING:
+    from ..plan.catalogue import PlannedFolder
+    from ..plan.survey import Decided
+    from ..plan.totals import Totals
+    from ..read.items import FileCounts
+
+DECISIONS, EXACT, REJECTS = "decisions.csv", "exact.csv", "rejects.csv"
+UNREAD_ROWS, READ_ROWS = (
+    "unread",
+    "read",
+)  # Rows that are left out: for a cell that can't be read, or for what it says.
+AS_READ = frozenset(
+    (*OUTSIDE, "total", "twin", "twins", "before order", "lead range")
+)  # codes of the latter
+PLANNED_BY = {THEORY: "theory", RUN: "crnsim"}
+MOST_WANTED = 3  # fill rates, of which the aims are shown
+
+
+def codes_of(remarks: Iterable[Remark]) -> str:
+    return "; ".join(remark.code for remark in remarks)
+
+
+def words_of(remarks: Iterable[Remark]) -> str:
+    return "; ".join(map(sentence, remarks))
+
+
+@dataclass(frozen=True)
+class Decision:
+    """An item with its answer, None if nothing is ordered of it, and all that must be said of it."""
+
+    item: Item
+    answer: Answer | None
+    remarks: tuple[Remark, ...]
+
+    @classmethod
+    def of(cls, item: Item, answer: Answer | Remark) -> Decision:
+        """Takes why nothing is ordered in place of an answer."""
+        if isinstance(answer, Answer):
+            return cls(item, answer, (*item.remarks, *answer.remarks))
+        return cls(item, None, (*item.remarks, answer))
+
+    @property
+    def verdict(self) -> str:
+        if self.answer:
+            return self.answer.verdict
+        return self.item.past
+
+    @property
+    def planned_by(self) -> str | None:
+        """Returns whose figures costs and savings are."""
+        if self.answer:
+            return PLANNED_BY[self.answer.source]
+        return None
+
+    @property
+    def mean(self) -> float | None:
+        """Returns the mean of the law of demand; 0 for an item without any."""
+        if self.answer:
+            return self.answer.law.mean
+        if self.item.past == NO_DEMAND:
+            return 0.0
+        return None
+
+    @property
+    def periods(self) -> int:
+        return len(self.item.counts)
+
+    @property
+    def abc(self) -> str | None:
+        if self.answer:
+            return self.item.abc
+        return None
+
+    @property
+    def xyz(self) -> str | None:
+        if self.answer:
+            return xyz_of(self.item.counts)
+        return None
+
+    @property
+    def codes(self) -> str:
+        return codes_of(self.remarks)
+
+    @property
+    def warnings(self) -> str:
+        return words_of(self.remarks)
+
+    @cached_property
+    def today(self) -> Mapping[str, Any]:
+        """Returns s and S, the mean stock and its value of today's policy; without an answer those of the masters."""
+        if self.answer:
+            return self._facts(self.answer.today)
+        point, level = self.item.levels or (None, None)
+        return {
+            "s": point,
+            "S": level,
+            "stock": self.item.stock,
+            "value": self.item.value,
+        }
+
+    @cached_property
+    def chosen(self) -> Mapping[str, Any]:
+        """Returns the same of the chosen policy; if nothing is ordered, s and S are 0."""
+        if self.answer:
+            return self._facts(self.answer.chosen)
+        return {"s": 0, "S": 0}
+
+    def _facts(self, figures: Figures | None) -> Mapping[str, Any]:
+        if figures is None:
+            return {}
+        price = self.item.price
+        value = None if price is None else float(price) * figures.stock
+        return {
+            "s": figures.point,
+            "S": figures.level,
+            "stock": figures.stock,
+            "value": value,
+        }
+
+
+class ExactRow(NamedTuple):
+    """The run of an item that is planned: levels in boxes, and money of a period as fractions."""
+
+    item: Item
+    answer: Answer
+
+    @property
+    def today(self) -> Mapping[str, int]:
+        return self._boxes(self.item.levels)
+
+    @property
+    def chosen(self) -> Mapping[str, int]:
+        return self._boxes(self.answer.chosen.levels)
+
+    def _boxes(self, levels: tuple[int, int] | None) -> Mapping[str, int]:
+        """Returns s and S in boxes, as they were run."""
+        if levels is None:
+            return {}
+        point, level = levels
+        return {"s": round(point / self.item.box), "S": round(level / self.item.box)}
+
+    @property
+    def cost_today(self) -> Fraction | None:
+        return self._cost(self.answer.run.total_today)
+
+    @property
+    def cost_chosen(self) -> Fraction | None:
+        return self._cost(self.answer.run.total_chosen)
+
+    def _cost(self, total: int | None) -> Fraction | None:
+        """Returns what a period costs by the cost of all replications, in the program's units."""
+        if total is None:
+            return None
+        return total / (self.answer.run.replications * self._units)
+
+    @property
+    def saving(self) -> Fraction | None:
+        difference = self.answer.run.difference
+        if difference is None:
+            return None
+        return -difference / self._units
+
+    @property
+    def variance(self) -> Fraction | None:
+        variance = self.answer.run.variance
+        if variance is None:
+            return None
+        return variance / self._units**2
+
+    @property
+    def _units(self) -> Fraction:
+        """Returns the program's units of a replication that are one of money a period."""
+        return self.answer.run.periods * self.answer.run.scale
+
+
+class Aimed(NamedTuple):
+    """Where a class of items, whose past was `tried`, aims for a wanted fill rate."""
+
+    wanted: float
+    name: str
+    tried: Tried
+
+    @property
+    def aimed(self) -> float:
+        return self.tried.aim(self.wanted)
+
+    @property
+    def met(self) -> float:
+        """Returns the share of demand that this met on the past."""
+        return self.tried.met(self.aimed)
+
+
+def line_of(reject: Reject) -> int | None:
+    return reject.line or None
+
+
+def reason_of(reject: Reject) -> str:
+    return sentence(reject.remark)
+
+
+def advice_of(reject: Reject) -> str:
+    return advice(reject.remark)
+
+
+DECISION_COLUMNS = columns_of("show", "decisions")
+EXACT_COLUMNS = columns_of("show", "exact")
+AIM_COLUMNS = columns_of("show", "aims")
+REJECT_COLUMNS = columns_of(
+    "show", "rejects", {"line": line_of, "reason": reason_of, "advice": advice_of}
+)
+
+
+def decisions_of(folder: PlannedFolder, answers: Iterable[Decided]) -> DataTable:
+    """Returns the decisions of a folder: of its items with their answers a row for each that is planned, or of which no
+    order is."""
+    return folder.table(
+        DECISION_COLUMNS,
+        (
+            Decision.of(item, answer)
+            for item, answer in answers
+            if isinstance(answer, Answer) or item.past in UNORDERED
+        ),
+    )
+
+
+def exact_of(answers: Iterable[Decided]) -> DataTable:
+    """Returns the exact figures of the runs of the items that are planned."""
+    planned = (
+        ExactRow(item, answer) for item, answer in answers if isinstance(answer, Answer)
+    )
+    return DataTable.of(EXACT_COLUMNS, planned, missing="")
+
+
+def was_read(remark: Remark) -> bool:
+    """Returns whether the cells of a row that is left out were read, and it is left out for what they say."""
+    if remark.code != "several":
+        return remark.code in AS_READ
+    return all(
+        code in AS_READ for place, code in remark.facts.items() if place.isdigit()
+    )
+
+
+@dataclass
+class Reason:
+    """Why rows or items were left out or named: how often, the items and the rows of demand, and the first of them. Of
+    `valued` items it is known what their stock is worth, together `value`."""
+
+    kind: str
+    column: str
+    first: Reject
+    count: int = 0
+    rows: int = 0
+    valued: int = 0
+    value: Fraction = Fraction(0)
+    items: set[str] = field(default_factory=set)
+
+    def add(self, reject: Reject) -> None:
+        """Counts one more that is left out or named."""
+        self.count += 1
+        self.rows += reject.rows
+        self.valued += reject.value is not None
+        self.value += reject.value or 0
+        self.items.add(reject.item)
+
+    @property
+    def group(self) -> str:
+        """Returns its kind; of rows that are left out `unread` or `read`."""
+        if self.kind != "row":
+            return self.kind
+        if was_read(self.first.remark):
+            return READ_ROWS
+        return UNREAD_ROWS
+
+    @property
+    def lines(self) -> int:
+        """Returns how many rows there are: of an item all that it has."""
+        if self.kind == "item":
+            return self.rows
+        return max(self.rows, self.count)
+
+    @property
+    def pattern(self) -> str:
+        return pattern(self.first.remark)
+
+    @property
+    def example(self) -> str:
+        """Returns the first of them: file and line, item, what is wrong, and what to do."""
+        first = self.first
+        place = ":".join(filter(None, (first.file, str(first.line or ""))))
+        named = f", item {first.item}" if first.item else ""
+        advised = f"; {advice_of(first)}" if advice_of(first) else ""
+        return f"{place}{named}: {reason_of(first)}{advised}"
+
+    @property
+    def rank(self) -> tuple[object, ...]:
+        """Returns what sorts reasons: the most frequent of a kind first."""
+        return self.kind, -self.count, self.column, self.first.remark.code
+
+
+def reasons_of(rejects: Iterable[Reject]) -> list[Reason]:
+    """Returns the reasons by kind, column and code, the most frequent of each kind first."""
+    reasons: dict[tuple[object, ...], Reason] = {}
+    for reject in rejects:
+        key = (
+            reject.kind,
+            reject.column,
+            reject.remark.code,
+            reject.remark.facts.get("what"),
+        )
+        reasons.setdefault(key, Reason(reject.kind, reject.column, reject)).add(reject)
+    return sorted(reasons.values(), key=lambda reason: reason.rank)
+
+
+def rejects_of(rejects: Iterable[Reject]) -> DataTable:
+    """Returns what was left out or named, with the reason and what to do."""
+    return DataTable.of(REJECT_COLUMNS, rejects, missing="")
+
+
+def counted_rows(files: Mapping[str, FileCounts]) -> Iterator[str]:
+    """Yields a line for each file on what became of its rows."""
+    for counts in files.values():
+        other = f" + {counts['other']:,} other rows" if counts["other"] else ""
+        blank = f"; {counts['blank']:,} blank rows" if counts["blank"] else ""
+        yield (
+            f"{counts['name']}: {counts['read']:,} rows = {counts['used']:,} used + {counts['rejected']:,} rejected "
+            f"+ {counts['with_item']:,} left out with their item{other}{blank}"
+        )
+
+
+def hardly_read(files: Mapping[str, FileCounts]) -> Iterator[str]:
+    """Yields a line for each file of which more than half of the rows were rejected, or no row is used."""
+    for counts in files.values():
+        read, rejected = counts["read"], counts["rejected"]
+        if 2 * rejected > read:
+            yield f"{counts['name']}: {rejected:,} of {read:,} rows were rejected, more than half"
+        elif read and not counts["used"]:
+            yield f"{counts['name']}: none of {counted(read, 'row')} is used"
+
+
+def aims_of(folder: PlannedFolder, totals: Totals) -> DataTable | None:
+    """Returns where each class of items aims, for the wanted fill rates that most items have; None if these are not
+    corrected."""
+    aims = folder.settings.aims
+    if aims is None:
+        return None
+    aimed = []
+    for wanted in sorted(fill for fill, _ in totals.corrected.most_common(MOST_WANTED)):
+        aimed += [
+            Aimed(wanted, name, tried) for name, tried in zip(CLASSES, aims.classes)
+        ]
+    return DataTable.of(AIM_COLUMNS, aimed)
+
+
+def catalogue_summary(
+    folder: PlannedFolder,
+    totals: Totals,
+    learned: Sequence[Remark],
+    changes: Iterable[str] = (),
+    missing: Iterable[str] = (),
+) -> str:
+    """Returns as a text what became of all rows and items, what was learned, the totals, lines on what has changed
+    since an earlier plan, and what is lost."""
+    read, settings = folder.read, folder.settings
+    return rendered(
+        "summary.txt",
+        {
+            "settings": settings,
+            "every": folder.every,
+            "items": folder.counts["items"],
+            "totals": totals,
+            "files": counted_rows(folder.counts["files"]),
+            "rejects": REJECTS,
+            "learned": learned,
+            "changes": changes,
+            "ends": totals.run_ends(settings.level),
+            "missing": missing,
+            "aims": aims_of(folder, totals),
+            "money": folder.currency.text,
+            "remarks": read.remarks(),
+            "controls": controls_of(
+                read.controls(), folder.currency.decimals, folder.currency.code
+            ),
+            "sources": [*defaulted(read.fact("sources")), *receipt_remarks(read)],
+            "cuts": read.fact("abc"),
+        },
+    )

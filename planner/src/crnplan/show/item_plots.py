@@ -1,0 +1,167 @@
+"""Describes the pictures of an item's page: its history, its laws, and the stock of its policies in a run."""
+from __future__ import annotations
+
+import itertools
+from collections import Counter
+from collections.abc import Iterable, Sequence
+from typing import NamedTuple
+
+from ..demand.fitted import QUANTILES
+from ..plan.item import Depth
+from .page import (
+    OF_CHOSEN,
+    OF_TODAY,
+    UNITS,
+    Line,
+    Plot,
+    Scale,
+    bars,
+    marks_of,
+    number,
+    tick,
+)
+
+ALONE = "the law of this item alone"
+MOST_BARS = 520
+# The classes of lines of the law of a period's demand (its mean, and what 99 of 100 periods do not exceed), and of the
+# law of the item alone.
+MEAN, HIGH, OF_ALONE = "of-mean", "of-high", "of-alone"
+Counts = Sequence[tuple[int, int]]  # values with their weights
+
+
+def history_said(counts: Sequence[int], names: Sequence[str], every: str) -> str:
+    """Returns what a picture of a history shows, in figures."""
+    if not counts:
+        return f"no {every} of the record"
+    most = max(counts)
+    return (
+        f"{len(counts):,} {every}s from {names[0]} to {names[-1]}, {sum(counts):,} items; "
+        f"{counts.count(0):,} {every}s without demand; the greatest demand is {most:,}, in "
+        f"{names[counts.index(most)]}"
+    )
+
+
+def history_plot(depth: Depth, names: Sequence[str], every: str) -> Plot:
+    """Returns the demand by period as bars, of the last periods if they are many. Lines are the mean of the law, which
+    counts in boxes, and what 99 of 100 periods do not exceed by it."""
+    item, figures = depth.question.item, depth.question.demand.figures
+    counts, box = item.counts, item.box
+    mean, high = box * figures.mean, box * figures.quantiles[QUANTILES[1]]
+    mean_name = f"mean of the law: {number(mean, 2)} a {every}"
+    high_name = f"99 of 100 {every}s by the law: at most {number(high)}"
+    shown, across = counts[-MOST_BARS:], every
+    if len(counts) > MOST_BARS:
+        across = f"{every}; the {len(counts) - MOST_BARS:,} before are not drawn"
+    scale = Scale.of([*shown, mean, high], is_whole=True)
+    return Plot(
+        title=f"Demand by {every}, and the law that it is planned by",
+        description=f"{history_said(counts, names, every)}; {mean_name}; {high_name}.",
+        scale=scale,
+        marks=marks_of(names[-MOST_BARS:]) if names else [],
+        across=across,
+        lines=[
+            Line(mean_name, MEAN, scale.level(mean)),
+            Line(high_name, HIGH, scale.level(high)),
+        ],
+        bars=bars(shown, scale),
+    )
+
+
+class DrawnLaw(NamedTuple):
+    """A law of a period's demand, or what was seen of it: its class, and its values with their weights."""
+
+    name: str
+    css: str
+    counts: Counts
+
+    @property
+    def total(self) -> int:
+        return sum(weight for _, weight in self.counts)
+
+    def line(self, across: Scale, up: Scale) -> Line:
+        """Returns the chances of larger demands as a line with a step behind each value."""
+        path, total = "M0 0", self.total
+        left = total
+        for value, weight in self.counts:
+            left -= weight
+            path += f"H{across.at(value):g}V{up.down(left / total):g}"
+        return Line(self.name, self.css, path)
+
+    def said(self, ticks: Iterable[float]) -> str:
+        """Returns in how many periods demand is at least so large."""
+        shares = []
+        for least in ticks:
+            above = sum(weight for value, weight in self.counts if value >= least)
+            shares.append(f"at least {tick(least)} in {above / self.total:.2%}")
+        return f"{self.name}: {', '.join(shares)}"
+
+
+def laws_drawn(depth: Depth) -> list[DrawnLaw]:
+    """Returns what was seen, the law, and that of the item alone, but for laws that are as what was seen."""
+    item = depth.question.item
+    boxes = Counter(-(-count // item.box) for count in item.counts)
+    seen = sorted(boxes.items())
+    drawn = []
+    if seen:
+        drawn.append(DrawnLaw("what was seen", OF_TODAY, seen))
+    for name, css, law in (
+        ("the law", OF_CHOSEN, depth.question.demand),
+        (ALONE, OF_ALONE, depth.single),
+    ):
+        if law:
+            counts = [*zip(law.values, law.weights)]
+            if counts != seen:
+                drawn.append(DrawnLaw(name, css, counts))
+    return drawn
+
+
+def law_plot(depth: Depth, every: str) -> Plot:
+    """Returns in how many periods demand is at least so large, as it was seen, by the law, and by that of the item
+    alone. Its words say it at the marks of the axis."""
+    laws = laws_drawn(depth)
+    ends, chances = [], []
+    for law in laws:
+        value, weight = law.counts[-1]
+        ends.append(value)
+        chances.append(weight / law.total)
+    scale = Scale.of_chances(min(chances))
+    across = Scale.of(ends, is_whole=True)
+    things = "boxes" if depth.question.item.box > 1 else "items"
+    ticks = [*filter(None, across.ticks)]
+    return Plot(
+        title=f"In how many {every}s demand is so large, as it was seen and by the law",
+        description="; ".join(law.said(ticks) for law in laws) + ".",
+        scale=scale,
+        marks=across.marks,
+        across=f"{things} that a {every} asks for, at least",
+        lines=[law.line(across, scale) for law in laws],
+    )
+
+
+def stock_plot(depth: Depth, every: str) -> Plot:
+    """Returns the stock of policies at the end of each period as lines with a step for each period."""
+    box = depth.question.item.box
+    stocks = {}
+    for name, periods in depth.trajectory.items():
+        stocks[name] = [period.times(box).stock for period in periods]
+    scale = Scale.of([*itertools.chain(*stocks.values())], is_whole=True)
+    lines, said = [], []
+    for name, own in stocks.items():
+        path = f"M0 {scale.down(own[0]):g}"
+        for place, stock in enumerate(own, 1):
+            path += f"V{scale.down(stock):g}H{UNITS * place / len(own):g}"
+        css = OF_CHOSEN if name == depth.chosen else OF_TODAY
+        lines.append(Line(name, css, path))
+        least, most, mean = number(min(own)), number(max(own)), sum(own) / len(own)
+        said.append(
+            f"{name}: from {least} to {most}, {number(mean, 1)} in the mean, items owed at the end of "
+            f"{sum(stock < 0 for stock in own)} {every}s"
+        )
+    return Plot(
+        title=f"Stock at the end of each {every} of one run",
+        description=f"{len(own):,} {every}s; {'; '.join(said)}.",
+        scale=scale,
+        marks=marks_of([*map(str, range(len(own)))]),
+        across=f"{every} of the run, numbered from 0",
+        lines=lines,
+    )

@@ -1,0 +1,485 @@
+"""The tables of what a plan says on a day (orders, what is above S, what lies dead, what is owed, classes, suppliers,
+additions, what is left out), and what they add up to as a text."""
+from __future__ import annotations
+
+import datetime
+import itertools
+import math
+import re
+import tempfile
+from collections.abc import Iterable, Mapping, Sequence
+from dataclasses import dataclass, field, replace
+from fractions import Fraction
+from functools import cached_property
+from pathlib import Path
+from typing import TYPE_CHECKING
+
+from ..errors import Refused
+from ..store.files import Folder
+from ..money import Currency
+from ..plan.catalogue import PlannedFolder, copied_folder, planned_folder
+from ..plan.risk import Risk, risks_of
+from ..plan.standing import Money, Standing
+from ..plan.today import Addition, Group, Lying, Today, sum_of_money, today_of
+from ..read.item import PHASE_OUT, Item
+from ..read.items import Words
+from ..read.observed import Day, stated_day
+from ..read.opening import Table
+from ..read.told import merged, told_of, words_from
+from ..remarks import Remark
+from ..table import DataTable, TextResult, names_of
+from ..words import counted
+from .catalogue_tables import (
+    REJECT_COLUMNS,
+    codes_of,
+    counted_rows,
+    reasons_of,
+    rejects_of,
+    words_of,
+)
+from ..columns import columns_of
+from .control_tables import CONTROL_COLUMNS, controls_of
+from .page import rendered
+
+if TYPE_CHECKING:
+    import pandas as pd
+
+TODAY, SUMMARY = "today", "today.txt"  # the kind of the folder, and its text
+MOST_URGENT, MOST_NAMED = 10, 8
+WITHOUT = "without what is on order"
+URGENT = [
+    "item",
+    "stock",
+    "on_order",
+    "owed",
+    "s",
+    "S",
+    "placed",
+    "value",
+    "weeks",
+    "chance",
+    "latest",
+]  # of the text
+SUPPLIER_FILE = re.compile("today_supplier_[0-9]{3,}[.]csv")
+
+
+@dataclass(frozen=True)
+class Row:
+    """An item on a day with what it stands at."""
+
+    today: Today
+    standing: Standing
+
+    @property
+    def item(self) -> Item:
+        return self.standing.item
+
+    @property
+    def reasons(self) -> Sequence[Remark]:
+        return self.today.reasons(self.standing)
+
+    @property
+    def latest(self) -> Day | None:
+        return self.today.latest(self.standing)
+
+    @property
+    def number(self) -> str:
+        """Returns the number of the order of its supplier."""
+        return self.today.number(self.item.supplier)
+
+    @property
+    def placed(self) -> int:
+        """Returns today's order in whole packs; 0 if there is none."""
+        if self.standing.is_due:
+            return self.standing.placed
+        return 0
+
+    @property
+    def excess_worth(self) -> Money:
+        return self.standing.worth(self.standing.above)
+
+    @property
+    def excess_weeks(self) -> float | None:
+        """Returns the weeks of mean demand in which the excess is used."""
+        return self.standing.weeks_of(self.standing.above)
+
+    @property
+    def owed_worth(self) -> Money:
+        return self.standing.worth(self.standing.hand.owed)
+
+
+@dataclass(frozen=True)
+class UnknownRow:
+    """An item of which nothing is known but why."""
+
+    item: Item
+    remark: Remark
+    standing: None = None
+    latest: None = None
+
+    @property
+    def reasons(self) -> Sequence[Remark]:
+        return [self.remark]
+
+
+@dataclass(frozen=True)
+class GroupRow:
+    """The items of a class or a supplier on a day."""
+
+    today: Today
+    group: Group
+
+    @property
+    def items(self) -> int:
+        return len(self.group.standings)
+
+    @property
+    def orders(self) -> int:
+        return len(self.group.due)
+
+    @property
+    def number(self) -> str:
+        """Returns the number of today's order of a supplier; empty if nothing is ordered."""
+        if self.group.due:
+            return self.today.number(self.group.name)
+        return ""
+
+    @property
+    def file(self) -> str:
+        """Returns the file of today's order; empty if nothing is ordered."""
+        if self.group.due:
+            return supplier_file(self.today.place(self.group.name))
+        return ""
+
+
+Stands = Row | UnknownRow | Addition | Risk
+Reasoned = Row | UnknownRow | Risk | Lying
+
+
+def point_of(row: Stands) -> int | None:
+    if row.standing:
+        return row.standing.levels[0]
+    return None
+
+
+def level_of(row: Stands) -> int | None:
+    if row.standing:
+        return row.standing.levels[1]
+    return None
+
+
+def placed_worth(row: Stands) -> Money:
+    """Returns what an order in whole packs is worth."""
+    if row.standing:
+        return row.standing.worth(row.standing.placed)
+    return None
+
+
+def codes(row: Reasoned) -> str:
+    return codes_of(row.reasons)
+
+
+def said(row: Reasoned) -> str:
+    return words_of(row.reasons)
+
+
+def overdue_orders(risk: Risk) -> int:
+    return len(risk.standing.overdue)
+
+
+def next_receipt(risk: Risk) -> Day | str:
+    return risk.receipt or ""
+
+
+CELLS = {
+    "s": point_of,
+    "S": level_of,
+    "value": placed_worth,
+    "code": codes,
+    "why": said,
+    "overdue_orders": overdue_orders,
+    "next_receipt": next_receipt,
+}
+
+
+ON_A_DAY = (
+    "orders",
+    "above",
+    "dead",
+    "stopped",
+    "owed",
+    "classes",
+    "suppliers",
+    "added",
+    "lines",
+    "at_risk",
+)
+# The tables by name, with their columns.
+TABLES = {name: columns_of("show", f"today_{name}", CELLS) for name in ON_A_DAY}
+TABLES |= {"controls": CONTROL_COLUMNS, "left_out": REJECT_COLUMNS}
+
+
+def file_of(table: str) -> str:
+    """Returns the file of a table."""
+    return f"today_{table}.csv"
+
+
+def supplier_file(place: int) -> str:
+    """Returns the file of the order of a supplier, by its place: no name comes from masters."""
+    return f"today_supplier_{place:03}.csv"
+
+
+def short_of(group: Group) -> tuple[Group, str, Fraction]:
+    """Returns a supplier whose order is below its least value, with what to add, and what is lacking then."""
+    names = []
+    for addition in group.additions():
+        standing = addition.standing
+        names.append(f"{standing.placed:,} {standing.item.name}")
+    return group, names_of(names, MOST_NAMED), group.lacking
+
+
+@dataclass(frozen=True)
+class OrdersToday(TextResult):
+    """What a plan says on a day. `frame` has a row for each order, the most urgent first, and then for each item of
+    which nothing is known; `text` says what it comes to. docs/TABLES.md has all columns.
+    """
+
+    today: Today = field(repr=False)
+    every: str = field(default="", repr=False)
+    currency: Currency = field(default=Currency(), repr=False)
+    plan: str = field(default="", repr=False)  # the digest of the plan
+
+    def _table(self, name: str, things: Iterable[object]) -> DataTable:
+        currency = self.currency
+        return DataTable.of(
+            TABLES[name],
+            [*things],
+            currency.decimals,
+            "",
+            currency=currency.code,
+            every=self.every,
+        )
+
+    def _rows(self, standings: Iterable[Standing]) -> list[Row]:
+        return [Row(self.today, standing) for standing in standings]
+
+    def _groups(self, groups: Iterable[Group]) -> list[GroupRow]:
+        return [GroupRow(self.today, group) for group in groups]
+
+    @cached_property
+    def table(self) -> DataTable:
+        """Returns the orders, and items without one since nothing is known of them."""
+        unknown = [UnknownRow(item, reason) for item, reason in self.today.unknown]
+        return self._table("orders", [*self._rows(self.today.whole.due), *unknown])
+
+    @property
+    def urgent(self) -> DataTable:
+        """Returns the most urgent orders."""
+        most = self.today.whole.due[:MOST_URGENT]
+        return self._table("orders", self._rows(most)).with_columns(URGENT)
+
+    def money(self, amount: Fraction | float) -> str:
+        """Returns an amount of money with all its decimals."""
+        return self.currency.named(f"{float(amount):,.{self.currency.digits}f}")
+
+    @property
+    def headline(self) -> str:
+        """Returns how many orders there are and what they are worth, and that it is not known what is on order."""
+        whole = self.today.whole
+        line = f"{self.today.day}: {counted(len(whole.due), 'order')}, worth {self.money(whole.value)}"
+        unpriced = sum(standing.item.price is None for standing in whole.due)
+        if unpriced:
+            line += f", and {unpriced:,} of them without a price"
+        if not self.today.has_orders:
+            line += f", {WITHOUT}: say --on-order"
+        return line
+
+    def check(self, plan: PlannedFolder) -> None:
+        """Raises Refused if these are not the orders of a plan as it is now."""
+        if self.plan != plan.digest:
+            raise Refused(
+                f"{plan.path}: these orders are not those of this plan",
+                "ask the plan for its orders again",
+            )
+
+    @cached_property
+    def risks(self) -> list[Risk]:
+        """Returns the items that are late or at risk, what to expedite first before others."""
+        return risks_of(self.today.standings)
+
+    def _lines(self, groups: Iterable[Group]) -> DataTable:
+        """Returns the lines of the orders of suppliers, each with its most urgent item first."""
+        return self._table(
+            "lines", self._rows(standing for group in groups for standing in group.due)
+        )
+
+    @cached_property
+    def tables(self) -> dict[str, DataTable]:
+        """Returns all tables by name."""
+        today, currency = self.today, self.currency
+        short = today.short.values()
+        rows: dict[str, Iterable[object]] = {
+            "above": self._rows(today.above),
+            "dead": today.dead,
+            "stopped": today.ended,
+            "owed": self._rows(today.owed),
+            "classes": self._groups(today.classes),
+            "suppliers": self._groups(today.suppliers),
+            "added": itertools.chain.from_iterable(
+                group.additions() for group in short
+            ),
+        }
+        tables = {name: self._table(name, things) for name, things in rows.items()}
+        return {
+            "orders": self.table,
+            **tables,
+            "lines": self._lines(today.suppliers),
+            "at_risk": self._table("at_risk", self.risks),
+            "controls": controls_of(today.controls, currency.decimals, currency.code),
+            "left_out": rejects_of(today.rejects),
+        }
+
+    def write(self, folder: Folder) -> None:
+        """Writes all tables, the order of each supplier, and the text into a folder. The order of a supplier without
+        one is removed."""
+        for name, table in self.tables.items():
+            folder.write(file_of(name), table.lines)
+        orders = {
+            supplier_file(self.today.place(group.name)): group
+            for group in self.today.suppliers
+            if group.due
+        }
+        old = [name for name in folder.names if SUPPLIER_FILE.fullmatch(name)]
+        folder.remove(*(name for name in old if name not in orders))
+        for name, group in orders.items():
+            folder.write(name, self._lines([group]).lines)
+        folder.write(SUMMARY, self.text)
+
+    @property
+    def above(self) -> pd.DataFrame:
+        """Returns the items whose position is above S, those that last longest first."""
+        return self.tables["above"].frame
+
+    @property
+    def dead(self) -> pd.DataFrame:
+        """Returns the items with stock that nobody has asked for during the last year of the record."""
+        return self.tables["dead"].frame
+
+    @property
+    def stopped(self) -> pd.DataFrame:
+        """Returns the items that have stopped, are phased out or not to be ordered, with their stock."""
+        return self.tables["stopped"].frame
+
+    @property
+    def owed(self) -> pd.DataFrame:
+        """Returns the items that are owed to customers."""
+        return self.tables["owed"].frame
+
+    @property
+    def classes(self) -> pd.DataFrame:
+        """Returns what orders, excess, dead stock and items owed come to by class."""
+        return self.tables["classes"].frame
+
+    @property
+    def suppliers(self) -> pd.DataFrame:
+        """Returns the same by supplier, with the least value of an order and what lacks up to it."""
+        return self.tables["suppliers"].frame
+
+    @property
+    def added(self) -> pd.DataFrame:
+        """Returns what to add to orders below their supplier's minimum, the item nearest above s first."""
+        return self.tables["added"].frame
+
+    @property
+    def lines(self) -> pd.DataFrame:
+        """Returns the orders of suppliers line by line, with numbers, days on which they are due, and reasons."""
+        return self.tables["lines"].frame
+
+    @property
+    def at_risk(self) -> pd.DataFrame:
+        """Returns the items with overdue orders, or with less stock than mean demand up to the next receipt: what to
+        expedite first stands first."""
+        return self.tables["at_risk"].frame
+
+    @property
+    def controls(self) -> pd.DataFrame:
+        """Returns rows, sums, value and dates of the tables of today, to tick off against the source."""
+        return self.tables["controls"].frame
+
+    @property
+    def left_out(self) -> pd.DataFrame:
+        """Returns rows of the tables that count for nothing, or are suspicious, with reason and advice."""
+        return self.tables["left_out"].frame
+
+    @cached_property
+    def text(self) -> str:
+        """Returns how many orders there are and what they are worth, the most urgent ones, and all totals."""
+        today, risks = self.today, self.risks
+        expedited = [
+            risk.standing.item.name for risk in risks if risk.standing.on_order
+        ]
+        unserved = [
+            ended
+            for ended in today.ended
+            if ended.hand and ended.hand.owed and ended.item.past != PHASE_OUT
+        ]
+        return rendered(
+            "today.txt",
+            {
+                "orders": self,
+                "today": today,
+                "whole": today.whole,
+                "files": counted_rows(today.counts),
+                "reasons": reasons_of(today.rejects),
+                "short": [*map(short_of, today.short.values())],
+                "unknown": names_of(
+                    [item.name for item, _ in today.unknown], MOST_NAMED
+                ),
+                "ended": sum_of_money(ended.value for ended in today.ended),
+                "unserved": len(unserved),
+                "expedited": names_of(expedited, MOST_NAMED),
+                "late": sum(bool(risk.standing.overdue) for risk in risks),
+                "lacking": math.fsum(risk.value or 0.0 for risk in risks),
+                "owed": sum_of_money(
+                    standing.worth(standing.hand.owed) for standing in today.owed
+                ),
+            },
+        )
+
+
+def orders_today(
+    path: Path, tables: Mapping[str, Table | None], words: Words, day: Day | str | None
+) -> OrdersToday:
+    """Returns what a planned folder, which is only read, says on a day: see `Plan.orders_today`. Tables are by kind, and
+    are read as those of the plan were, unless `words` say otherwise."""
+    with tempfile.TemporaryDirectory(prefix="crnplan-") as room, copied_folder(
+        path, Path(room)
+    ) as folder:
+        told = merged(folder.read.fact("told"), told_of(words))
+        kept = replace(
+            words_from({**told, "every": folder.every}),
+            is_where_needed=bool(words.where),
+        )
+        asked = stated_day("date", day) or datetime.date.today()
+        today = today_of(
+            folder,
+            folder.answers(is_whole=True),
+            tables,
+            kept,
+            asked,
+            kept.defaults.supplier_min,
+        )
+        return OrdersToday(today, folder.every, folder.currency, folder.digest)
+
+
+def has_stock(path: Path) -> bool:
+    """Returns whether the masters of a planned folder say the stock of an item."""
+    with planned_folder(path) as folder:
+        return any(stock is not None for (stock,) in folder.read.cells("stock"))
+
+
+def orders_by_masters(path: Path) -> OrdersToday | None:
+    """Returns what a planned folder says today by the stock of its masters; None if these have none."""
+    if has_stock(path):
+        return orders_today(path, {}, Words(), None)
+    return None

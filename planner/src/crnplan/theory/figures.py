@@ -1,0 +1,168 @@
+"""Computes what (s,S) policies of a scenario cost in the long run.
+
+Let m be the longest lead time. All orders of the reviews up to period t have arrived in period t + m. So the stock at
+the end of that period follows from the position after the review of period t (`Walk`) and from what happens in the m
+periods after it: see `shortfalls.py`. With one lead time L, it is that position less the net demand of L + 1 periods
+(Zipkin, Foundations of Inventory Management, 2000, chapter 9).
+"""
+from __future__ import annotations
+
+from collections.abc import Iterable, Iterator, Sequence
+from functools import cached_property
+from typing import NamedTuple
+
+import numpy as np
+
+from ..chances import Floats, Whole
+from ..scenario import Policy, Scenario
+from .shortfalls import Shortfalls, lateness
+from .walk import LatticeLaw, Surplus, Walk, figures_at, power_of, sum_of
+
+MOST_CELLS = 50_000  # of tables with a row for each of many gaps
+UNMET, STOCK_LEFT = 1, 3  # rows of `LongRun.figures_from`
+
+
+class Figures(NamedTuple):
+    """What a policy amounts to in a period of the long run: stock in items, `fill` and `short` as shares."""
+
+    cost: float
+    fill: float
+    short: float
+    stock: float
+    orders: float
+
+
+class Figured(Walk):
+    """The figures of a scenario's policies on a lattice."""
+
+    def __init__(self, scenario: Scenario, step: int, exact: bool) -> None:
+        """Makes the laws of a scenario."""
+        super().__init__(scenario, step, exact)
+        costs = scenario.costs
+        leads = scenario.lead.chances
+        self.setup = costs.setup
+        self.holding = costs.holding
+        self.backlog = costs.backlog
+        self.shorts = dict[int, Floats]()
+        self.figured = dict[tuple[int, int], Figures]()
+        self.asked = self.demand.mean * step  # the mean demand of a period, in items
+        # How far the mean stock less the mean backlog is below the mean low, in items.
+        taken = self.net.mean * float(scenario.lead.mean + 1)
+        self.offset = step * (self.above_low.mean + taken)
+        self.late = lateness(leads)
+        self.longest = max(leads)
+        # What is independently lost of a stock before a period's net demand.
+        under_way = power_of(self.net, min(leads))
+        self.has_one_lead = len(leads) == 1
+        # How many cells a gap's row in a table has above S, and beside those of the gap, about.
+        if self.has_one_lead:
+            under_way = sum_of(under_way, self.above_low)
+            self.above = 0
+            self.beside = under_way.high
+        else:
+            self.above = len(self.late) * max(0, -self.net.low) - self.above_low.low
+            most_late = power_of(self.net, len(self.late)).high
+            self.beside = self.above + max(self.net.high, most_late)
+        self.after = sum_of(under_way, self.net)
+        self.one_period = Surplus(self.after, step)
+        self.one_before = Surplus(sum_of(under_way, self.back.reflected), step)
+
+    def figures_from(self, levels: Whole) -> Floats:
+        """Returns rows with stock costs, unmet demand, the chance of no backlog and the stock at the end of a period
+        that starts from lows at these levels, in items."""
+        return figures_at(
+            levels,
+            self.step,
+            *self.one_period.sums,
+            *self.one_before.sums,
+            self.holding,
+            self.backlog,
+        )
+
+    def lows_below(self, gaps: Sequence[int]) -> list[Floats]:
+        """Returns for each gap the chances of how far a low of `figures_from` is below S, from the cell -above on."""
+        if self.has_one_lead:
+            lows = self.lows_of(max(gaps))
+            return [lows[: gap + 1] / lows[: gap + 1].sum() for gap in gaps]
+        for some in self.parts(sorted({*gaps} - self.shorts.keys())):
+            self.keep(some, self.shortfalls.chances(some))
+        return [self.shorts[gap] for gap in gaps]
+
+    def rows_of(self, gaps: Whole) -> Floats:
+        """Returns what `lows_below` does, a row for each gap."""
+        lows = self.lows_below(gaps.tolist())
+        chances = np.zeros((len(lows), max(map(len, lows))))
+        for row, its in zip(chances, lows):
+            row[: len(its)] = its
+        return chances
+
+    def keep(self, gaps: Whole, rows: Floats) -> None:
+        """Keeps the chances of the shortfalls of some gaps."""
+        ends = rows.shape[1] - np.argmax(rows[:, ::-1] > 0, axis=1)
+        self.shorts.update(
+            (gap, row[:end])
+            for gap, row, end in zip(gaps.tolist(), rows, ends.tolist())
+        )
+
+    @cached_property
+    def shortfalls(self) -> Shortfalls:
+        """Returns the shortfalls of the gaps, by which the stock before and after the demand of a period is known."""
+        return Shortfalls(
+            self,
+            self.late,
+            self.above,
+            self.beside,
+            (self.one_before.law, self.one_period.law),
+        )
+
+    def below(self, gap: int) -> LatticeLaw:
+        """Returns the law of how far the stock at the end of a period is below S, in cells."""
+        (lows,) = self.lows_below([gap])
+        return sum_of(LatticeLaw.scaled(-self.above, lows), self.after)
+
+    def figures(self, point: int, level: int) -> Figures:
+        """Returns the figures of a policy; if the lattice is not exact, between those of the gaps beside its own."""
+        (gap, share), *others = self.gaps_of(point, level)
+        figures = self.figures_of_gap(gap, level)
+        for other, rest in others:
+            pairs = zip(figures, self.figures_of_gap(other, level))
+            figures = Figures(*(share * here + rest * there for here, there in pairs))
+        return figures
+
+    def pairs_of(self, policies: Iterable[Policy]) -> set[tuple[int, int]]:
+        """Returns the gaps, each with an order-up-to level, whose figures those of policies are means of."""
+        return {
+            (gap, policy.S)
+            for policy in policies
+            for gap, _ in self.gaps_of(policy.s, policy.S)
+        }
+
+    def figures_of_gap(self, gap: int, level: int) -> Figures:
+        """Returns the figures of a gap and an order-up-to level."""
+        self.figure({(gap, level)})
+        return self.figured[gap, level]
+
+    def figure(self, asked: set[tuple[int, int]]) -> None:
+        """Computes the figures of gaps, each with an order-up-to level: together they take less time."""
+        if not (new := sorted(asked - self.figured.keys())):
+            return
+        for (gap, level), row in zip(new, self.lows_below([gap for gap, _ in new])):
+            levels = level - self.step * np.arange(-self.above, len(row) - self.above)
+            table = self.figures_from(levels)
+            orders = 1 / self.periods(gap)
+            stock_cost, unmet, held, stock = (table @ row).tolist()
+            cost = self.setup * orders + stock_cost
+            self.figured[gap, level] = Figures(
+                cost, 1 - unmet / self.asked, 1 - held, stock, orders
+            )
+
+    def parts(self, gaps: Sequence[int] | Whole) -> Iterator[Whole]:
+        """Yields rising gaps in parts, whose tables are small. With one lead time all have one table."""
+        left = np.array(gaps, int)
+        while len(left):
+            cells = np.arange(1, len(left) + 1) * (self.beside + left)
+            count = len(left)
+            if not self.has_one_lead:
+                count = max(1, int(np.searchsorted(cells, MOST_CELLS, "right")))
+            yield left[:count]
+            left = left[count:]

@@ -1,0 +1,151 @@
+"""Tests that no unit of a time is guessed: it stands in the heading, in the cell or in a word, or receipts of orders agree
+with one unit alone."""
+from __future__ import annotations
+
+import tomllib
+from collections.abc import Mapping, Sequence
+from pathlib import Path
+from typing import Any
+
+import pandas as pd
+import pytest
+
+import crnplan as crn
+from planner.tests.conftest import Command
+from planner.tests.read.catalogues import (
+    MASTER,
+    TODAY,
+    but,
+    cases_of,
+    catalogue_of,
+    day_of,
+    demand_of,
+    items_of,
+    masters_of,
+)
+
+CASES = cases_of("times")
+Receipts = Mapping[str, Sequence[int]]
+BARE = but("lead")
+
+
+def orders_of(receipts: Receipts) -> pd.DataFrame:
+    """Returns an order each two weeks of each item, with the days that it took, and one that is still open."""
+    rows = [("A", "2026-11-02", "")]
+    for item, days in receipts.items():
+        rows += [
+            (item, str(day_of(2 * place)), str(day_of(2 * place, took)))
+            for place, took in enumerate(days)
+        ]
+    return pd.DataFrame(rows, columns=["item", "ordered", "received"])
+
+
+def read_with(leads: Mapping[str, Any], receipts: Receipts) -> crn.Catalogue:
+    """Reads items with these lead times without a unit beside these receipts."""
+    masters = masters_of(*({**BARE, "lead": lead} for lead in leads.values()))
+    return crn.read_catalogue(
+        demand_of(*leads), masters, orders_of(receipts), today=TODAY
+    )
+
+
+@pytest.fixture
+def files(tmp_path: Path) -> dict[str, Any]:
+    """Returns the words by which a command checks items A and B, and those that add orders of item A."""
+    demand_of("A", "B").to_csv(tmp_path / "demand.csv", index=False)
+    masters_of(BARE, BARE).to_csv(tmp_path / "items.csv", index=False)
+    orders_of({"A": [13, 14, 16]}).to_csv(tmp_path / "orders.csv", index=False)
+    words = ["catalogue", tmp_path / "demand.csv", tmp_path / "items.csv", "--check"]
+    return {"words": words, "orders": ["--orders", tmp_path / "orders.csv"]}
+
+
+@pytest.mark.parametrize("every", ["day", "week", "month"])
+@pytest.mark.parametrize("role", ["lead", "coverage", "shelf_life"])
+def test_a_time_without_a_unit_is_refused(role: str, every: str) -> None:
+    """Neither weeks nor days are guessed: both are named, and each is taken if it is said."""
+    units = {"items": {"holding": "week", "backlog": "week"}}
+    with pytest.raises(crn.Refused) as refused:
+        catalogue_of({**but(role), role: "14"}, every=every, units=units, least=1)
+    assert f"'{role}' names no unit" in str(refused.value)
+    for unit in ("day", "week"):
+        assert f'units={{"items": {{"{role}": "{unit}"}}}}' in str(refused.value)
+
+
+@pytest.mark.parametrize("leads, receipts, unit, weeks", CASES["agree"])
+def test_receipts_that_agree_with_one_unit(
+    leads: dict[str, Any], receipts: Receipts, unit: str, weeks: list[int]
+) -> None:
+    """Stated 14 with receipts after 13 to 16 days are days, stated 2 are weeks. This is said, in the file of what was found
+    too."""
+    read = read_with(leads, receipts)
+    items = items_of(read)
+    assert len(items) == 2 and [*items["A"].leads][: len(weeks)] == weeks
+    said = f"lead: its numbers are {unit}s, by the receipts of 2 of 2 items"
+    assert said in " ".join(read.said)
+    assert f'lead = "lead"  # found by its name  # in {unit}\n' in read.found
+    assert tomllib.loads(read.found)["catalogue"]["units"]["items.lead"] == unit
+
+
+@pytest.mark.parametrize("leads, receipts", CASES["doubtful"])
+def test_receipts_that_agree_with_none(
+    leads: dict[str, Any], receipts: Receipts
+) -> None:
+    """Receipts that fit no unit, or several, decide nothing."""
+    with pytest.raises(crn.Refused, match="'lead' names no unit"):
+        read_with(leads, receipts)
+
+
+def test_the_unit_of_receipts_by_the_command(
+    crnplan: Command, files: dict[str, Any], tmp_path: Path
+) -> None:
+    """The command says by what the unit is known, and takes a stated one without a look at receipts."""
+    words, orders = files.values()
+    masters_of({**BARE, "lead": 14}, {**BARE, "lead": 28}).to_csv(words[2], index=False)
+    receipts = {"A": [13, 14, 16], "B": [27, 28, 30]}
+    orders_of(receipts).to_csv(orders[1], index=False)
+    said = crnplan(*words, *orders)
+    by = "# items.csv: column 'lead': lead: its numbers are days, by the receipts of 2 of 2 items\n"
+    assert said.status == 0 and by in said.errors
+    stated = crnplan(*words, *orders, "--unit", "items.lead=day")
+    assert "by the receipts" not in stated.errors
+    refused = crnplan(*words)
+    advice = "say --unit items.lead=day or --unit items.lead=week"
+    assert refused.status == 2 and advice in refused.errors
+
+
+@pytest.mark.parametrize("lead, every, leads", CASES["defaults"])
+def test_a_lead_time_for_items_without_one(
+    lead: str, every: str, leads: list[int]
+) -> None:
+    """A default is that of items for which neither masters nor receipts say one, and it is counted of how many."""
+    masters = masters_of(*({**MASTER, "lead (weeks)": own} for own in ("4", "", "")))
+    orders = orders_of({"B": [21]})
+    units = {"items": {"holding": "week", "backlog": "week"}}
+    words: dict[str, Any] = {"every": every, "units": units, "least": 1, "lead": lead}
+    read = crn.read_catalogue(
+        demand_of("A", "B", "C"), masters, orders, today=TODAY, **words
+    )
+    days = 7 if every == "day" else 1
+    found = {name: [*item.leads] for name, item in items_of(read).items()}
+    assert found == {"A": [4 * days], "B": [3 * days], "C": leads}
+    said = "lead: 1 item by the masters, 1 item by receipts of orders, 1 item by the default"
+    assert said in read.said
+    assert tomllib.loads(read.found)["catalogue"]["lead"] == lead
+
+
+def test_a_default_by_word_and_by_key(
+    crnplan: Command, files: dict[str, Any], tmp_path: Path
+) -> None:
+    """--lead and the key lead say the same. A command says that lead times are those of receipts if no column has them."""
+    words, orders = files.values()
+    left = crnplan(*words)
+    assert left.status == 1 and "receipts" not in left.errors
+    assert "or say --lead '14 days' for all items" in left.output
+    stated = crnplan(*words, "--lead", "14 days")
+    assert stated.status == 0 and "2 items by the default\n" in stated.errors
+    settings, config = tmp_path / "mine.toml", ["--config", tmp_path / "mine.toml"]
+    settings.write_text('[catalogue]\nlead = "14 days"\n', "utf-8")
+    assert crnplan(*words, *config).output == stated.output
+    settings.write_text('[catalogue]\nlead = "14"\n', "utf-8")
+    assert "14 days or 14 weeks" in crnplan(*words, *config).errors
+    by = "# items.csv: no column is the lead, so lead times are those of receipts of orders: of 1 item\n"
+    assert by in crnplan(*words, *orders).errors

@@ -1,0 +1,54 @@
+"""All pairs (s,S) of a scenario up to a level, with figures by a second theory, beside which searches are judged."""
+from __future__ import annotations
+
+import math
+from dataclasses import replace
+
+import numpy as np
+import pytest
+
+from crnplan.scenario import Scenario
+from crnplan.theory.feasible import Feasible
+from crnplan.theory.lattice import lattice_of, shape_of, theory_on
+from crnplan.theory.long_run import Candidate, LongRun
+from planner.tests.theory.long_run_costs import costs_of, fills_of, shortfall_of
+
+
+def all_pairs(scenario: Scenario, most: int) -> np.recarray:
+    """Returns a row with cost, share of demand met, s and S for each pair up to a level.
+
+    Holding costs at least s + (S - s) / 2 less the mean demand of a lead time and a period: a wider pair costs more.
+    """
+    columns = []
+    for gap in range(most + 1):
+        short, levels = shortfall_of(scenario, gap), np.arange(gap, most + 1)
+        fills = fills_of(scenario, short, levels)
+        columns.append([costs_of(scenario, short, levels), fills, levels - gap, levels])
+    return np.rec.fromarrays(np.hstack(columns), names="cost, share, s, S")
+
+
+def theory_within(scenario: Scenario, feasible: Feasible) -> LongRun:
+    """Returns the theory of a scenario that is counted item by item, or pack by pack, with its feasible policies."""
+    shape = replace(shape_of(scenario), least_gap=feasible.gap(1) - 1)
+    step, exact = lattice_of(scenario, shape, 4)
+    assert exact
+    return theory_on(scenario, shape, step, exact, feasible)
+
+
+def kept_of(pairs: np.recarray, feasible: Feasible) -> np.recarray:
+    """Returns the feasible ones of some pairs."""
+    gap = pairs.S - pairs.s
+    is_kept = (gap >= feasible.least_gap) & (gap <= feasible.most_gap)
+    is_kept &= (pairs.s >= feasible.least_point) & (pairs.S <= feasible.most_level)
+    is_kept &= (pairs.s % feasible.multiple == 0) & (pairs.S % feasible.multiple == 0)
+    return pairs[is_kept]
+
+
+def check(found: Candidate, pairs: np.recarray, share: float = 0.0) -> None:
+    """Compares a policy with the cheapest of the pairs that meet a share of demand."""
+    allowed = pairs[pairs.share >= share - 1e-9]
+    assert (found.cost == math.inf) == (not len(allowed))
+    if len(allowed):
+        own = allowed[(allowed.s == found.point) & (allowed.S == found.level)]
+        assert own.cost[0] == pytest.approx(found.cost, abs=1e-6)
+        assert found.cost <= allowed.cost.min() + 1e-6 * max(1, found.cost)
