@@ -5,7 +5,6 @@ import csv
 import fcntl
 import io
 import os
-import resource
 import shutil
 import signal
 import subprocess
@@ -20,6 +19,7 @@ from typing import Any, NamedTuple
 import pytest
 
 from crnplan import cli
+from crnplan.compiled import Compiled
 from planner.tests.store.clusters import Cluster
 
 
@@ -38,6 +38,10 @@ class Answer(NamedTuple):
 Command = Callable[..., Answer]
 # A user of whom the machine knows nothing, without a name and a home.
 NOBODY = "54321"
+HEAVY = {
+    *"babel distributed jinja2 matplotlib numba numpy openpyxl pandas scipy".split(),
+    *"tomlkit tqdm xlsxwriter".split(),
+}
 
 
 def cases_beside(file: str) -> dict[str, Any]:
@@ -45,12 +49,12 @@ def cases_beside(file: str) -> dict[str, Any]:
     return tomllib.loads(Path(file).with_suffix(".toml").read_text("utf-8"))
 
 
-def seconds_of(words: Sequence[str | Path], folder: Path | None = None) -> float:
-    """Returns the processor time of a process: what it takes on a quiet machine, however busy this one is."""
-    before = resource.getrusage(resource.RUSAGE_CHILDREN)
-    subprocess.run(words, cwd=folder, capture_output=True, check=True)
-    after = resource.getrusage(resource.RUSAGE_CHILDREN)
-    return after.ru_utime + after.ru_stime - before.ru_utime - before.ru_stime
+def heavy_of(*words: str | Path) -> set[str]:
+    """Returns the libraries that a command loads of those that take long. It has to end with 0."""
+    line = [sys.executable, "-X", "importtime", "-m", "crnplan", *map(str, words)]
+    ran = subprocess.run(line, capture_output=True, text=True, check=True)
+    loaded = [row.rpartition("|")[2] for row in ran.stderr.splitlines()]
+    return {name.strip().partition(".")[0] for name in loaded} & HEAVY
 
 
 def heed_interrupts() -> None:
@@ -110,7 +114,7 @@ def leave_as_written(monkeypatch: pytest.MonkeyPatch, *modules: ModuleType) -> N
     """Has the loops of modules run in plain Python: as they are written, and not as they are compiled."""
     for module in modules:
         for name, loop in [*vars(module).items()]:
-            if hasattr(loop, "py_func"):
+            if isinstance(loop, Compiled):
                 monkeypatch.setattr(module, name, loop.__wrapped__)
 
 

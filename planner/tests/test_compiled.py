@@ -1,10 +1,8 @@
 """Loops that numba compiles, and where they are kept."""
 from __future__ import annotations
 
-import importlib
 import importlib.util
 import os
-import pkgutil
 import shutil
 import subprocess
 import sys
@@ -12,14 +10,12 @@ import tempfile
 from collections.abc import Callable, Iterator
 from pathlib import Path
 from types import ModuleType
-from typing import Any
 
 import numpy as np
 import pytest
 
-import crnplan
 from crnplan.store.caches import cache_folder
-from crnplan.compiled import compiled, kept_in
+from crnplan.compiled import compiled
 
 
 def loop(values: np.ndarray) -> float:
@@ -140,30 +136,23 @@ def test_a_full_disk(
     assert sum_and_compiled(installed("one")) == (3.0, 2)
 
 
-def loops_of_package() -> dict[str, Any]:
-    """Returns all loops of the package by name, and each module that has one."""
-    modules = [
-        importlib.import_module(it.name)
-        for it in pkgutil.walk_packages(crnplan.__path__, "crnplan.")
-        if it.name != "crnplan.__main__"
-    ]
-    return {
-        f"{module.__name__}.{name}": value
-        for module in modules
-        for name, value in vars(module).items()
-        if hasattr(value, "py_func") and value.__module__ == module.__name__
-    }
+LOADED = """
+import importlib, pkgutil, sys
+import crnplan
+for module in pkgutil.walk_packages(crnplan.__path__, "crnplan."):
+    if module.name != "crnplan.__main__":
+        importlib.import_module(module.name)
+print("numba" in sys.modules)
+crnplan.fit_demand([0, 2, 1, 0, 3, 1, 0, 4, 2, 0, 1, 2])
+print("numba" in sys.modules)
+"""
 
 
-def test_what_loops_name_stands_above_them() -> None:
-    """So what decides what a loop is compiled to is known when it is decorated."""
-    loops = loops_of_package()
-    assert len(loops) > 25
-    for name, machine in loops.items():
-        kept = machine.py_func.__code__.co_filename
-        assert (
-            kept_in(Path(kept).parent, machine.__wrapped__).__code__.co_filename == kept
-        ), name
+def test_the_first_call_of_a_loop_loads_numba() -> None:
+    """No module of the package loads it."""
+    words = [sys.executable, "-c", LOADED]
+    ran = subprocess.run(words, capture_output=True, text=True, check=True)
+    assert ran.stdout.split() == ["False", "True"]
 
 
 @pytest.fixture

@@ -2,23 +2,76 @@
 
 A loop is compiled when it is first called with arguments of some types, and kept under a digest of all that decides what
 it is compiled to: so all installations with the same code find it, and none finds that of other code. It may call loops
-that are compiled too, and no other function of the package. `python -m crnplan.compiled` compiles all loops that plans
-call, so that the first plan need not wait for it.
+that are compiled too, and no other function of the package. The first call of a loop loads numba, which takes half a
+second and 80 MB: what calls none does without. `python -m crnplan.compiled` compiles all loops that plans call, so that
+the first plan need not wait for it.
 """
 from __future__ import annotations
 
+import functools
 import hashlib
+import importlib
 import os
-from collections.abc import Callable, Mapping
+from collections.abc import Callable, Iterator, Mapping
 from pathlib import Path
 from types import CodeType, FunctionType
-from typing import Any, TypeVar
-
-from numba import __version__, config, njit
+from typing import Any, TypeVar, cast
 
 from .store.caches import cache_folder, is_own
 
 Loop = TypeVar("Loop", bound=Callable[..., Any])
+
+
+class Compiled:
+    """A loop that numba compiles when it is called; `__wrapped__` is the loop as it is written."""
+
+    __wrapped__: Callable[..., Any]
+
+    def __init__(self, loop: Callable[..., Any]) -> None:
+        functools.update_wrapper(self, loop)
+
+    def __call__(self, *values: Any) -> Any:
+        return self.machine(*values)
+
+    @functools.cached_property
+    def machine(self) -> Callable[..., Any]:
+        """The loop as numba calls it.
+
+        It is kept in the folder that `NUMBA_CACHE_DIR` names, if that is the user's own, else in `cache_folder`, and
+        nowhere if there is none.
+        """
+        from numba import config, njit
+
+        loop, stated = self.__wrapped__, config.CACHE_DIR
+        folder = Path(stated) if stated and is_own(Path(stated)) else cache_folder()
+        machine: Callable[..., Any] = njit(linked(loop, loop.__code__))
+        if folder:
+            config.CACHE_DIR = str(folder)
+            try:
+                machine = njit(cache=True)(kept_in(folder, loop))
+            except (OSError, RuntimeError):  # The disk is full: numba finds no folder.
+                pass
+            finally:
+                config.CACHE_DIR = stated
+        return machine
+
+
+def compiled(loop: Loop) -> Loop:
+    """Returns a loop that numba compiles when it is called."""
+    return cast(Loop, Compiled(loop))
+
+
+def load_compiler() -> None:
+    """Loads numba, so that processes which are forked from this one have it."""
+    importlib.import_module("numba")
+
+
+def named(code: CodeType) -> Iterator[str]:
+    """Yields the names that code finds in a module, with those of functions in it."""
+    yield from code.co_names
+    for constant in code.co_consts:
+        if isinstance(constant, CodeType):
+            yield from named(constant)
 
 
 def traits(code: CodeType, names: Mapping[str, Any]) -> tuple[Any, ...]:
@@ -31,54 +84,35 @@ def traits(code: CodeType, names: Mapping[str, Any]) -> tuple[Any, ...]:
     values = [names[name] for name in code.co_names if name in names]
     numbers = [value for value in values if isinstance(value, (int, float, tuple))]
     loops = [
-        traits(value.py_func.__code__, value.py_func.__globals__)
+        traits(value.__wrapped__.__code__, value.__wrapped__.__globals__)
         for value in values
-        if hasattr(value, "py_func")
+        if isinstance(value, Compiled)
     ]
     return code.co_code, constants, code.co_names, code.co_varnames, numbers, loops
+
+
+def linked(loop: Callable[..., Any], code: CodeType) -> FunctionType:
+    """Returns a loop with its code, which finds the loops that it names as numba calls them."""
+    names = dict(loop.__globals__)
+    for name in named(code):
+        if isinstance(names.get(name), Compiled):
+            names[name] = names[name].machine
+    return FunctionType(code, names, loop.__name__, loop.__defaults__, loop.__closure__)
 
 
 def kept_in(folder: Path, loop: Callable[..., Any]) -> FunctionType:
     """Returns a loop that numba keeps in a folder: by the path, time and size of the file that it seems to stand in. An
     empty file stands for it, whose name has the digest of its traits."""
-    code, names = loop.__code__, loop.__globals__
-    digest = hashlib.sha256(
-        repr((__version__, traits(code, names))).encode()
-    ).hexdigest()
+    from numba import __version__
+
+    code = loop.__code__
+    known = repr((__version__, traits(code, loop.__globals__)))
+    digest = hashlib.sha256(known.encode()).hexdigest()
     path = folder / f"{Path(code.co_filename).stem}-{digest}.py"
     if not path.exists():
         path.touch()
         os.utime(path, (0, 0))
-    return FunctionType(
-        code.replace(co_filename=str(path)),
-        names,
-        loop.__name__,
-        loop.__defaults__,
-        loop.__closure__,
-    )
-
-
-def compiled(loop: Loop) -> Loop:
-    """Returns a loop as numba compiles it; `__wrapped__` is the loop as it is written.
-
-    It is kept in the folder that `NUMBA_CACHE_DIR` names, if that is the user's own, else in `cache_folder`, and nowhere if
-    there is none.
-    """
-    stated = config.CACHE_DIR
-    folder = Path(stated) if stated and is_own(Path(stated)) else cache_folder()
-    machine = njit(loop)
-    if folder:
-        config.CACHE_DIR = str(folder)
-        try:
-            machine = njit(cache=True)(kept_in(folder, loop))
-        except (OSError, RuntimeError):  # The disk is full: numba finds no folder.
-            pass
-        finally:
-            config.CACHE_DIR = stated
-    if machine is not loop:  # as it is where numba is told to compile nothing
-        machine.__wrapped__ = loop
-    found: Loop = machine
-    return found
+    return linked(loop, code.replace(co_filename=str(path)))
 
 
 def compile_all() -> None:

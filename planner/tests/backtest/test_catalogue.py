@@ -1,6 +1,7 @@
 """Tests the test of a whole catalogue on its past: by the command and in Python, resumed, and with other workers."""
 from __future__ import annotations
 
+import contextlib
 import csv
 import dataclasses
 import datetime
@@ -16,11 +17,11 @@ import crnplan as package
 from crnplan.demand.learning import Prior
 from crnplan.store.files import own_folder
 from crnplan.show.backtest_tables import BACKTEST_COLUMNS, SUM_COLUMNS, VERDICTS
-from crnplan.plan.backtest.catalogue import TESTS
+from crnplan.plan.backtest.catalogue import TESTS, Records
 from crnplan.plan.backtest.one import Backtest, Walk, backtest_one
 from crnplan.plan.backtest.sums import TIME
 from crnplan.plan.question import NONE, Settings
-from crnplan.read.catalogue_reading import CATALOGUE
+from crnplan.read.catalogue_reading import CATALOGUE, READ
 from crnplan.read.item import Item
 from crnplan.store.stored import Store
 from planner.tests.conftest import Command, rows_of
@@ -120,6 +121,15 @@ def test_rows_are_those_of_each_item(made: Path, items: Mapping[str, Item]) -> N
             assert (int(row["s"]), int(row["S"])) == (outcome.point, outcome.level)
             assert float(row["cost"]) == pytest.approx(outcome.cost, abs=0.006)
             assert float(row["fill"]) == pytest.approx(outcome.fill, abs=6e-5)
+
+
+def test_items_as_they_were_at_the_end_of_their_records(made: Path) -> None:
+    """What a test learns from, it sees up to that day, and of it the last periods that count."""
+    with contextlib.closing(Records(made / "out" / READ, 40, 30)) as records:
+        pairs = [*zip(records.whole_items(), records.items(), strict=True)]
+    assert len(pairs) == ITEMS
+    for whole, known in pairs:
+        assert known.counts == whole.counts[:40][-30:]
 
 
 def test_values_of_a_notebook(room: Path) -> None:

@@ -31,7 +31,7 @@ from crnplan.curve.candidates import (
 )
 from crnplan.curve.budget import Budget, chosen_by, gap_of
 from crnplan.curve.exchange import AS_IS, Items
-from crnplan.curve.parts import UNMET, Dearer, Part, Point
+from crnplan.curve.parts import UNMET, VALUE, Dearer, Part, Point
 from crnplan.errors import Refused
 from crnplan.plan.catalogue import planned_folder
 
@@ -258,14 +258,19 @@ class Walk:
         mine, at = self.vertices[place], self.at[place]
         return float(mine[at + way][self.figure] - mine[at][self.figure])
 
-    def ends(self) -> list[tuple[float, float]]:
-        """Returns s and S of each item: as many steps as the budget lets, and then those near by that fit too."""
+    def totals(self) -> list[float]:
+        """Goes the whole way, and returns the budget's figure at the start and after each step."""
         total = sum(mine[0][self.figure] for mine in self.vertices)
         totals = [total]
         for _, place in self.steps:
             total += self.use(place, 1)
             self.at[place] += 1
             totals.append(total)
+        return totals
+
+    def ends(self) -> list[tuple[float, float]]:
+        """Returns s and S of each item: as many steps as the budget lets, and then those near by that fit too."""
+        totals = self.totals()
         fits = [count for count, each in enumerate(totals) if each <= self.most]
         count, way = (fits[-1], 1) if self.figure == 2 else (fits[0], -1)
         taken = [place for _, place in self.steps[:count]]
@@ -321,6 +326,10 @@ def test_any_parts(
         assert few == [some[0], some[5], some[27]]
         sums = [sum(each.value for each in some), sum(each.orders for each in some)]
         assert sums == pytest.approx([found.point.value, found.point.orders], rel=1e-12)
+    values = Walk(answers, Budget(value=end.value)).totals()
+    for way, value in ((1, max(values)), (-1, min(values))):
+        assert ladder.extreme(way) * items.units[VALUE] == pytest.approx(value)
+    assert chosen_by(items, Budget(value=1.01 * end.value)).point == end
     budget = Budget(value=0.98 * start.value, orders=1.6 * start.orders)
     one, two = chosen_by(items, budget), chosen_by(whole, budget)
     assert one.dearer == two.dearer and one.point == two.point and one.dearer.stock > 0

@@ -104,6 +104,36 @@ def test_ways(
     assert others.tolist() == gaps.tolist() and np.allclose(same, figures, 1e-12, 1e-12)
 
 
+@pytest.fixture(params=["compiled", "as written"])
+def each_way(request: pytest.FixtureRequest, monkeypatch: pytest.MonkeyPatch) -> None:
+    """Has the loops run as they are compiled, then as they are written."""
+    if request.param == "as written":
+        leave_as_written(monkeypatch, every_gap, points)
+
+
+@pytest.mark.usefixtures("each_way")
+def test_vertices_by_hand() -> None:
+    """A point that meets no more demand is none, nor one above the line through others, nor one behind the dearest, nor
+    one before the best of the lowest price. Levels between two cells have means."""
+    sums = np.array([np.arange(6.0), [9.0, 9.0, 5.0, 4.0, 1.0, 0.9]])
+
+    def vertices(*prices: float, levels: Sequence[float] = range(6)) -> list[int]:
+        kept, rows = np.zeros(6, int), np.empty((3, 6))
+        size = points.vertices_of(
+            2 * sums, 2.0, np.array(levels, float), np.array(prices), rows, kept
+        )
+        return kept[:size].tolist()
+
+    assert vertices(0.1, 9.0) == [0, 4, 5]
+    assert vertices(0.1, 0.1) == [0]
+    lowest = (0.49, 0.51, 9.9, 10.1)
+    found = [vertices(least, 9.0) for least in lowest]
+    assert found == [[0, 4, 5], [4, 5], [4, 5], [5]]
+    # At 3.75, 1.75 is not met: above the line from 2 to 4, and below that to 5.
+    assert vertices(0.1, 9.0, levels=(2.0, 3.75, 4.0)) == [0, 2]
+    assert vertices(0.1, 9.0, levels=(2.0, 3.75, 5.0)) == [0, 1, 2]
+
+
 def finer(places: Sequence[int], gaps: int, *costs: Sequence[float]) -> list[int]:
     """Returns what `finer` does, of cases with costs by place; all places have equal gaps."""
     ordered = np.ascontiguousarray(np.transpose(costs), float)
@@ -111,6 +141,7 @@ def finer(places: Sequence[int], gaps: int, *costs: Sequence[float]) -> list[int
     return [int(half) for half in halves]
 
 
+@pytest.mark.usefixtures("each_way")
 @pytest.mark.parametrize("gaps, costs, halves", FINER["cases"])
 def test_finer_by_hand(gaps: int, costs: list[list[float]], halves: list[int]) -> None:
     places = FINER["equal" if len(costs[0]) == 7 else "places"]

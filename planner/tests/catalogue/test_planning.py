@@ -39,7 +39,7 @@ from planner.tests.catalogue.made import (
     Made,
     teaching,
 )
-from planner.tests.conftest import Answer, Command, rows_of
+from planner.tests.conftest import Answer, Command, heavy_of, rows_of
 
 SCENARIO = """version = 1
 key = {keys}
@@ -296,6 +296,11 @@ def test_only_what_changed_is_planned(begun: Path, plan: Plan, planned: Path) ->
     leave_few(begun, 3)
     assert planned_now(plan()) == 0
     assert planned_now(plan("--seed", "other")) == 3
+
+
+def test_orders_of_a_day_load_no_compiler(planned: Path, tmp_path: Path) -> None:
+    """They come from what is planned: numba would take half a second and 80 MB."""
+    assert "numba" not in heavy_of("today", planned, "--out", tmp_path / "orders")
 
 
 def test_the_command_says_what_it_found(folder: Path, plan: Plan) -> None:

@@ -2,7 +2,6 @@
 from __future__ import annotations
 
 import json
-import sys
 import xml.etree.ElementTree
 from pathlib import Path
 
@@ -12,7 +11,7 @@ from hypothesis import given, settings
 from crnplan.crnsim.trajectory import trajectories
 from crnplan.errors import ProgramError
 from crnplan.scenario import Scenario
-from planner.tests.conftest import Command, script, seconds_of
+from planner.tests.conftest import Command, heavy_of, script
 from planner.tests.crnsim.slow import History, draws_of, scenarios, simulate
 
 # The example of docs/FORMATS.md, "What happens in a period": orders, net demands, stocks and positions.
@@ -127,10 +126,8 @@ def test_pictures(crnplan: Command, program: Path, top: Path, tmp_path: Path) ->
     assert {*TEXTS} <= {it.text for it in svg.iter("{http://www.w3.org/2000/svg}text")}
 
 
-def test_half_a_second(program: Path, top: Path) -> None:
-    """104 periods of two policies take half a second, with the start of Python."""
-    line = (
-        f"-m crnplan trajectory examples/spare_part.toml today both --program {program}"
-    )
-    words = [sys.executable, *line.split()]
-    assert min(seconds_of(words, top) for _ in range(3)) < 0.5
+def test_loads_little(program: Path, top: Path) -> None:
+    """A table of periods comes at once: no library that takes long is loaded for it."""
+    scenario = top / "examples/spare_part.toml"
+    words = ["trajectory", scenario, "today", "both", "--program", program]
+    assert heavy_of(*words) == set()

@@ -1,7 +1,7 @@
 """Tests the plans of items without a past of their own: new ones, and those that nobody has asked for."""
 from __future__ import annotations
 
-import dataclasses
+from dataclasses import replace
 from fractions import Fraction
 from pathlib import Path
 from typing import Any
@@ -24,7 +24,7 @@ from crnplan.remarks import Remark
 from crnplan.theory.lattice import NoTheory
 from crnplan.words import sentence
 from planner.tests.plan.items import SHORT, item_of
-from planner.tests.theory.long_run_costs import cost_of, shortfall_of
+from planner.tests.theory.long_run_costs import cost_of, fills_of, shortfall_of
 
 ALL, BY_CLASS = Settings(borrow="all", **SHORT), Settings(borrow="class", **SHORT)
 
@@ -58,9 +58,7 @@ def test_a_new_item(
     assert answer.law.family == "borrowed"
     remark, *others = answer.remarks
     assert (remark.code, remark.facts["periods"], others) == ("new", len(counts), [])
-    shortfalls = [
-        dataclasses.replace(scenario, demand=law) for law in allowed_by(question)[0]
-    ]
+    shortfalls = [replace(scenario, demand=law) for law in allowed_by(question)[0]]
     gap = answer.chosen.level - answer.chosen.point
     costs = [
         cost_of(own, shortfall_of(own, gap), answer.chosen.level)
@@ -77,6 +75,25 @@ def test_a_new_item(
     words = ItemWords(Depth(question, answer, str(program)), "week", Currency())
     assert ": a new item" in item_summary(words).splitlines()[0]
     assert ("no week of the record" in item_page(words)) == (not counts)
+
+
+def test_a_new_item_without_a_backlog_cost(prior: Prior, program: Path) -> None:
+    """It has the range of its fill rates alone."""
+    item = new(0, 3, 0, 1, 2, fill=Fraction(9, 10), backlog=None)
+    question = question_of(item, ALL, prior)
+    answer = plan_one(question, str(program))
+    point, level = answer.chosen.levels
+    fills = list[float]()
+    for law in allowed_by(question)[0]:
+        scenario = replace(question.for_theory(), demand=law)
+        shortfall = shortfall_of(scenario, level - point)
+        fills += fills_of(scenario, shortfall, np.array([level])).tolist()
+    allowed = answer.allowed
+    assert allowed
+    assert (allowed.cost_low, allowed.cost_high) == (None, None)
+    assert [allowed.fill_low, allowed.fill_high] == pytest.approx(
+        np.quantile(fills, [0.1, 0.9]), rel=1e-5
+    )
 
 
 @pytest.mark.parametrize(

@@ -272,6 +272,11 @@ def test_what_has_stopped_is_not_ordered(program: Path) -> None:
         in today.text
     )
     assert {*today.dead["item"]} == {"DEAD", "OLD"}
+    few = pd.DataFrame({"item": ["ACTIVE", "GONE"], "stock": [3, 7]})
+    today = plan.orders_today(few, date=end + datetime.timedelta(1))
+    stocks = today.stopped.set_index("item")["stock"]
+    assert {*stocks.index} == {*ended}
+    assert stocks.dropna().to_dict() == {"GONE": 7}
 
 
 def test_status_by_the_command(tmp_path: Path, crnplan: Command) -> None:

@@ -279,8 +279,9 @@ def test_no_folder_is_left(how: signal.Signals | None) -> None:
 
 def test_a_plan_that_is_dropped(few: list[pd.DataFrame], program: Path) -> None:
     """Its folder goes with it, without a warning; so does that of a catalogue. A process that was forked leaves both."""
+    gc.collect()  # else the forked process ends what other tests have left
     with warnings.catch_warnings():
-        warnings.simplefilter("error")
+        warnings.simplefilter("error", ResourceWarning)
         plan, read = crn.plan(
             *few, jobs=1, program=program, **SETTINGS
         ), crn.read_catalogue(*few)

@@ -72,6 +72,15 @@ def test_figures_are_those_of_a_chain(
     check_figures(scenario.with_policies(policies))
 
 
+@given(demand=laws(st.integers(1, 5), 3), lead=laws(st.integers(1, 3), 2))
+def test_what_is_never_met_at_once(demand: Weights, lead: Weights) -> None:
+    """Without stock nothing is met at once and each period is short: exactly so, however sums are rounded."""
+    figures = theory_of(scenario_of(demand, lead)).figures(0, 0)
+    assert [figures.fill, figures.short] == pytest.approx([0, 1], abs=1e-12)
+    assert figures.fill >= 0
+    assert figures.short <= 1
+
+
 @settings(max_examples=30)
 @given(
     demand=laws(st.integers(0, 5), 3).filter(max),

@@ -199,17 +199,17 @@ def test_sums_and_figures(step: int, way: str) -> None:
     """A law loses its all but impossible ends. Its sums, and the figures of levels, are sums over its cells one by one:
     what is taken with the demand of a period, and before that, here two cells less."""
     cells = LatticeLaw.of(Law((2, 3, 7, 40), (2, 3, 1, 4)), step).between(0, 40)
-    low, chances = getattr(cut, way)(np.array([-1e-19, 1e-19, *cells, -1e-18, 1e-18]))
+    low, chances = cut(np.array([-1e-19, 1e-19, *cells, -1e-18, 1e-18]))
     is_wide = step > 1
     assert low == 4 - 2 * is_wide
     assert len(chances) == 40 // step - low + 3 + is_wide
     assert chances.sum() == pytest.approx(1)
     assert chances == pytest.approx(cells[low - 2 :][: len(chances)])
-    below, taken = getattr(summed, way)(chances, low, step)
+    below, taken = summed(chances, low, step)
     amounts = step * (low + np.arange(len(chances)))
     assert below == pytest.approx(np.cumsum([0, *chances]))
     assert taken == pytest.approx(np.cumsum([0, *amounts * chances]))
-    before, levels = getattr(summed, way)(chances, low - 2, step), np.arange(-20, 99)
+    before, levels = summed(chances, low - 2, step), np.arange(-20, 99)
     words = levels, step, low, below, taken, low - 2, *before, 3, 7
     found = getattr(figures_at, way)(*words)
     left = levels[:, None] - amounts

@@ -16,6 +16,7 @@ from typing import Any, NamedTuple
 import numpy as np
 
 from ..chances import Floats
+from ..compiled import load_compiler
 from ..store.digests import digest_of
 from ..errors import Refused
 from ..store.files import IN_KEPT, Folder
@@ -247,6 +248,7 @@ def gather(own: Folder, folder: PlannedFolder, means: Means) -> Iterator[Gathere
             lambda name: asked_of(folder, name),
             on_curve_asked,
             (folder.settings,),
+            load=load_compiler,
         )
         work.finish(means.workers(), shown=means.shown)
         parts = Parts(folder.path.resolve(), kept)

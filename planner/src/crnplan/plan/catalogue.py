@@ -10,6 +10,7 @@ from dataclasses import dataclass
 from difflib import get_close_matches
 from pathlib import Path
 
+from ..compiled import load_compiler
 from ..crnsim.program import program_for
 from ..demand.learning import Prior
 from ..store.digests import digest_of, sum_of_digests
@@ -381,6 +382,7 @@ def planning(
             lambda name: asked_after(read, planned, earlier, name),
             plan_asked,
             (settings, prior, path),
+            load=load_compiler,
         )
         opened = PlannedFolder(folder.path, read, answers, planned)
         with contextlib.closing(answered(opened, work, means, path)) as decided:

@@ -19,6 +19,7 @@ from typing import Any
 import numpy as np
 
 from ..chances import Floats
+from ..compiled import load_compiler
 from ..crnsim.periods import Past, periods_of
 from ..demand.learning import Prior
 from ..errors import Refused, argument
@@ -125,7 +126,13 @@ def tried_on(
     words, tried = (settings, prior), list[Trial]()
     with contextlib.closing(Store(folder.store(TRIALS), Trial)) as trials:
         work = Work(
-            trials, questions.copy, read.item, trial_asked, words, unit="trials"
+            trials,
+            questions.copy,
+            read.item,
+            trial_asked,
+            words,
+            unit="trials",
+            load=load_compiler,
         )
         work.finish(means.workers(), shown=means.shown)
         for _, _, trial in trials.answers():

@@ -128,11 +128,17 @@ def keep_swings(
     with contextlib.closing(Store(own.store(SWINGS), Swing)) as kept:
         drawn = sorted(drawn_items(folder, survey).items())
         work = Work(
-            kept, lambda: drawn, folder.item, swing_asked, (folder.settings,), batch=1
+            kept,
+            lambda: drawn,
+            folder.item,
+            swing_asked,
+            (folder.settings,),
+            batch=1,
+            # One item has this process load the compiled loops.
+            load=lambda: swing_asked(
+                folder.item(kept.lacking(drawn)[0][0]), folder.settings
+            ),
         )
-        if work.now:
-            # One item has this process load the compiled loops, which workers then have from the start.
-            swing_asked(folder.item(kept.lacking(drawn)[0][0]), folder.settings)
         work.finish(means.workers(), shown=means.shown)
 
 

@@ -141,7 +141,7 @@ def answered(task: bytes) -> bytes:
         trace = traceback.format_exc()
         with contextlib.suppress(
             Exception
-        ):  # an error that can't be sent is told by its text
+        ):  # of an error that can't be sent, its text is
             fault.add_note(trace)
             return pickle.dumps((True, fault), pickle.HIGHEST_PROTOCOL)
         return pickle.dumps((True, RuntimeError(trace)), pickle.HIGHEST_PROTOCOL)

@@ -59,7 +59,8 @@ class Work(Generic[Row]):
 
     `questions` returns them in order of names, each time anew. `ask` returns what is asked of a name, or what is known.
     Workers call `function` with what is asked and with `words`; it returns the answer. A `batch` has so many questions, or
-    as many as workers take. `kept` counts the answers that need no worker, and `now` the others.
+    as many as workers take. Before workers begin, this process calls `load` for what they are to have from the start.
+    `kept` counts the answers that need no worker, and `now` the others.
     """
 
     store: Store[Row]
@@ -69,6 +70,7 @@ class Work(Generic[Row]):
     words: Sequence[Any] = ()
     unit: str = "items"
     batch: int | None = None
+    load: Callable[[], object] | None = None
     total: int = field(default=0, init=False)
     kept: int = field(default=0, init=False)
 
@@ -102,6 +104,8 @@ class Work(Generic[Row]):
         """
         turns = _Turns()
         if self.now:
+            if self.load:
+                self.load()
             with progress(
                 self.total, shown, self.unit, self.kept
             ) as done, workers as running:

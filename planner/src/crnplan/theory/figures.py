@@ -152,9 +152,9 @@ class Figured(Walk):
             orders = 1 / self.periods(gap)
             stock_cost, unmet, held, stock = (table @ row).tolist()
             cost = self.setup * orders + stock_cost
-            self.figured[gap, level] = Figures(
-                cost, 1 - unmet / self.asked, 1 - held, stock, orders
-            )
+            # Of what is never met at once, rounding leaves a little less than nothing.
+            fill, short = max(0.0, 1 - unmet / self.asked), max(0.0, 1 - held)
+            self.figured[gap, level] = Figures(cost, fill, short, stock, orders)
 
     def parts(self, gaps: Sequence[int] | Whole) -> Iterator[Whole]:
         """Yields rising gaps in parts, whose tables are small. With one lead time all have one table."""

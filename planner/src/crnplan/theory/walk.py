@@ -40,34 +40,23 @@ def chances_in(table: Law) -> tuple[Whole, Floats]:
     return values, weights / table.size
 
 
-@compiled
 def cut(chances: Floats) -> tuple[int, Floats]:
     """Returns the first place that is not all but impossible, and the chances from there on, scaled to a sum of 1. So
     is their end cut."""
-    first = 0
-    last = len(chances) - 1
-    total = 0.0
-    for chance in chances:
-        total += max(chance, 0.0)
-    least = LEAST_CHANCE * total
-    while chances[first] <= least:
-        first += 1
-    while chances[last] <= least:
-        last -= 1
-    kept = np.maximum(chances[first : last + 1], 0.0)
-    total = 0.0
-    for chance in kept:
-        total += chance
-    return first, kept / total
+    # Sums from the first cell on are the same on each machine.
+    chances = np.maximum(chances, 0.0)
+    least = LEAST_CHANCE * np.cumsum(chances)[-1]
+    places = np.flatnonzero(chances > least)
+    first = int(places[0])
+    kept = chances[first : places[-1] + 1]
+    return first, kept / np.cumsum(kept)[-1]
 
 
-@compiled
 def summed(chances: Floats, low: int, step: int) -> Floats:
     """Returns rows with the chances of all cells below each, from the first on, and with the sums of their items."""
+    items = (low + np.arange(len(chances))) * step
     sums = np.zeros((2, len(chances) + 1))
-    for place in range(len(chances)):
-        sums[0, place + 1] = sums[0, place] + chances[place]
-        sums[1, place + 1] = sums[1, place] + chances[place] * ((low + place) * step)
+    np.cumsum([chances, chances * items], axis=1, out=sums[:, 1:])
     return sums
 
 

@@ -9,6 +9,7 @@ from collections.abc import Iterable, Sequence
 from dataclasses import dataclass
 from pathlib import Path
 
+from ...compiled import load_compiler
 from ...demand.learning import Prior
 from ...store.files import IN_KEPT, Folder, faults_of
 from ...store.means import Means
@@ -124,6 +125,7 @@ def backtest_into(
             read.whole_item,
             backtest_item,
             (settings, learned.prior, walk),
+            load=load_compiler,
         )
         fact = json.dumps([common, dataclasses.asdict(settings)])
         work.finish(means.workers(), {TESTED: fact}, shown=means.shown)
