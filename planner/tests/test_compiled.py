@@ -53,16 +53,18 @@ def installed(
     monkeypatch.setattr(config, "CACHE_DIR", "")
     monkeypatch.setenv("XDG_CACHE_HOME", str(tmp_path / "caches"))
 
-    def install(folder: str, text: str = LOOPS, share: float = 2) -> ModuleType:
+    def install(
+        folder: str, text: str = LOOPS, share: float = 2, name: str = "loops"
+    ) -> ModuleType:
         path = tmp_path / folder / "loops.py"
         path.parent.mkdir(exist_ok=True)
         path.write_text(text, "utf-8")
-        spec = importlib.util.spec_from_file_location("loops", path)
+        spec = importlib.util.spec_from_file_location(name, path)
         assert spec
         assert spec.loader
         found = importlib.util.module_from_spec(spec)
         vars(found)["SHARE"] = share
-        monkeypatch.setitem(sys.modules, "loops", found)
+        monkeypatch.setitem(sys.modules, name, found)
         spec.loader.exec_module(found)
         return found
 
@@ -87,6 +89,15 @@ def test_installations_share_loops(installed: Callable[..., ModuleType]) -> None
     path = Path(str(installed("two").__file__))
     os.utime(path, (9, 9))
     assert sum_and_compiled(installed("two")) == (3.0, 0)
+
+
+def test_moved_loops_are_compiled(
+    installed: Callable[..., ModuleType], monkeypatch: pytest.MonkeyPatch
+) -> None:
+    """A loop that stands in another module now does not look for the one where it was."""
+    assert sum_and_compiled(installed("one")) == (3.0, 2)
+    monkeypatch.delitem(sys.modules, "loops")
+    assert sum_and_compiled(installed("two", name="moved.loops")) == (3.0, 2)
 
 
 def test_changed_loops_are_compiled(installed: Callable[..., ModuleType]) -> None:

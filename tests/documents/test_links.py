@@ -90,17 +90,18 @@ def test_readme_fits_three_screens() -> None:
 
 
 def test_words_of_the_guide() -> None:
-    """The guide has at most 4,500 words, and its first sections at most 400 each."""
+    """The guide has at most 4,700 words, and its first sections at most 400 each."""
     text = text_of("docs/GUIDE.md")
     for heading in (
         "Monday morning",
         "What is read",
         "What is decided, and ordered",
         "All items together",
+        "One price",
         r"Does it hold on your past\?",
     ):
         (section,) = re.findall(
             rf"^## {heading}\n.*?(?=^## )", text, re.MULTILINE | re.DOTALL
         )
         assert len(section.split()) <= 400
-    assert words_of("docs/GUIDE.md") <= 4_500
+    assert words_of("docs/GUIDE.md") <= 4_700

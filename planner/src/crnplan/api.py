@@ -319,6 +319,9 @@ class PlanWords(ReadingWords, total=False):
     fit: str
     borrow: str | None
     confidence: float | None
+    together: Amount | Mapping[str, Amount] | None
+    weigh: str
+    at_least: float | None
     correct: bool
     order_min: int | None
     max_coverage: int | None
@@ -376,7 +379,10 @@ def plan(
     `borrow` laws from one another (all, class, none; by default all if there are 100). With a `window`, laws are
     fitted, learned and checked on the last so many periods alone. `confidence` keeps a wanted fill rate under this
     share of the laws that a history allows. With `correct`, plans aim at the fill rates whose policies met the
-    wanted ones on the past of the catalogue, learned from at least 30 items. `order_min`, `s_min` and
+    wanted ones on the past of the catalogue, learned from at least 30 items. Items without a backlog cost meet the share
+    `together` of their demand at once all together, in place of a fill rate of each: 0.95, or by class {"A": 0.98}. One
+    price for what is not met chooses their policies. They `weigh` by value or by units, and each meets `at_least` that
+    share. `order_min`, `s_min` and
     `max_coverage` (periods of demand that S covers; without it S less s covers two years) bound items whose masters
     state none.
 

@@ -75,8 +75,9 @@ def named(code: CodeType) -> Iterator[str]:
 
 
 def traits(code: CodeType, names: Mapping[str, Any]) -> tuple[Any, ...]:
-    """Returns what decides what code is compiled to, if it finds names in a module: its text and that of functions in
-    it, and the numbers and the loops that it names."""
+    """Returns what decides what code is compiled to, if it finds names in a module: the module, by which numba finds it
+    again, its text and that of functions in it, and the numbers and the loops that it names.
+    """
     constants = [
         traits(constant, names) if isinstance(constant, CodeType) else constant
         for constant in code.co_consts
@@ -88,7 +89,8 @@ def traits(code: CodeType, names: Mapping[str, Any]) -> tuple[Any, ...]:
         for value in values
         if isinstance(value, Compiled)
     ]
-    return code.co_code, constants, code.co_names, code.co_varnames, numbers, loops
+    own = names.get("__name__"), code.co_code, code.co_names, code.co_varnames
+    return *own, constants, numbers, loops
 
 
 def linked(loop: Callable[..., Any], code: CodeType) -> FunctionType:
@@ -118,12 +120,14 @@ def kept_in(folder: Path, loop: Callable[..., Any]) -> FunctionType:
 def compile_all() -> None:
     """Compiles the loops of plans and curves, by what asks for each: fits of laws, tests of a history, and searches with
     one lead time, with several, and with returns."""
-    from .curve.candidates import best_by_price
+    import numpy as np
+
     from .demand.borrowing import borrowed_laws
     from .demand.checks import remarks_of
     from .demand.fitting import fit_demand
     from .demand.learning import learn
     from .scenario import Scenario
+    from .theory.every_gap import best_policies
     from .theory.lattice import theories_of
     from .theory.run_effects import start_bias
 
@@ -140,7 +144,7 @@ def compile_all() -> None:
         theory.figures(3, 9)
         scenario.suggest()
         start_bias(scenario)
-        best_by_price(theory, 1.0, [(20.0, 1.0)])
+        best_policies(theory, np.array([[20.0], [1.0], [1.0]]))
 
 
 if __name__ == "__main__":

@@ -31,7 +31,7 @@ class Option:
     - choice: one of `choices`
     - whole: a whole number in the `range`, whose second end may be missing; numbers: several; horizon: of periods
     - number; part (above 0, to 1); share (between 0 and 1; its `example` says what to write); percent: a share, as 2% too
-    - pairs: texts by name, of a `form`, as the `example`
+    - pairs: texts by name, of a `form`, as the `example`; shares: one, or several by class, which `read` takes
     - stated: what the function `read` takes; price and cost: money
     - path, folder, file, picture, file and column; form and style (of what is printed)
 

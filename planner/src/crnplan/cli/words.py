@@ -55,7 +55,7 @@ def pairs(
             raise crn.Refused(
                 f"{option.flag} {word!r} is not {option.metavar}, as {option.example}"
             )
-        texts[pair[1].strip()] = pair[2].strip()
+        texts[(pair[1] or "").strip()] = pair[2].strip()
     return texts
 
 
@@ -117,7 +117,7 @@ def parameter_of(option: Option) -> Callable[[Callable[..., Any]], Callable[...,
             facts = {"help": option.help, "flag_value": option.flag.removeprefix("--")}
         case "texts":
             facts["multiple"] = True
-        case "pairs":
+        case "pairs" | "shares":
             facts |= {"multiple": True, "callback": partial(pairs, option)}
         case "percent":
             facts["callback"] = partial(percent, option)

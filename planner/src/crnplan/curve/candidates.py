@@ -3,8 +3,9 @@
 A price is what a unit of value costs that is not met at once, beside the item's setup and holding costs. For a price
 the best policy is a vertex of a lower convex hull: of what policies cost against the demand that they do not meet at
 once (Everett, Generalized Lagrange multiplier method, Operations Research 11, 1963). The hull of an item is that of all
-order-up-to levels and of gaps S - s (`every_gap.py`): all of them with one lead time, else a grid that is refined where
-others may be better. There are candidates for dearer orders too, of which fewer are then bought, and for dearer stock.
+order-up-to levels and of gaps S - s (`theory/every_gap.py`): all of them with one lead time, else a grid that is refined
+where others may be better. There are candidates for dearer orders too, of which fewer are then bought, and for dearer
+stock.
 """
 from __future__ import annotations
 
@@ -16,8 +17,8 @@ import numpy.typing as npt
 
 from ..chances import Floats, Whole
 from ..plan.question import Terms
+from ..theory.every_gap import best_policies
 from ..theory.long_run import LongRun
-from .every_gap import best_policies
 
 # Answers of other versions are not used again.
 VERSION = 6

@@ -20,6 +20,7 @@ from ..store.clusters import Scheduler
 from ..store.means import Means
 from ..plan.answer import CHOSEN, TODAY, Answer
 from ..plan.catalogue import planned_folder
+from ..plan.question import Settings
 from ..read.catalogue_reading import CATALOGUE, Catalogued
 from ..remarks import Remark
 from ..store.stored import Store
@@ -64,6 +65,7 @@ SAID = {
     SAME_SERVICE: "today's service, least stock",
     BUDGET: "your budget",
 }
+TOGETHER = "chosen together"  # the point of a plan with one price
 DRAWN = "curve"  # the fact with the points, beside the answers of a plan
 NOTES = (
     "Met at once: the share of demand by value. All figures are by theory, rounded and unproved, of the long run under "
@@ -253,6 +255,13 @@ def curve_points(items: Items) -> list[tuple[float, Point]]:
     return points
 
 
+def said_of(name: str, settings: Settings) -> str:
+    """Returns what a point is, for a reader: that of a plan whose items are planned together is not one item by item."""
+    if name == CHOSEN and settings.together:
+        return TOGETHER
+    return SAID[name]
+
+
 def draw(
     gathered: Gathered, budget: Budget, confirm: int, program: str | Path | None
 ) -> Drawn:
@@ -263,7 +272,7 @@ def draw(
     said = dict[str, str]()
     for name, point in gathered.points.items():
         points[name] = point, gap_of(items, point)
-        said[name] = SAID[name]
+        said[name] = said_of(name, gathered.folder.settings)
     for name, choice in choices.items():
         points[name] = choice.point, gap_of(items, choice.point, choice.dearer)
         said[name] = SAID[name]

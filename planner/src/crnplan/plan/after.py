@@ -19,7 +19,7 @@ from ..store.stored import Store, sealed
 from ..store.work import Known
 from .answer import Answer
 from .changes import Change, Pair, change_of
-from .question import Levels
+from .question import Levels, Settings
 
 if TYPE_CHECKING:
     from .catalogue import Planned, PlannedFolder
@@ -82,21 +82,32 @@ def asked_after(
     return item, before.chosen.levels if before else None
 
 
+def stated(settings: Settings) -> dict[str, Value]:
+    """Returns what is stated of how items are planned, but for the least gain: by class if it is, under both names."""
+    tree = dataclasses.asdict(settings)
+    together = tree.pop("together")
+    for name in ("least_gain", "aims", "prices"):
+        del tree[name]
+    return tree | {f"together {name}".strip(): together[name] for name in together}
+
+
+def learned_by(planned: Planned) -> tuple[object, ...]:
+    """Returns what was learned of the catalogue."""
+    settings = planned.settings
+    return planned.prior.text, settings.aims, settings.prices
+
+
 def common_changes(earlier: Planned, planned: Planned) -> Iterator[Remark]:
     """Yields what has changed for all items: settings, what was learned, and what computes."""
-    before, after = dataclasses.asdict(earlier.settings), dataclasses.asdict(
-        planned.settings
-    )
+    before, after = stated(earlier.settings), stated(planned.settings)
     facts = dict[str, Value]()
-    for name in before:
-        if name not in ("least_gain", "aims") and before[name] != after[name]:
-            facts |= {f"{name} before": before[name], f"{name} after": after[name]}
+    for name in {**before, **after}:
+        old, new = before.get(name), after.get(name)
+        if old != new:
+            facts |= {f"{name} before": old, f"{name} after": new}
     if facts:
         yield Remark("other settings", facts)
-    if (earlier.prior.text, earlier.settings.aims) != (
-        planned.prior.text,
-        planned.settings.aims,
-    ):
+    if learned_by(earlier) != learned_by(planned):
         yield Remark("other learning")
     if json.loads(earlier.base)[:3] != json.loads(planned.base)[:3]:
         yield Remark("other program")

@@ -35,6 +35,7 @@ UNCOMPARED = "no policy today"  # the verdict on an item without one, beside whi
 THEORY, RUN = "theory", "run"
 OURS = "disagrees", "failed"  # codes of faults of ours
 IDLE = "no demand in record"  # the code of an item that nobody has asked for
+BY_ITSELF = "planned by itself"  # the code of an item that has no price, by which it would weigh with others
 DAMPED = "damped"  # the code of an item whose policy of an earlier plan stays
 
 
@@ -64,6 +65,18 @@ class Correction:
 
     aim: float
     plain_stock: float
+
+
+@dataclass(frozen=True)
+class Share:
+    """What an item that is planned together with others adds to the share of demand that these meet: the name of its
+    group, the share that is `wanted` of that, what an item of stock weighs, and whether its policy has the fill rate
+    that each has at least."""
+
+    group: str
+    wanted: float
+    weight: float
+    is_least: bool
 
 
 @dataclass(frozen=True)
@@ -144,7 +157,7 @@ class Answer:
     Theory counts in steps of `step` boxes. `confidence_cost` is what the confidence in a wanted fill costs a period,
     None without one; `coverage_cost` is what it costs that S, or S - s, covers no more periods of demand, None if that
     does not bind. `correction` is None if the wanted fill is not corrected, `allowed` unless the item is new. `override`
-    is the policy that the planner has set, None if there is none.
+    is the policy that the planner has set, None if there is none. `share` is None if the item is planned by itself.
     """
 
     verdict: str
@@ -167,6 +180,7 @@ class Answer:
     remarks: tuple[Remark, ...]
     allowed: Allowed | None = None
     override: Figures | None = None
+    share: Share | None = None
 
     @property
     def override_cost(self) -> float | None:

@@ -11,7 +11,7 @@ from ..remarks import Remark, Value
 from ..theory.feasible import ALL
 from .answer import BOUNDED
 from .bounds import COVERAGE, ORDER_COVERAGE, SHELF_LIFE, feasible_of
-from .choice import Choice
+from .choice import Choice, best_in
 from .question import Levels, Question
 
 # What stands in place of each bound if it is left out.
@@ -40,11 +40,11 @@ def bounds_of(question: Question, choice: Choice) -> Iterator[Bound]:
     Nothing binds if the best of all policies is feasible. S, or S - s, that a bound lets cover more may do so without it
     too: else a policy without that bound could be dearer.
     """
-    theory, share, bounded = question.theory, question.aim or 0.0, question.bounds
-    if choice.is_bounded or theory.has(theory.free.best(share)):
+    theory, bounded = question.theory, question.bounds
+    if choice.is_bounded or theory.has(best_in(question, theory.free)):
         return
     is_stated = (question.item.bounds.s_min, question.settings.s_min) != (None, None)
-    own, cost = theory.feasible, question.figures(choice.plain).cost
+    own, plain = theory.feasible, question.figures(choice.plain)
     for name, value in LEFT_OUT.items():
         other: dict[str, Any] = {name: value}
         bounds = replace(bounded, **other)
@@ -57,10 +57,10 @@ def bounds_of(question: Question, choice: Choice) -> Iterator[Bound]:
         if feasible == own or name == "s_min" and not is_stated:
             continue
         free = theory.free if feasible == ALL else theory.within(feasible)
-        best = free.best(share)
+        best = best_in(question, free)
         if best.cost < math.inf and not theory.has(best):
-            more = cost - question.figures(best.levels).cost
-            yield Bound(name, best.levels, more)
+            cost = question.whole_cost(question.figures(best.levels))
+            yield Bound(name, best.levels, question.whole_cost(plain) - cost)
 
 
 def shortest(bounds: Bounds) -> Mapping[str, Value]:
@@ -89,12 +89,12 @@ def remarks_of_bounds(
     question: Question, choice: Choice, bounds: Sequence[Bound]
 ) -> Iterator[Remark]:
     """Yields what must be said of the bounds of an item: what each costs that binds, in money of a period."""
-    share, theory, plain = question.aim or 0.0, question.theory, choice.plain
+    theory, plain = question.theory, choice.plain
     if choice.is_bounded:
-        free = theory.free.best(share).levels
+        free = best_in(question, theory.free).levels
         facts = {
             "cost": question.figures(free).cost,
-            "wanted": share,
+            "wanted": question.aim or 0.0,
             "fill": question.figures(plain).fill,
         }
         known = facts | shortest(question.bounds)
@@ -104,7 +104,8 @@ def remarks_of_bounds(
         facts = {"cost": cost, "bound": float(getattr(question.bounds, name))}
         yield Remark(f"bound of {name}", question.items(without) | facts)
     if plain[0] == 0:
-        later = theory.within(replace(theory.feasible, least_point=1)).best(share)
-        if later.cost < math.inf:
-            cost = question.figures(later.levels).cost - question.figures(plain).cost
+        later = theory.within(replace(theory.feasible, least_point=1))
+        best = best_in(question, later)
+        if best.cost < math.inf:
+            cost = question.figures(best.levels).cost - question.figures(plain).cost
             yield Remark("s of 0", {"cost": cost})

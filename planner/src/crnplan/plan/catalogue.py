@@ -9,6 +9,7 @@ from collections.abc import Generator, Iterable, Iterator, Sequence
 from dataclasses import dataclass
 from difflib import get_close_matches
 from pathlib import Path
+from typing import Any
 
 from ..compiled import load_compiler
 from ..crnsim.program import program_for
@@ -39,7 +40,9 @@ from .changes import Change
 from .correction import AIMS, aims_of
 from .learned import PRIOR, PRIOR_WINDOW, Learned, learned_of
 from .one import plan_asked
+from .prices import Prices
 from .question import NONE, Question, Settings, question_of
+from .together import PRICES, prices_of, wants_aims
 from .totals import Totals
 
 ANSWERS = f"{IN_KEPT}answers.sqlite"
@@ -47,6 +50,7 @@ PLANNED, TOTALS = "planned", "totals"  # facts beside the answers
 AGAIN = "run crnplan catalogue again"
 OLDER = "answers.sqlite"  # what an older version has kept beside the tables
 Decided = tuple[Item, Answer | Remark]
+LEARNED: dict[str, Any] = {"aims": Aims, "prices": Prices}  # of settings
 
 
 @dataclass(frozen=True)
@@ -90,10 +94,11 @@ class Planned:
             prior = Prior(NONE)
             if tree["borrow"] != NONE:
                 prior = Prior.parse(answers.fact(PRIOR) or "", str(answers.named))
-            aims = tree["settings"].pop("aims", None)
-            settings = Settings(
-                **tree["settings"], aims=None if aims is None else Aims.parse(aims)
-            )
+            found = tree["settings"]
+            for name, kind in LEARNED.items():
+                if found.get(name) is not None:
+                    found[name] = kind.parse(found[name])
+            settings = Settings(**found)
             return cls(
                 settings, prior, str(tree["common"]), str(tree.get("earlier", ""))
             )
@@ -294,7 +299,11 @@ def planned_folder(
         if planned is None:
             raise no_plan(path)
         with contextlib.closing(
-            Catalogued(path / READ, planned.settings.window)
+            Catalogued(
+                path / READ,
+                planned.settings.window,
+                planned=planned.settings.planned_by,
+            )
         ) as read:
             yield PlannedFolder(path, read, answers, planned)
 
@@ -303,7 +312,7 @@ def take_prior(answers: Store[Answer], earlier: PlannedFolder, again: bool) -> N
     """Keeps what the items of an earlier plan have learned, and where they aim, unless it is to be learned again."""
     if again:
         return
-    for name in (PRIOR, PRIOR_WINDOW, AIMS):
+    for name in (PRIOR, PRIOR_WINDOW, AIMS, PRICES):
         fact = earlier.store.fact(name)
         if fact is not None:
             answers.keep_facts({name: fact})
@@ -362,7 +371,9 @@ def planning(
     with (
         faults_of(folder.path),
         earlier_folder(after, folder) as earlier,
-        contextlib.closing(Catalogued(folder.path / READ, settings.window)) as read,
+        contextlib.closing(
+            Catalogued(folder.path / READ, settings.window, planned=settings.planned_by)
+        ) as read,
         contextlib.closing(Store(folder.store(ANSWERS), Answer)) as answers,
     ):
         if earlier:
@@ -371,9 +382,12 @@ def planning(
         learned = learned_of(answers, read, settings, again)
         prior, every = learned.prior, read.fact("every")
         settings = dataclasses.replace(settings, borrow=learned.usual, every=every)
-        if settings.correct:
+        if settings.correct and wants_aims(read, settings):
             aims = aims_of(folder, answers, read, settings, prior, means, again)
             settings = dataclasses.replace(settings, aims=aims)
+        if settings.together:
+            prices = prices_of(folder, answers, read, settings, prior, means, again)
+            settings = dataclasses.replace(settings, prices=prices)
         base = settings.common(means.program_digest(path), prior)
         planned = Planned(settings, prior, base, earlier.digest if earlier else "")
         work = Work(

@@ -3,21 +3,28 @@ from __future__ import annotations
 
 import dataclasses
 import math
+from collections.abc import Sequence
 from dataclasses import dataclass
 from typing import Any
 
+import numpy as np
+
+from ..chances import Floats, Whole
 from ..demand.borrowing import borrowed_laws
 from ..demand.posterior import allowed_laws, allowed_leads
 from ..errors import Refused
 from ..law import Law
 from ..remarks import Remark
-from ..theory.long_run import Candidate
+from ..theory.every_gap import best_policies
+from ..theory.long_run import NO_POLICY, Candidate, LongRun
 from ..theory.many_laws import Promises
 from .answer import ALONE, BEFORE, CHOSEN, OVERRIDE, TODAY, UNDAMPED
 from .question import NONE, Levels, NoPolicy, Question, Terms
 
 LAWS = 100  # that are drawn
 CLOSE = 1e-9  # Costs whose ratio differs from 1 by less are equal but for rounding.
+# Gaps of policies, and rows with their levels, stock, unmet demand and orders.
+Policies = tuple[Whole, Floats]
 
 
 @dataclass(frozen=True)
@@ -76,12 +83,45 @@ def allowed_by(
     return drawn.laws, allowed_leads(item.leads, times=laws, seed=seed).laws
 
 
+def by_prices(terms: Terms, theory: LongRun, prices: Sequence[float]) -> Policies:
+    """Returns the best policies of a theory of an item for prices of a box that is not met at once, in money: their
+    gaps; and their levels, stock, unmet demand and orders, in boxes. There is none if no policy is feasible.
+    """
+    if not len(theory.every_gap(0, theory.most)):
+        return np.empty(0, int), np.empty((4, 0))
+    rates = [terms.money(terms.rates[name]) for name in ("setup", "holding")]
+    costs = np.empty((3, len(prices)))
+    costs[:2] = np.reshape(rates, (2, 1))
+    costs[2] = prices
+    return best_policies(theory, costs)
+
+
+def best_by_price(terms: Terms, theory: LongRun, price: float) -> Candidate:
+    """Returns the best policy of a theory of an item for a price; none if no policy is feasible."""
+    gaps, (levels, *_) = by_prices(terms, theory, [price])
+    if not len(gaps):
+        return NO_POLICY
+    return theory.policy(int(gaps[0]), int(levels[0]))
+
+
+def best_in(terms: Terms, theory: LongRun) -> Candidate:
+    """Returns the best policy of a theory of an item: by the price of what is not met at once, if there is one and that
+    policy meets what the item meets at least; else the cheapest that meets the share at which it aims.
+    """
+    price, share = terms.price, terms.aim or 0.0
+    if price is not None:
+        best = best_by_price(terms, theory, price)
+        if best.cost == math.inf or theory.figures(*best.levels).fill >= share:
+            return best
+    return theory.best(share)
+
+
 def best_of(terms: Terms) -> tuple[Candidate, bool]:
-    """Returns the best policy within the bounds of an item, or the cheapest that meets the share it aims at; and whether
-    the bounds leave none, and this one meets most. Raises NoPolicy if there is none."""
-    theory, share = terms.theory, terms.aim or 0.0
-    best = theory.best(share)
-    is_bounded = best.cost == math.inf and theory.free.best(share).cost < math.inf
+    """Returns the best policy within the bounds of an item: see `best_in`; and whether the bounds leave none, and this
+    one meets most. Raises NoPolicy if there is none."""
+    theory = terms.theory
+    best = best_in(terms, theory)
+    is_bounded = best.cost == math.inf and best_in(terms, theory.free).cost < math.inf
     if is_bounded:
         best = theory.fullest()
     if best.cost == math.inf:
@@ -148,7 +188,8 @@ def damped(choice: Choice, question: Question, promises: Promises | None) -> Cho
     earlier, new = question.figures(before), question.figures(choice.levels)
     if earlier.fill < (question.aim or 0.0) or breaks(promises, before):
         return choice
-    if earlier.cost - new.cost >= least * earlier.cost:
+    cost = question.whole_cost(earlier)
+    if cost - question.whole_cost(new) >= least * cost:
         return choice
     return dataclasses.replace(choice, levels=before, undamped=choice.levels)
 

@@ -13,7 +13,7 @@ import dataclasses
 import itertools
 import json
 import math
-from collections.abc import Iterator, Sequence
+from collections.abc import Callable, Iterator, Sequence
 from typing import Any
 
 import numpy as np
@@ -34,7 +34,7 @@ from ..store.work import Work
 from .aims import FILLS, Aims, Trial
 from .learned import drawn_of_groups
 from .one import or_fault
-from .question import Levels, Settings, question_of
+from .question import Levels, Question, Settings, question_of
 
 TRIALS, AIMS = (
     f"{IN_KEPT}trials.sqlite",
@@ -63,11 +63,11 @@ def unmet_by(policies: Sequence[Levels], past: Past, start: float) -> Floats:
     """Returns the demand that policies do not meet at once, a row for each policy and a column for each period. They
     begin with nothing on order, and with a stock that is a share of the way from s to S.
     """
-    rows = list[list[int]]()
-    for s, S in policies:
+    rows = dict[Levels, list[int]]()
+    for s, S in {*policies}:
         levels, stock = [(s, S)] * len(past.demands), s + round(start * (S - s))
-        rows.append([period.unmet for period in periods_of(past, levels, stock)])
-    return np.array(rows, float)
+        rows[s, S] = [period.unmet for period in periods_of(past, levels, stock)]
+    return np.array([rows[levels] for levels in policies], float)
 
 
 def blocks_of(periods: int) -> Iterator[tuple[int, int]]:
@@ -77,25 +77,41 @@ def blocks_of(periods: int) -> Iterator[tuple[int, int]]:
     )
 
 
-def trial_of(item: Item, settings: Settings, prior: Prior) -> Trial:
-    """Returns what policies leave unmet in each block of an item's record, planned from all others. The record comes
-    twice, and its second time counts, so that a stock and orders are there as in the long run. Raises Refused if the
-    item can't be planned."""
-    periods, mean = len(item.counts), float(np.mean(item.counts))
-    if not mean:
+def unmet_in_blocks(
+    item: Item,
+    settings: Settings,
+    prior: Prior,
+    planned: Callable[[Question], Sequence[Levels]],
+) -> Floats:
+    """Returns what each policy of a plan, whose levels are in boxes, leaves unmet in all blocks of an item's record, of
+    which each is planned from the others. The record comes twice, and its second time counts, so that a stock and orders
+    are there as in the long run. Raises Refused if the item can't be planned."""
+    periods = len(item.counts)
+    if not any(item.counts):
         raise Refused("it has no demand")
     returns = item.returns or (0,) * periods
-    unmet = np.zeros(len(FILLS))
+    unmet = np.zeros(1)
     for first, end in blocks_of(periods):
         question = question_of(item.without(range(first, end)), settings, prior)
         box, random = question.item.box, np.random.default_rng(question.seed("trial"))
         past = Past(
             2 * item.counts, 2 * returns, question.lead.draws(random, 2 * periods)
         )
-        policies = [(s * box, S * box) for s, S in levels_of(question.theory.free)]
+        policies = [(s * box, S * box) for s, S in planned(question)]
         by_period = unmet_by(policies, past, float(random.random()))
-        unmet += by_period[:, periods + first : periods + end].sum(axis=1)
-    return Trial(mean, periods, tuple((unmet / mean).tolist()))
+        unmet = unmet + by_period[:, periods + first : periods + end].sum(axis=1)
+    return unmet
+
+
+def trial_of(item: Item, settings: Settings, prior: Prior) -> Trial:
+    """Returns what policies for `FILLS` leave unmet of an item's record. Raises Refused if it can't be planned."""
+
+    def planned(question: Question) -> list[Levels]:
+        return levels_of(question.theory.free)
+
+    unmet = unmet_in_blocks(item, settings, prior, planned)
+    mean = float(np.mean(item.counts))
+    return Trial(mean, len(item.counts), tuple((unmet / mean).tolist()))
 
 
 def trial_asked(item: Item, settings: Settings, prior: Prior) -> Trial | Remark:

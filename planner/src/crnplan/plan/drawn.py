@@ -37,7 +37,9 @@ class Draws:
     """Takes items with their sizes, which are what they cost, one by one, and keeps few of them: the greatest, and those
     that chance draws first. It does not matter in which order they come."""
 
-    def __init__(self) -> None:
+    def __init__(self, most: int = MOST, most_taken: int = MOST_TAKEN) -> None:
+        """Prepares to take and draw at most so many together, of which so many are taken for certain."""
+        self._most, self._most_taken = most, most_taken
         self._greatest = list[tuple[float, str]]()
         self._first = list[tuple[float, str, float]]()
 
@@ -45,24 +47,24 @@ class Draws:
         """Adds an item. One without a size is never drawn."""
         if size <= 0:
             return
-        _keep(self._greatest, (size, name), MOST)
+        _keep(self._greatest, (size, name), self._most)
         # As many may be taken for certain as are drawn.
-        _keep(self._first, (-uniform_of(name) / size, name, size), 2 * MOST)
+        _keep(self._first, (-uniform_of(name) / size, name, size), 2 * self._most)
 
     def drawn(self, total: float) -> Drawn:
         """Returns the items that are taken and drawn, of all whose sizes have this sum.
 
-        Greatest first, items are taken for certain until they carry `SHARE` of all, but no more than `MOST_TAKEN` of
+        Greatest first, items are taken for certain until they carry `SHARE` of all, but no more than may be of
         them; and beyond that while an item would be drawn with a chance of 1.
         """
         taken, left = list[str](), total
         for size, name in sorted(self._greatest, reverse=True):
-            is_carried = left <= (1 - SHARE) * total or len(taken) >= MOST_TAKEN
-            if is_carried and size * (MOST - len(taken)) < left:
+            is_carried = left <= (1 - SHARE) * total or len(taken) >= self._most_taken
+            if is_carried and size * (self._most - len(taken)) < left:
                 break
             taken.append(name)
             left -= size
-        certain, count = frozenset(taken), MOST - len(taken)
+        certain, count = frozenset(taken), self._most - len(taken)
         chances = dict[str, float]()
         for _, name, size in sorted(self._first, reverse=True):
             if name not in certain and len(chances) < count:

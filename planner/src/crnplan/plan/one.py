@@ -29,6 +29,7 @@ from .answer import (
     ALONE,
     BEFORE,
     BOUNDED,
+    BY_ITSELF,
     CHEAPER,
     CHOSEN,
     DAMPED,
@@ -49,11 +50,12 @@ from .answer import (
     Figures,
     LawFacts,
     Run,
+    Share,
 )
 from .binding import Bound, bounds_of, remarks_of_bounds, remarks_of_today
 from .bounds import COVERAGES
 from .checked_run import Sample, check_run, run_of, scenario_of
-from .choice import CLOSE, Choice, allowed_by, choice_of, levels_of
+from .choice import CLOSE, Choice, allowed_by, best_by_price, choice_of, levels_of
 from .packs import remarks_of_packs
 from .question import Levels, NoPolicy, Question, Settings, Unplanned, question_of
 
@@ -72,12 +74,13 @@ def verdict_of(
 ) -> str:
     """Returns the verdict on a policy that is not today's, by its saving, which is between both ends."""
     fill = question.aim
+    has_goal = fill is not None or question.together is not None
     if low is not None and low > 0:
         return CHEAPER
     if (
-        fill is not None
+        has_goal
         and not question.has_backlog
-        and (today.fill < fill or saving < 0)
+        and (today.fill < (fill or 0.0) or saving < 0)
     ):
         return SERVICE
     return DEARER if high is not None and high < 0 else UNDECIDED
@@ -138,12 +141,28 @@ def allowed_of(question: Question, levels: Levels) -> Allowed | None:
 def correction_of(question: Question) -> Correction | None:
     """Returns where the plan of an item aims by the past of its catalogue; None if nothing is corrected."""
     aim, wanted, theory = question.aim, question.item.fill, question.theory
-    if aim is None or wanted is None or question.settings.aims is None:
+    is_free = question.settings.aims is None or question.together is not None
+    if aim is None or wanted is None or is_free:
         return None
     plain = theory.best(float(wanted))
     if plain.cost == math.inf:
         plain = theory.fullest()
     return Correction(aim, question.figures(plain.levels).stock)
+
+
+def share_of(question: Question) -> Share | None:
+    """Returns what an item adds to the share that its group meets; None if it is planned by itself."""
+    group, price, least = question.together, question.price, question.aim
+    if group is None or price is None:
+        return None
+    is_least = False
+    if least is not None:
+        theory = question.theory
+        best = best_by_price(question, theory, price)
+        is_least = theory.figures(*best.levels).fill < least
+    settings = question.settings
+    weight = settings.weight_of(question.item)
+    return Share(group, settings.together[group], weight, is_least)
 
 
 def remarks_of_past(question: Question, allowed: Allowed | None) -> Iterator[Remark]:
@@ -178,6 +197,8 @@ def remarks_of(question: Question, sample: Sample, choice: Choice) -> Iterator[R
         yield Remark("steps", {"items": theory.step * question.item.box})
     if question.rate_error > ROUGH_RATES:
         yield Remark("rounded costs", {"error": question.rate_error})
+    if question.together is None and settings.named_group(question.item) is not None:
+        yield Remark(BY_ITSELF)
     if not choice.is_promised:
         yield Remark("no promise", {"confidence": settings.confidence})
     is_compared = question.levels not in (None, choice.levels)
@@ -186,12 +207,15 @@ def remarks_of(question: Question, sample: Sample, choice: Choice) -> Iterator[R
         yield Remark("no interval", {"orders": orders})
 
 
-def remarks_of_damping(figures: Mapping[str, Figures]) -> Iterator[Remark]:
+def remarks_of_damping(
+    question: Question, figures: Mapping[str, Figures]
+) -> Iterator[Remark]:
     """Yields that the policy of an earlier plan stays, with what the change would gain, if that is so."""
     before, best = figures.get(BEFORE), figures.get(UNDAMPED)
     if before and best:
-        gain = before.cost - best.cost
-        share = gain / before.cost
+        cost = question.whole_cost(before)
+        gain = cost - question.whole_cost(best)
+        share = gain / cost
         facts = {"s": best.point, "S": best.level, "gain": gain, "share": share}
         yield Remark(DAMPED, facts)
 
@@ -269,7 +293,7 @@ def answer_of(question: Question, choice: Choice, program: str) -> Answer:
         *remarks_of_past(question, allowed),
         *remarks_of(question, sample, choice),
         *remarks_of_choice(question, choice, bounds),
-        *remarks_of_damping(figures),
+        *remarks_of_damping(question, figures),
     )
     return Answer(
         verdict,
@@ -292,6 +316,7 @@ def answer_of(question: Question, choice: Choice, program: str) -> Answer:
         remarks,
         allowed,
         figures.get(OVERRIDE),
+        share_of(question),
     )
 
 

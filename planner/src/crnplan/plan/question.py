@@ -3,7 +3,7 @@ from __future__ import annotations
 
 import dataclasses
 import json
-from collections.abc import Mapping
+from collections.abc import Mapping, Sequence
 from dataclasses import dataclass, field
 from fractions import Fraction
 from functools import cached_property
@@ -20,7 +20,7 @@ from ..law import Law
 from ..money import rounded_costs
 from ..options import check_words, option
 from ..read.bounds import Bounds
-from ..read.item import BORROW, NEW, Item
+from ..read.item import BORROW, NEW, PLANNED, WEIGHED, Item
 from ..remarks import Remark, Value
 from ..scenario import Costs, Levels as Levels, Scenario
 from ..theory.lattice import lattice_of, rough_lattice, shape_of, theory_on
@@ -29,9 +29,10 @@ from ..words import advice, sentence
 from .aims import Aims
 from .answer import Figures, Laws
 from .bounds import MOST_COVERAGE, feasible_of
+from .prices import REST, UNITS, VALUE, Prices
 
 SEED_BITS = 32
-VERSION = 9  # Answers of others are not used again.
+VERSION = 10  # Answers of others are not used again.
 NONE, CLASS, ALL = BORROW
 MOST_GAPS = 4_000  # of a lattice: with 150 times as many, a search takes half a minute
 
@@ -62,6 +63,10 @@ class Settings:
     are bounds of items whose masters state none: the smallest order, the most periods of demand that S covers (without
     one S - s covers at most two years), and the smallest s (by default 1 if a fill rate is wanted, so that no order
     waits for a customer).
+
+    What is wanted `together` by class, or of all others under an empty name, items without a backlog cost meet all
+    together, by the `prices` of what is not met at once: in place of a fill rate of each, but `at_least` that one. They
+    `weigh` by value or by units.
     """
 
     seed: str = "crnplan"
@@ -80,17 +85,64 @@ class Settings:
     order_min: int | None = None
     max_coverage: int | None = None
     s_min: int | None = None
+    together: Mapping[str, float] = field(default_factory=dict)
+    weigh: str = VALUE
+    at_least: float | None = None
     aims: Aims | None = field(default=None, repr=False)
+    prices: Prices | None = field(default=None, repr=False)
 
     def __post_init__(self) -> None:
         check_words(self)
         option("settings.lead.fit").check(self.lead_fit)
+        self._check_together()
         if self.fit != "auto" and self.borrow not in (None, NONE):
             raise Refused(
                 f"{argument('fit', self.fit)} fits each item alone, and "
                 f"{argument('borrow', str(self.borrow))} learns from others",
                 "leave one out",
             )
+
+    def _check_together(self) -> None:
+        """Raises Refused for words on what is wanted together that can't be meant."""
+        least = self.at_least
+        if not self.together and (least is not None or self.weigh != VALUE):
+            word = "weigh" if least is None else "at_least"
+            raise Refused(
+                f"{argument(word)} is of items that are planned together",
+                f"say what share these meet by {argument('together')}",
+            )
+        if self.together and self.confidence is not None:
+            raise Refused(
+                f"{argument('confidence')} keeps a fill rate of each item, and {argument('together')} has one share of "
+                "all items",
+                "leave one out",
+            )
+        if least is not None and least >= min(self.together.values()):
+            raise Refused(
+                f"{argument('at_least', f'{least:g}')} is no less than what all items are to meet together",
+                "write a lower share",
+            )
+
+    @property
+    def planned_by(self) -> Sequence[str]:
+        """Returns the columns of items that their plans depend on."""
+        return WEIGHED if self.together else PLANNED
+
+    def named_group(self, item: Item) -> str | None:
+        """Returns the group for which a share is wanted that would have an item, whether it has a weight or not: the one
+        of its class, or that of the rest; None if there is none."""
+        if item.backlog is not None:
+            return None
+        group = item.category if item.category in self.together else REST
+        return group if group in self.together else None
+
+    def group_of(self, item: Item) -> str | None:
+        """Returns the group with which an item is planned together; None if it is planned by itself."""
+        return self.named_group(item) if self.weight_of(item) else None
+
+    def weight_of(self, item: Item) -> float:
+        """Returns what an item weighs; 0 if it has no price, and items weigh by value."""
+        return 1.0 if self.weigh == UNITS else float(item.price or 0)
 
     def common(self, program: str, prior: Prior) -> str:
         """Returns what all answers depend on, with the digest of the program and what was learned, as a text. The least
@@ -173,10 +225,38 @@ class Terms:
         return self.settings.bounds_of(self.item)
 
     @property
+    def together(self) -> str | None:
+        """Returns the group with which the item is planned together; None if it is planned by itself."""
+        return self.settings.group_of(self.item)
+
+    @property
+    def price(self) -> float | None:
+        """Returns what a box costs that is not met at once, beside orders and stock, by the price of the item's group: in
+        money. None if there is none."""
+        group, prices = self.together, self.settings.prices
+        if group is None or prices is None:
+            return None
+        weight = self.settings.weight_of(self.item)
+        return prices.groups[group].price * weight * self.item.box
+
+    def whole_cost(self, figures: Figures) -> float:
+        """Returns what a policy costs a period, with what it does not meet at once by the price of the item's group."""
+        unmet = (1 - figures.fill) * float(self.demand.mean)
+        return figures.cost + (self.price or 0.0) * unmet
+
+    @property
+    def wanted(self) -> Fraction | float | None:
+        """Returns the share of demand that is wanted at once, of an item that is planned together with others the least
+        one; None if none is wanted."""
+        if self.together is None:
+            return self.item.fill
+        return self.settings.at_least
+
+    @property
     def aim(self) -> float | None:
         """Returns the fill rate at which the plan aims by the law: the wanted one, or what the past of the catalogue
         makes of it. None if none is wanted."""
-        wanted, aims = self.item.fill, self.settings.aims
+        wanted, aims = self.wanted, self.settings.aims
         if wanted is None:
             return None
         if aims is None:

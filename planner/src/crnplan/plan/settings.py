@@ -176,7 +176,7 @@ def check_of(word: Option) -> Check:
             return horizon(*word.range)
         case "share" | "percent":
             return share(word.example)
-        case "stated":
+        case "stated" | "shares":
             return stated(word.read)
     return CHECKS[word.kind]
 

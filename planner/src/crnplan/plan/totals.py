@@ -12,7 +12,17 @@ from statistics import NormalDist
 from ..read.classes import xyz_of
 from ..read.item import ENDED, NO_DEMAND, UNORDERED, Item
 from ..remarks import Remark
-from .answer import CHOSEN, OURS, RUN, TODAY, Answer, CostParts, Figures
+from .answer import (
+    BY_ITSELF,
+    CHOSEN,
+    OURS,
+    RUN,
+    TODAY,
+    Answer,
+    CostParts,
+    Figures,
+    Share,
+)
 
 # The name of sums over chosen policies that are compared with none.
 UNCOMPARED = "uncompared"
@@ -55,13 +65,16 @@ class Totals:
     those that have stopped or are phased out. Of all planned ones `confidence_cost` and `coverage_cost` of a period, `override_cost`,
     by which the policies of planners cost more than the chosen ones, and
     of items whose wanted fill is corrected, what it costs a period to hold the mean stock, `held`, and that of the
-    policies that aim at the wanted fill, `held_plain`.
+    policies that aim at the wanted fill, `held_plain`. Of each group of items that are planned together the weight of
+    the demand of a period, `together GROUP`, and of what is met at once of it, `met together GROUP`.
 
     Counts of items: by verdict, those that are `compared`, those that are not planned (`faults`), those of them by a
     fault of ours (`broken`), with a confidence in their fill rate (`promised`), whose S, or S - s, may cover no more
     periods (`covered`), by the wanted fill, if that is `corrected`, and by the `letters` A, B, C and X, Y, Z of their
     classes, and those with levels of the planner (`overridden`); of those that are compared, those with the run's figures (`by_run`), without an interval of the run, and
-    with a price.
+    with a price. `shared` has by group how many are planned together, `least` how many of these have the fill rate that
+    each has at least, and `fills` the least fill rate and the greatest one; and so many that should be planned together
+    are planned by themselves (`by_itself`).
     """
 
     parts: dict[str, Fraction] = field(default_factory=dict)
@@ -77,6 +90,10 @@ class Totals:
     overridden: int = 0
     letters: Counter[str] = field(default_factory=Counter)
     corrected: Counter[float] = field(default_factory=Counter)
+    shared: Counter[str] = field(default_factory=Counter)
+    least: Counter[str] = field(default_factory=Counter)
+    fills: dict[str, list[float]] = field(default_factory=dict)
+    by_itself: int = 0
 
     @classmethod
     def of(cls, answers: Iterable[tuple[Item, Answer | Remark]]) -> Totals:
@@ -108,9 +125,8 @@ class Totals:
         tree = json.loads(text)
         totals = cls(**tree)
         totals.parts = {name: Fraction(part) for name, part in tree["parts"].items()}
-        totals.verdicts, totals.letters = Counter(totals.verdicts), Counter(
-            totals.letters
-        )
+        for name in ("verdicts", "letters", "shared", "least"):
+            setattr(totals, name, Counter(getattr(totals, name)))
         totals.corrected = Counter(dict(tree["corrected"]))
         return totals
 
@@ -160,6 +176,9 @@ class Totals:
             self.corrected[float(item.fill)] += 1
             values["held"] = holding * answer.chosen.stock
             values["held_plain"] = holding * answer.correction.plain_stock
+        self.by_itself += any(remark.code == BY_ITSELF for remark in answer.remarks)
+        if answer.share:
+            values |= self._shared(answer, answer.share)
         if answer.is_compared:
             values |= self._compared(item, answer)
         else:
@@ -169,6 +188,18 @@ class Totals:
             values[f"demand_{UNCOMPARED}"] = asked_value(item, answer)
         for name, value in values.items():
             self.add_to(name, value)
+
+    def _shared(self, answer: Answer, share: Share) -> dict[str, float]:
+        """Counts an item that is planned together with others, and returns what it adds to sums."""
+        fill, asked = answer.chosen.fill, share.weight * answer.law.mean
+        low, high = self.fills.get(share.group, [fill, fill])
+        self.fills[share.group] = [min(low, fill), max(high, fill)]
+        self.shared[share.group] += 1
+        self.least[share.group] += share.is_least
+        return {
+            f"together {share.group}": asked,
+            f"met together {share.group}": asked * fill,
+        }
 
     def _compared(self, item: Item, answer: Answer) -> dict[str, float]:
         """Counts an item that is compared with a policy of today, and returns what it adds to sums."""

@@ -109,7 +109,7 @@ def cases_of(terms: Terms, notes: list[Remark]) -> Iterator[Case]:
         if cost:
             for word, times in TIMES.items():
                 yield Case(f"{name} {word}", {name: cost * times})
-    if terms.item.fill is not None:
+    if terms.item.fill is not None and terms.together is None:
         for unmet_times in (0.5, 2.0):
             fill = 1 - unmet_times * (1 - float(terms.item.fill))
             if fill > 0:

@@ -56,12 +56,18 @@ class Catalogued:
     """What was read of a catalogue: its items in order of their names, what was left out, and facts by name."""
 
     def __init__(
-        self, path: Path, window: int | None = None, is_known: bool = False
+        self,
+        path: Path,
+        window: int | None = None,
+        is_known: bool = False,
+        planned: Sequence[str] = PLANNED,
     ) -> None:
         """Opens a file that was written by `Writer`, whose items are given by their last `window` periods, or by all.
-        Raises Refused if it is not there, and Damaged, but for a file that is known to be whole.
+        Plans depend on the columns `planned`. Raises Refused if it is not there, and Damaged, but for a file that is
+        known to be whole.
         """
         self.path, self.window, self.folder = path, window, path.parent.parent
+        self.planned = planned
         if not path.is_file():
             raise Refused(
                 f"{self.folder}: no catalogue was read into this folder",
@@ -115,12 +121,12 @@ class Catalogued:
 
     def digests(self, common: str) -> Iterator[tuple[str, str]]:
         """Yields the name of each item with the digest of what its plan depends on, and of what is common to all."""
-        for row in self._rows(quoted(PLANNED)):
+        for row in self._rows(quoted(self.planned)):
             yield row[0], digest_of(common, row)
 
     def digest(self, name: str, common: str) -> str:
         """Returns the digest of what the plan of an item depends on."""
-        return digest_of(common, next(self._rows(quoted(PLANNED), name), None))
+        return digest_of(common, next(self._rows(quoted(self.planned), name), None))
 
     def cells(self, *columns: str) -> Iterator[tuple[Any, ...]]:
         """Yields some columns of all items, as they are kept, in order."""

@@ -12,7 +12,7 @@ from ..money import Number
 from ..options import PLAN, option
 from ..table import names_of
 from ..words import message
-from .amounts import SIGNS
+from .amounts import SIGNS, share_of
 from .cells import HEADINGS, Cell, Unreadable
 from .times import TimeReader
 
@@ -39,6 +39,8 @@ class Defaults:
     or several, with their units. What the row of an item says counts first, then its class, or its receipts. `currency`
     is that of all amounts, empty if only the files say it. The classes A and B end at these shares of the value of
     demand, in percent (`abc`). `supplier_min` is the least value of an order by supplier, beside those of the masters.
+    What items are wanted to meet `together` by class, or all others under an empty name, is the wanted share of items for
+    which nothing else says one.
     """
 
     setup: Fraction | None = None
@@ -49,6 +51,7 @@ class Defaults:
     currency: str = ""
     abc: tuple[int, int] = ABC
     supplier_min: Mapping[str, Fraction] = field(default_factory=dict)
+    together: Mapping[str, Fraction] = field(default_factory=dict)
 
     @classmethod
     def of(cls, **stated: Any) -> Defaults:
@@ -89,22 +92,33 @@ class Defaults:
                 f"{argument('lead', self.lead)}: {message(why.remark)}"
             ) from why
 
-    def fill_of(self, group: str, own: Fraction | None) -> tuple[Fraction | None, str]:
-        """Returns the wanted fill of an item of a class, and where it is from; None and no source if there is none."""
-        for source, fill in (
+    def fill_of(
+        self, group: str, own: Fraction | None, backlog: Fraction | None
+    ) -> tuple[Fraction | None, str]:
+        """Returns the wanted fill of an item of a class with a backlog cost, and where it is from; None and no source if
+        there is none."""
+        stated = [
             (MASTERS, own),
             (CLASS, self.service.get(group)),
             (DEFAULT, self.fill),
-        ):
+        ]
+        if backlog is None:
+            stated += [
+                (CLASS, self.together.get(group)),
+                (DEFAULT, self.together.get("")),
+            ]
+        for source, fill in stated:
             if fill is not None:
                 return fill, source
         return None, ""
 
     def check_classes(self, groups: Collection[str]) -> None:
-        """Raises Refused if a fill is wanted for a class that no item has."""
-        for name, fill in self.service.items():
+        """Raises Refused if a share is wanted for a class that no item has."""
+        shares = [("service", *pair) for pair in self.service.items()]
+        shares += [("together", *pair) for pair in self.together.items() if pair[0]]
+        for word, name, share in shares:
             if name not in groups:
-                stated = argument("service", f"{name}={float(fill):g}")
+                stated = argument(word, f"{name}={float(share):g}")
                 known = names_of(sorted(filter(None, groups)), MOST_CLASSES)
                 raise Refused(
                     f"{stated}: no item has the class {name!r}",
@@ -118,6 +132,13 @@ def read_argument(name: str, value: Any, read: Callable[[Any], Value]) -> Value:
         return read(value)
     except Refused as why:
         raise Refused(f"{argument(name)}: {why.what}", why.advice) from why
+
+
+def shares_of(value: Any) -> dict[str, Fraction]:
+    """Returns shares by class, such as {"A": "98%"}; a single one is that of all other classes, under an empty name.
+    Raises Refused."""
+    stated = value if isinstance(value, Mapping) else {"": value}
+    return {name: share_of(stated[name]) for name in sorted(stated)}
 
 
 def lead_of(value: Any) -> str:

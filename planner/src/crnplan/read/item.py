@@ -143,5 +143,8 @@ def overridden(item: Item, override: Override | None) -> Item:
     )
 
 
-# The columns of the facts that a plan depends on.
-PLANNED = columns_of(Item).names[: columns_of(Item).names.index("stock")]
+# The columns of the facts that a plan depends on; and if items are planned together, each by its weight and class.
+PLANNED: tuple[str, ...] = columns_of(Item).names[
+    : columns_of(Item).names.index("stock")
+]
+WEIGHED = (*PLANNED, "price", "category")

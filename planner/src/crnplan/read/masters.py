@@ -140,7 +140,7 @@ class Masters:
         def add(role: str, code: str, **facts: Value) -> None:
             faults.append(fault(role, cells.get(role, ""), code, **facts))
 
-        fill, _ = self.defaults.fill_of(group, read["fill"])
+        fill, _ = self.defaults.fill_of(group, read["fill"], read["backlog"])
         is_goal_read = not unread & {"backlog", "fill"}
         if is_goal_read and read["backlog"] is None and fill is None:
             add("backlog", "no goal")
@@ -174,7 +174,9 @@ class Masters:
         price = self._price(read)
         stated = read["lead"] or ()
         sources = self._sources(read, observed)
-        fill, sources["fill"] = self.defaults.fill_of(group, read["fill"])
+        fill, sources["fill"] = self.defaults.fill_of(
+            group, read["fill"], read["backlog"]
+        )
         read["setup"] = self.defaults.setup if read["setup"] is None else read["setup"]
         status, predecessor = read["status"] or ("", "")
         item = Item(

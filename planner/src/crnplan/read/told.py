@@ -14,7 +14,7 @@ from typing import Any, TypeVar
 from ..options import key_of
 from .choosing import conditions_of
 from .columns import ROLES
-from .defaults import Defaults
+from .defaults import Defaults, read_argument, shares_of
 from .items import Words
 
 Tree = dict[str, Any]
@@ -30,10 +30,12 @@ UNSTATED = {
     "lead_fit",
     "season",
     "aims",
+    "prices",
 }
 # Fields with values by file and role, whose keys are FILE.ROLE.
 BY_PLACE = ("units", "names")
 WRITTEN = "written"  # the field of how each file is written
+TOGETHER = "together"  # the field of shares by class
 # What is said of all files, and what it replaces of a single one.
 OF_ALL_FILES = {
     "delimiter": "delimiter",
@@ -141,7 +143,11 @@ def _given(kind: type, tree: Mapping[str, Any]) -> Tree:
 
 def made_from(kind: type[Made], tree: Mapping[str, Any]) -> Made:
     """Returns a value of a class with the words of a table that it has. Raises Refused for what can't be meant."""
-    return kind(**_given(kind, tree))
+    given = _given(kind, tree)
+    if TOGETHER in given:
+        shares = read_argument(TOGETHER, given[TOGETHER], shares_of)
+        given[TOGETHER] = {group: float(share) for group, share in shares.items()}
+    return kind(**given)
 
 
 def words_of(arguments: Mapping[str, Any]) -> Words:

@@ -194,5 +194,9 @@ def past_line(past: Past | None) -> str:
             "The test on your own past is not of this plan. Run crnplan backtest FOLDER again, then crnplan report "
             "FOLDER."
         )
-    corrected = " That is without the correction." if past.corrects else ""
-    return first_line(past.sums) + corrected
+    lines = [first_line(past.sums)]
+    if past.corrects:
+        lines.append("That is without the correction.")
+    if past.together:
+        lines.append("That is with a fill rate for each item, not together.")
+    return " ".join(lines)

@@ -12,7 +12,7 @@ from urllib.parse import quote
 
 from ..crnsim.program import find_program
 from ..curve.parts import Point
-from ..curve.exchange_curve import SAID, kept_curve
+from ..curve.exchange_curve import kept_curve, said_of
 from ..store.digests import sha256
 from ..store.files import Folder, own_folder
 from ..store.clusters import Scheduler
@@ -22,6 +22,7 @@ from ..plan.answer import CHOSEN, TODAY, Answer
 from ..plan.backtest.catalogue import past_of
 from ..plan.catalogue import PlannedFolder, planned_folder
 from ..plan.item import Depth
+from ..plan.question import Settings
 from ..plan.survey import Decided, Survey, saving_of
 from ..plan.swings import keep_swings
 from ..plan.totals import Totals
@@ -43,6 +44,7 @@ from .catalogue_tables import (
     exact_of,
     reasons_of,
     rejects_of,
+    together_of,
 )
 from .change_tables import CHANGES, change_lines, changes_of, moved_rows
 from ..columns import declared
@@ -141,7 +143,7 @@ def catalogue_page(
     totals, currency, curve = survey.totals, folder.currency, kept_curve(folder.store)
     money = Money(currency.code, currency.decimals)
     rows = shown_items(survey.greatest, currency.digits)
-    shown_curve = curve or known_points(totals)
+    shown_curve = curve or known_points(totals, folder.settings)
     plot, points = exchange_plot(shown_curve, money) if shown_curve else (None, [])
     return rendered(
         "catalogue.html",
@@ -155,6 +157,7 @@ def catalogue_page(
                 folder.read.controls(), folder.currency.decimals, currency.code
             ),
             "aims": aims_of(folder, totals),
+            "groups": together_of(folder, totals),
             "lost": missing_of(folder.counts, totals.answered),
             "past": past_line(past_of(folder)),
             "changes": change_lines(folder),
@@ -252,13 +255,14 @@ def clipped(
     return [*zip(places.tolist(), np.interp(places, values, shares).tolist())]
 
 
-def known_points(totals: Totals) -> list[tuple[str, Point]]:
+def known_points(totals: Totals, settings: Settings) -> list[tuple[str, Point]]:
     """Returns the points of the exchange curve that are known before it is drawn, without their orders and costs."""
     points = []
     for name in (TODAY, CHOSEN) if totals.compared else (CHOSEN,):
         figures = totals.stock_and_service(name)
         if figures:
-            points.append((SAID[name], Point(*figures, math.nan, math.nan)))
+            point = Point(*figures, math.nan, math.nan)
+            points.append((said_of(name, settings), point))
     return points
 
 

@@ -9,6 +9,7 @@ from typing import TYPE_CHECKING, Any, NamedTuple
 
 from ..plan.aims import CLASSES, Tried
 from ..plan.answer import RUN, THEORY, Answer, Figures
+from ..plan.prices import Price
 from ..read.catalogue_reading import defaulted
 from ..read.classes import xyz_of
 from ..read.item import NO_DEMAND, UNORDERED, Item
@@ -36,6 +37,8 @@ AS_READ = frozenset(
     (*OUTSIDE, "total", "twin", "twins", "before order", "lead range")
 )  # codes of the latter
 PLANNED_BY = {THEORY: "theory", RUN: "crnsim"}
+# Items that are planned together: those of all classes, or of all but the named ones.
+ALL_CLASSES, OTHER_CLASSES = "all", "others"
 MOST_WANTED = 3  # fill rates, of which the aims are shown
 
 
@@ -67,6 +70,13 @@ class Decision:
         if self.answer:
             return self.answer.verdict
         return self.item.past
+
+    @property
+    def fill_wanted(self) -> Fraction | None:
+        """Returns the fill rate that is wanted of the item; None if it is planned together with others."""
+        if self.answer and self.answer.share:
+            return None
+        return self.item.fill
 
     @property
     def planned_by(self) -> str | None:
@@ -213,6 +223,44 @@ class Aimed(NamedTuple):
         return self.tried.met(self.aimed)
 
 
+class Together(NamedTuple):
+    """A group of items that are planned together, by its `price`, with what they come to."""
+
+    group: str
+    price: Price
+    totals: Totals
+    has_others: bool
+
+    @property
+    def name(self) -> str:
+        """Returns the class of the group: all items, or those of other classes than named ones, have none."""
+        return self.group or (OTHER_CLASSES if self.has_others else ALL_CLASSES)
+
+    @property
+    def items(self) -> int:
+        return self.totals.shared[self.group]
+
+    @property
+    def promised(self) -> float | None:
+        """Returns the share that the chosen policies meet by theory; None if no item is planned."""
+        asked = self.totals[f"together {self.group}"]
+        return self.totals[f"met together {self.group}"] / asked if asked else None
+
+    @property
+    def least(self) -> float | None:
+        fills = self.totals.fills.get(self.group)
+        return fills[0] if fills else None
+
+    @property
+    def greatest(self) -> float | None:
+        fills = self.totals.fills.get(self.group)
+        return fills[1] if fills else None
+
+    @property
+    def at_least(self) -> int:
+        return self.totals.least[self.group]
+
+
 def line_of(reject: Reject) -> int | None:
     return reject.line or None
 
@@ -228,6 +276,7 @@ def advice_of(reject: Reject) -> str:
 DECISION_COLUMNS = columns_of("show", "decisions")
 EXACT_COLUMNS = columns_of("show", "exact")
 AIM_COLUMNS = columns_of("show", "aims")
+TOGETHER_COLUMNS = columns_of("show", "together")
 REJECT_COLUMNS = columns_of(
     "show", "rejects", {"line": line_of, "reason": reason_of, "advice": advice_of}
 )
@@ -374,6 +423,21 @@ def aims_of(folder: PlannedFolder, totals: Totals) -> DataTable | None:
     return DataTable.of(AIM_COLUMNS, aimed)
 
 
+def together_of(folder: PlannedFolder, totals: Totals) -> DataTable | None:
+    """Returns what the groups come to whose items are planned together; None if none are."""
+    prices = folder.settings.prices
+    if prices is None:
+        return None
+    has_others = len(prices.groups) > 1
+    groups = [
+        Together(group, price, totals, has_others)
+        for group, price in sorted(prices.groups.items())
+    ]
+    has = {"past": folder.settings.correct, "at_least": folder.settings.at_least}
+    columns = [it for it in TOGETHER_COLUMNS if has.get(it.name, True)]
+    return DataTable.of(columns, groups)
+
+
 def catalogue_summary(
     folder: PlannedFolder,
     totals: Totals,
@@ -398,6 +462,7 @@ def catalogue_summary(
             "ends": totals.run_ends(settings.level),
             "missing": missing,
             "aims": aims_of(folder, totals),
+            "together": together_of(folder, totals),
             "money": folder.currency.text,
             "remarks": read.remarks(),
             "controls": controls_of(

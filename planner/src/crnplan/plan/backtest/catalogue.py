@@ -34,8 +34,10 @@ class Records(Catalogued):
     """A catalogue as it was at the end of the record of each item, by the last periods of that which count for a
     plan."""
 
-    def __init__(self, path: Path, record: int, periods: int | None) -> None:
-        super().__init__(path)
+    def __init__(
+        self, path: Path, record: int, periods: int | None, planned: Sequence[str]
+    ) -> None:
+        super().__init__(path, planned=planned)
         self.record, self.periods = record, periods
 
     def counting(self, item: Item) -> Item:
@@ -72,18 +74,29 @@ class Tested:
 @dataclass(frozen=True)
 class Past:
     """What the test in the folder of a plan says of all its items, None if it tests none. `is_old` says whether it is
-    of other rows or settings than the plan, `corrects` whether the plan corrects fill rates, which no test does.
+    of other rows or settings than the plan, `corrects` whether the plan corrects fill rates, and `together` whether it
+    plans items together, which no test does.
     """
 
     sums: Sums | None
     is_old: bool
     corrects: bool
+    together: bool
 
 
 def uncorrected(settings: Settings) -> Settings:
-    """Returns settings by which plans are tested: what a catalogue has learned of fill rates is from all its periods,
-    also from those on which they are tested."""
-    return dataclasses.replace(settings, correct=False, aims=None)
+    """Returns settings by which plans are tested: what a catalogue has learned of fill rates and of prices is from all
+    its periods, also from those on which they are tested. So each item has its own fill rate.
+    """
+    return dataclasses.replace(
+        settings,
+        correct=False,
+        aims=None,
+        together={},
+        weigh=Settings.weigh,
+        at_least=None,
+        prices=None,
+    )
 
 
 def past_of(planned: PlannedFolder) -> Past | None:
@@ -98,9 +111,10 @@ def past_of(planned: PlannedFolder) -> Past | None:
         if settings != dataclasses.asdict(uncorrected(planned.settings)) or (
             tests.digest != whole_digest(planned.read, common)
         ):
-            return Past(None, True, False)
+            return Past(None, True, False, False)
         kept = (test for _, _, test in tests.answers() if isinstance(test, Backtest))
-        return Past(whole_of(sums_of(kept)), False, planned.settings.correct)
+        corrects, together = planned.settings.correct, bool(planned.settings.together)
+        return Past(whole_of(sums_of(kept)), False, corrects, together)
 
 
 def backtest_into(
@@ -111,7 +125,9 @@ def backtest_into(
     path = folder.path / READ
     with (
         faults_of(folder.path),
-        contextlib.closing(Records(path, walk.record, settings.window)) as read,
+        contextlib.closing(
+            Records(path, walk.record, settings.window, settings.planned_by)
+        ) as read,
         contextlib.closing(Store(folder.store(TESTS), Backtest)) as tests,
     ):
         every, learned = read.fact("every"), learned_of(tests, read, settings, True)

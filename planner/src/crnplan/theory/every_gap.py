@@ -1,7 +1,7 @@
 """Finds the best policies of an item for many prices, among all levels: with one lead time of all gaps.
 
 With one lead time, the stock of a policy and the demand that it does not meet at once are means over its lows (see
-`theory/long_run.py`). Each gap adds its low to the sums of all levels, so each takes one look at the levels. Of these
+`long_run.py`). Each gap adds its low to the sums of all levels, so each takes one look at the levels. Of these
 the lower hull is found, and its vertex for each price is compared with the best of the gaps before.
 
 Let M(g) be the sum of the chances of the lows up to the gap g, C(g) the least cost of g for a price, and F the least
@@ -10,7 +10,7 @@ M(g) C(g) + (M(n) - M(g)) F for a wider gap n. So if a policy costs B, no gap is
 M(g) (1 + (C(g) - B) / (B - F)). Gaps are left out that are better for no price, and of others the levels that are best
 for dearer prices or cheaper ones alone. Costs B are first found on a grid.
 
-With several lead times each gap has its own law of the stock (see `theory/shortfalls.py`). Some are looked at on a grid,
+With several lead times each gap has its own law of the stock (see `shortfalls.py`). Some are looked at on a grid,
 and others then ever finer beside the best and where costs that are convex may be lower by more than a share.
 """
 from __future__ import annotations
@@ -19,12 +19,12 @@ import numpy as np
 
 from ..chances import Floats, Whole, add_times
 from ..compiled import compiled
-from ..theory.figures import STOCK_LEFT, UNMET
-from ..theory.grid import gap_grid
-from ..theory.levels import NEAR
-from ..theory.long_run import LongRun
-from ..theory.shortfalls import LEAST_CHANCE
+from .figures import STOCK_LEFT, UNMET
+from .grid import gap_grid
+from .levels import NEAR
+from .long_run import LongRun
 from .points import choose_points
+from .shortfalls import LEAST_CHANCE
 
 # Shares of the best cost: by which gaps may be better that are not looked at, and beyond which costs are far more.
 GAIN = 5e-5

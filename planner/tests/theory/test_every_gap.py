@@ -3,27 +3,25 @@ they are written."""
 from __future__ import annotations
 
 import functools
-import tomllib
 from collections.abc import Iterator, Sequence
-from pathlib import Path
 from typing import Any
 
 import numpy as np
 import pytest
 
 from crnplan.chances import Floats
-from crnplan.curve import every_gap, points
-from crnplan.curve.every_gap import GAIN, best_policies
 from crnplan.scenario import Costs, Scenario
+from crnplan.theory import every_gap, points
+from crnplan.theory.every_gap import GAIN, best_policies
 from crnplan.theory.feasible import ALL, Feasible
 from crnplan.theory.lattice import shape_of, theory_on
 from crnplan.theory.figures import STOCK_LEFT, UNMET
 from crnplan.theory.long_run import LongRun
-from planner.tests.conftest import leave_as_written
+from planner.tests.conftest import cases_beside, leave_as_written
 from planner.tests.theory.long_run_costs import fills_of, shortfall_of
 from planner.tests.theory.scenarios import Pair, means_by_level, scenario_of
 
-FINER = tomllib.loads(Path(__file__).with_name("finer.toml").read_text("utf-8"))
+FINER = cases_beside(__file__)
 # Costs of an order, of an item in stock, and of one that is not met at once, by case.
 RATES = np.array([(30, 1), (90, 1), (30, 4), (0, 1)], float)
 PRICES = 10.0 ** np.arange(-3, 5)

@@ -1,0 +1,195 @@
+"""What items that are planned together leave unmet at some prices: by theory, and on the past."""
+from __future__ import annotations
+
+import math
+from collections.abc import Mapping, Sequence
+from dataclasses import dataclass, field
+
+import numpy as np
+import numpy.typing as npt
+
+from ..chances import Floats, Whole
+from ..demand.learning import Prior
+from ..read.item import Item
+from ..remarks import Remark
+from .choice import by_prices
+from .correction import unmet_in_blocks
+from .drawn import Draws, Drawn, estimated
+from .one import or_fault
+from .question import Levels, NoPolicy, Question, Settings, question_of
+
+MOST_TRIED, MOST_TAKEN = (
+    1_000,
+    600,
+)  # items of a group on the past, and those for certain
+
+
+@dataclass(frozen=True)
+class Asked:
+    """What is asked of the items of a group: what they leave unmet at some rising prices, and what stock of policies
+    with some rising fill rates costs to hold."""
+
+    prices: tuple[float, ...]
+    fills: tuple[float, ...] = ()
+
+
+@dataclass(frozen=True)
+class Offer:
+    """What an item asks for a period, in units of weight, and by price what its policies leave unmet of that; and what
+    stock costs to hold a period, in money: by price, and by fill rate. On the past nothing is known of stock.
+    """
+
+    asked: float
+    unmet: tuple[float, ...]
+    held: tuple[float, ...] = ()
+    alone: tuple[float, ...] = ()
+
+
+@dataclass
+class Sums:
+    """The sums of offers of a group, how many there are, and which items are tried on the past."""
+
+    items: int = 0
+    asked: float = 0.0
+    unmet: Floats = field(default_factory=lambda: np.zeros(1))
+    held: Floats = field(default_factory=lambda: np.zeros(1))
+    alone: Floats = field(default_factory=lambda: np.zeros(1))
+    draws: Draws = field(default_factory=lambda: Draws(MOST_TRIED, MOST_TAKEN))
+
+    def add(self, name: str, offer: Offer) -> None:
+        self.items += 1
+        self.asked += offer.asked
+        self.unmet = self.unmet + offer.unmet
+        self.held = self.held + offer.held
+        self.alone = self.alone + offer.alone
+        self.draws.add(name, offer.asked)
+
+    @property
+    def met(self) -> Floats:
+        """Returns the share of demand that is met at once at each price."""
+        return 1 - self.unmet / self.asked
+
+    @property
+    def drawn(self) -> Drawn:
+        """Returns the items that are tried on the past."""
+        return self.draws.drawn(self.asked)
+
+
+class ByPrice:
+    """The policies of an item for some prices of a unit of weight: `levels` in boxes, their stock and unmet demand. If
+    they meet less than the item meets at least, it has the cheapest policy that does. Raises NoPolicy if there is none.
+    """
+
+    levels: npt.NDArray[np.int64]
+    stock: Floats
+    unmet: Floats
+
+    def __init__(self, question: Question, prices: Sequence[float]) -> None:
+        theory, least = question.theory, question.aim
+        weight = question.item.box * question.settings.weight_of(question.item)
+        gaps, figures = by_prices(question, theory, [weight * it for it in prices])
+        if not len(gaps):
+            raise NoPolicy(Remark("no policy", {"fill": least}))
+        tops: Whole = figures[0].astype(int)
+        self.levels = np.array([tops - theory.items(gaps), tops])
+        self.stock, self.unmet = figures[1], figures[2]
+        if least is None:
+            return
+        mean = float(question.demand.mean)
+        is_less = self.unmet > (1 - least) * mean
+        best = theory.best(least)
+        if is_less.any() and best.cost < math.inf:
+            known = theory.figures(*best.levels)
+            self.levels[:, is_less] = np.reshape(best.levels, (2, 1))
+            self.stock[is_less] = known.stock
+            self.unmet[is_less] = (1 - known.fill) * mean
+
+    @property
+    def pairs(self) -> list[Levels]:
+        """Returns s and S for each price."""
+        return [(s, S) for s, S in self.levels.T.tolist()]
+
+
+def stock_with(question: Question, fill: float) -> float:
+    """Returns the mean stock in boxes of the cheapest policy with a fill rate, or of that which meets most."""
+    best = question.theory.best(fill)
+    if best.cost == math.inf:
+        best = question.theory.fullest()
+    return float(question.theory.figures(*best.levels).stock)
+
+
+def offer_of(
+    item: Item, settings: Settings, prior: Prior, asked: Mapping[str, Asked]
+) -> Offer:
+    """Returns the offer of an item by theory, as its group is asked. Raises Refused if it can't be planned."""
+    question = question_of(item, settings, prior)
+    own = asked[question.together or ""]
+    policies = ByPrice(question, own.prices)
+    weight = item.box * settings.weight_of(item)
+    holding = question.money(question.rates["holding"])
+    return Offer(
+        weight * float(question.demand.mean),
+        tuple((weight * policies.unmet).tolist()),
+        tuple((holding * policies.stock).tolist()),
+        tuple(holding * stock_with(question, fill) for fill in own.fills),
+    )
+
+
+def past_of(
+    item: Item, settings: Settings, prior: Prior, asked: Mapping[str, Asked]
+) -> Offer:
+    """Returns the offer of an item on its past: what policies by prices leave unmet in quarters of its record that they
+    have not seen. Raises Refused if it can't be planned."""
+    prices = asked[settings.group_of(item) or ""].prices
+
+    def planned(question: Question) -> list[Levels]:
+        return ByPrice(question, prices).pairs
+
+    unmet = unmet_in_blocks(item, settings, prior, planned)
+    weight = settings.weight_of(item) / len(item.counts)
+    return Offer(weight * sum(item.counts), tuple((weight * unmet).tolist()))
+
+
+def offer_asked(
+    item: Item, settings: Settings, prior: Prior, asked: Mapping[str, Asked]
+) -> Offer | Remark:
+    """Returns the offer of an item by theory, or why it has none."""
+    return or_fault(item, offer_of, settings, prior, asked)
+
+
+def past_asked(
+    item: Item, settings: Settings, prior: Prior, asked: Mapping[str, Asked]
+) -> Offer | Remark:
+    """Returns the offer of an item on its past, or why it has none."""
+    return or_fault(item, past_of, settings, prior, asked)
+
+
+def met_on_past(
+    offers: Mapping[str, Offer], drawn: Drawn, sizes: Mapping[str, float], total: float
+) -> Floats:
+    """Returns the share of demand that all items of a group met at once on the past, at each price, by the offers of
+    those that were tried. `sizes` are by theory what these ask for, and `total` is that of all.
+    """
+    taken = [offers[name] for name in sorted(drawn.taken) if name in offers]
+    others = [name for name in sorted(drawn.chances) if name in offers]
+    left = total - math.fsum(sizes[name] for name in drawn.taken)
+    own_sizes = np.array([sizes[name] for name in others])
+    chances = np.array([drawn.chances[name] for name in others])
+
+    def summed(figures: Sequence[float], parts: Sequence[float]) -> float:
+        """Returns the sum of a figure of items that were taken, and of others by its parts."""
+        known = math.fsum(figures)
+        if not others:
+            return known
+        return known + estimated(np.array(parts), own_sizes, chances, left).value
+
+    asked = summed(
+        [offer.asked for offer in taken], [offers[name].asked for name in others]
+    )
+    unmet = [
+        summed(row[: len(taken)], row[len(taken) :])
+        for row in zip(
+            *(offer.unmet for offer in taken), *(offers[name].unmet for name in others)
+        )
+    ]
+    return 1 - np.array(unmet) / asked

@@ -1,0 +1,42 @@
+"""The prices of demand that is not met at once, by which items of a catalogue are planned together.
+
+All items of a group have one price: of a unit of value, or of an item, that is not met at once. With the best policy of
+each for that price, no others with the same service together cost less (Everett, Generalized Lagrange multiplier method,
+Operations Research 11, 1963).
+"""
+from __future__ import annotations
+
+from collections.abc import Mapping
+from dataclasses import dataclass
+from typing import Any
+
+WEIGHTS = VALUE, UNITS = ("value", "units")  # by what demand is weighed
+REST = ""  # the name of the group of all classes that are not named
+
+
+@dataclass(frozen=True)
+class Price:
+    """The `price` of a group, in money: of a unit of value that is not met at once, or of an item. By theory its `items`
+    then meet the share `promised` of their demand at once, at least the one that is `wanted`. With stock that costs as
+    much to hold, items that all have one fill rate meet the share `alone`. If the price was found on the past, `tried`
+    items met the share `past` of their demand with it."""
+
+    wanted: float
+    price: float
+    promised: float
+    alone: float
+    items: int
+    past: float | None = None
+    tried: int = 0
+
+
+@dataclass(frozen=True)
+class Prices:
+    """The prices of all groups, by the names of their classes."""
+
+    groups: Mapping[str, Price]
+
+    @classmethod
+    def parse(cls, tree: Mapping[str, Any]) -> Prices:
+        """Returns that of which `dataclasses.asdict` has made a tree. Raises LookupError or TypeError for another one."""
+        return cls({name: Price(**price) for name, price in tree["groups"].items()})

@@ -1,0 +1,307 @@
+"""Finds the price at which the items of a group together meet the share of demand that is wanted at once.
+
+By theory each item says what its best policies leave unmet at some prices. Of these the first is taken at which all
+together meet enough, and then again of finer ones below it, so that the share is met and hardly more is. Plans by a
+short record promise too much, so with a correction the price is the one with which quarters of the record, each planned
+from the others, met the wanted share together.
+"""
+from __future__ import annotations
+
+import contextlib
+import dataclasses
+import json
+import math
+import statistics
+from collections import Counter
+from collections.abc import Callable, Iterator, Mapping
+from fractions import Fraction
+from typing import Any, NamedTuple
+
+import numpy as np
+
+from ..chances import Floats
+from ..compiled import load_compiler
+from ..demand.learning import Prior
+from ..errors import Refused, argument
+from ..read.catalogue_reading import Catalogued
+from ..read.item import TEACHING, UNORDERED, Item
+from ..remarks import Remark
+from ..store.files import IN_KEPT, Folder
+from ..store.means import Means
+from ..store.stored import Store
+from ..store.work import Work
+from .correction import LEAST_ITEMS
+from .offers import Asked, Offer, Sums, met_on_past, offer_asked, past_asked
+from .prices import UNITS, Price, Prices
+from .question import Settings
+
+PRICES = "prices"  # a fact of the store of answers
+COARSE, FINER, ON_PAST = (
+    f"{IN_KEPT}{name}.sqlite" for name in ("offers", "finer_offers", "past_offers")
+)
+# Prices of a unit of weight, times what a typical one costs to hold for a period: eight a decade.
+GRID: Floats = 10.0 ** (np.arange(-16, 57) / 8)
+FINE = 64  # prices between two of these
+MORE = 24  # of these, above the one by theory, are tried on the past
+DIGITS = 4  # of a price
+# What may be left unmet of each item, times what may be of all together: for the one fill rate with the same stock.
+TIMES = (8.0, 5.6, 4.0, 2.8, 2.0, 1.4, 1.0, 0.7, 0.5)
+MOST_UNMET = 0.9
+Answered = Callable[..., Offer | Remark]
+
+
+class OnPast(NamedTuple):
+    """A price that was found on the past: the share that `tried` items met with it."""
+
+    price: float
+    met: float
+    tried: int
+
+
+def members_of(
+    read: Catalogued, settings: Settings
+) -> Iterator[tuple[str, str, Fraction]]:
+    """Yields in order the name of each item that is planned together with others, with its group and what a unit of its
+    weight costs to hold. Raises Refused if most of those for which a share is wanted have no price, by which they would
+    weigh."""
+    counts = Counter[bool]()
+    fields = "name", "holding", "backlog", "price", "category", "past"
+    for name, holding, backlog, price, category, past in read.values(*fields):
+        facts: dict[str, Any] = {"backlog": backlog, "price": price}
+        item = Item(name, (), (), None, holding, holding, category=category, **facts)
+        if past in UNORDERED or settings.named_group(item) is None:
+            continue
+        group = settings.group_of(item)
+        counts[group is not None] += 1
+        if group is not None:
+            yield name, group, holding if settings.weigh == UNITS else holding / price
+    if counts[False] > counts[True]:
+        raise Refused(
+            f"{counts[False]:,} of {counts.total():,} items that are to be planned together have no price, by which "
+            "they would weigh",
+            f"give them one in the masters, or say {argument('weigh', UNITS)}",
+        )
+
+
+def wants_aims(read: Catalogued, settings: Settings) -> bool:
+    """Returns whether some item is to have a fill rate of its own, which a correction corrects."""
+    if not settings.together or settings.at_least is not None:
+        return True
+    members = {name for name, *_ in members_of(read, settings)}
+    return any(
+        fill is not None and past in TEACHING and name not in members
+        for name, fill, past in read.cells("name", "fill", "past")
+    )
+
+
+def rounded(prices: Floats) -> tuple[float, ...]:
+    """Returns rising prices with a few digits."""
+    return tuple(sorted({float(f"{price:.{DIGITS}g}") for price in prices.tolist()}))
+
+
+class Finding:
+    """Finds the prices of all groups of a catalogue. Offers are kept in the folder."""
+
+    def __init__(
+        self,
+        folder: Folder,
+        read: Catalogued,
+        settings: Settings,
+        prior: Prior,
+        means: Means,
+    ) -> None:
+        """Looks at which items there are. Raises Refused if a group has none, or if most have no price."""
+        self.folder, self.read, self.settings = folder, read, settings
+        self.prior, self.means = prior, means
+        self.groups = dict[str, str]()
+        units = dict[str, list[Fraction]]()
+        for name, group, unit in members_of(read, settings):
+            self.groups[name] = group
+            units.setdefault(group, []).append(unit)
+        for group in settings.together.keys() - units.keys():
+            raise Refused(
+                f"{self._stated(group)}: no item is planned by it, since each has a backlog cost, or no price",
+                "leave it out",
+            )
+        self.units = {
+            group: float(statistics.median_low(units[group])) for group in sorted(units)
+        }
+
+    def _stated(self, group: str) -> str:
+        """Returns the word that wants a share of a group."""
+        share = f"{self.settings.together[group]:g}"
+        return argument("together", f"{group}={share}" if group else share)
+
+    def offers(
+        self,
+        asked: Mapping[str, Asked],
+        kept: str,
+        function: Answered,
+        names: Mapping[str, str],
+    ) -> Iterator[tuple[str, Offer]]:
+        """Yields in order the offers of items by name, which are kept in a store; `names` has their groups."""
+        text = repr([(group, dataclasses.astuple(asked[group])) for group in asked])
+        common = json.dumps([self.settings.common("", self.prior), text])
+        with contextlib.closing(Store(self.folder.store(kept), Offer)) as offers:
+            work = Work(
+                offers,
+                lambda: ((name, self.read.digest(name, common)) for name in names),
+                self.read.item,
+                function,
+                (self.settings, self.prior, asked),
+                unit="offers",
+                load=load_compiler,
+            )
+            work.finish(self.means.workers(), shown=self.means.shown)
+            for name, _, offer in offers.answers():
+                if isinstance(offer, Offer):
+                    yield name, offer
+
+    def sums(self, asked: Mapping[str, Asked], kept: str) -> dict[str, Sums]:
+        """Returns the sums of the offers of all groups by theory. Raises Refused if a group has none."""
+        sums = {group: Sums() for group in asked}
+        for name, offer in self.offers(asked, kept, offer_asked, self.groups):
+            sums[self.groups[name]].add(name, offer)
+        for group, some in sums.items():
+            if not some.asked:
+                raise Refused(
+                    f"{self._stated(group)}: none of its items can be planned"
+                )
+        return sums
+
+    def prices(self) -> Prices:
+        """Returns the prices of all groups. Raises Refused if a share is not met at any price."""
+        grids = {group: rounded(GRID * unit) for group, unit in self.units.items()}
+        coarse = self.sums({group: Asked(grids[group]) for group in grids}, COARSE)
+        places = {group: self.place_of(group, coarse[group]) for group in coarse}
+        past = dict[str, OnPast]()
+        if self.settings.correct:
+            past = self.on_past(coarse, grids, places)
+        asked = dict[str, Asked]()
+        for group, place in places.items():
+            unmet = 1 - self.settings.together[group]
+            fills = tuple(1 - min(MOST_UNMET, times * unmet) for times in TIMES)
+            low, high = grids[group][max(place - 1, 0)], grids[group][place]
+            prices = rounded(np.geomspace(low, high, FINE + 1))
+            if group in past:
+                prices = (past[group].price,)
+            asked[group] = Asked(prices, fills)
+        found = self.sums(asked, FINER)
+        return Prices(
+            {
+                group: self.price_of(group, found[group], asked[group], past.get(group))
+                for group in found
+            }
+        )
+
+    def place_of(self, group: str, sums: Sums) -> int:
+        """Returns the place of the first price at which enough is met. Raises Refused if there is none."""
+        places = np.flatnonzero(sums.met >= self.settings.together[group])
+        if not len(places):
+            raise Refused(
+                f"{self._stated(group)}: within their bounds its items meet {sums.met.max():.4%} together at most",
+                "write a lower share",
+            )
+        return int(places[0])
+
+    def on_past(
+        self,
+        coarse: Mapping[str, Sums],
+        grids: Mapping[str, tuple[float, ...]],
+        places: Mapping[str, int],
+    ) -> dict[str, OnPast]:
+        """Returns the prices with which groups met their shares on the past: no lower than those of the grid by theory.
+        Raises Refused for a group with fewer than 30 items that can be tried."""
+        drawn = {group: sums.drawn for group, sums in coarse.items()}
+        names = {name: group for group, some in drawn.items() for name in some.names}
+        asked = {
+            group: Asked(grids[group][place : place + MORE + 1])
+            for group, place in places.items()
+        }
+        ordered = {name: names[name] for name in sorted(names)}
+        tried = dict(self.offers(asked, ON_PAST, past_asked, ordered))
+        sizes = self.sizes_of(ordered)
+        found = dict[str, OnPast]()
+        for group, some in drawn.items():
+            own = {name: tried[name] for name in some.names if name in tried}
+            if len(own) < LEAST_ITEMS:
+                raise Refused(
+                    f"{self._stated(group)}: {len(own)} items can be tried on their past, and a correction needs "
+                    f"{LEAST_ITEMS}",
+                    f"plan without {argument('correct')}",
+                )
+            met = met_on_past(own, some, sizes, coarse[group].asked)
+            wanted = self.settings.together[group]
+            found[group] = price_on_past(asked[group].prices, met, wanted, len(own))
+        return found
+
+    def sizes_of(self, names: Mapping[str, str]) -> dict[str, float]:
+        """Returns what items ask for by theory, of which it is kept."""
+        with contextlib.closing(Store(self.folder.store(COARSE), Offer)) as offers:
+            answers = {name: offers.answer(name) for name in names}
+        return {
+            name: offer.asked
+            for name, offer in answers.items()
+            if isinstance(offer, Offer)
+        }
+
+    def price_of(
+        self, group: str, sums: Sums, asked: Asked, past: OnPast | None
+    ) -> Price:
+        """Returns the price of a group by the sums at finer prices, or the one of the past."""
+        place = 0 if past else self.place_of(group, sums)
+        held = np.maximum.accumulate(sums.alone)
+        logs = np.log1p(-np.array(asked.fills))
+        alone = -math.expm1(float(np.interp(sums.held[place], held, logs)))
+        return Price(
+            self.settings.together[group],
+            asked.prices[place],
+            float(sums.met[place]),
+            alone,
+            sums.items,
+            past.met if past else None,
+            past.tried if past else 0,
+        )
+
+
+def price_on_past(
+    prices: tuple[float, ...], met: Floats, wanted: float, tried: int
+) -> OnPast:
+    """Returns the price at which the wanted share was met on the past: between two by their logarithms. If none meets it,
+    that is the highest."""
+    unmet = np.minimum.accumulate(1 - met)
+    logs = np.log(prices)
+    log = float(np.interp(1 - wanted, unmet[::-1], logs[::-1]))
+    (price,) = rounded(np.exp([log]))
+    share = 1 - float(np.interp(math.log(price), logs, unmet))
+    return OnPast(price, share, tried)
+
+
+def prices_of(
+    folder: Folder,
+    answers: Store[Any],
+    read: Catalogued,
+    settings: Settings,
+    prior: Prior,
+    means: Means,
+    again: bool,
+) -> Prices:
+    """Returns the prices by which items are planned together. Those that were found before are used again as they are,
+    also if items change, unless they are to be learned `again`, or items are planned in another way. Raises Refused.
+    """
+    on = dataclasses.replace(
+        settings,
+        level=Settings.level,
+        periods=Settings.periods,
+        replications=Settings.replications,
+        least_gain=None,
+        season=None,
+    )
+    common = on.common("", prior)
+    kept = json.loads(answers.fact(PRICES) or "null")
+    if kept and kept["common"] == common and not again:
+        return Prices.parse(kept["prices"])
+    prices = Finding(folder, read, on, prior, means).prices()
+    fact = {"common": common, "prices": dataclasses.asdict(prices)}
+    answers.keep_facts({PRICES: json.dumps(fact)})
+    return prices

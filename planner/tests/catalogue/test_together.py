@@ -1,0 +1,310 @@
+"""Tests plans of items that meet a share of demand together: by brute force, and what is said, refused and kept."""
+from __future__ import annotations
+
+import dataclasses
+import itertools
+import math
+from fractions import Fraction
+from pathlib import Path
+from typing import Any
+
+import numpy as np
+import pandas as pd
+import pytest
+
+import crnplan as crn
+from crnplan.demand.learning import Prior
+from crnplan.plan.answer import Answer
+from crnplan.plan.catalogue import planned_folder
+from crnplan.plan.choice import best_of
+from crnplan.plan.prices import REST, Price, Prices
+from crnplan.plan.question import NONE, Question, Settings, question_of
+from crnplan.plan.offers import Asked, Offer, offer_of
+from crnplan.read.item import Item
+from planner.tests.catalogue.conftest import TABLES
+from planner.tests.conftest import Command, cases_beside, rows_of
+from planner.tests.plan.items import SHORT, item_of, tables_of
+
+REFUSED = cases_beside(__file__)["refused"]
+SETTINGS: dict[str, Any] = {"fit": "empirical", "borrow": NONE, "jobs": 1, **SHORT}
+OWN = Settings(fit="empirical", borrow=NONE)
+COUNT, WANTED = 18, 0.9
+BACKLOG = 2  # items that have a backlog cost
+
+
+def made(unpriced: int = 0, count: int = COUNT) -> tuple[pd.DataFrame, pd.DataFrame]:
+    """Returns demand and masters of items of two classes that want a fill rate, and of a third with backlog costs. Some
+    have no price."""
+    wants: dict[str, Any] = {"backlog": None, "fill": Fraction(19, 20)}
+    items = [item_of(place, **wants) for place in range(count - BACKLOG)]
+    items += [item_of(place) for place in range(count - BACKLOG, count)]
+    sales, masters = tables_of(items)
+    prices = np.round(10 * 1.5 ** (np.arange(count) % COUNT), 2).tolist()
+    masters["price"] = [None] * unpriced + prices[unpriced:]
+    masters["class"] = [*"ab" * ((count - BACKLOG) // 2), *"c" * BACKLOG]
+    masters["holding"] = [round(0.02 * price, 4) for price in prices]
+    return sales, masters
+
+
+def planned(program: Path, unpriced: int = 0, **words: Any) -> crn.Plan:
+    return crn.plan(*made(unpriced), program=program, **SETTINGS | words)
+
+
+@pytest.fixture(scope="module")
+def alone(program: Path) -> pd.DataFrame:
+    """Returns the decisions of items that are planned one by one."""
+    return planned(program).decisions.set_index("item")
+
+
+@pytest.fixture(scope="module")
+def together(program: Path) -> crn.Plan:
+    return planned(program, together=WANTED)
+
+
+def met(plan: crn.Plan, weigh: str = "value", group: str = "") -> float:
+    """Returns the share of demand that the items of a class with a wanted share meet together, by their decisions."""
+    rows = plan.decisions[lambda row: row.fill_together.notna()]
+    rows = rows[rows["class"].isin([group] if group else [*"ab"])]
+    weights = rows.demand
+    if weigh == "value":
+        weights = rows.demand * rows.value_chosen / rows.stock_chosen
+    return float(np.average(rows.fill_chosen, weights=weights))
+
+
+def groups_of(plan: crn.Plan) -> dict[str, Price]:
+    with planned_folder(plan.path) as folder:
+        assert folder.settings.prices
+        return dict(folder.settings.prices.groups)
+
+
+def small(place: int, demands: tuple[int, ...], price: int) -> Item:
+    """Returns an item with few policies that may be best."""
+    return item_of(
+        place,
+        counts=demands * 5,
+        setup=Fraction(4),
+        holding=Fraction(price, 50),
+        price=Fraction(price),
+        backlog=None,
+        fill=Fraction(1, 2),
+    )
+
+
+SMALL = (
+    small(0, (0, 1, 0, 2), 10),
+    small(1, (1, 2, 3, 2), 30),
+    small(2, (0, 0, 0, 5), 90),
+)
+
+
+def pairs_of(question: Question) -> np.ndarray[Any, Any]:
+    """Returns s, S, what orders and stock cost, and the demand that is not met at once, of all policies of a small item."""
+    rows, mean = list[tuple[float, ...]](), float(question.demand.mean)
+    for s in range(1, 30):
+        for S in range(s, 45):
+            figures = question.figures((s, S))
+            rows.append((s, S, figures.cost, mean * (1 - figures.fill)))
+    return np.array(rows)
+
+
+def priced(price: float, **words: Any) -> Settings:
+    """Returns settings by which all items have a price of a unit of value."""
+    groups = {REST: Price(0.99, price, 0.99, 0.99, len(SMALL))}
+    known = {"together": {REST: 0.99}, "prices": Prices(groups), **words}
+    return dataclasses.replace(OWN, **known)
+
+
+@pytest.mark.parametrize("least", [None, 0.3, 0.8, 0.95])
+@pytest.mark.parametrize("price", [0.2, 1.0, 7.0])
+@pytest.mark.parametrize("item", SMALL, ids=lambda item: item.name)
+def test_best_policy_by_brute_force(
+    item: Item, price: float, least: float | None
+) -> None:
+    """No pair costs less with what it does not meet at once, by the price. If that pair has less than the least fill
+    rate, none that has it costs less in orders and stock."""
+    question = question_of(item, priced(price, at_least=least))
+    pairs = pairs_of(question)
+    costs = pairs[:, 2] + price * float(item.price or 0) * pairs[:, 3]
+    fills = 1 - pairs[:, 3] / float(question.demand.mean)
+    if fills[costs.argmin()] < (least or 0):
+        costs = np.where(fills >= (least or 0), pairs[:, 2], np.inf)
+    (best, *_) = best_of(question)
+    own = (pairs[:, :2] == best.levels).all(axis=1)
+    assert costs[own] == pytest.approx(costs.min(), rel=1e-9)
+
+
+def test_offers_by_brute_force() -> None:
+    """An offer has what the best of all pairs leave unmet, by value, and what their stock costs to hold."""
+    settings = dataclasses.replace(OWN, together={REST: WANTED})
+    prices = (0.1, 0.5, 3.0, 40.0)
+    for item in SMALL:
+        value = float(item.price or 0)
+        offer = offer_of(item, settings, Prior(NONE), {REST: Asked(prices)})
+        pairs = pairs_of(question_of(item, settings))
+        for price, unmet in zip(prices, offer.unmet):
+            whole = pairs[:, 2] + price * value * pairs[:, 3]
+            assert unmet == pytest.approx(value * pairs[whole.argmin(), 3], abs=1e-9)
+        assert offer.asked == pytest.approx(value * np.mean(item.counts))
+        assert isinstance(offer, Offer) and offer.alone == ()
+
+
+def test_wanted_share_is_met(together: crn.Plan, alone: pd.DataFrame) -> None:
+    """All items together meet the wanted share and hardly more, the price times what they leave unmet being least; those
+    with a backlog cost are planned as by themselves."""
+    (price,) = groups_of(together).values()
+    assert WANTED <= met(together) == pytest.approx(price.promised, abs=1e-9)
+    assert price.promised < WANTED + 0.01 and price.items == COUNT - BACKLOG
+    own = together.decisions.set_index("item")
+    names = own.index[own.fill_together.isna()]
+    assert len(names) == BACKLOG
+    pd.testing.assert_frame_equal(own.loc[names], alone.loc[names])
+    assert own.fill_wanted.isna().sum() == COUNT
+    assert own.fill_chosen.min() < WANTED < own.fill_chosen.max()
+    assert price.alone < price.promised
+
+
+def test_no_price_below_meets_the_share(together: crn.Plan) -> None:
+    """With a price that is 2% lower, all items together meet less than the wanted share."""
+    (price,) = groups_of(together).values()
+    asked, unmet = list[float](), list[float]()
+    with planned_folder(together.path) as folder:
+        less = {REST: Asked((0.98 * price.price,))}
+        on = dataclasses.replace(folder.settings, prices=None)
+        for item in folder.read.items():
+            if item.backlog is None:
+                offer = offer_of(item, on, Prior(NONE), less)
+                asked.append(offer.asked)
+                unmet += offer.unmet
+    assert 1 - math.fsum(unmet) / math.fsum(asked) < WANTED
+
+
+def test_classes(program: Path, alone: pd.DataFrame) -> None:
+    """Each class meets its own share by its own price; items of no stated class are planned by themselves."""
+    both = planned(program, together={"a": 0.95, "": "85%"})
+    prices = groups_of(both)
+    assert prices.keys() == {"a", ""} and prices["a"].price > prices[""].price
+    assert 0.95 <= met(both, group="a") < 0.96 and 0.85 <= met(both, group="b") < 0.88
+    one = planned(program, together={"a": 0.95}).decisions.set_index("item")
+    others = one["class"] != "a"
+    pd.testing.assert_frame_equal(one[others], alone[others])
+    own = both.decisions.set_index("item")
+    pd.testing.assert_frame_equal(one[~others], own[~others])
+
+
+def test_weighed_by_units(program: Path, together: crn.Plan) -> None:
+    """Prices of items do not count then, whether there are any or not."""
+    units = planned(program, 9, together=WANTED, weigh="units")
+    assert WANTED <= met(units, "units") < WANTED + 0.01
+    assert abs(met(together, "units") - WANTED) > 0.01
+    assert len(units.decisions.fill_together.dropna()) == COUNT - BACKLOG
+
+
+def test_floor(program: Path, together: crn.Plan) -> None:
+    """No item meets less, those that would have the cheapest policy with it, and others need meet less for that."""
+    least = 0.88
+    floored = planned(program, together=WANTED, at_least=least)
+    rows, before = (plan.decisions.set_index("item") for plan in (floored, together))
+    own = rows.fill_together.notna()
+    assert rows[own].fill_chosen.min() >= least > before[own].fill_chosen.min()
+    assert WANTED <= met(floored) < WANTED + 0.01
+    with planned_folder(floored.path) as folder:
+        answers = [answer for _, answer in folder.answers()]
+        totals = folder.totals
+    shares = [it.share for it in answers if isinstance(it, Answer) and it.share]
+    count = sum(share.is_least for share in shares)
+    assert totals.least == {"": count} and 0 < count < len(shares)
+    said = floored.text.split("planned together")[1].splitlines()[3].split()
+    assert said[:3] + said[6:7] == ["all", "16", "90.00%", str(count)]
+    assert said[4] == f"{rows[own].fill_chosen.min():.2%}"
+    assert said[5] == f"{rows[own].fill_chosen.max():.2%}"
+
+
+def test_items_without_a_price(program: Path, alone: pd.DataFrame) -> None:
+    """They are planned by their own fill rates, and that is said of each and of all."""
+    plan = planned(program, 3, together=WANTED)
+    own = plan.decisions.set_index("item")
+    left = own.index[:3]
+    same = ["s_chosen", "S_chosen", "cost_chosen", "fill_wanted"]
+    pd.testing.assert_frame_equal(own.loc[left, same], alone.loc[left, same])
+    assert (own.loc[left].codes.str.contains("planned by itself")).all()
+    assert "3 have no price and are planned by their own fill rates" in plan.text
+
+
+@pytest.mark.parametrize("name", REFUSED)
+def test_what_is_refused(name: str, program: Path) -> None:
+    case = REFUSED[name]
+    with pytest.raises(crn.Refused) as why:
+        planned(program, case.get("unpriced", 0), **case["words"])
+    assert case["said"] in str(why.value)
+
+
+def write(folder: Path) -> list[Path]:
+    """Writes the tables without the wanted fill rates, and returns them."""
+    folder.mkdir(exist_ok=True)
+    sales, masters = made()
+    tables = {"demand": sales, "items": masters.drop(columns="fill")}
+    for kind, table in tables.items():
+        table.to_csv(folder / f"{kind}.csv", index=False)
+    return [folder / f"{kind}.csv" for kind in tables]
+
+
+def read(folder: Path) -> dict[str, bytes]:
+    return {name: (folder / name).read_bytes() for name in (*TABLES, "report.html")}
+
+
+def test_same_bytes_by_two_processes(
+    tmp_path: Path, crnplan: Command, program: Path
+) -> None:
+    """The command writes with two processes what Python does with one, by options or by crnplan.toml. Masters need not
+    want a fill rate. Run again, nothing is planned."""
+    files = write(tmp_path)
+    crn.plan(
+        *files, out=tmp_path / "python", together=WANTED, program=program, **SETTINGS
+    )
+    config = "[catalogue]\nfit = 'empirical'\nborrow = 'none'\nperiods = 64\nreplications = 4\n"
+    words = ["catalogue", *files, "--program", program, "--jobs", 2, "--config"]
+    for name, more, options in (
+        ("options", "", ["--together", "90%"]),
+        ("key", "together = '90%'\n", []),
+        ("table", "together = {'' = 0.9}\n", []),
+    ):
+        (tmp_path / f"{name}.toml").write_text(config + more, "utf-8")
+        own = [tmp_path / f"{name}.toml", "--out", tmp_path / name, *options]
+        told = crnplan(*words, *own)
+        assert told.status == 0, told.errors
+        assert read(tmp_path / name) == read(tmp_path / "python")
+    told = crnplan(*words, *own)
+    assert " 0 items planned" in told.errors and "offers" not in told.errors
+
+
+def test_price_is_kept(tmp_path: Path, crnplan: Command, program: Path) -> None:
+    """A price stays, also in a plan after this one, until it is to be learned again. New prices of an item change its
+    plan alone."""
+    files = write(tmp_path)
+    words: dict[str, Any] = {"together": WANTED, "program": program, **SETTINGS}
+    first = crn.plan(*files, out=tmp_path / "plan", **words)
+    prices = groups_of(first)
+    masters = pd.read_csv(files[1])
+    masters.loc[masters["item"] == "I-003", "price"] *= 3
+    after = crn.plan(files[0], masters, after=first.path, **words)
+    assert groups_of(after) == prices
+    moved = after.changes.set_index("item")
+    assert [*moved.index[moved.change == "moved"]] == ["I-003"]
+    again = crn.plan(files[0], masters, after=first.path, learn_again=True, **words)
+    assert groups_of(again) != prices
+    reasons = itertools.chain.from_iterable(again.changes.why.str.split("; "))
+    assert "what items learn from one another was learned anew" in {*reasons}
+
+
+def test_curve_of_a_plan_together(program: Path, tmp_path: Path) -> None:
+    """Its point of the plan is what the plan promises, and is not said to be chosen item by item."""
+    sales, masters = made()
+    masters = masters[masters["class"] != "c"]
+    words = {**SETTINGS, "together": WANTED, "program": program}
+    plan = crn.plan(sales, masters, out=tmp_path / "plan", **words)
+    curve = plan.curve(jobs=1)
+    point = curve.frame.set_index("point").loc["chosen"]
+    (price,) = groups_of(plan).values()
+    assert point.fill == pytest.approx(price.promised, abs=1e-6)
+    assert "chosen together" in curve.text and "item by item" not in curve.text
+    assert "chosen together" in plan.report().read_text("utf-8")
