@@ -28,6 +28,7 @@ from .options import with_words
 from .show.catalogue_page import CATALOGUE_FILES, report
 from .show.catalogue_tables import catalogue_summary, decisions_of, rejects_of
 from .show.change_tables import change_lines, changes_of
+from .show.calendars import levels_of
 from .show.lateness import lateness_of
 from .show.today_tables import OrdersToday, orders_today
 from .show.item_page import ItemWords, item_page, item_summary, policies_of
@@ -35,6 +36,7 @@ from .plan.catalogue import check_earlier, planned_folder
 from .plan.totals import Totals
 from .plan.item import Depth
 from .plan.question import Settings
+from .plan.yearly import of_month
 from .plan.survey import Survey
 from .plan.what_ifs import Moves
 from .read.catalogue_reading import CATALOGUE, READ, read_into
@@ -180,6 +182,14 @@ class Plan(TextResult):
             return changes_of(folder).frame
 
     @cached_property
+    def levels(self) -> pd.DataFrame:
+        """Returns the levels of items that are planned by their season, a row for each month of the coming year: the first
+        and the last day, s and S. It has no rows if no season is planned.
+        """
+        with planned_folder(self.path) as folder:
+            return levels_of(folder).frame
+
+    @cached_property
     def lateness(self) -> pd.DataFrame:
         """Returns a row for each supplier with receipts, the latest first: the stated lead time, what receipts took in the
         mean and at the 90% quantile (days), and the share that took longer than stated.
@@ -206,8 +216,9 @@ class Plan(TextResult):
         out, and says why."""
         with planned_folder(self.path) as folder:
             item, answer = folder.item(name)
+            question = folder.question(item)
             depth = Depth(
-                folder.question(item), answer, str(find_program(self.program))
+                question, of_month(question, answer), str(find_program(self.program))
             )
             return PlannedItem(ItemWords(depth, folder.every, folder.currency))
 
@@ -327,6 +338,7 @@ class PlanWords(ReadingWords, total=False):
     max_coverage: int | None
     s_min: int | None
     window: int | None
+    season: str
     level: float
     seed: str | int
     periods: int
@@ -377,7 +389,8 @@ def plan(
 
     **How it is planned.** `fit` is how laws of demand are fitted (auto, predictive, empirical, or a family). Items
     `borrow` laws from one another (all, class, none; by default all if there are 100). With a `window`, laws are
-    fitted, learned and checked on the last so many periods alone. `confidence` keeps a wanted fill rate under this
+    fitted, learned and checked on the last so many periods alone. Where a class or an item has a season of months, from
+    two years on, each month is planned by it, unless `season` is "none". `confidence` keeps a wanted fill rate under this
     share of the laws that a history allows. With `correct`, plans aim at the fill rates whose policies met the
     wanted ones on the past of the catalogue, learned from at least 30 items. Items without a backlog cost meet the share
     `together` of their demand at once all together, in place of a fill rate of each: 0.95, or by class {"A": 0.98}. One

@@ -54,6 +54,19 @@ class Law:
         values = np.flatnonzero(weights)
         return Law(tuple(values.tolist()), tuple(weights[values].tolist()))
 
+    def times(self, factor: float) -> Law:
+        """Returns the law of as many times each value. What is no whole number is shared by the two next to it, so that
+        means are so many times as large too, up to the rounding of `of_chances`."""
+        import numpy as np
+
+        exact = np.array(self.values) * factor
+        below = exact.astype(int)
+        above = (exact - below) * self.weights
+        chances = np.zeros(below[-1] + 2)
+        np.add.at(chances, below, self.weights - above)
+        np.add.at(chances, below + 1, above)
+        return Law.of_chances(chances)
+
     @classmethod
     def of_tree(cls, tree: Mapping[str, Sequence[int]]) -> Law:
         """Makes a law from a tree with the keys `values` and `weights`, as they stand there."""

@@ -20,6 +20,10 @@ from .remarks import Remark
 
 # What each promise rests on, beside it.
 PREMISE = "if the coming year is like the last one"
+MONTHS = (
+    *("January", "February", "March", "April", "May", "June", "July"),
+    *("August", "September", "October", "November", "December"),
+)
 Facts = Mapping[str, Any]
 Say = str | Callable[[Facts], str]
 Derive = Callable[[Facts], object]
@@ -89,6 +93,15 @@ def _allowed_fill(facts: Facts) -> str:
     if facts["low"] is None:
         return ""
     return f"; by 80% of the laws that this allows it meets {facts['low']:.1%} to {facts['high']:.1%} of demand at once"
+
+
+def _whose_record(facts: Facts) -> str:
+    return "its own" if facts["is_own"] else "its class"
+
+
+def _month(name: str) -> Derive:
+    """Returns the function that gives the name of the month at a fact."""
+    return lambda facts: MONTHS[facts[f"month_{name}"] - 1]
 
 
 def _how_known(facts: Facts) -> str:
@@ -363,6 +376,9 @@ DERIVED: dict[str, Derive] = {
     "owner of the law": _owner,
     "allowed fill": _allowed_fill,
     "how it is known": _how_known,
+    "whose record": _whose_record,
+    "month of most": _month("most"),
+    "month of least": _month("least"),
     "periods with demand": lambda facts: counted(facts["demands"], "period"),
     "reason of no interval": _no_interval,
     "what is not reached": _not_reached,

@@ -42,11 +42,19 @@ class Season(NamedTuple):
 
 
 @functools.lru_cache(256)
+def months_of(every: str, first: int, size: int) -> Whole:
+    """Returns the month of the year of each of so many periods, 0 for January. A week belongs to the month of its
+    Thursday."""
+    middle = datetime.timedelta(3 if every == "week" else 0)
+    days = (first_day(first + place, every) + middle for place in range(size))
+    return np.array([day.month - 1 for day in days])
+
+
+@functools.lru_cache(256)
 def season_of(
     name: str, length: int, every: str | None, first: int, size: int
 ) -> Season:
-    """Returns a season of the calendar; without dates one that begins with the first period. A week belongs to the
-    quarter of its Thursday."""
+    """Returns a season of the calendar; without dates one that begins with the first period."""
     if every is None:
         parts = PARTS
         if length <= MOST_PARTS:
@@ -54,13 +62,10 @@ def season_of(
         return Season(
             name, length, np.arange(size) % length * parts // length, parts, "place"
         )
-    middle = datetime.timedelta(3 if every == "week" else 0)
-    days = [first_day(first + place, every) + middle for place in range(size)]
     if name == "weekday":
+        days = [first_day(first + place, every) for place in range(size)]
         return Season(name, length, np.array([day.weekday() for day in days]), 7, name)
-    return Season(
-        name, length, np.array([(day.month - 1) // 3 for day in days]), 4, "quarter"
-    )
+    return Season(name, length, months_of(every, first, size) // 3, 4, "quarter")
 
 
 def seasons_of(

@@ -19,7 +19,7 @@ from ..store.stored import Store, sealed
 from ..store.work import Known
 from .answer import Answer
 from .changes import Change, Pair, change_of
-from .question import Levels, Settings
+from .question import LEARNED, Levels, Settings
 
 if TYPE_CHECKING:
     from .catalogue import Planned, PlannedFolder
@@ -86,7 +86,7 @@ def stated(settings: Settings) -> dict[str, Value]:
     """Returns what is stated of how items are planned, but for the least gain: by class if it is, under both names."""
     tree = dataclasses.asdict(settings)
     together = tree.pop("together")
-    for name in ("least_gain", "aims", "prices"):
+    for name in ("least_gain", *LEARNED):
         del tree[name]
     return tree | {f"together {name}".strip(): together[name] for name in together}
 
@@ -94,7 +94,7 @@ def stated(settings: Settings) -> dict[str, Value]:
 def learned_by(planned: Planned) -> tuple[object, ...]:
     """Returns what was learned of the catalogue."""
     settings = planned.settings
-    return planned.prior.text, settings.aims, settings.prices
+    return planned.prior.text, *(getattr(settings, name) for name in LEARNED)
 
 
 def common_changes(earlier: Planned, planned: Planned) -> Iterator[Remark]:

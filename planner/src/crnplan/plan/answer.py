@@ -3,7 +3,7 @@ from __future__ import annotations
 
 from dataclasses import dataclass
 from fractions import Fraction
-from typing import NamedTuple
+from typing import Any, NamedTuple
 
 from ..law import Law
 from ..read.item import NEW, Item
@@ -158,6 +158,10 @@ class Answer:
     None without one; `coverage_cost` is what it costs that S, or S - s, covers no more periods of demand, None if that
     does not bind. `correction` is None if the wanted fill is not corrected, `allowed` unless the item is new. `override`
     is the policy that the planner has set, None if there is none. `share` is None if the item is planned by itself.
+
+    Of an item that is planned by its season, `calendar` has the levels of the coming year, month by month. Its costs,
+    its saving and the figures of `today`, `chosen` and `override` are means over that year by theory, each month as if it
+    lasted; all else is of the first month. It is empty for others.
     """
 
     verdict: str
@@ -181,6 +185,22 @@ class Answer:
     allowed: Allowed | None = None
     override: Figures | None = None
     share: Share | None = None
+    calendar: tuple[Any, ...] = ()
+
+    @property
+    def months(self) -> list[Month]:
+        """Returns the months of the calendar."""
+        return [Month(*cells) for cells in self.calendar]
+
+    def month(self, period: int) -> Month | None:
+        """Returns the month of a coming period: of one after the year that of the same time of the year, and of one of
+        the record the first. None without a season."""
+        months = self.months
+        if not months:
+            return None
+        start, end = months[0].first, months[-1].end
+        place = start + max(0, period - start) % (end - start)
+        return next(month for month in months if place < month.end)
 
     @property
     def override_cost(self) -> float | None:
@@ -191,6 +211,18 @@ class Answer:
     def is_compared(self) -> bool:
         """Returns whether the item is compared with a policy of today. If so, it is in all sums, be it new or not."""
         return self.today is not None and self.verdict in COMPARED
+
+
+class Month(NamedTuple):
+    """The levels of an item in coming periods of one month: the numbers of the first of them, and of the one after the
+    last; s and S in items; and by what the law of demand without the season is multiplied.
+    """
+
+    first: int
+    end: int
+    s: int
+    S: int
+    factor: float
 
 
 class CostParts(NamedTuple):

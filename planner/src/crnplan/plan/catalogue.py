@@ -9,7 +9,6 @@ from collections.abc import Generator, Iterable, Iterator, Sequence
 from dataclasses import dataclass
 from difflib import get_close_matches
 from pathlib import Path
-from typing import Any
 
 from ..compiled import load_compiler
 from ..crnsim.program import program_for
@@ -34,14 +33,19 @@ from .after import (
     changes_since,
     keep_changes,
 )
-from .aims import Aims
 from .answer import Answer
 from .changes import Change
 from .correction import AIMS, aims_of
-from .learned import PRIOR, PRIOR_WINDOW, Learned, learned_of
+from .learned import (
+    PRIOR,
+    PRIOR_WINDOW,
+    SEASONS,
+    Learned,
+    learned_of,
+    seasons_of,
+)
 from .one import plan_asked
-from .prices import Prices
-from .question import NONE, Question, Settings, question_of
+from .question import LEARNED, NONE, Question, Settings, question_of
 from .together import PRICES, prices_of, wants_aims
 from .totals import Totals
 
@@ -50,7 +54,6 @@ PLANNED, TOTALS = "planned", "totals"  # facts beside the answers
 AGAIN = "run crnplan catalogue again"
 OLDER = "answers.sqlite"  # what an older version has kept beside the tables
 Decided = tuple[Item, Answer | Remark]
-LEARNED: dict[str, Any] = {"aims": Aims, "prices": Prices}  # of settings
 
 
 @dataclass(frozen=True)
@@ -312,7 +315,7 @@ def take_prior(answers: Store[Answer], earlier: PlannedFolder, again: bool) -> N
     """Keeps what the items of an earlier plan have learned, and where they aim, unless it is to be learned again."""
     if again:
         return
-    for name in (PRIOR, PRIOR_WINDOW, AIMS, PRICES):
+    for name in (PRIOR, PRIOR_WINDOW, SEASONS, AIMS, PRICES):
         fact = earlier.store.fact(name)
         if fact is not None:
             answers.keep_facts({name: fact})
@@ -379,6 +382,8 @@ def planning(
         if earlier:
             check_records(earlier, read)
             take_prior(answers, earlier, again)
+        seasons = seasons_of(answers, read, settings, again)
+        settings = dataclasses.replace(settings, seasons=seasons)
         learned = learned_of(answers, read, settings, again)
         prior, every = learned.prior, read.fact("every")
         settings = dataclasses.replace(settings, borrow=learned.usual, every=every)

@@ -78,9 +78,12 @@ def allowed_by(
             is_new=question.is_new,
             **named,
         )
+    demands = drawn.laws
+    if question.season:
+        demands = tuple(map(question.season.of, demands))
     if len(item.leads) < 2:
-        return drawn.laws, ()
-    return drawn.laws, allowed_leads(item.leads, times=laws, seed=seed).laws
+        return demands, ()
+    return demands, allowed_leads(item.leads, times=laws, seed=seed).laws
 
 
 def by_prices(terms: Terms, theory: LongRun, prices: Sequence[float]) -> Policies:

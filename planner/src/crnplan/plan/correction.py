@@ -34,7 +34,7 @@ from ..store.work import Work
 from .aims import FILLS, Aims, Trial
 from .learned import drawn_of_groups
 from .one import or_fault
-from .question import Levels, Question, Settings, question_of
+from .question import Levels, Question, Settings, flat_of, question_of
 
 TRIALS, AIMS = (
     f"{IN_KEPT}trials.sqlite",
@@ -85,7 +85,8 @@ def unmet_in_blocks(
 ) -> Floats:
     """Returns what each policy of a plan, whose levels are in boxes, leaves unmet in all blocks of an item's record, of
     which each is planned from the others. The record comes twice, and its second time counts, so that a stock and orders
-    are there as in the long run. Raises Refused if the item can't be planned."""
+    are there as in the long run. Raises Refused if the item can't be planned.
+    """
     periods = len(item.counts)
     if not any(item.counts):
         raise Refused("it has no demand")
@@ -109,7 +110,8 @@ def trial_of(item: Item, settings: Settings, prior: Prior) -> Trial:
     def planned(question: Question) -> list[Levels]:
         return levels_of(question.theory.free)
 
-    unmet = unmet_in_blocks(item, settings, prior, planned)
+    item, on = flat_of(item, settings)
+    unmet = unmet_in_blocks(item, on, prior, planned)
     mean = float(np.mean(item.counts))
     return Trial(mean, len(item.counts), tuple((unmet / mean).tolist()))
 
@@ -175,6 +177,7 @@ def aims_of(
         settings.borrow,
         lead_fit=settings.lead_fit,
         window=settings.window,
+        seasons=settings.seasons,
     )
     common, kept = on.common("", prior), json.loads(answers.fact(AIMS) or "null")
     if kept and kept["common"] == common and not again:

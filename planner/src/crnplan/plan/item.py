@@ -137,7 +137,7 @@ class Depth:
         """Returns the law of the item's own history alone, if another one was learned."""
         if not self.question.learned or self.question.is_new:
             return None
-        return self.question.alone().demand
+        return self.question.alone().all_year
 
     @cached_property
     def allowed(self) -> tuple[tuple[Law, ...], tuple[Law, ...]]:
@@ -275,11 +275,14 @@ class Depth:
         """Returns the decision without the periods that `largest_periods` names. None if it names none, or if there is
         no plan without them."""
         question, item = self.question, self.question.item
-        if not largest_periods(item.counts):
+        counts = question.as_read.counts
+        if not largest_periods(counts):
             return None
-        left = item.without(largest_places(item.counts))
+        left = item.without(largest_places(counts))
         try:
-            asked = question_of(left, question.settings, question.prior)
+            settings = replace(question.settings, seasons=None)
+            flat = question_of(left, settings, question.prior)
+            asked = question.by_law(flat.demand)
             rare = asked.figures(choice_of(asked).levels)
         except Refused:
             return None
@@ -407,7 +410,7 @@ def planned(facts: Facts, program: str | Path | None = None) -> Depth:
         lead_fit=lead["fit"],
         borrow=NONE,
         every=facts.history.every,
-        season=history["season"],
+        cycle=history["season"],
         confidence=None if run["fill"] is None else run["confidence"],
     )
     question = question_of(facts.item, settings)

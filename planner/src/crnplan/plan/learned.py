@@ -1,13 +1,16 @@
 """Draws the histories of a catalogue by which its items learn from one another, and keeps what was learned."""
 from __future__ import annotations
 
+import dataclasses
 import heapq
+import json
 from collections import Counter, defaultdict
 from collections.abc import Iterable, Iterator
 from typing import Any, NamedTuple
 
 import numpy as np
 
+from ..demand import AUTO
 from ..demand.learning import LEAST_ITEMS, LEAST_ON_REQUEST, MOST_PULLED, Prior, learn
 from ..store.digests import sha256
 from ..errors import Refused
@@ -15,9 +18,11 @@ from ..read.catalogue_reading import Catalogued
 from ..read.item import NO_DEMAND, TEACHING, Item
 from ..remarks import Remark
 from ..store.stored import Store
-from .question import ALL, CLASS, NONE, Settings
+from .question import ALL, CLASS, NONE, Settings, without_season
+from .seasons import Seasons, is_long
 
-PRIOR, PRIOR_WINDOW = "prior", "window of prior"  # facts beside answers
+# Facts beside answers: what was learned, and by which window and without which seasons laws were.
+PRIOR, PRIOR_WINDOW, SEASONS = "prior", "window of prior", "seasons"
 # Items whose histories are looked at for the law of a whole catalogue (it is estimated on 3,000 of them), and for those
 # of all classes together, unless these are so many that few items of each are left.
 MOST_READ, MOST_OF_CLASSES = 10_000, 30_000
@@ -93,8 +98,8 @@ def learned_of(
     way = CLASS if CLASS in asked else ALL
     least = LEAST_ON_REQUEST if asked else LEAST_ITEMS
     try:
-        earlier = None if again else kept_prior(answers, read.window, way, least)
-        prior = earlier or learned_now(answers, read, way, least)
+        earlier = None if again else kept_prior(answers, read, settings, way, least)
+        prior = earlier or learned_now(answers, read, settings, way, least)
     except Refused as few:
         if asked:
             raise
@@ -122,24 +127,57 @@ def remarks_of(prior: Prior, usual: str, said: Counter[str]) -> Iterator[Remark]
         yield Remark("masters say otherwise", {"items": others})
 
 
+def seasons_of(
+    answers: Store[Any], read: Catalogued, settings: Settings, again: bool
+) -> Seasons | None:
+    """Returns the seasons of the classes of a catalogue; None if none are to be planned. What was learned before is used
+    again as it is, also if items change, unless it is to be learned `again` or by another window.
+    """
+    if settings.season != AUTO:
+        return None
+    kept = json.loads(answers.fact(SEASONS) or "null")
+    if kept and kept["window"] == read.window and not again:
+        return Seasons.parse(kept["seasons"])
+    every, (start, stop) = read.fact("every"), read.fact("periods")
+    periods = min(stop - start, read.window or stop - start)
+    items = learners(read, True) if is_long(every, periods) else ()
+    seasons = Seasons.of(every, items)
+    fact = {"window": read.window, "seasons": dataclasses.asdict(seasons)}
+    answers.keep_facts({SEASONS: json.dumps(fact)})
+    return seasons
+
+
+def basis_of(read: Catalogued, settings: Settings) -> str:
+    """Returns by which window and without which seasons items learn, as a text."""
+    seasons = settings.seasons
+    if seasons is None:
+        return str(read.window)
+    return json.dumps([read.window, dataclasses.asdict(seasons)])
+
+
 def kept_prior(
-    answers: Store[Any], window: int | None, way: str, least: int
+    answers: Store[Any], read: Catalogued, settings: Settings, way: str, least: int
 ) -> Prior | None:
-    """Returns what at least so many items have learned in this way and by this window in an earlier run; None if that
-    is not kept."""
+    """Returns what at least so many items have learned in this way, by this window and without these seasons in an
+    earlier run; None if that is not kept."""
     text = answers.fact(PRIOR)
-    if text is None or answers.fact(PRIOR_WINDOW) != str(window):
+    if text is None or answers.fact(PRIOR_WINDOW) != basis_of(read, settings):
         return None
     prior = Prior.parse(text, str(answers.named))
     return prior if prior.borrow == way and learners_of(prior) >= least else None
 
 
-def learned_now(answers: Store[Any], read: Catalogued, way: str, least: int) -> Prior:
-    """Returns what items learn now, and keeps it. Raises Refused if there are fewer than `least` items."""
+def learned_now(
+    answers: Store[Any], read: Catalogued, settings: Settings, way: str, least: int
+) -> Prior:
+    """Returns what items learn now, without their seasons, and keeps it. Raises Refused if there are fewer than `least`
+    items."""
     histories, groups = list[Any](), list[str]()
-    for item in learners(read, way == CLASS):
+    for as_read in learners(read, way == CLASS):
+        item, _ = without_season(as_read, settings)
         histories.append(np.array(item.counts, np.uint32))
         groups.append(item.group)
     prior = learn(histories, groups if way == CLASS else None, way, least=least)
-    answers.keep_facts({PRIOR: prior.text, PRIOR_WINDOW: str(read.window)})
+    basis = basis_of(read, settings)
+    answers.keep_facts({PRIOR: prior.text, PRIOR_WINDOW: basis})
     return prior

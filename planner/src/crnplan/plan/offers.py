@@ -16,7 +16,7 @@ from .choice import by_prices
 from .correction import unmet_in_blocks
 from .drawn import Draws, Drawn, estimated
 from .one import or_fault
-from .question import Levels, NoPolicy, Question, Settings, question_of
+from .question import Levels, NoPolicy, Question, Settings, flat_of, question_of
 
 MOST_TRIED, MOST_TAKEN = (
     1_000,
@@ -122,7 +122,7 @@ def offer_of(
     item: Item, settings: Settings, prior: Prior, asked: Mapping[str, Asked]
 ) -> Offer:
     """Returns the offer of an item by theory, as its group is asked. Raises Refused if it can't be planned."""
-    question = question_of(item, settings, prior)
+    question = question_of(item, settings, prior).flat
     own = asked[question.together or ""]
     policies = ByPrice(question, own.prices)
     weight = item.box * settings.weight_of(item)
@@ -145,7 +145,8 @@ def past_of(
     def planned(question: Question) -> list[Levels]:
         return ByPrice(question, prices).pairs
 
-    unmet = unmet_in_blocks(item, settings, prior, planned)
+    item, on = flat_of(item, settings)
+    unmet = unmet_in_blocks(item, on, prior, planned)
     weight = settings.weight_of(item) / len(item.counts)
     return Offer(weight * sum(item.counts), tuple((weight * unmet).tolist()))
 

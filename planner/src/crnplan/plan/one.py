@@ -58,6 +58,7 @@ from .checked_run import Sample, check_run, run_of, scenario_of
 from .choice import CLOSE, Choice, allowed_by, best_by_price, choice_of, levels_of
 from .packs import remarks_of_packs
 from .question import Levels, NoPolicy, Question, Settings, Unplanned, question_of
+from .yearly import over_year
 
 Result = TypeVar("Result")
 TENTHS = 0.1, 0.9
@@ -168,6 +169,8 @@ def share_of(question: Question) -> Share | None:
 def remarks_of_past(question: Question, allowed: Allowed | None) -> Iterator[Remark]:
     """Yields what must be said of the history of an item."""
     item, settings, learned = question.item, question.settings, question.learned
+    if question.season:
+        yield question.season.remark
     if question.is_new:
         facts: dict[str, Value] = {
             "periods": len(item.counts),
@@ -177,9 +180,9 @@ def remarks_of_past(question: Question, allowed: Allowed | None) -> Iterator[Rem
         }
         yield Remark("new", facts)
         return
-    yield from checked(item.counts, settings.every, item.first, settings.season)
-    if question.demand.lower:
-        yield question.demand.lower
+    yield from checked(item.counts, settings.every, item.first, settings.cycle)
+    if question.all_year.lower:
+        yield question.all_year.lower
     if item.demands < LEAST_DEMANDS:
         has_learned = bool(learned and learned.few)
         yield Remark("few demands", {"demands": item.demands, "learned": has_learned})
@@ -310,7 +313,7 @@ def answer_of(question: Question, choice: Choice, program: str) -> Answer:
         confidence_cost_of(question, choice),
         coverage,
         correction_of(question),
-        law_facts(question.demand, question.item.box),
+        law_facts(question.all_year, question.item.box),
         question.laws,
         run,
         remarks,
@@ -339,7 +342,11 @@ def or_fault(item: Item, answer: Callable[..., Result], *words: Any) -> Result |
 def planned(
     item: Item, before: Levels | None, settings: Settings, prior: Prior, program: str
 ) -> Answer:
-    return plan_one(question_of(item, settings, prior, before), program)
+    question = question_of(item, settings, prior, before)
+    answer = plan_one(question, program)
+    if question.season is None:
+        return answer
+    return over_year(question, answer, verdict_of, correction_of)
 
 
 def plan_asked(

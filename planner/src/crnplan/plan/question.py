@@ -7,11 +7,14 @@ from collections.abc import Mapping, Sequence
 from dataclasses import dataclass, field
 from fractions import Fraction
 from functools import cached_property
+from typing import Any
 
 from .. import __version__
 from ..demand.fitted import Borrowed, FittedLaw
 from ..demand.fitting import fit_demand, fit_lead
+from ..demand import AUTO
 from ..demand.borrowing import law_of
+from ..demand.index import Index
 from ..demand.learning import Prior
 from ..store.digests import number_of, sha256
 from ..errors import CrnplanError, Refused, argument
@@ -30,8 +33,11 @@ from .aims import Aims
 from .answer import Figures, Laws
 from .bounds import MOST_COVERAGE, feasible_of
 from .prices import REST, UNITS, VALUE, Prices
+from .seasons import InSeason, Seasons, Stretch
 
 SEED_BITS = 32
+# The settings that are learned of a catalogue, by name.
+LEARNED: Mapping[str, Any] = {"aims": Aims, "prices": Prices, "seasons": Seasons}
 VERSION = 10  # Answers of others are not used again.
 NONE, CLASS, ALL = BORROW
 MOST_GAPS = 4_000  # of a lattice: with 150 times as many, a search takes half a minute
@@ -56,7 +62,9 @@ class Settings:
 
     `borrow` says from whom an item learns its law if its master does not; with None the number of items decides that.
     With a `confidence`, wanted fill rates are kept under that share of the laws that a history allows. A period is a
-    day, week or month (`every`), or has no dates; `season` is the number of periods of a season that is looked for.
+    day, week or month (`every`), or has no dates; `cycle` is the number of periods of a season that is looked for.
+    Where a class or an item has a season of months, by its `seasons`, each month is planned by it, unless `season` is
+    "none".
     Laws are fitted, learned and checked on the last `window` periods of each history alone, or on all. The levels of an
     earlier plan stay if a change gains less than the share `least_gain` of their cost. `correct` has wanted fill rates
     corrected by the catalogue's past, by which items then have their `aims`. `order_min`, `max_coverage` and `s_min`
@@ -78,7 +86,8 @@ class Settings:
     replications: int = 24
     lead_fit: str = "auto"
     every: str | None = None
-    season: int | None = None
+    season: str = AUTO
+    cycle: int | None = None
     window: int | None = None
     least_gain: float | None = None
     correct: bool = False
@@ -90,6 +99,7 @@ class Settings:
     at_least: float | None = None
     aims: Aims | None = field(default=None, repr=False)
     prices: Prices | None = field(default=None, repr=False)
+    seasons: Seasons | None = field(default=None, repr=False)
 
     def __post_init__(self) -> None:
         check_words(self)
@@ -365,7 +375,8 @@ class Question(Terms):
     """What is asked for an item: its terms, with laws that are fitted.
 
     `borrow` says from whom its law is learned, and `prior` what was learned. `rate_error` is by which share a rate is
-    rounded. `before` is the policy of an earlier plan in boxes; None if there is none, or not in whole boxes.
+    rounded. `before` is the policy of an earlier plan in boxes; None if there is none, or not in whole boxes. An item
+    that is planned by its season has the counts that it would have had without, and the law of a month; None for others.
     """
 
     demand: FittedLaw
@@ -375,6 +386,7 @@ class Question(Terms):
     borrow: str
     rate_error: float
     before: Levels | None = None
+    season: InSeason | None = field(default=None, repr=False)
 
     @property
     def group(self) -> str | None:
@@ -392,11 +404,41 @@ class Question(Terms):
         """Returns the seed of random numbers for a purpose."""
         return self.settings.seed_of(purpose, self.item.name)
 
+    @property
+    def as_read(self) -> Item:
+        """Returns the item with the counts that it had."""
+        return self.season.item if self.season else self.item
+
+    @property
+    def all_year(self) -> FittedLaw:
+        """Returns the law of demand, without a season that the item may have."""
+        return self.season.law if self.season else self.demand
+
+    @property
+    def flat(self) -> Question:
+        """Returns the question of the whole year, without a season that the item may have."""
+        return dataclasses.replace(self, demand=self.all_year, season=None)
+
+    def at(self, season: InSeason) -> Question:
+        """Returns the question of a month, by the season as it is in that."""
+        return dataclasses.replace(self, demand=season.fitted, season=season)
+
+    def month(self, stretch: Stretch) -> Question:
+        """Returns the question of another month, in which no earlier policy is there to stay."""
+        assert self.season is not None
+        asked = self.at(self.season.at(stretch))
+        return dataclasses.replace(asked, before=None)
+
+    def by_law(self, law: FittedLaw) -> Question:
+        """Returns the same with another law of demand, which knows of no season."""
+        if self.season is None:
+            return dataclasses.replace(self, demand=law)
+        return self.at(dataclasses.replace(self.season, law=law))
+
     def alone(self) -> Question:
         """Returns the question of an item that learns its law from no other."""
-        return dataclasses.replace(
-            self, borrow=NONE, demand=fit_demand(self.item.counts, box=self.item.box)
-        )
+        asked = self.by_law(fit_demand(self.item.counts, box=self.item.box))
+        return dataclasses.replace(asked, borrow=NONE)
 
 
 def finest(
@@ -446,6 +488,22 @@ def why_unknown(item: Item, prior: Prior, borrow: str) -> str | None:
     return "new without class" if borrow == CLASS and not item.group else None
 
 
+def without_season(item: Item, settings: Settings) -> tuple[Item, Index | None]:
+    """Returns an item with the counts that it would have had without its season, and its index; as it is, and None, if it
+    is not planned by a season."""
+    seasons = settings.seasons
+    index = seasons.of_item(item) if seasons else None
+    if not seasons or not index:
+        return item, None
+    return seasons.flat(item, index, settings.seed_of("season", item.name)), index
+
+
+def flat_of(item: Item, settings: Settings) -> tuple[Item, Settings]:
+    """Returns an item with the counts that it would have had without its season, and settings that know of none."""
+    item, _ = without_season(item, settings)
+    return item, dataclasses.replace(settings, seasons=None)
+
+
 def question_of(
     item: Item,
     settings: Settings,
@@ -455,7 +513,9 @@ def question_of(
     """Returns the question of an item, whose law is perhaps learned, and which has perhaps the s and S of an earlier
     plan. Raises Refused if its numbers are none of a scenario, and NoPolicy for a new item without a law to learn.
     """
-    prior, box = prior or Prior(NONE), item.box
+    as_read, prior = item, prior or Prior(NONE)
+    item, index = without_season(item, settings)
+    box = item.box
     borrow = NONE if settings.fit != "auto" else item.borrow or settings.borrow or NONE
     if item.past == NEW and (why := why_unknown(item, prior, borrow)):
         raise NoPolicy(Remark(why, {"periods": len(item.counts)}))
@@ -469,7 +529,7 @@ def question_of(
     if item.returns:
         returns = fit_demand(item.returns, method=settings.fit, box=box)
     lead = fit_lead(item.leads, method=settings.lead_fit)
-    return Question(
+    question = Question(
         item,
         settings,
         rates,
@@ -482,3 +542,7 @@ def question_of(
         error,
         in_boxes(before, box),
     )
+    if settings.seasons and index:
+        season = settings.seasons.in_season(as_read, index, demand, lead)
+        return question.at(season)
+    return question

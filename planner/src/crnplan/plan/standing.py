@@ -7,6 +7,7 @@ when it is due; what has no date, or is overdue, comes in time.
 """
 from __future__ import annotations
 
+import dataclasses
 import datetime
 import math
 from collections import Counter
@@ -17,12 +18,13 @@ from functools import cached_property
 
 from ..law import Law
 from ..read.columns import DAYS
+from ..read.dates import period_of
 from ..read.item import Item
 from ..read.observed import Day
 from ..read.stock import NONE, Arrival, OnHand
 from ..remarks import Remark, Value
 from ..theory.walk import NOTHING, LatticeLaw, power_of, sum_of
-from .answer import Answer, Laws
+from .answer import Answer, Laws, Month
 
 MOST_DAYS = 36_525  # from today to a latest date
 Money = Fraction | None  # None if an item has no price
@@ -61,13 +63,30 @@ class Standing:
 
     @property
     def levels(self) -> tuple[int, int]:
-        """Returns s and S by which the item is ordered: those that its planner has set, else those of the plan."""
+        """Returns s and S by which the item is ordered: those that its planner has set, else those of the plan, by a season
+        those of the month of the day."""
         override = self.item.override and self.item.override.levels
-        return override or (self.answer.chosen.levels if self.answer else (0, 0))
+        if override:
+            return override
+        if self.month:
+            return self.month.s, self.month.S
+        return self.answer.chosen.levels if self.answer else (0, 0)
+
+    @cached_property
+    def month(self) -> Month | None:
+        """Returns the month of the day, if the item is planned by its season; None for others."""
+        if self.answer is None:
+            return None
+        return self.answer.month(period_of(self.day, self.every))
 
     @cached_property
     def laws(self) -> Laws:
-        """Returns the laws of the plan; of an item that is phased out those by which nothing more is asked for."""
+        """Returns the laws of the plan, by a season those of the month of the day; of an item that is phased out those by
+        which nothing more is asked for."""
+        if self.answer and self.month:
+            laws = self.answer.laws
+            factor = self.month.factor / self.answer.months[0].factor
+            return dataclasses.replace(laws, demand=laws.demand.times(factor))
         if self.answer:
             return self.answer.laws
         return Laws(

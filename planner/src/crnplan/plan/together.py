@@ -295,7 +295,7 @@ def prices_of(
         periods=Settings.periods,
         replications=Settings.replications,
         least_gain=None,
-        season=None,
+        cycle=None,
     )
     common = on.common("", prior)
     kept = json.loads(answers.fact(PRICES) or "null")

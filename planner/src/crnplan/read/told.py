@@ -28,9 +28,10 @@ UNSTATED = {
     "day_first",
     "is_where_needed",
     "lead_fit",
-    "season",
+    "cycle",
     "aims",
     "prices",
+    "seasons",
 }
 # Fields with values by file and role, whose keys are FILE.ROLE.
 BY_PLACE = ("units", "names")

@@ -26,12 +26,14 @@ from ..plan.question import Settings
 from ..plan.survey import Decided, Survey, saving_of
 from ..plan.swings import keep_swings
 from ..plan.totals import Totals
+from ..plan.yearly import of_month
 from ..read.catalogue_reading import CATALOGUE, missing_of
 from ..read.item import Item
 from ..remarks import Remark
 from ..table import DataTable
 from .backtest_tables import past_line
 from .board import board_of
+from .calendars import LEVELS, item_months, levels_of
 from .catalogue_tables import (
     DECISION_COLUMNS,
     DECISIONS,
@@ -355,9 +357,11 @@ def write_catalogue(
 ) -> str:
     """Writes what a planned catalogue has beside its tables, the summary and the page, and returns the summary."""
     folder.write(REJECTS, rejects_of(planned.read.rejects(survey.faults)).lines)
-    folder.remove(CHANGES, LATENESS)
+    folder.remove(CHANGES, LATENESS, LEVELS)
     if planned.planned.earlier:
         folder.write(CHANGES, changes_of(planned).lines)
+    if any(item_months(planned)):
+        folder.write(LEVELS, levels_of(planned).lines)
     lateness = lateness_of(planned.read)
     if lateness.rows:
         folder.write(LATENESS, lateness.lines)
@@ -376,7 +380,9 @@ def write_item(
     item, answer = planned.item(name)
     own.claim(f"{ITEMS}/", in_place=True)
     (own.path / ITEMS).mkdir(exist_ok=True)
-    depth = Depth(planned.question(item), answer, str(find_program(program)))
+    question = planned.question(item)
+    answer = of_month(question, answer)
+    depth = Depth(question, answer, str(find_program(program)))
     own.write(
         f"{ITEMS}/{file_name(name)}",
         item_page(ItemWords(depth, planned.every, planned.currency)),

@@ -77,7 +77,7 @@ class ItemWords:
         self.depth, self.every, self.currency = depth, every, currency
         self.coming, self.heard = coming, heard
         self.question, self.answer = depth.question, depth.answer
-        self.item, self.settings = self.question.item, self.question.settings
+        self.item, self.settings = self.question.as_read, self.question.settings
         self.decimals = currency.decimals
         self.level = f"{100 * self.settings.level:g}%"
         self.near = f"within {100 * WITHIN:g}%"

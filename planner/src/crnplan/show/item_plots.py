@@ -44,7 +44,7 @@ def history_said(counts: Sequence[int], names: Sequence[str], every: str) -> str
 def history_plot(depth: Depth, names: Sequence[str], every: str) -> Plot:
     """Returns the demand by period as bars, of the last periods if they are many. Lines are the mean of the law, which
     counts in boxes, and what 99 of 100 periods do not exceed by it."""
-    item, figures = depth.question.item, depth.question.demand.figures
+    item, figures = depth.question.as_read, depth.question.all_year.figures
     counts, box = item.counts, item.box
     mean, high = box * figures.mean, box * figures.quantiles[QUANTILES[1]]
     mean_name = f"mean of the law: {number(mean, 2)} a {every}"
@@ -105,7 +105,7 @@ def laws_drawn(depth: Depth) -> list[DrawnLaw]:
     if seen:
         drawn.append(DrawnLaw("what was seen", OF_TODAY, seen))
     for name, css, law in (
-        ("the law", OF_CHOSEN, depth.question.demand),
+        ("the law", OF_CHOSEN, depth.question.all_year),
         (ALONE, OF_ALONE, depth.single),
     ):
         if law:

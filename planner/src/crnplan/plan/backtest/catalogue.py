@@ -85,8 +85,8 @@ class Past:
 
 
 def uncorrected(settings: Settings) -> Settings:
-    """Returns settings by which plans are tested: what a catalogue has learned of fill rates and of prices is from all
-    its periods, also from those on which they are tested. So each item has its own fill rate.
+    """Returns settings by which plans are tested: what a catalogue has learned of fill rates, prices and seasons is from
+    all its periods, also from those on which they are tested. So each item has its own fill rate.
     """
     return dataclasses.replace(
         settings,
@@ -96,6 +96,7 @@ def uncorrected(settings: Settings) -> Settings:
         weigh=Settings.weigh,
         at_least=None,
         prices=None,
+        seasons=None,
     )
 
 

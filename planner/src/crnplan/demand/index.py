@@ -1,0 +1,160 @@
+"""Estimates the season of a class of items, or of one of them: an index for each month of the year. Tests whether there
+is one.
+
+The index of a month is the mean of the ratios of its demand to that of its year (Makridakis, Wheelwright and Hyndman,
+Forecasting: Methods and Applications, third edition, 1998, section 3/4), over the items of a class (Withycombe,
+Forecasting with combined seasonal indices, 1989). It is shrunk by its error (Miller and Williams, Shrinkage estimators
+of time series seasonal factors and their effect on forecasting accuracy, 2003). Items of a class move together, so its
+error is the one between years, not between items.
+
+The test asks whether years are alike. What differs from one year to the next has independent Fourier coefficients, each
+about normal, whatever its spectrum (Brillinger, Time Series: Data Analysis and Theory, 1981, section 4.4). So of each
+frequency the mean over years, beside the scatter between them, has an F law. Fisher's method joins two frequencies
+(Statistical Methods for Research Workers, fourth edition, 1932, section 21.1). A line through the year is taken out
+first, as growth gives one to each year. The study planner/studies/seasons.py measures how often it errs.
+"""
+from __future__ import annotations
+
+import itertools
+import math
+from collections.abc import Sequence
+from typing import NamedTuple
+
+import numpy as np
+from scipy import special
+
+from ..chances import Floats, Whole
+from .seasons import CALENDAR, YEARS, months_of
+
+MONTHS = 12
+FREQUENCIES = 2  # once and twice a year
+# The nominal level of the test of a class, which the study finds kept below 2%, and that of an item of its own.
+FALSE_ALARMS, OWN_ALARMS = 0.01, 0.001
+OWN_YEARS = 3
+LEAST_ITEMS = 10  # of a class: the study has no fewer
+LEAST_INDEX = 0.2  # Lower ones would blow up what little is asked for then.
+FLAT: Floats = np.ones(MONTHS)
+
+
+class Years(NamedTuple):
+    """The whole years at the end of a record, the last one first: a row for each year with the ratios of the mean demand
+    of its months, from January, to that of the year, and how many of its periods have demand. A year without demand has
+    ratios of 0 and no such period."""
+
+    ratios: Floats
+    demands: Floats
+
+    @classmethod
+    def of(cls, counts: Sequence[int], every: str, first: int) -> Years:
+        """Divides a record by day, week or month, whose first period has a number, into years of 365 days, 52 weeks or 12
+        months."""
+        year = CALENDAR[every]["season"]
+        years = len(counts) // year
+        start = len(counts) - years * year
+        months = months_of(every, first, len(counts))[start:]
+        amounts = np.array(counts[start:], float).reshape(years, year)
+        cells = np.repeat(np.arange(years), year) * MONTHS + months
+        sums = np.bincount(cells, amounts.ravel(), years * MONTHS)
+        sizes = np.bincount(cells, minlength=years * MONTHS)
+        means = (sums / sizes).reshape(years, MONTHS)
+        whole = amounts.mean(axis=1, keepdims=True)
+        ratios = np.divide(means, whole, out=np.zeros_like(means), where=whole > 0)
+        demands = np.count_nonzero(amounts, axis=1).astype(float)
+        return cls(ratios[::-1], demands[::-1])
+
+
+class Index(NamedTuple):
+    """A season: the index of each month from January, whose mean is 1; the p value of the test that there is none; which
+    share of what was seen is left after shrinking; and in how many years it was seen.
+    """
+
+    values: tuple[float, ...]
+    chance: float
+    share: float
+    years: int
+
+
+def pooled(items: Sequence[Years]) -> Floats:
+    """Returns the ratios of a class in each year, the last one first: means over its items, which weigh by their periods
+    with demand. A year that fewer than half of the items have is left out."""
+    rows = list[Floats]()
+    most = max((len(item.demands) for item in items), default=0)
+    for year in range(most):
+        there = [item for item in items if len(item.demands) > year]
+        weights = np.array([item.demands[year] for item in there])
+        if 2 * len(there) < len(items) or not weights.any():
+            break
+        rows.append(weights @ [item.ratios[year] for item in there] / weights.sum())
+    return np.array(rows).reshape(-1, MONTHS)
+
+
+def waves() -> Floats:
+    """Returns a column for the cosine and one for the sine of each frequency over the months, without the mean and the
+    line through the year, and at right angles to each other."""
+    time = (np.arange(MONTHS) + 0.5) / MONTHS
+    columns = [FLAT, time]
+    for frequency in range(1, FREQUENCIES + 1):
+        angle = 2 * math.pi * frequency * time
+        columns += [np.cos(angle), np.sin(angle)]
+    square, _ = np.linalg.qr(np.transpose(columns))
+    return np.asarray(square[:, 2:])
+
+
+WAVES = waves()
+
+
+def chance_of(far: Floats) -> float:
+    """Returns the p value of distances from what is expected, a row for each of two or more years: the chance that years
+    which have nothing in common are as much alike."""
+    years = len(far)
+    parts = (far @ WAVES).reshape(years, FREQUENCIES, 2)
+    mean = parts.mean(axis=0)
+    alike = years * (mean**2).sum(axis=1)
+    scatter = ((parts - mean) ** 2).sum(axis=(0, 2))
+    if not scatter.all():  # years that are the same, as those without demand
+        return float(not alike.any())
+    # The upper tail of F with 2 and 2 (years - 1) degrees of freedom.
+    logs = -(years - 1) * np.log1p(alike / scatter)
+    return float(special.chdtrc(2 * FREQUENCIES, -2 * logs.sum()))
+
+
+def index_of(ratios: Floats, expected: Floats = FLAT) -> Index:
+    """Returns the season of ratios, a row for each of two or more years, as far as it differs from what is expected: of
+    a class from 1, of an item from the season of its class. The test and the shrinking are by that difference.
+    """
+    years = len(ratios)
+    far = ratios - expected
+    mean = far.mean(axis=0)
+    seen = float((mean**2).mean())
+    error = float(((far - mean) ** 2).mean()) / (years - 1)
+    share = max(0.0, 1 - error / seen) if seen else 0.0
+    values = np.maximum(expected + share * mean, LEAST_INDEX)
+    values /= values.mean()
+    return Index(tuple(values.tolist()), chance_of(far), share, years)
+
+
+def class_index(items: Sequence[Years]) -> Index | None:
+    """Returns the season of a class; None if the test sees none, or there are fewer than 10 items or two years."""
+    known = [item for item in items if len(item.demands) >= YEARS]
+    if len(known) < LEAST_ITEMS:
+        return None
+    index = index_of(pooled(known))
+    return index if index.chance <= FALSE_ALARMS else None
+
+
+def own_index(item: Years, of_class: Index | None) -> Index | None:
+    """Returns the season of an item: its own if it has demand in each of three years or more and clearly another season
+    than its class, else that of its class."""
+    if len(item.demands) < OWN_YEARS or not item.demands.all():
+        return of_class
+    index = index_of(item.ratios, np.array(of_class.values) if of_class else FLAT)
+    return index if index.chance <= OWN_ALARMS else of_class
+
+
+def flattened(
+    counts: Sequence[int], by_period: Floats, random: np.random.Generator
+) -> tuple[int, ...]:
+    """Returns counts over the index of each period, rounded up or down at random so that means stay."""
+    exact = np.array(counts, float) / by_period
+    whole: Whole = np.floor(exact + random.random(len(exact))).astype(np.int64)
+    return tuple(whole.tolist())

@@ -1,0 +1,163 @@
+"""Compares ways of planning a catalogue that moves, by the stock that each needs for the same realized fill.
+
+    python -m planner.studies.moving --jobs 4 --out planner/studies/moving.csv    what is stored
+    python -m planner.studies.moving cheese --jobs 4                             some sets alone
+
+Sets are real series, as far as packages of R are installed: cheese by chain and city and orange juice by store and
+brand, in cases of 24 units, and weekly cases of diseases. Nothing was tuned on them. `fair.py` says how ways are
+compared.
+
+- `item`: each item by itself, at one fill rate for all, by the law of its last periods.
+- `together`: all items by one price of what is not met at once, by the same laws.
+- `smoothed`: exponential smoothing of mean and error with a normal safety stock, each item by itself.
+"""
+from __future__ import annotations
+
+from collections.abc import Iterator, Sequence
+from fractions import Fraction
+from functools import partial
+from pathlib import Path
+from typing import Any
+
+import click
+import numpy as np
+import pandas as pd
+
+from crnplan.theory.every_gap import best_policies
+from crnplan.demand.learning import Prior, learn
+from crnplan.plan.backtest.smoothing import smoothed_levels
+from crnplan.plan.question import ALL, NONE, Levels, Question, Settings, question_of
+from crnplan.read.item import Item
+from planner.studies.fair import NOMINAL, Member, Moving, compared, real_sets, walked
+from planner.studies.page import markdown
+
+STORED = Path(__file__).with_name("moving.csv")
+LEAST_LEARNED = 100  # items from which others learn, as a catalogue does
+WIDE = 10  # Policies whose gap has so many cells keep it at all fill rates.
+# What an item that is not met at once costs beside a period of it in stock: from low service to high.
+PRICES = (1, 2, 4, 7, 12, 20, 35, 70, 150, 400, 1500)
+
+
+def item_of(member: Member, setup: float, fill: float = 0.95) -> Item:
+    """Returns an item that is known by some counts: an order takes 2 periods, stock costs 1."""
+    return Item(
+        member.name,
+        tuple(member.counts.tolist()),
+        (2,),
+        None,
+        Fraction(max(setup, 0.01)).limit_denominator(100),
+        Fraction(1),
+        None,
+        Fraction(fill).limit_denominator(10_000),
+    )
+
+
+def question(member: Member, setup: float, prior: Prior | None) -> Question:
+    """Returns what is asked for an item, which learns from others if there are enough."""
+    borrow = None if prior is None else ALL
+    return question_of(item_of(member, setup), Settings(borrow=borrow), prior)
+
+
+def by_item(member: Member, setup: float, prior: Prior | None) -> list[Levels]:
+    """Returns the cheapest policy for each fill rate."""
+    asked = question(member, setup, prior)
+    theory, box = asked.theory.free, asked.item.box
+    middle = theory.best(0.98)
+    gap = theory.gap_of(*middle.levels)
+    if gap >= WIDE:
+        ((_, levels),) = theory.levels_with_fill([gap], NOMINAL)
+        span = theory.items(gap)
+        return [(box * max(1, int(level) - span), box * int(level)) for level in levels]
+    best = [theory.best(fill) for fill in NOMINAL]
+    return [(box * max(1, policy.point), box * max(1, policy.level)) for policy in best]
+
+
+def by_price(member: Member, setup: float, prior: Prior | None) -> list[Levels]:
+    """Returns the best policy for each price."""
+    asked = question(member, setup, prior)
+    theory, box = asked.theory, asked.item.box
+    costs = np.array(
+        [[setup] * len(PRICES), [box] * len(PRICES), np.multiply(box, PRICES)]
+    )
+    gaps, (levels, *_) = best_policies(theory, costs.astype(float))
+    pairs = zip((levels - theory.items(gaps)).tolist(), levels.tolist())
+    return [(box * int(s), box * int(S)) for s, S in pairs]
+
+
+def by_smoothing(member: Member, setup: float, prior: Prior | None) -> list[Levels]:
+    """Returns what the rule of thumb has for each fill rate after the last period."""
+    counts, policies = member.counts.tolist(), []
+    for fill in NOMINAL:
+        item = item_of(member, setup, fill)
+        *_, last = smoothed_levels(item, [*counts, 0], 2, 0)
+        policies.append((max(1, last[0]), last[1]))
+    return policies
+
+
+WAYS = {"item": by_item, "together": by_price, "smoothed": by_smoothing}
+
+
+def prior_of(moving: Moving) -> Prior | None:
+    """Returns what the records of a set teach; None if it has fewer than 100 items."""
+    if len(moving.members) < LEAST_LEARNED:
+        return None
+    return learn([member.counts[: moving.record] for member in moving.members])
+
+
+def study(moving: Moving, jobs: int) -> Iterator[dict[str, Any]]:
+    """Yields the rows of a set."""
+    prior = prior_of(moving)
+    levels = {
+        name: walked(moving, partial(way, prior=prior), jobs)
+        for name, way in WAYS.items()
+    }
+    yield from compared(moving, levels, "item")
+
+
+def shown(row: dict[str, Any]) -> str:
+    """Returns by how much a way needs more stock than `item`, with its error."""
+    if np.isnan(row["more"]):
+        return "-"
+    if np.isnan(row["more_error"]):
+        return f"{row['more']:+.1f}"
+    return f"{row['more']:+.1f} ± {row['more_error']:.1f}"
+
+
+def tables() -> dict[str, str]:
+    """Returns the stored figures for the page."""
+    rows, lines = pd.read_csv(STORED).to_dict("records"), []
+    for row in rows:
+        if row["way"] == "item":
+            line = {
+                "set": row["set"],
+                "items": row["items"],
+                "fill": f"{row['fill']:.0%}",
+                "stock, periods": f"{row['stock']:.2f}",
+            }
+            lines.append(line)
+    for line in lines:
+        for row in rows:
+            if (row["set"], f"{row['fill']:.0%}") == (line["set"], line["fill"]):
+                if row["way"] != "item":
+                    line[f"{row['way']}, %"] = shown(row)
+    return {"moving": markdown(pd.DataFrame(lines))}
+
+
+@click.command()
+@click.argument("sets", nargs=-1)
+@click.option("--jobs", type=click.IntRange(1), default=1, show_default=True)
+@click.option("--out", type=click.Path(dir_okay=False, path_type=Path))
+def main(sets: Sequence[str], jobs: int, out: Path | None) -> None:
+    """Compare ways on the sets that are there, or on some of them."""
+    rows = []
+    for name, moving in real_sets().items():
+        if not sets or name in sets:
+            rows += study(moving, jobs)
+    table = pd.DataFrame(rows)
+    click.echo(table.to_string())
+    if out:
+        table.to_csv(out, index=False, float_format="%.6g")
+
+
+if __name__ == "__main__":
+    main()

@@ -1,0 +1,164 @@
+"""Tests catalogues with a season: what is learned and kept, levels by month, orders of a day, and plans without it."""
+from __future__ import annotations
+
+import datetime
+import math
+import shutil
+from pathlib import Path
+from typing import Any
+
+import numpy as np
+import pandas as pd
+import pytest
+
+import crnplan as crn
+from crnplan.plan.catalogue import planned_folder
+from crnplan.plan.learned import PRIOR_WINDOW, SEASONS
+from planner.tests.conftest import Command
+from planner.tests.plan.items import SHORT
+
+ITEMS, WEEKS, START = 11, 110, datetime.date(2022, 1, 3)
+END = "2024-02-11"  # the last Sunday of the record
+FILES = "decisions.csv", "exact.csv", "levels.csv", "summary.txt", "report.html"
+WORDS: dict[str, Any] = {"every": "week", "end": END, "jobs": 1, **SHORT}
+
+
+def write(folder: Path) -> list[Path]:
+    """Writes the tables of two classes, of which one has a season."""
+    random, rows, masters = np.random.default_rng(7), [], []
+    days = [START + datetime.timedelta(7 * week) for week in range(WEEKS)]
+    months = np.array([(day + datetime.timedelta(3)).month for day in days])
+    wave = 1 + 0.7 * np.sin(2 * math.pi * (months - 4) / 12)
+    for place in range(2 * ITEMS):
+        group = ("plain", "warm")[place % 2]
+        name, mean = f"{group}-{place:02}", 6 + place
+        counts = random.poisson(mean * (wave if group == "warm" else 1.0), WEEKS)
+        rows += [(name, day, count) for day, count in zip(days, counts) if count]
+        masters.append((name, group, 20, 1, "0.95", 2, 2 * mean, 6 * mean, 1))
+    columns = "item,class,setup,holding,fill,lead (weeks),s,S,stock".split(",")
+    tables = {
+        "demand": pd.DataFrame(rows, columns=["item", "date", "quantity"]),
+        "items": pd.DataFrame(masters, columns=columns),
+    }
+    for kind, table in tables.items():
+        table.to_csv(folder / f"{kind}.csv", index=False)
+    return [folder / f"{kind}.csv" for kind in tables]
+
+
+@pytest.fixture(scope="module")
+def room(tmp_path_factory: pytest.TempPathFactory, program: Path) -> Path:
+    """Returns a folder with the tables, their plan in `plan`, and that without seasons in `flat`. Nobody changes it."""
+    folder = tmp_path_factory.mktemp("seasons")
+    tables = write(folder)
+    for name, season in (("plan", "auto"), ("flat", "none")):
+        words = {**WORDS, "program": program, "season": season}
+        crn.plan(*tables, out=folder / name, **words)
+    return folder
+
+
+def decisions(folder: Path) -> pd.DataFrame:
+    return pd.read_csv(folder / "decisions.csv", index_col="item")
+
+
+def test_levels_by_month(room: Path) -> None:
+    """Items of the class with a season have levels for each day of a year, of which those of now are their decision; the
+    others have the same plan as without seasons."""
+    plan, flat = decisions(room / "plan"), decisions(room / "flat")
+    levels = crn.open_plan(room / "plan").levels
+    table = pd.read_csv(room / "plan/levels.csv", parse_dates=["from", "to"])
+    assert levels.to_csv(index=False) == (room / "plan/levels.csv").read_text()
+    assert {*table["item"]} == {name for name in plan.index if "warm" in name}
+    for name, months in table.groupby("item"):
+        assert str(months["from"].iloc[0].date()) == "2024-02-12"
+        assert (months["to"].iloc[-1] - months["from"].iloc[0]).days + 1 == 364
+        gaps = months["from"].iloc[1:].to_numpy() - months["to"].iloc[:-1].to_numpy()
+        assert (gaps == np.timedelta64(1, "D")).all()
+        assert months[["s", "S"]].iloc[0].tolist() == (
+            plan.loc[name, ["s_chosen", "S_chosen"]].tolist()
+        )
+        best = months.loc[months["S"].idxmax()]
+        assert best["from"].month in (5, 6, 7) and best["S"] > 1.5 * months["S"].min()
+    plain = [name for name in plan.index if "plain" in name]
+    pd.testing.assert_frame_equal(plan.loc[plain], flat.loc[plain])
+    assert not (room / "flat/levels.csv").exists()
+    assert crn.open_plan(room / "flat").levels.empty
+
+
+def test_what_is_said(room: Path) -> None:
+    """A plan by a season says so in place of the warning of one, which a plan without it has."""
+    plan, flat = decisions(room / "plan"), decisions(room / "flat")
+    warm = plan.index.str.startswith("warm")
+    assert plan.loc[warm, "codes"].str.contains("season planned").all()
+    assert "by 2 years of its class: 1." in plan.loc["warm-21", "warnings"]
+    assert "times the mean in July" in plan.loc["warm-21", "warnings"]
+    assert flat.loc[warm, "warnings"].str.contains("demand has a season").all()
+    assert not plan["warnings"].str.contains("demand has a season").any()
+    assert not plan.loc[~warm, "codes"].str.contains("season planned").any()
+
+
+def test_command(room: Path, tmp_path: Path, crnplan: Command) -> None:
+    """The command plans as Python does; `--season none` plans as if there were none, and a plan after it says so."""
+    tables = [room / "demand.csv", room / "items.csv"]
+    config = tmp_path / "short.toml"
+    config.write_text("[catalogue]\nperiods = 64\nreplications = 4\n")
+    words = *("--every", "week", "--to", END, "--jobs", 1), "--config", config
+    folder = tmp_path / "plan"
+    assert crnplan("catalogue", *tables, "--out", folder, *words).status == 0
+    for name in FILES:
+        assert (folder / name).read_bytes() == (room / "plan" / name).read_bytes()
+    none = "--season", "none", "--out", tmp_path / "none"
+    ran = crnplan("catalogue", *tables, *none, *words, "--after", folder)
+    assert ran.status == 0
+    assert not (tmp_path / "none/levels.csv").exists()
+    assert 'season = "none"' in (tmp_path / "none/found.toml").read_text()
+    reasons = pd.read_csv(tmp_path / "none/changes.csv").to_string()
+    assert "season" in reasons
+    assert crnplan("catalogue", *tables, "--season", "x", *none[2:]).status == 2
+
+
+def test_what_is_kept(room: Path, tmp_path: Path, program: Path) -> None:
+    """Seasons are learned once, and again only on request; laws are learned without them."""
+    folder = Path(shutil.copytree(room / "plan", tmp_path / "plan"))
+    with planned_folder(folder) as planned:
+        seasons = planned.settings.seasons
+        text = planned.store.fact(SEASONS)
+        assert text and planned.store.fact(PRIOR_WINDOW) is None
+    assert seasons and [*seasons.classes] == ["warm"]
+    demand = pd.read_csv(room / "demand.csv")
+    sales = tmp_path / "demand.csv"
+    demand[~demand["item"].str.startswith("warm")].to_csv(sales, index=False)
+    words = {**WORDS, "program": program, "out": folder}
+    crn.plan(sales, room / "items.csv", **words)
+    with planned_folder(folder) as planned:
+        assert planned.store.fact(SEASONS) == text
+    crn.plan(sales, room / "items.csv", learn_again=True, **words)
+    with planned_folder(folder) as planned:
+        assert planned.settings.seasons and not planned.settings.seasons.classes
+
+
+def test_orders_of_a_day(room: Path) -> None:
+    """An item is ordered by the levels of the month of the day."""
+    levels = pd.read_csv(room / "plan/levels.csv", parse_dates=["from", "to"])
+    for day in ("2024-02-13", "2024-07-10", "2025-07-10"):
+        orders = crn.open_plan(room / "plan").orders_today(date=day)
+        table = orders.frame.set_index("item")
+        date = pd.Timestamp(day if day < "2025" else "2024-07-10")
+        own = levels[(levels["from"] <= date) & (date <= levels["to"])]
+        named = own[own["item"].isin(table.index)]
+        assert len(named) > 1
+        for name, s, S in named[["item", "s", "S"]].itertuples(index=False):
+            assert table.loc[name, ["s", "S"]].tolist() == [s, S]
+
+
+def test_page_of_an_item(room: Path, tmp_path: Path, program: Path) -> None:
+    """The page of an item has its demand as it was, and figures of the first month."""
+    folder = Path(shutil.copytree(room / "plan", tmp_path / "plan"))
+    item = crn.open_plan(folder, program=program).item("warm-21")
+    counts = pd.read_csv(room / "demand.csv").query("item == 'warm-21'")["quantity"]
+    assert f"{counts.sum():,} items" in item.text
+    chosen, today = item.frame.loc["chosen"], item.frame.loc["today"]
+    month = crn.open_plan(folder).levels.query("item == 'warm-21'").iloc[0]
+    assert chosen[["s", "S"]].tolist() == month[["s", "S"]].tolist()
+    assert chosen["difference"] == pytest.approx(chosen["cost"] - today["cost"])
+    crn.report(folder, ["warm-21"], program=program)
+    assert [*(folder / "items").glob("*.html")]

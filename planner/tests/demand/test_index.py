@@ -1,0 +1,148 @@
+"""Tests of seasons: ratios against pandas, the test against scipy, shrinking and levelling by hand and by many draws."""
+from __future__ import annotations
+
+import math
+from datetime import date
+
+import numpy as np
+import pandas as pd
+import pytest
+from scipy import stats
+
+from crnplan.demand import index
+from crnplan.demand.index import FLAT, MONTHS, Index, Years, class_index, own_index
+from crnplan.demand.seasons import CALENDAR
+from crnplan.read.dates import period_of
+
+RANDOM = np.random.default_rng(20261129)
+STRONG = 1 + 0.6 * np.sin(2 * math.pi * np.arange(MONTHS) / MONTHS)
+FIRST = date(2021, 2, 3)
+LENGTHS = {"day": 800, "week": 130, "month": 30}  # two years and some periods
+
+
+def counts_of(length: int) -> list[int]:
+    return RANDOM.poisson(5, length).tolist()
+
+
+@pytest.mark.parametrize("every", LENGTHS)
+def test_ratios(every: str) -> None:
+    """The ratios are those of means by year from the end and by month, of weeks by their Thursday."""
+    counts = counts_of(LENGTHS[every])
+    periods = pd.period_range(
+        FIRST, periods=len(counts), freq={"day": "D", "week": "W", "month": "M"}[every]
+    )
+    middle = periods.start_time + pd.Timedelta(days=3 if every == "week" else 0)
+    age = (len(counts) - 1 - np.arange(len(counts))) // CALENDAR[every]["season"]
+    table = pd.DataFrame({"n": counts, "age": age, "month": middle.month})
+    means = table.groupby(["age", "month"])["n"].mean().unstack()
+    ratios = means.div(table.groupby("age")["n"].mean(), axis=0)
+    years = Years.of(counts, every, period_of(FIRST, every))
+    assert years.ratios == pytest.approx(ratios.loc[[0, 1]].to_numpy())
+    asked = table[table["n"] > 0].groupby("age").size()
+    assert years.demands.tolist() == asked.loc[[0, 1]].tolist()
+
+
+def test_years_without_demand() -> None:
+    years = Years.of([0] * 12 + [0] * 11 + [12] + [0] * 12, "month", 2021 * 12)
+    assert years.ratios.tolist() == [[0.0] * 12, [0.0] * 11 + [12.0], [0.0] * 12]
+    assert years.demands.tolist() == [0, 1, 0]
+    assert Years.of([1] * 11, "month", 2021 * 12).ratios.shape == (0, 12)
+
+
+def test_pooled() -> None:
+    """Items weigh by their periods with demand; a year that fewer than half of them have is left out."""
+    row = np.arange(12.0)
+    young = Years(np.array([row]), np.array([3.0]))
+    old = Years(np.array([2 * row, 3 * row]), np.array([1.0, 5.0]))
+    assert index.pooled([young, old]).tolist() == [
+        (1.25 * row).tolist(),
+        (3 * row).tolist(),
+    ]
+    assert len(index.pooled([young, young, old])) == 1
+    assert index.pooled([]).shape == (0, 12)
+
+
+def test_chance() -> None:
+    """The p value is that of Fisher's method over F laws of two frequencies, whatever line each year has."""
+    far = RANDOM.normal(0, 1, (3, MONTHS))
+    time = np.arange(MONTHS) / MONTHS
+    columns, chances = [np.ones(MONTHS), time], []
+    for frequency in (1, 2):
+        angle, pair = 2 * math.pi * frequency * (time + 1 / 24), []
+        for wave in (np.cos(angle), np.sin(angle)):
+            fit = np.linalg.lstsq(np.transpose(columns), wave, rcond=None)[0]
+            rest = wave - np.transpose(columns) @ fit
+            pair.append(far @ rest / np.linalg.norm(rest))
+            columns.append(wave)
+        means = np.mean(pair, axis=1)
+        within = sum(((one - mean) ** 2).sum() for one, mean in zip(pair, means))
+        ratio = (3 * means @ means / 2) / (within / 4)
+        chances.append(stats.f.sf(ratio, 2, 4))
+    expected = stats.combine_pvalues(chances, "fisher")[1]
+    assert index.chance_of(far) == pytest.approx(expected)
+    lines = far + np.outer([1, -3, 8], time) + 2
+    assert index.chance_of(lines) == pytest.approx(expected)
+
+
+@pytest.mark.parametrize("years", [2, 3, 5])
+def test_chances_of_no_season(years: int) -> None:
+    """P values of independent years are even from 0 to 1."""
+    drawn = [index.chance_of(RANDOM.normal(0, 1, (years, MONTHS))) for _ in range(2000)]
+    assert stats.kstest(drawn, "uniform").pvalue > 0.001
+    assert index.chance_of(np.zeros((2, MONTHS))) == 1
+    assert index.chance_of(np.tile(STRONG, (years, 1))) == pytest.approx(0)
+
+
+def test_shrinking() -> None:
+    """Two years that differ by 0.2 in each month, beside a mean that varies by 0.3: a ninth of it is error."""
+    wave = np.tile([1.0, -1.0], 6)
+    index_, low = index.index_of(1 + np.outer([0.4, 0.2], wave)), np.full(12, 0.05)
+    assert index_.share == pytest.approx(1 - 0.1**2 / 0.3**2)
+    assert index_.values == pytest.approx(1 + 0.3 * (8 / 9) * wave)
+    assert index_.years == 2
+    assert index.index_of(1 + np.outer([0.3, -0.3], wave)).values == (1.0,) * 12
+    low[0] = 11.45  # nearly all in January
+    rare = index.index_of(np.tile(low, (2, 1)))
+    raised = np.array([11.45] + 11 * [0.2])
+    assert rare.values == pytest.approx(raised / raised.mean())
+
+
+def item_with(season: np.ndarray, years: int, mean: float = 20) -> Years:
+    counts = RANDOM.poisson(mean * np.tile(season, years)).tolist()
+    return Years.of(counts, "month", 2021 * 12)
+
+
+def test_season_of_a_class() -> None:
+    """A class with a season has about the true index, one without has none, nor has one of less than ten items."""
+    class_ = [item_with(STRONG, 3) for _ in range(12)]
+    seen = class_index(class_)
+    assert seen and seen.values == pytest.approx(STRONG, abs=0.1)
+    assert class_index(class_[:9]) is None
+    assert class_index([item_with(FLAT, 3) for _ in range(12)]) is None
+    assert class_index([item_with(STRONG, 1) for _ in range(12)]) is None
+
+
+def test_season_of_an_item() -> None:
+    """An item has a season of its own if that is clear in three years or more with demand."""
+    of_class = Index(tuple(STRONG.tolist()), 0.0, 1.0, 3)
+    turned = np.roll(STRONG, 6)
+    own = own_index(item_with(turned, 4, 200), of_class)
+    assert own and own.values == pytest.approx(turned, abs=0.1)
+    assert own_index(item_with(turned, 2, 1e6), of_class) is of_class
+    assert own_index(item_with(STRONG, 4, 200), of_class) is of_class
+    assert own_index(item_with(FLAT, 4, 200), None) is None
+    years = item_with(turned, 4, 200)
+    without = Years(years.ratios, np.array([5.0, 5.0, 5.0, 0.0]))
+    assert own_index(without, of_class) is of_class
+
+
+def test_flattened() -> None:
+    """Counts over an index are rounded at random to one of their neighbours, and their mean stays."""
+    by_period = np.array([0.8, 1.25, 1.0, 0.6])
+    drawn = np.array(
+        [index.flattened([3, 7, 4, 0], by_period, RANDOM) for _ in range(4000)]
+    )
+    assert drawn.mean(axis=0) == pytest.approx([3.75, 5.6, 4, 0], abs=0.05)
+    assert (
+        {*drawn[:, 0]} == {3, 4} and {*drawn[:, 2]} == {4} and drawn.dtype.kind == "i"
+    )

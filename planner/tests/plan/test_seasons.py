@@ -1,0 +1,221 @@
+"""Tests plans by a season: months, laws of a month, and the mean of a year, by hand and by exact sums."""
+from __future__ import annotations
+
+import dataclasses
+import datetime
+import math
+from collections.abc import Sequence
+from fractions import Fraction
+from pathlib import Path
+from typing import Any
+
+import numpy as np
+import pandas as pd
+import pytest
+
+from crnplan.demand.index import MONTHS, Index
+from crnplan.law import Law
+from crnplan.plan import yearly
+from crnplan.plan.answer import BOUNDED, CHEAPER, SAME, Answer, Month
+from crnplan.plan.choice import allowed_by, choice_of
+from crnplan.plan.correction import trial_of
+from crnplan.demand.learning import Prior
+from crnplan.plan.one import plan_asked, plan_one
+from crnplan.plan.question import NONE, Question, question_of, without_season
+from crnplan.plan.seasons import Seasons, Stretch, coming_year, is_long
+from crnplan.read.dates import period_of
+from crnplan.read.item import Item
+from planner.tests.plan.items import alone, item_of
+
+RANDOM = np.random.default_rng(5)
+WAVE = tuple((1 + 0.5 * np.sin(2 * math.pi * np.arange(MONTHS) / MONTHS)).tolist())
+SEASONS = Seasons("week", {"warm": Index(WAVE, 0.001, 1.0, 2)})
+FIRST = period_of(datetime.date(2022, 1, 3), "week")  # the week of 3 to 9 January
+MIDDLES = pd.date_range("2022-01-06", periods=208, freq="7D")  # its Thursdays
+FACTORS = np.array(WAVE)[MIDDLES.month - 1]
+
+
+def seasonal(weeks: int = 104, **changed: Any) -> Item:
+    """Returns an item of the class with a season."""
+    counts = np.random.default_rng(5).poisson(8 * FACTORS[:weeks]).tolist()
+    facts = {"group": "warm", "first": FIRST, "counts": tuple(counts)}
+    return item_of(**facts | changed)
+
+
+def asked(**changed: Any) -> Question:
+    return question_of(seasonal(**changed), alone(every="week", seasons=SEASONS))
+
+
+def answered(program: Path, words: dict[str, Any] = {}, **changed: Any) -> Answer:
+    """Returns the answer to an item with a season."""
+    settings, item = alone(every="week", seasons=SEASONS, **words), seasonal(**changed)
+    answer = plan_asked((item, None), settings, Prior(NONE), str(program))
+    assert isinstance(answer, Answer)
+    return answer
+
+
+def test_coming_year() -> None:
+    """A year has each month once, and the rest of one that has begun at its end; weeks belong to that of their
+    Thursday."""
+    year = coming_year("week", period_of(datetime.date(2026, 1, 26), "week"))
+    days = [stretch.days("week") for stretch in year[:2]]
+    assert [str(day) for pair in days for day in pair] == [
+        *("2026-01-26", "2026-02-01", "2026-02-02", "2026-03-01")
+    ]
+    assert len(year) == 13 and year[-1].end - year[0].first == 52
+    assert all(one.end == two.first for one, two in zip(year, year[1:]))
+    months = coming_year("month", 2026 * 12 + 4)
+    assert [*months] == [Stretch(it, it + 1) for it in range(24316, 24328)]
+    assert len(coming_year("day", period_of(datetime.date(2026, 1, 1), "day"))) == 12
+    assert is_long("month", 24) and not is_long("week", 103)
+
+
+@pytest.mark.parametrize("factor", [0.4, 1.0, 1.75])
+def test_times(factor: float) -> None:
+    """The law of as many times the values has as large a mean, by shares of neighbours."""
+    law = Law((0, 3, 10), (2, 1, 1))
+    scaled = law.times(factor)
+    assert float(scaled.mean) == pytest.approx(3.25 * factor, abs=1e-4)
+    for value in scaled.values:
+        assert min(abs(value - factor * own) for own in law.values) < 1
+    assert scaled.chances.get(round(10 * factor)) == pytest.approx(
+        0.25 * (1 - abs(round(10 * factor) - 10 * factor)), abs=1e-4
+    )
+
+
+def test_counts_without_season() -> None:
+    """An item is planned by its counts over the index of their months; others, and amounts that would be too large, stay
+    as they are."""
+    settings = alone(every="week", seasons=SEASONS)
+    item = seasonal()
+    flat, index = without_season(item, settings)
+    assert index is SEASONS.classes["warm"]
+    exact = np.array(item.counts) / FACTORS[:104]
+    assert (np.abs(np.array(flat.counts) - exact) < 1).all()
+    assert np.mean(flat.counts) == pytest.approx(exact.mean(), abs=0.15)
+    assert without_season(item, settings)[0].counts == flat.counts
+    other = dataclasses.replace(item, name="B")
+    assert without_season(other, settings)[0].counts != flat.counts
+    large = seasonal(counts=(4000,) * 104)
+    for same in (large, seasonal(group="")):
+        assert without_season(same, settings) == (same, None)
+    assert without_season(item, alone(every="week")) == (item, None)
+
+
+def test_law_of_a_month() -> None:
+    """The law of a month is that without the season times the mean index over the month and a lead time more."""
+    question = asked(leads=(2, 4))
+    assert question.season and question.as_read.counts != question.item.counts
+    flat = float(question.all_year.mean)
+    for stretch in question.season.year:
+        month = question.month(stretch)
+        first = stretch.first - FIRST
+        mean = FACTORS[first : stretch.end - FIRST + 3].mean()
+        assert float(month.demand.mean) == pytest.approx(flat * mean, rel=1e-3)
+    alone_ = question.alone()
+    assert alone_.season and float(alone_.demand.mean) == pytest.approx(
+        float(alone_.season.law.mean) * question.season.factor, rel=1e-3
+    )
+
+
+def test_own_season() -> None:
+    """An item with a clear season of its own has that in place of that of its class."""
+    counts = RANDOM.poisson(200 * FACTORS[26:182]).tolist()
+    item = seasonal(counts=tuple(counts))
+    index = SEASONS.of_item(item)
+    assert index and SEASONS.is_own(item, index)
+    assert index.values.index(max(index.values)) == 9
+    question = question_of(item, alone(every="week", seasons=SEASONS))
+    assert question.season
+    facts = question.season.remark.facts
+    assert (facts["is_own"], facts["years"], facts["month_most"]) == (True, 3, 10)
+    assert facts["most"] == max(index.values) and facts["least"] == min(index.values)
+
+
+def year_by_hand(question: Question, levels: Sequence[tuple[int, int]]) -> np.ndarray:
+    """Returns cost, fill, stock and orders of a year, by the figures of each month."""
+    assert question.season
+    rows, weights = [], []
+    for stretch, own in zip(question.season.year, levels):
+        month = question.month(stretch)
+        figures = month.figures(own)
+        rows.append((figures.cost, figures.fill, figures.stock, figures.orders))
+        weeks = stretch.end - stretch.first
+        weights.append((weeks, weeks * float(month.demand.mean), weeks, weeks))
+    table, shares = np.array(rows), np.array(weights)
+    return (table * shares).sum(axis=0) / shares.sum(axis=0)
+
+
+def test_year(program: Path) -> None:
+    """Figures are means of the months, by weeks, of the fill rate by demand; the calendar has the best levels of each."""
+    answer, question = answered(program), asked()
+    assert question.season and question.levels and answer.today
+    best = [choice_of(question.month(it), True).levels for it in question.season.year]
+    assert [(month.s, month.S) for month in answer.months] == best
+    assert [month[:2] for month in answer.months] == [*question.season.year]
+    for figures, levels in (
+        (answer.chosen, best),
+        (answer.today, [question.levels] * len(best)),
+    ):
+        means = figures.cost, figures.fill, figures.stock, figures.orders
+        assert means == pytest.approx(year_by_hand(question, levels))
+    assert answer.chosen.levels == best[0] and answer.cost_chosen == answer.chosen.cost
+    assert answer.saving == pytest.approx(answer.today.cost - answer.chosen.cost)
+    assert (answer.verdict, answer.source) == (CHEAPER, "theory")
+    assert answer.law.mean == pytest.approx(float(question.all_year.mean))
+    assert answer.remarks[0].code == "season planned"
+    month = yearly.of_month(question, answer)
+    assert month.chosen == question.figures(best[0]) and month.today
+    assert month.saving == pytest.approx(month.today.cost - month.chosen.cost)
+    without = question_of(seasonal(group=""), alone(every="week", seasons=SEASONS))
+    plain = plan_one(without, str(program))
+    assert plain.calendar == () and yearly.of_month(without, plain) is plain
+    assert plain.month(FIRST) is None
+
+
+def test_verdicts_of_a_year(program: Path) -> None:
+    """A policy is the same if it is that of each month; one beyond the bounds stays bounded, and one without a policy
+    today is compared with none."""
+    flat = Seasons("week", {"warm": Index((1.0,) * MONTHS, 0.001, 1.0, 2)})
+    item = seasonal()
+    words = alone(every="week", seasons=flat), Prior(NONE), str(program)
+    first = plan_asked((item, None), *words)
+    assert isinstance(first, Answer)
+    kept = dataclasses.replace(item, levels=first.chosen.levels)
+    answer = plan_asked((kept, None), *words)
+    assert isinstance(answer, Answer) and answer.verdict == SAME
+    bounds = {"max_coverage": 1}
+    bounded = answered(program, bounds, fill=Fraction(99, 100), levels=(1, 3))
+    assert bounded.verdict == BOUNDED
+    assert answered(program, levels=None).saving is None
+
+
+def test_month_of_a_day(program: Path) -> None:
+    """A later year has the same months, and a day of the record the first."""
+    answer = answered(program)
+    first, *_, last = answer.months
+    assert answer.month(first.first - 9) == answer.month(first.first) == first
+    assert answer.month(last.end - 1) == last
+    assert answer.month(last.end) == first == Month(*answer.calendar[0])
+
+
+def test_confidence_and_doubt() -> None:
+    """Laws that a history allows are those of the month too."""
+    question = asked()
+    assert question.season
+    laws, _ = allowed_by(question, 40)
+    means = np.mean([float(law.mean) for law in laws])
+    assert means == pytest.approx(float(question.demand.mean), rel=0.1)
+    turned = question.month(question.season.year[3])
+    laws, _ = allowed_by(turned, 40)
+    means = np.mean([float(law.mean) for law in laws])
+    assert means == pytest.approx(float(turned.demand.mean), rel=0.1)
+
+
+def test_trial_without_season() -> None:
+    """What a correction tries on the past is without the season."""
+    settings = alone(every="week", seasons=SEASONS)
+    item = seasonal(fill=Fraction(19, 20))
+    flat, _ = without_season(item, settings)
+    expected = trial_of(flat, alone(every="week"), Prior(NONE))
+    assert trial_of(item, settings, Prior(NONE)) == expected
