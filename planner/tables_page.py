@@ -9,6 +9,7 @@ from crnplan.curve import exchange_curve
 from crnplan.decide import doubt, long_run, sensitivity, verdicts
 from crnplan.show import (
     backtest_tables,
+    calendars,
     catalogue_tables,
     change_tables,
     control_tables,
@@ -48,6 +49,10 @@ TABLES: Mapping[str, tuple[str, Sequence[Column]]] = {
     "controls, summary.txt, today_controls.csv": (
         "Control totals: what the files come to, by what became of their rows.",
         control_tables.CONTROL_COLUMNS,
+    ),
+    "levels.csv": (
+        "The levels of items that are planned by their season: a row for each month of the coming year.",
+        calendars.COLUMNS,
     ),
     "rejects.csv, today_left_out.csv": (
         "What was left out of tables, or only named.",

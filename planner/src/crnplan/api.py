@@ -36,7 +36,7 @@ from .plan.catalogue import check_earlier, planned_folder
 from .plan.totals import Totals
 from .plan.item import Depth
 from .plan.question import Settings
-from .plan.yearly import of_month
+from .plan.one import of_month
 from .plan.survey import Survey
 from .plan.what_ifs import Moves
 from .read.catalogue_reading import CATALOGUE, READ, read_into
@@ -216,10 +216,8 @@ class Plan(TextResult):
         out, and says why."""
         with planned_folder(self.path) as folder:
             item, answer = folder.item(name)
-            question = folder.question(item)
-            depth = Depth(
-                question, of_month(question, answer), str(find_program(self.program))
-            )
+            question, program = folder.question(item), str(find_program(self.program))
+            depth = Depth(question, of_month(question, answer, program), program)
             return PlannedItem(ItemWords(depth, folder.every, folder.currency))
 
     def curve(

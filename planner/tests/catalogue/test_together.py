@@ -14,12 +14,15 @@ import pytest
 
 import crnplan as crn
 from crnplan.demand.learning import Prior
-from crnplan.plan.answer import Answer
+from crnplan.formats import MOST_ITEMS
+from crnplan.plan.answer import Answer, Share
 from crnplan.plan.catalogue import planned_folder
 from crnplan.plan.choice import best_of
 from crnplan.plan.prices import REST, Price, Prices
-from crnplan.plan.question import NONE, Question, Settings, question_of
-from crnplan.plan.offers import Asked, Offer, offer_of
+from crnplan.plan.question import NONE, NoPolicy, Question, Settings, question_of
+from crnplan.plan.together import fill_with
+from crnplan.plan.offers import Asked, ByPrice, offer_of, past_of
+from crnplan.read.bounds import Bounds
 from crnplan.read.item import Item
 from planner.tests.catalogue.conftest import TABLES
 from planner.tests.conftest import Command, cases_beside, rows_of
@@ -131,21 +134,28 @@ def test_best_policy_by_brute_force(
     (best, *_) = best_of(question)
     own = (pairs[:, :2] == best.levels).all(axis=1)
     assert costs[own] == pytest.approx(costs.min(), rel=1e-9)
+    tried = question_of(item, priced(price, at_least=least, prices=None))
+    assert ByPrice(tried, [price]).pairs == [best.levels]
 
 
 def test_offers_by_brute_force() -> None:
     """An offer has what the best of all pairs leave unmet, by value, and what their stock costs to hold."""
     settings = dataclasses.replace(OWN, together={REST: WANTED})
-    prices = (0.1, 0.5, 3.0, 40.0)
+    prices, fill = (0.1, 0.5, 3.0, 40.0), 0.93
     for item in SMALL:
         value = float(item.price or 0)
-        offer = offer_of(item, settings, Prior(NONE), {REST: Asked(prices)})
-        pairs = pairs_of(question_of(item, settings))
+        asked = {REST: Asked(prices, (fill,))}
+        offer = offer_of(item, settings, Prior(NONE), asked)
+        question = question_of(item, settings)
+        pairs, mean = pairs_of(question), float(question.demand.mean)
+        enough = pairs[pairs[:, 3] <= (1 - fill) * mean]
+        s, S, *_ = enough[enough[:, 2].argmin()].astype(int).tolist()
+        stock = question.figures((s, S)).stock
+        assert offer.alone == pytest.approx([float(item.holding) * stock])
         for price, unmet in zip(prices, offer.unmet):
             whole = pairs[:, 2] + price * value * pairs[:, 3]
             assert unmet == pytest.approx(value * pairs[whole.argmin(), 3], abs=1e-9)
         assert offer.asked == pytest.approx(value * np.mean(item.counts))
-        assert isinstance(offer, Offer) and offer.alone == ()
 
 
 def test_wanted_share_is_met(together: crn.Plan, alone: pd.DataFrame) -> None:
@@ -308,3 +318,129 @@ def test_curve_of_a_plan_together(program: Path, tmp_path: Path) -> None:
     assert point.fill == pytest.approx(price.promised, abs=1e-6)
     assert "chosen together" in curve.text and "item by item" not in curve.text
     assert "chosen together" in plan.report().read_text("utf-8")
+
+
+def test_page_of_an_item(together: crn.Plan) -> None:
+    """It says what the item is planned for, and no fill rate that does not count."""
+    own = together.item("I-003")
+    assert "together they are to meet 90% of their demand at once" in own.page
+    assert "fill rate of 95% is wanted" not in own.page
+    cases = own.moves().frame.case
+    assert not cases.str.contains("fill rate").any() and cases.size > 4
+    with planned_folder(together.path) as folder:
+        item, answer = folder.item("I-003")
+    assert answer.share == Share("", WANTED, float(item.price or 0), False)
+
+
+def test_a_change_is_judged_by_the_price(tmp_path: Path, program: Path) -> None:
+    """Levels of an earlier plan stay if what they cost, with what is not met at once by the price, is hardly more; and
+    their gain is told so."""
+    files = write(tmp_path)
+    words: dict[str, Any] = {"together": WANTED, "program": program, **SETTINGS}
+    first = crn.plan(*files, out=tmp_path / "plan", **words)
+    masters = pd.read_csv(files[1])
+    masters["setup"] *= 1.3
+    damped = crn.plan(files[0], masters, after=first.path, least_gain=0.02, **words)
+    with planned_folder(damped.path) as folder:
+        questions = {
+            item.name: (folder.question(item), answer)
+            for item, answer in folder.answers()
+        }
+    stays = 0
+    for question, answer in questions.values():
+        if not isinstance(answer, Answer) or answer.share is None or not answer.before:
+            continue
+        best = answer.undamped or answer.chosen
+        before, after = (
+            figures.cost
+            + (question.price or 0) * float(question.demand.mean) * (1 - figures.fill)
+            for figures in (answer.before, best)
+        )
+        gain = (before - after) / before
+        assert gain >= -1e-9 and (answer.undamped is not None) == (1e-9 < gain < 0.02)
+        stays += answer.undamped is not None
+        told = [it.facts["share"] for it in answer.remarks if it.code == "damped"]
+        assert told == pytest.approx([gain] * (answer.undamped is not None))
+    assert stays > 3
+
+
+def test_bounds_that_leave_few_policies() -> None:
+    """If no policy has the least fill rate, the item has the one that meets most, by its plan and by its offer; there is
+    no plan if no pair is within the bounds."""
+    item = dataclasses.replace(SMALL[1], bounds=Bounds(s_min=1, coverage=Fraction(3)))
+    question = question_of(item, priced(0.01, at_least=0.98))
+    best, is_bounded = best_of(question)
+    fullest = question.theory.fullest()
+    assert is_bounded and best.levels == fullest.levels
+    settings = dataclasses.replace(question.settings, prices=None)
+    asked = {REST: Asked((0.01,), (0.1, 0.98))}
+    offer = offer_of(item, settings, Prior(NONE), asked)
+    figures = question.figures(fullest.levels)
+    held = float(item.holding) * figures.stock
+    asked_for = float(question.demand.mean) * float(item.price or 0)
+    assert offer.unmet == pytest.approx([(1 - figures.fill) * asked_for])
+    assert offer.held == pytest.approx([held]) and offer.alone[1] == offer.held[0]
+    assert offer.alone[0] < offer.alone[1]
+    none = dataclasses.replace(item, bounds=Bounds(s_min=MOST_ITEMS, order_min=9))
+    with pytest.raises(NoPolicy):
+        best_of(question_of(none, priced(1.0)))
+
+
+def test_demand_in_boxes() -> None:
+    """Large demands are counted in boxes of two: as half as many items of twice the price and holding cost."""
+    counts = tuple(6_000 * count for count in (0, 1, 0, 2) * 5)
+    item = dataclasses.replace(SMALL[0], counts=counts, setup=Fraction(9_000))
+    half = dataclasses.replace(
+        item,
+        counts=tuple(count // 2 for count in counts),
+        holding=2 * item.holding,
+        price=2 * (item.price or 0),
+    )
+    assert (item.box, half.box) == (2, 1)
+    levels = [best_of(question_of(it, priced(0.8)))[0].levels for it in (item, half)]
+    assert levels[0] == levels[1]
+    settings = dataclasses.replace(OWN, together={REST: WANTED})
+    asked = {REST: Asked((0.1, 0.8), (0.9,))}
+    offers = [offer_of(it, settings, Prior(NONE), asked) for it in (item, half)]
+    for one, other in zip(*map(dataclasses.astuple, offers)):
+        assert one == pytest.approx(other)
+    past = [past_of(it, settings, Prior(NONE), asked) for it in (item, half)]
+    assert past[0].unmet == pytest.approx(past[1].unmet, rel=1e-3)
+
+
+def test_verdicts(program: Path) -> None:
+    """A policy that meets more and costs more is more service; one that costs less is cheaper, whatever it meets."""
+    sales, masters = made()
+    masters["s"], masters["S"] = 1, 3
+    plan = crn.plan(sales, masters, together=0.95, program=program, **SETTINGS)
+    own = plan.decisions[lambda row: row.fill_together.notna()]
+    dearer = own.cost_chosen > own.cost_today
+    assert dearer.any() and (own[dearer].fill_chosen > own[dearer].fill_today).all()
+    assert {*own[dearer].verdict} == {"more service"}
+    assert {*own[~dearer].verdict} <= {"cheaper"}
+
+
+def test_fill_rate_of_each_by_hand() -> None:
+    """Half way between 10 and 20, it leaves unmet the geometric mean of 10% and 1%."""
+    fills, held = (0.9, 0.99), np.array([10.0, 20.0])
+    assert fill_with(15.0, fills, held) == pytest.approx(1 - math.sqrt(0.1 * 0.01))
+    assert [fill_with(some, fills, held) for some in (9.0, 20.0)] == pytest.approx(
+        fills
+    )
+
+
+def test_learned_again_in_its_folder(
+    tmp_path: Path, crnplan: Command, program: Path
+) -> None:
+    """New rows of an item change its plan alone, until the price is to be learned again: then it is that of a new
+    folder."""
+    files = write(tmp_path)
+    words: dict[str, Any] = {"together": WANTED, "program": program, **SETTINGS}
+    first = groups_of(crn.plan(*files, out=tmp_path / "plan", **words))
+    with files[0].open("a") as demand:
+        demand.writelines(f"I-014,2024-02-{day:02},9,0\n" for day in range(1, 25))
+    kept = crn.plan(*files, out=tmp_path / "plan", **words)
+    assert groups_of(kept) == first
+    again = crn.plan(*files, out=tmp_path / "plan", learn_again=True, **words)
+    other = crn.plan(*files, out=tmp_path / "other", **words)
+    assert groups_of(again) == groups_of(other) != first

@@ -38,14 +38,14 @@ def test_ratios(every: str) -> None:
     ratios = means.div(table.groupby("age")["n"].mean(), axis=0)
     years = Years.of(counts, every, period_of(FIRST, every))
     assert years.ratios == pytest.approx(ratios.loc[[0, 1]].to_numpy())
-    asked = table[table["n"] > 0].groupby("age").size()
-    assert years.demands.tolist() == asked.loc[[0, 1]].tolist()
+    asked = (table["n"] > 0).groupby(table["age"]).mean()
+    assert years.asked == pytest.approx(asked.loc[[0, 1]].to_numpy())
 
 
 def test_years_without_demand() -> None:
     years = Years.of([0] * 12 + [0] * 11 + [12] + [0] * 12, "month", 2021 * 12)
     assert years.ratios.tolist() == [[0.0] * 12, [0.0] * 11 + [12.0], [0.0] * 12]
-    assert years.demands.tolist() == [0, 1, 0]
+    assert years.asked.tolist() == [0, 1 / 12, 0]
     assert Years.of([1] * 11, "month", 2021 * 12).ratios.shape == (0, 12)
 
 
@@ -132,8 +132,9 @@ def test_season_of_an_item() -> None:
     assert own_index(item_with(STRONG, 4, 200), of_class) is of_class
     assert own_index(item_with(FLAT, 4, 200), None) is None
     years = item_with(turned, 4, 200)
-    without = Years(years.ratios, np.array([5.0, 5.0, 5.0, 0.0]))
-    assert own_index(without, of_class) is of_class
+    assert own_index(years._replace(asked=np.full(4, 0.5)), of_class) is not of_class
+    few = years._replace(asked=np.array([0.5, 0.9, 1.0, 0.4]))
+    assert own_index(few, of_class) is of_class
 
 
 def test_flattened() -> None:

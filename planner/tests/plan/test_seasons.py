@@ -15,12 +15,12 @@ import pytest
 
 from crnplan.demand.index import MONTHS, Index
 from crnplan.law import Law
-from crnplan.plan import yearly
+from crnplan.plan.aims import FILLS, Aims, Trial
 from crnplan.plan.answer import BOUNDED, CHEAPER, SAME, Answer, Month
 from crnplan.plan.choice import allowed_by, choice_of
 from crnplan.plan.correction import trial_of
 from crnplan.demand.learning import Prior
-from crnplan.plan.one import plan_asked, plan_one
+from crnplan.plan.one import of_month, plan_asked, plan_one
 from crnplan.plan.question import NONE, Question, question_of, without_season
 from crnplan.plan.seasons import Seasons, Stretch, coming_year, is_long
 from crnplan.read.dates import period_of
@@ -164,13 +164,50 @@ def test_year(program: Path) -> None:
     assert (answer.verdict, answer.source) == (CHEAPER, "theory")
     assert answer.law.mean == pytest.approx(float(question.all_year.mean))
     assert answer.remarks[0].code == "season planned"
-    month = yearly.of_month(question, answer)
-    assert month.chosen == question.figures(best[0]) and month.today
-    assert month.saving == pytest.approx(month.today.cost - month.chosen.cost)
+    month = of_month(question, answer, str(program))
+    assert month.chosen == question.figures(best[0]) and month.calendar == ()
+    assert month == plan_one(question, str(program))
     without = question_of(seasonal(group=""), alone(every="week", seasons=SEASONS))
     plain = plan_one(without, str(program))
-    assert plain.calendar == () and yearly.of_month(without, plain) is plain
+    assert plain.calendar == () and of_month(without, plain, "") is plain
     assert plain.month(FIRST) is None
+
+
+def test_runs_of_a_year(program: Path) -> None:
+    """The run's costs, savings and ends are the means of those of the months, by weeks; its totals are of the first."""
+    answer, question = answered(program), asked()
+    assert question.season
+    year = question.season.year
+    runs = [plan_one(question.month(it), str(program)).run for it in year]
+    weeks = [it.end - it.first for it in year]
+    for name in ("cost_today", "cost_chosen", "saving", "error", "low", "high"):
+        mean = np.average([getattr(run, name) for run in runs], weights=weeks)
+        assert getattr(answer.run, name) == pytest.approx(mean)
+    assert answer.run.total_chosen == runs[0].total_chosen
+    assert answer.run.low and answer.saving and answer.run.high
+    assert answer.run.low < answer.saving < answer.run.high
+
+
+def test_corrected_year(program: Path) -> None:
+    """A year has the mean stock of policies that aim at the wanted fill rate, and what a confidence costs."""
+    trial = Trial(8.0, 104, tuple(208 * (1 - fill) for fill in FILLS))
+    words: dict[str, Any] = {"aims": Aims.of([trial] * 40), "confidence": 0.8}
+    wanted = {"fill": Fraction(19, 20), "backlog": None}
+    answer = answered(program, words, **wanted)
+    question = question_of(
+        seasonal(**wanted), alone(every="week", seasons=SEASONS, **words)
+    )
+    assert question.season and answer.correction and answer.correction.aim > 0.95
+    year, plain, costs = question.season.year, [], []
+    for stretch in year:
+        month = plan_one(question.month(stretch), str(program))
+        assert month.correction
+        plain.append(month.correction.plain_stock)
+        costs.append(month.confidence_cost)
+    weeks = [it.end - it.first for it in year]
+    mean = np.average(plain, weights=weeks)
+    assert answer.correction.plain_stock == pytest.approx(mean)
+    assert answer.confidence_cost == pytest.approx(np.average(costs, weights=weeks))
 
 
 def test_verdicts_of_a_year(program: Path) -> None:

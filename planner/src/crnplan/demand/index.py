@@ -31,6 +31,7 @@ FREQUENCIES = 2  # once and twice a year
 # The nominal level of the test of a class, which the study finds kept below 2%, and that of an item of its own.
 FALSE_ALARMS, OWN_ALARMS = 0.01, 0.001
 OWN_YEARS = 3
+OWN_ASKED = 0.5  # Items with fewer periods with demand have no season of their own: it would be wild.
 LEAST_ITEMS = 10  # of a class: the study has no fewer
 LEAST_INDEX = 0.2  # Lower ones would blow up what little is asked for then.
 FLAT: Floats = np.ones(MONTHS)
@@ -38,11 +39,11 @@ FLAT: Floats = np.ones(MONTHS)
 
 class Years(NamedTuple):
     """The whole years at the end of a record, the last one first: a row for each year with the ratios of the mean demand
-    of its months, from January, to that of the year, and how many of its periods have demand. A year without demand has
-    ratios of 0 and no such period."""
+    of its months, from January, to that of the year, and which share of its periods has demand. A year without demand has
+    ratios of 0 and a share of 0."""
 
     ratios: Floats
-    demands: Floats
+    asked: Floats
 
     @classmethod
     def of(cls, counts: Sequence[int], every: str, first: int) -> Years:
@@ -59,8 +60,7 @@ class Years(NamedTuple):
         means = (sums / sizes).reshape(years, MONTHS)
         whole = amounts.mean(axis=1, keepdims=True)
         ratios = np.divide(means, whole, out=np.zeros_like(means), where=whole > 0)
-        demands = np.count_nonzero(amounts, axis=1).astype(float)
-        return cls(ratios[::-1], demands[::-1])
+        return cls(ratios[::-1], (amounts > 0).mean(axis=1)[::-1])
 
 
 class Index(NamedTuple):
@@ -78,10 +78,10 @@ def pooled(items: Sequence[Years]) -> Floats:
     """Returns the ratios of a class in each year, the last one first: means over its items, which weigh by their periods
     with demand. A year that fewer than half of the items have is left out."""
     rows = list[Floats]()
-    most = max((len(item.demands) for item in items), default=0)
+    most = max((len(item.asked) for item in items), default=0)
     for year in range(most):
-        there = [item for item in items if len(item.demands) > year]
-        weights = np.array([item.demands[year] for item in there])
+        there = [item for item in items if len(item.asked) > year]
+        weights = np.array([item.asked[year] for item in there])
         if 2 * len(there) < len(items) or not weights.any():
             break
         rows.append(weights @ [item.ratios[year] for item in there] / weights.sum())
@@ -135,7 +135,7 @@ def index_of(ratios: Floats, expected: Floats = FLAT) -> Index:
 
 def class_index(items: Sequence[Years]) -> Index | None:
     """Returns the season of a class; None if the test sees none, or there are fewer than 10 items or two years."""
-    known = [item for item in items if len(item.demands) >= YEARS]
+    known = [item for item in items if len(item.asked) >= YEARS]
     if len(known) < LEAST_ITEMS:
         return None
     index = index_of(pooled(known))
@@ -143,9 +143,9 @@ def class_index(items: Sequence[Years]) -> Index | None:
 
 
 def own_index(item: Years, of_class: Index | None) -> Index | None:
-    """Returns the season of an item: its own if it has demand in each of three years or more and clearly another season
-    than its class, else that of its class."""
-    if len(item.demands) < OWN_YEARS or not item.demands.all():
+    """Returns the season of an item: its own if it has demand in half of the periods of each of three years or more, and
+    clearly another season than its class; else that of its class."""
+    if len(item.asked) < OWN_YEARS or item.asked.min() < OWN_ASKED:
         return of_class
     index = index_of(item.ratios, np.array(of_class.values) if of_class else FLAT)
     return index if index.chance <= OWN_ALARMS else of_class

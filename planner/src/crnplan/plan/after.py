@@ -20,6 +20,7 @@ from ..store.work import Known
 from .answer import Answer
 from .changes import Change, Pair, change_of
 from .question import LEARNED, Levels, Settings
+from .seasons import coming_year
 
 if TYPE_CHECKING:
     from .catalogue import Planned, PlannedFolder
@@ -62,7 +63,7 @@ def taken(answer: Answer | Remark) -> Answer | Remark:
 
 def asked_after(
     read: Catalogued, planned: Planned, earlier: PlannedFolder | None, name: str
-) -> tuple[Item, Levels | None] | Known:
+) -> tuple[Item, tuple[Levels, ...] | None] | Known:
     """Returns what is asked of an item that was read: its facts, with its s and S in an earlier plan, if it has any
     there. The answer of that plan to the same question is known, but for a policy that stayed by another least gain.
     """
@@ -79,7 +80,16 @@ def asked_after(
         is_same &= planned.settings.least_gain == earlier.settings.least_gain
     if is_same:
         return Known(taken(answer))
-    return item, before.chosen.levels if before else None
+    return item, levels_in(before, read.fact("every"), item) if before else None
+
+
+def levels_in(before: Answer, every: str, item: Item) -> tuple[Levels, ...]:
+    """Returns the levels that an earlier plan has in each month of the year after the record of an item: one pair if they
+    are always the same."""
+    if not before.calendar:
+        return (before.chosen.levels,)
+    year = coming_year(every, item.first + len(item.counts))
+    return tuple(before.chosen_in(month.first).levels for month in year)
 
 
 def stated(settings: Settings) -> dict[str, Value]:

@@ -1,9 +1,9 @@
 """What is answered for an item: numbers, codes and facts. Words are made of them where they are shown."""
 from __future__ import annotations
 
-from dataclasses import dataclass
+from dataclasses import dataclass, replace
 from fractions import Fraction
-from typing import Any, NamedTuple
+from typing import NamedTuple
 
 from ..law import Law
 from ..read.item import NEW, Item
@@ -19,7 +19,8 @@ TODAY, CHOSEN, ALONE, BEFORE, UNDAMPED = (
     "undamped",
 )
 OVERRIDE = "override"  # that of the planner
-# Verdicts. `more service`: today's policy misses the wanted fill, and keeping it costs more. `bounded`: no policy
+# Verdicts. `more service`: today's policy misses the wanted fill, and keeping it costs more; or that costs less and
+# meets less than the price of items that are planned together pays for. `bounded`: no policy
 # within the bounds of the item has the wanted fill; the chosen one meets most.
 CHEAPER, DEARER, UNDECIDED, SAME, SERVICE = (
     "cheaper",
@@ -160,8 +161,8 @@ class Answer:
     is the policy that the planner has set, None if there is none. `share` is None if the item is planned by itself.
 
     Of an item that is planned by its season, `calendar` has the levels of the coming year, month by month. Its costs,
-    its saving and the figures of `today`, `chosen` and `override` are means over that year by theory, each month as if it
-    lasted; all else is of the first month. It is empty for others.
+    its savings and the figures of its policies are means over that year, each month as if it lasted, and its law is that
+    without the season; all else is of the first month. It is empty for others.
     """
 
     verdict: str
@@ -185,11 +186,11 @@ class Answer:
     allowed: Allowed | None = None
     override: Figures | None = None
     share: Share | None = None
-    calendar: tuple[Any, ...] = ()
+    calendar: tuple[Month, ...] = ()
 
     @property
     def months(self) -> list[Month]:
-        """Returns the months of the calendar."""
+        """Returns the months of the calendar, which are plain tuples where they are read from a store."""
         return [Month(*cells) for cells in self.calendar]
 
     def month(self, period: int) -> Month | None:
@@ -201,6 +202,13 @@ class Answer:
         start, end = months[0].first, months[-1].end
         place = start + max(0, period - start) % (end - start)
         return next(month for month in months if place < month.end)
+
+    def chosen_in(self, period: int) -> Figures:
+        """Returns the chosen policy with the levels of the month of a coming period."""
+        month = self.month(period)
+        if month is None:
+            return self.chosen
+        return replace(self.chosen, point=month.s, level=month.S)
 
     @property
     def override_cost(self) -> float | None:

@@ -162,7 +162,10 @@ def since_of(old: Planned, now: Item, settings: Settings, stop: int) -> Since | 
     past = dataclasses.replace(item, counts=now.counts, returns=now.returns)
     lead = fit_lead(item.leads, method=settings.lead_fit)
     happened = Happened(past, lead, settings.seed_of("since", item.name), record)
-    kept = happened.of_figures([answer.chosen] * happened.later)
+    first = now.first + record
+    kept = happened.of_figures(
+        [answer.chosen_in(first + place) for place in range(happened.later)]
+    )
     return Since(now.first + record, sum(now.counts) / len(now.counts), demands, kept)
 
 
@@ -182,14 +185,14 @@ def change_of(
         )
     if new is None:
         return change
-    answer, kind = new[1], MOVED
+    answer, kind, period = new[1], MOVED, item.first + len(item.counts)
     change = dataclasses.replace(change, after=answer.chosen, law_after=answer.law)
     if old is None:
         reason = Remark("new item", {"periods": len(item.counts)})
         return dataclasses.replace(change, kind=NEW, reasons=(reason,))
     if answer.undamped:
         kind = DAMPED
-    elif answer.chosen.levels == earlier.chosen.levels:
+    elif answer.chosen.levels == earlier.chosen_in(period).levels:
         kind = SAME
     return dataclasses.replace(
         change,

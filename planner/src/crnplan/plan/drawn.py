@@ -37,9 +37,10 @@ class Draws:
     """Takes items with their sizes, which are what they cost, one by one, and keeps few of them: the greatest, and those
     that chance draws first. It does not matter in which order they come."""
 
-    def __init__(self, most: int = MOST, most_taken: int = MOST_TAKEN) -> None:
-        """Prepares to take and draw at most so many together, of which so many are taken for certain."""
-        self._most, self._most_taken = most, most_taken
+    def __init__(self, most: int | None = None, most_taken: int | None = None) -> None:
+        """Prepares to take and draw at most so many together, of which at most so many are taken for certain; by
+        default `MOST` and `MOST_TAKEN`."""
+        self._most, self._most_taken = most or MOST, most_taken or MOST_TAKEN
         self._greatest = list[tuple[float, str]]()
         self._first = list[tuple[float, str, float]]()
 

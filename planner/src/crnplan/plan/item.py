@@ -282,7 +282,7 @@ class Depth:
         try:
             settings = replace(question.settings, seasons=None)
             flat = question_of(left, settings, question.prior)
-            asked = question.by_law(flat.demand)
+            asked = flat.with_season(question.season)
             rare = asked.figures(choice_of(asked).levels)
         except Refused:
             return None

@@ -136,13 +136,14 @@ def seasons_of(
     if settings.season != AUTO:
         return None
     kept = json.loads(answers.fact(SEASONS) or "null")
-    if kept and kept["window"] == read.window and not again:
-        return Seasons.parse(kept["seasons"])
     every, (start, stop) = read.fact("every"), read.fact("periods")
+    if kept and kept["basis"] == [every, read.window] and not again:
+        return Seasons.parse(kept["seasons"])
     periods = min(stop - start, read.window or stop - start)
     items = learners(read, True) if is_long(every, periods) else ()
     seasons = Seasons.of(every, items)
-    fact = {"window": read.window, "seasons": dataclasses.asdict(seasons)}
+    basis = [every, read.window]
+    fact = {"basis": basis, "seasons": dataclasses.asdict(seasons)}
     answers.keep_facts({SEASONS: json.dumps(fact)})
     return seasons
 

@@ -97,8 +97,8 @@ class ByPrice:
             return
         mean = float(question.demand.mean)
         is_less = self.unmet > (1 - least) * mean
-        best = theory.best(least)
-        if is_less.any() and best.cost < math.inf:
+        if is_less.any():
+            best = theory.nearest(least)
             known = theory.figures(*best.levels)
             self.levels[:, is_less] = np.reshape(best.levels, (2, 1))
             self.stock[is_less] = known.stock
@@ -112,10 +112,8 @@ class ByPrice:
 
 def stock_with(question: Question, fill: float) -> float:
     """Returns the mean stock in boxes of the cheapest policy with a fill rate, or of that which meets most."""
-    best = question.theory.best(fill)
-    if best.cost == math.inf:
-        best = question.theory.fullest()
-    return float(question.theory.figures(*best.levels).stock)
+    theory = question.theory
+    return float(theory.figures(*theory.nearest(fill).levels).stock)
 
 
 def offer_of(

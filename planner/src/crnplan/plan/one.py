@@ -58,7 +58,7 @@ from .checked_run import Sample, check_run, run_of, scenario_of
 from .choice import CLOSE, Choice, allowed_by, best_by_price, choice_of, levels_of
 from .packs import remarks_of_packs
 from .question import Levels, NoPolicy, Question, Settings, Unplanned, question_of
-from .yearly import over_year
+from .yearly import Planned, over_year
 
 Result = TypeVar("Result")
 TENTHS = 0.1, 0.9
@@ -145,9 +145,7 @@ def correction_of(question: Question) -> Correction | None:
     is_free = question.settings.aims is None or question.together is not None
     if aim is None or wanted is None or is_free:
         return None
-    plain = theory.best(float(wanted))
-    if plain.cost == math.inf:
-        plain = theory.fullest()
+    plain = theory.nearest(float(wanted))
     return Correction(aim, question.figures(plain.levels).stock)
 
 
@@ -340,21 +338,39 @@ def or_fault(item: Item, answer: Callable[..., Result], *words: Any) -> Result |
 
 
 def planned(
-    item: Item, before: Levels | None, settings: Settings, prior: Prior, program: str
+    item: Item,
+    before: Sequence[Levels],
+    settings: Settings,
+    prior: Prior,
+    program: str,
 ) -> Answer:
-    question = question_of(item, settings, prior, before)
-    answer = plan_one(question, program)
+    """Returns the answer to an item, with its levels in an earlier plan: perhaps those of each month of a year."""
+    first = before[0] if before else None
+    question, months = question_of(item, settings, prior, first), list[Planned]()
     if question.season is None:
-        return answer
-    return over_year(question, answer, verdict_of, correction_of)
+        return plan_one(question, program)
+    earlier = itertools.chain(before[1:], itertools.repeat(first))
+    for stretch in question.season.year:
+        asked = question.month(stretch, next(earlier)) if months else question
+        months.append(Planned(asked, plan_one(asked, program)))
+    return over_year(months, verdict_of)
+
+
+def of_month(question: Question, answer: Answer, program: str) -> Answer:
+    """Returns the answer to the month of a question in place of that to a year; another answer as it is. Raises as
+    `plan_one` does."""
+    return plan_one(question, program) if answer.calendar else answer
 
 
 def plan_asked(
-    asked: tuple[Item, Levels | None], settings: Settings, prior: Prior, program: str
+    asked: tuple[Item, Sequence[Levels] | None],
+    settings: Settings,
+    prior: Prior,
+    program: str,
 ) -> Answer | Remark:
     """Returns the answer to an item, with its policy in an earlier plan, or why it can't be planned. Raises
     ProgramError."""
     item, before = asked
     if item.past in ENDED:
         return Remark(item.past)
-    return or_fault(item, planned, before, settings, prior, program)
+    return or_fault(item, planned, before or (), settings, prior, program)

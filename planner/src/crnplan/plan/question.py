@@ -423,22 +423,23 @@ class Question(Terms):
         """Returns the question of a month, by the season as it is in that."""
         return dataclasses.replace(self, demand=season.fitted, season=season)
 
-    def month(self, stretch: Stretch) -> Question:
-        """Returns the question of another month, in which no earlier policy is there to stay."""
+    def month(self, stretch: Stretch, before: Levels | None = None) -> Question:
+        """Returns the question of another month, which perhaps has the s and S of an earlier plan."""
         assert self.season is not None
         asked = self.at(self.season.at(stretch))
-        return dataclasses.replace(asked, before=None)
+        return dataclasses.replace(asked, before=in_boxes(before, self.item.box))
 
-    def by_law(self, law: FittedLaw) -> Question:
-        """Returns the same with another law of demand, which knows of no season."""
-        if self.season is None:
-            return dataclasses.replace(self, demand=law)
-        return self.at(dataclasses.replace(self.season, law=law))
+    def with_season(self, season: InSeason | None) -> Question:
+        """Returns a question whose law of demand is without a season with that of another one, if that has any."""
+        if season is None:
+            return self
+        return self.at(dataclasses.replace(season, law=self.demand))
 
     def alone(self) -> Question:
         """Returns the question of an item that learns its law from no other."""
-        asked = self.by_law(fit_demand(self.item.counts, box=self.item.box))
-        return dataclasses.replace(asked, borrow=NONE)
+        law = fit_demand(self.item.counts, box=self.item.box)
+        asked = dataclasses.replace(self, borrow=NONE, demand=law)
+        return asked.with_season(self.season)
 
 
 def finest(

@@ -68,14 +68,14 @@ class Standing:
         override = self.item.override and self.item.override.levels
         if override:
             return override
-        if self.month:
+        if self.answer and self.month:
             return self.month.s, self.month.S
         return self.answer.chosen.levels if self.answer else (0, 0)
 
     @cached_property
     def month(self) -> Month | None:
         """Returns the month of the day, if the item is planned by its season; None for others."""
-        if self.answer is None:
+        if self.answer is None or not self.answer.calendar:
             return None
         return self.answer.month(period_of(self.day, self.every))
 
@@ -85,8 +85,8 @@ class Standing:
         which nothing more is asked for."""
         if self.answer and self.month:
             laws = self.answer.laws
-            factor = self.month.factor / self.answer.months[0].factor
-            return dataclasses.replace(laws, demand=laws.demand.times(factor))
+            demand = laws.demand.times(self.month.factor)
+            return dataclasses.replace(laws, demand=demand)
         if self.answer:
             return self.answer.laws
         return Laws(

@@ -250,18 +250,22 @@ class Finding:
     ) -> Price:
         """Returns the price of a group by the sums at finer prices, or the one of the past."""
         place = 0 if past else self.place_of(group, sums)
-        held = np.maximum.accumulate(sums.alone)
-        logs = np.log1p(-np.array(asked.fills))
-        alone = -math.expm1(float(np.interp(sums.held[place], held, logs)))
         return Price(
             self.settings.together[group],
             asked.prices[place],
             float(sums.met[place]),
-            alone,
+            fill_with(float(sums.held[place]), asked.fills, sums.alone),
             sums.items,
             past.met if past else None,
             past.tried if past else 0,
         )
+
+
+def fill_with(held: float, fills: tuple[float, ...], by_fill: Floats) -> float:
+    """Returns the one fill rate of all items whose stock costs so much to hold: between some by the logarithm of what is
+    unmet, of which the stock costs as much as `by_fill` says."""
+    rising = np.maximum.accumulate(by_fill)
+    return -math.expm1(float(np.interp(held, rising, np.log1p(-np.array(fills)))))
 
 
 def price_on_past(

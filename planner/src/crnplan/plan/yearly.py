@@ -5,119 +5,135 @@ That is an approximation: what a month leaves on hand, or on order, the next one
 from __future__ import annotations
 
 import dataclasses
-from collections.abc import Callable, Iterator, Sequence
+from collections.abc import Callable, Iterable, Sequence
 from typing import NamedTuple
 
 import numpy as np
 
 from ..read.item import NEW
-from .answer import BOUNDED, SAME, THEORY, Answer, Correction, Figures, Month
-from .choice import CLOSE, choice_of
-from .question import Levels, Question
+from .answer import BOUNDED, RUN, SAME, THEORY, UNCOMPARED, Answer, Figures, Month, Run
+from .choice import CLOSE
+from .question import Question
 
-# Says what a policy is beside today's, by the saving and its ends; and what a correction comes to.
+# Says what a policy is beside today's, by the saving and its ends.
 Verdict = Callable[[Question, Figures, float, float | None, float | None], str]
-Corrected = Callable[[Question], Correction | None]
 
 
 class Planned(NamedTuple):
-    """A month of a year: its question, how many periods it has, and the figures of its policy."""
+    """A month of the coming year: its question, and the answer to that."""
 
     question: Question
-    periods: int
-    chosen: Figures
+    answer: Answer
+
+    @property
+    def periods(self) -> int:
+        """Returns how many periods it has."""
+        row = self.row
+        return row.end - row.first
 
     @property
     def row(self) -> Month:
         """Returns the month as a calendar has it."""
         season = self.question.season
         assert season is not None
-        return Month(*season.stretch, *self.chosen.levels, season.factor)
+        return Month(*season.stretch, *self.answer.chosen.levels, season.factor)
 
 
-def year_of(question: Question, chosen: Figures) -> Iterator[Planned]:
-    """Yields the months of the coming year, of which the first has a policy already. Raises NoPolicy if one has none."""
-    season = question.season
-    assert season is not None
-    for stretch in season.year:
-        asked, figures = question, chosen
-        if stretch != season.stretch:
-            asked = question.month(stretch)
-            figures = asked.figures(choice_of(asked, True).levels)
-        yield Planned(asked, stretch.end - stretch.first, figures)
+class Year:
+    """The months of a year, and means over them."""
+
+    def __init__(self, months: Sequence[Planned]) -> None:
+        self.months = months
+        self.answers = [month.answer for month in months]
+        self.periods = np.array([month.periods for month in months], float)
+        means = [float(month.question.demand.mean) for month in months]
+        self.asked = self.periods * means
+
+    def mean(self, values: Iterable[float | None]) -> float | None:
+        """Returns the mean of a value by month; None if it is None in one."""
+        known = [value for value in values if value is not None]
+        if len(known) < len(self.months):
+            return None
+        return float(self.periods @ known / self.periods.sum())
+
+    def mean_figures(self, name: str, other: str = "chosen") -> Figures | None:
+        """Returns the mean of the figures of a policy, with the levels of the first month: of the share that is met at
+        once by demand, else by periods. None without the policy in the first month; in others another one takes its
+        place."""
+        if getattr(self.answers[0], name) is None:
+            return None
+        figures = list[Figures]()
+        for answer in self.answers:
+            figures.append(getattr(answer, name) or getattr(answer, other))
+        means = dict[str, float]()
+        for part in ("cost", "short", "stock", "orders", "fill"):
+            weights = self.asked if part == "fill" else self.periods
+            values = [getattr(one, part) for one in figures]
+            means[part] = float(weights @ values / weights.sum())
+        return dataclasses.replace(figures[0], **means)
+
+    @property
+    def run(self) -> Run:
+        """Returns the run of the first month with the mean costs and savings of the year. The runs of all months are on
+        the same random numbers, so their errors and intervals are added as if they were one.
+        """
+        runs = [answer.run for answer in self.answers]
+        means = dict[str, float | None]()
+        for name in ("cost_chosen", "cost_today", "saving", "error", "low", "high"):
+            means[name] = self.mean(getattr(run, name) for run in runs)
+        changed: dict[str, object] = {**means}
+        return dataclasses.replace(runs[0], **changed)
+
+    def verdict(self, answer: Answer, verdict_of: Verdict) -> str:
+        """Returns the verdict on a year with such means."""
+        verdicts = {month.verdict for month in self.answers}
+        for verdict in (UNCOMPARED, NEW, BOUNDED):
+            if verdict in verdicts:
+                return verdict
+        if verdicts == {SAME}:
+            return SAME
+        assert answer.today and answer.saving is not None
+        ends = answer.run.low, answer.run.high
+        if answer.source == THEORY:
+            near = CLOSE * answer.today.cost
+            ends = answer.saving - near, answer.saving + near
+        question = self.months[0].question
+        return verdict_of(question, answer.today, answer.saving, *ends)
 
 
-def mean_of(year: Sequence[Planned], figures: Sequence[Figures]) -> Figures:
-    """Returns the mean of figures by month, with the levels of the first: of the share met at once by demand, else by
-    periods."""
-    periods = np.array([month.periods for month in year], float)
-    asked = periods * [float(month.question.demand.mean) for month in year]
-    means = dict[str, float]()
-    for name in ("cost", "short", "stock", "orders", "fill"):
-        values = [getattr(one, name) for one in figures]
-        weights = asked if name == "fill" else periods
-        means[name] = float(weights @ values / weights.sum())
-    return dataclasses.replace(figures[0], **means)
-
-
-def kept(year: Sequence[Planned], levels: Levels | None) -> Figures | None:
-    """Returns what a policy that stays for the year comes to; None without one."""
-    if levels is None:
-        return None
-    return mean_of(year, [month.question.figures(levels) for month in year])
-
-
-def over_year(
-    question: Question, answer: Answer, verdict_of: Verdict, correction_of: Corrected
-) -> Answer:
-    """Returns the answer to the first month of an item that is planned by its season, with the means of the year in place
-    of the figures of that month, and with the calendar of levels. Raises NoPolicy if a month has no policy.
-    """
-    year = [*year_of(question, answer.chosen)]
-    chosen = mean_of(year, [month.chosen for month in year])
-    today, override = kept(year, question.levels), kept(year, question.override)
-    cost = saving = None
-    verdict = answer.verdict
-    if today:
-        cost, saving = today.cost, today.cost - chosen.cost
-        if all(month.chosen.levels == today.levels for month in year):
-            verdict = SAME
-        elif verdict not in (BOUNDED, NEW):
-            ends = saving - CLOSE * cost, saving + CLOSE * cost
-            verdict = verdict_of(question, today, saving, *ends)
-    correction = answer.correction
+def over_year(months: Sequence[Planned], verdict_of: Verdict) -> Answer:
+    """Returns the answer to the first month of an item that is planned by its season, with means of the year in place of
+    the figures of that month, and with the calendar of levels."""
+    year, (question, first) = Year(months), months[0]
+    law = question.all_year
+    chosen = year.mean_figures("chosen")
+    cost = year.mean(answer.cost_chosen for answer in year.answers)
+    assert chosen and cost is not None
+    coverage = [answer.coverage_cost for answer in year.answers]
+    correction = first.correction
     if correction:
-        plain = [correction_of(month.question) for month in year]
-        stocks = [one.plain_stock for one in plain if one]
-        periods = [month.periods for month in year]
-        stock = float(np.average(stocks, weights=periods))
+        own = [answer.correction or correction for answer in year.answers]
+        stock = year.mean(one.plain_stock for one in own) or 0.0
         correction = dataclasses.replace(correction, plain_stock=stock)
-    return dataclasses.replace(
-        answer,
-        verdict=verdict,
-        source=THEORY,
-        cost_today=cost,
-        cost_chosen=chosen.cost,
-        saving=saving,
-        today=today,
+    answer = dataclasses.replace(
+        first,
+        source=RUN if any(one.source == RUN for one in year.answers) else THEORY,
+        cost_today=year.mean(one.cost_today for one in year.answers),
+        cost_chosen=cost,
+        saving=year.mean(one.saving for one in year.answers),
+        today=year.mean_figures("today"),
         chosen=chosen,
-        override=override,
+        alone=year.mean_figures("alone"),
+        before=year.mean_figures("before"),
+        undamped=year.mean_figures("undamped"),
+        override=year.mean_figures("override"),
+        laws=dataclasses.replace(first.laws, demand=law.table),
+        confidence_cost=year.mean(one.confidence_cost for one in year.answers),
+        coverage_cost=year.mean(one or 0.0 for one in coverage)
+        if any(coverage)
+        else None,
         correction=correction,
-        calendar=tuple(tuple(month.row) for month in year),
+        run=year.run,
+        calendar=tuple(month.row for month in months),
     )
-
-
-def of_month(question: Question, answer: Answer) -> Answer:
-    """Returns an answer with the figures of the month of its question in place of those of the year."""
-    if not answer.calendar:
-        return answer
-    chosen = question.figures(answer.chosen.levels)
-    today = question.figures(question.levels) if question.levels else None
-    return dataclasses.replace(
-        answer,
-        cost_today=today and today.cost,
-        cost_chosen=chosen.cost,
-        saving=today and today.cost - chosen.cost,
-        today=today,
-        chosen=chosen,
-    )
+    return dataclasses.replace(answer, verdict=year.verdict(answer, verdict_of))

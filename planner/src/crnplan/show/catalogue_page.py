@@ -26,7 +26,7 @@ from ..plan.question import Settings
 from ..plan.survey import Decided, Survey, saving_of
 from ..plan.swings import keep_swings
 from ..plan.totals import Totals
-from ..plan.yearly import of_month
+from ..plan.one import of_month
 from ..read.catalogue_reading import CATALOGUE, missing_of
 from ..read.item import Item
 from ..remarks import Remark
@@ -380,9 +380,8 @@ def write_item(
     item, answer = planned.item(name)
     own.claim(f"{ITEMS}/", in_place=True)
     (own.path / ITEMS).mkdir(exist_ok=True)
-    question = planned.question(item)
-    answer = of_month(question, answer)
-    depth = Depth(question, answer, str(find_program(program)))
+    question, path = planned.question(item), str(find_program(program))
+    depth = Depth(question, of_month(question, answer, path), path)
     own.write(
         f"{ITEMS}/{file_name(name)}",
         item_page(ItemWords(depth, planned.every, planned.currency)),

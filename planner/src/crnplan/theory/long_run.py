@@ -425,6 +425,11 @@ class LongRun(Figured):
         """Returns the feasible policy that meets most demand at once: that of the greatest S and the least gap."""
         return self.policy(self.feasible.gap(0) // self.step, self.feasible.top)
 
+    def nearest(self, share: float) -> Candidate:
+        """Returns the cheapest feasible policy that meets a share of demand at once, or the one that meets most."""
+        best = self.best(share)
+        return best if best.cost < math.inf else self.fullest()
+
     def best_with_point(self, point: int) -> Candidate:
         """Returns the cheapest feasible policy with a reorder point.
 

@@ -14,7 +14,7 @@ from ...demand.learning import Prior
 from ...store.files import IN_KEPT, Folder, faults_of
 from ...store.means import Means
 from ...read.catalogue_reading import READ, Catalogued
-from ...read.item import Item
+from ...read.item import PLANNED, Item
 from ...remarks import Remark
 from ...store.stored import Store
 from ...store.work import Work
@@ -35,7 +35,11 @@ class Records(Catalogued):
     plan."""
 
     def __init__(
-        self, path: Path, record: int, periods: int | None, planned: Sequence[str]
+        self,
+        path: Path,
+        record: int,
+        periods: int | None,
+        planned: Sequence[str] = PLANNED,
     ) -> None:
         super().__init__(path, planned=planned)
         self.record, self.periods = record, periods
