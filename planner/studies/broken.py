@@ -35,8 +35,9 @@ from crnplan.demand.checks import (
 )
 from crnplan.demand.learning import Prior
 from crnplan.errors import Refused
-from crnplan.plan.backtest.one import Walk, Walked
-from crnplan.plan.backtest.sums import SLACK, squares
+from crnplan.plan.backtest.methods import Walk, Walked
+from crnplan.plan.backtest.estimates import squares
+from crnplan.plan.backtest.sums import SLACK
 from crnplan.plan.question import NONE, Settings
 from planner.studies.level_spread_tail import WALK, item_of, made_series, sets_of
 from planner.studies.page import markdown

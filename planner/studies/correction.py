@@ -42,7 +42,8 @@ from crnplan.demand.learning import LEAST_ON_REQUEST, Prior, learn
 from crnplan.errors import Refused
 from crnplan.plan.aims import FILLS, LOGS, Aims, Trial, Tried
 from crnplan.crnsim.periods import Past, periods_of
-from crnplan.plan.backtest.sums import BLOCK, Ratio
+from crnplan.plan.backtest.estimates import Ratio
+from crnplan.plan.backtest.sums import BLOCK
 from crnplan.plan.correction import levels_of, trial_of
 from crnplan.plan.question import ALL, NONE, Levels, Settings, question_of
 from crnplan.read.item import Item

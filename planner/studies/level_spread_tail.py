@@ -37,9 +37,14 @@ from crnplan.demand.fitted import FittedLaw
 from crnplan.demand.learning import Prior
 from crnplan.errors import Refused
 from crnplan.law import Law
-from crnplan.plan.backtest.one import Walk, Walked, chosen
-from crnplan.plan.backtest.smoothing import smoothed, smoothed_levels
-from crnplan.plan.backtest.sums import BLOCK, Ratio
+from crnplan.plan.backtest.methods import Walk, Walked, chosen
+from crnplan.plan.backtest.smoothing import (
+    smoothed,
+    smoothed_levels,
+    wanted_share,
+)
+from crnplan.plan.backtest.estimates import Ratio
+from crnplan.plan.backtest.sums import BLOCK
 from crnplan.plan.question import NONE, Levels, Question, Settings, question_of
 from crnplan.read.item import Item
 from planner.studies.page import markdown
@@ -163,7 +168,7 @@ def levels_of(walked: Walked) -> dict[str, list[Levels]]:
     there is no first plan by some law."""
     counts, question = walked.item.counts, walked.question
     forecasts, rule = [*smoothed(counts)], [
-        *smoothed_levels(walked.item, counts, LEAD, 0.0)
+        *smoothed_levels(walked.item, wanted_share(walked.item), counts, LEAD, 0.0)
     ]
     levels: dict[str, list[Levels]] = {name: [] for name in (*LAWS, RULES[0])}
     for start, origin, end in walked.walk.stretches(len(counts)):

@@ -36,7 +36,8 @@ import pandas as pd
 import crnplan
 from crnplan.backtesting import Backtests
 from crnplan.plan.backtest.one import Backtest
-from crnplan.plan.backtest.sums import SLACK, VERDICTS, Estimate, Sums
+from crnplan.plan.backtest.estimates import Estimate
+from crnplan.plan.backtest.sums import SLACK, VERDICTS, Sums
 from crnplan.read.defaults import KEEP
 from planner.studies.page import markdown
 from planner.studies.real_series import Series, real_series
@@ -150,7 +151,7 @@ def row_of(sums: Sums) -> dict[str, float | str]:
         **figures(parts),
         "broken": 100 * sums.broken / sums.items,
         "above": 100 * sums.above / sums.items,
-        "verdict": sums.verdict,
+        "verdict": sums.verdict.code,
     }
 
 
@@ -252,7 +253,7 @@ def made_verdict(
         Series(f"{kind} {number} {place}", tuple(MADE[kind](random, periods).tolist()))
         for place in range(items)
     ]
-    return tested(series, GOALS[MADE_GOAL]).tested.sums[0].verdict
+    return tested(series, GOALS[MADE_GOAL]).tested.sums[0].verdict.code
 
 
 def made_study(jobs: int, catalogues: Mapping[str, int]) -> pd.DataFrame:

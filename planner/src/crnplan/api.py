@@ -15,6 +15,7 @@ from .catalogues import (
     Lost,
     ReadingWords,
     plan_catalogue,
+    settings_of,
     write_found,
 )
 from .crnsim.program import find_program
@@ -32,6 +33,7 @@ from .show.calendars import levels_of
 from .show.lateness import lateness_of
 from .show.today_tables import OrdersToday, orders_today
 from .show.item_page import ItemWords, item_page, item_summary, policies_of
+from .plan.backtest.catalogue import check_test
 from .plan.catalogue import check_earlier, planned_folder
 from .plan.totals import Totals
 from .plan.item import Depth
@@ -352,6 +354,7 @@ def plan(
     out: str | Path | None = None,
     overrides: Table | None = None,
     after: str | Path | None = None,
+    as_backtest: str | Path | None = None,
     jobs: int | None = None,
     cluster: Scheduler | None = None,
     program: str | Path | None = None,
@@ -410,6 +413,9 @@ def plan(
     policy did since. Nothing is written into that folder. With a `least_gain`, levels stay if a change gains less than
     this share of their cost, unless they no longer keep the wanted fill rate.
 
+    **As the past found best.** `as_backtest` names the folder of a `backtest`. Items are planned by the method that gained
+    most there, of those by which there are plans: on the last periods, as refitted ones, or with `correct`.
+
     Raises Refused (a ValueError) for what can't be read or meant, ProgramError, and Lost if counts do not add up.
     """
     reading = words_of(words)
@@ -418,11 +424,15 @@ def plan(
     earlier = None if after is None else Path(after)
     check_masters(sales, masters)
     check_earlier(earlier, None if out is None else Path(out), settings)
+    test = None if as_backtest is None else Path(as_backtest)
+    if test is not None:
+        check_test(test, None if out is None else Path(out))
     room = Room() if out is None else None
     path = room.path if room else Path(out or "")
     with own_folder(path, CATALOGUE, CATALOGUE_FILES) as folder:
         take_tables(folder, sales, masters, orders, reading, jobs)
         set_overrides(folder, overrides, reading, earlier)
+        settings, _ = settings_of(folder, settings, test)
         write_found(folder, Catalogue(folder.path / READ), settings)
         means = Means(jobs, cluster, program, progress)
         done = plan_catalogue(folder, settings, means, earlier, learn_again)

@@ -20,14 +20,14 @@ from .show.backtest_tables import (
     PAGE,
     SUMMARY,
     SUMS,
-    VERDICTS,
     backtest_of,
     backtest_summary,
     first_line,
     sums_table,
 )
+from .show.verdicts import gains_said, past_said
 from .plan.backtest.catalogue import Tested, backtest_into
-from .plan.backtest.one import Walk
+from .plan.backtest.methods import Walk
 from .plan.question import Settings
 from .read.catalogue_reading import CATALOGUE
 from .read.items import Words
@@ -59,7 +59,13 @@ class Backtests(TextResult):
     def verdict(self) -> str:
         """Returns what breaks the promised fill of the catalogue, in words."""
         sums = self.tested.whole
-        return VERDICTS[sums.verdict] if sums else first_line(sums)
+        return past_said(sums.verdict) if sums else first_line(sums)
+
+    @property
+    def gains(self) -> str:
+        """Returns which methods gained beside the kept plan, and how much, in words, or that none did."""
+        sums = self.tested.whole
+        return gains_said(sums.gains) if sums else first_line(sums)
 
     @property
     def text(self) -> str:
@@ -119,15 +125,17 @@ def backtest(
 
         tests = crn.backtest(sales, masters)
         tests.verdict                          # what breaks the promises, if anything does
+        tests.gains                            # which methods gained, if any did
         tests.sums                             # all items and each class, with errors
         tests.frame                            # a row for each item
 
     Each item is planned from its first `record` periods, as `plan` does it. The plan is run on the periods that came:
     kept, and refitted after each `every` periods on the last `window`: with a `least_gain` also as `plan` does it after
-    an earlier plan. Beside it are run today's policy and a rule of thumb: exponential smoothing with a normal safety
-    stock. The kept plan is also run with all periods of the item in a
-    random order, which takes time out of them. Lead times of the past are drawn from the item's own law. Random numbers
-    follow from the `seed` and the item's name. An item with fewer than `record` and `every` periods is left out.
+    an earlier plan. Beside it are run today's policy, the plan that aims as `correct` makes it from the records alone,
+    and a rule of thumb: exponential smoothing with a normal safety stock. Each is run at aims above and below its own
+    too, so that stocks are compared where as much is met at once. The kept plan is also run with all periods of the item
+    in a random order, which takes time out of them. Lead times of the past are drawn from the item's own law. Random
+    numbers follow from the `seed` and the item's name. An item with fewer than `record` and `every` periods is left out.
 
     Tables are as in `plan`, and so are `columns`, `units`, `start`, `end`, `date_formats`, `fit`, `borrow`,
     `confidence`, `jobs` and `cluster`; a `period` is a day, week or month. Or `sales` is a Catalogue that

@@ -16,10 +16,17 @@ from .show.catalogue_page import FOUND, write_catalogue, write_tables
 from .show.catalogue_tables import REJECTS, rejects_of
 from .show.control_tables import controls_of
 from .show.page import rendered
+from .plan.backtest.catalogue import settings_as
 from .plan.catalogue import planning
 from .plan.question import Settings
 from .plan.totals import Totals
-from .read.catalogue_reading import Catalogued, defaulted, missing_of, read_alone
+from .read.catalogue_reading import (
+    READ,
+    Catalogued,
+    defaulted,
+    missing_of,
+    read_alone,
+)
 from .read.choosing import Where
 from .read.defaults import Defaults
 from .read.items import Counts, Words
@@ -29,7 +36,7 @@ from .read.opening import Table
 from .read.told import merged, told_of, words_of
 from .remarks import Remark
 from .table import Json
-from .words import advised
+from .words import advised, sentence
 
 if TYPE_CHECKING:
     import pandas as pd
@@ -206,6 +213,18 @@ def write_found(folder: Folder, read: Catalogue, settings: Settings) -> str:
     found = stated_of(read, told_of(settings))
     folder.write(FOUND, found)
     return found
+
+
+def settings_of(
+    folder: Folder, settings: Settings, test: Path | None
+) -> tuple[Settings, list[str]]:
+    """Returns by which settings the catalogue that was read into a folder is planned: the same, or as the test in another
+    folder found best; and what is to be said of that. Raises as `settings_as` does."""
+    if test is None:
+        return settings, []
+    with contextlib.closing(Catalogued(folder.path / READ)) as read:
+        taken, remark = settings_as(test, read, settings)
+    return taken, [sentence(remark)]
 
 
 @dataclass(frozen=True)

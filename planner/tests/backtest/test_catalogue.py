@@ -16,9 +16,11 @@ import pytest
 import crnplan as package
 from crnplan.demand.learning import Prior
 from crnplan.store.files import own_folder
-from crnplan.show.backtest_tables import BACKTEST_COLUMNS, SUM_COLUMNS, VERDICTS
+from crnplan.show.backtest_tables import BACKTEST_COLUMNS, SUM_COLUMNS
+from crnplan.show.verdicts import PAST
 from crnplan.plan.backtest.catalogue import TESTS, Records
-from crnplan.plan.backtest.one import Backtest, Walk, backtest_one
+from crnplan.plan.backtest.methods import Walk
+from crnplan.plan.backtest.one import Backtest, backtest_one
 from crnplan.plan.backtest.sums import TIME
 from crnplan.plan.question import NONE, Settings
 from crnplan.read.catalogue_reading import CATALOGUE, READ
@@ -143,7 +145,8 @@ def test_values_of_a_notebook(room: Path) -> None:
     assert tests.page == (room / "out/backtest.html").read_text("utf-8")
     assert [*tests.sums] == [column.name for column in SUM_COLUMNS]
     assert tests.sums["class"].tolist() == ["", "a", "b"]
-    assert tests.verdict in VERDICTS.values()
+    assert tests.verdict in PAST.values()
+    assert f"\n  {tests.gains}\n" in tests.text
 
 
 def test_page(made: Path) -> None:
@@ -183,7 +186,7 @@ def test_page(made: Path) -> None:
 def test_level_shift_is_seen(items: Mapping[str, Item], tmp_path: Path) -> None:
     """Demand that doubles after the record breaks promises, by time."""
     tests = package.backtest(*write(tmp_path, items, later=2), **WALK)
-    assert tests.verdict == VERDICTS[TIME]
+    assert tests.verdict == PAST[TIME]
 
 
 def test_no_item_in_sums(items: Mapping[str, Item], tmp_path: Path) -> None:

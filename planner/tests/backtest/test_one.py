@@ -13,15 +13,22 @@ import pytest
 from crnplan.demand.learning import Prior
 from crnplan.errors import Refused
 from crnplan.plan.answer import Answer
+from crnplan.plan.aims import Aims, Tried
+from crnplan.plan.backtest.methods import (
+    Plan,
+    Walk,
+    Walked,
+    aims_about,
+    today_of,
+)
 from crnplan.plan.backtest.one import (
     SHORT_RECORD,
     Backtest,
-    Walk,
-    Walked,
     backtest_item,
     backtest_one,
     shuffled,
 )
+from crnplan.plan.backtest.outcomes import Run
 from crnplan.plan.one import plan_one
 from crnplan.plan.question import NONE, Settings, question_of
 from crnplan.read.item import Item
@@ -128,9 +135,9 @@ def test_damped_refits(least: float, program: Path) -> None:
         assert test.damped.changes == sum(
             old != new for old, new in itertools.pairwise(used)
         )
-        assert test.damped == Walked(item, settings, OWN, walk).happened.outcome(
-            [used[0]] * 40 + used,
-            [(test.damped.promised_cost or 0, test.damped.promised_fill or 0)],
+        promises = test.damped.promised_cost or 0, test.damped.promised_fill or 0
+        assert test.damped == Walked(item, settings, OWN, walk).happened.traced(
+            Run([used[0]] * 40 + used, [promises])
         )
         assert test.refitted == backtest_one(item, settings, OWN, WALK).refitted
     assert seen == {False, True}
@@ -213,6 +220,60 @@ def test_no_test() -> None:
     assert short == Remark(SHORT_RECORD, {"periods": 60, "needed": 65})
     silent = item_of(counts=(0,) * 50 + (1,) * 10)
     assert isinstance(backtest_item(silent, alone(), OWN, WALK), Remark)
+
+
+def test_aims_are_the_least_levels_of_their_fill_rates() -> None:
+    """By a Markov chain the levels of an aim meet its fill rate at once, and a level less does not. At the aim of the plan
+    itself they are those of the plan."""
+    settings, item = alone(fit="empirical"), item_of(fill=Fraction(9, 10))
+    plan = Plan(
+        question_of(item, settings, OWN), Walked(item, settings, OWN, Walk(60)).plan, 1
+    )
+    rates = aims_about(0.9)
+    assert rates == pytest.approx([0.5, 0.8, 0.9, 0.9 + 0.2 / 3, 0.99])
+    for rate, (s, S) in zip(rates, plan.aims, strict=True):
+        assert costed(item, settings, (s, S))[1] >= rate
+        assert s == 0 or costed(item, settings, (s - 1, S - 1))[1] < rate
+    assert plan.aims[2] == plan.figures.levels
+
+
+def test_rates_have_ends() -> None:
+    """A wanted 99.9% is not aimed at by 99.99%, nor a wanted 40% by less than 10%."""
+    assert aims_about(0.999)[-1] == 0.9995
+    assert aims_about(0.4)[0] == 0.1
+
+
+def test_today_moved_by_hand() -> None:
+    """Demands of 2 and 6 in turn have a variance of 4, over three periods a deviation of the root of 12: 3.46."""
+    item = item_of(counts=(2, 6) * 40, leads=(2,), levels=(5, 20))
+    run = today_of(Walked(item, alone(fit="empirical"), OWN, WALK))
+    assert run
+    assert [levels[0] for levels in run.aims] == [
+        (0, 15),
+        (2, 17),
+        (5, 20),
+        (8, 23),
+        (12, 27),
+    ]
+    assert {levels[0] for levels in run.aims} == {levels[-1] for levels in run.aims}
+
+
+def test_corrected_plan_aims_as_the_catalogue(program: Path) -> None:
+    """The corrected plan is that of settings with the same aims, for an item with a wanted fill rate; for one without
+    it is the plain one."""
+    met = (0.2, 0.15, 0.1, 0.05, 0.04, 0.03, 0.02, 0.01, 0.0)
+    aims = Aims(1.0, (Tried(40, 2_000, met),) * 2)
+    wanting = item_of(3, backlog=None, fill=Fraction(19, 20))
+    corrected = backtest_one(wanting, alone(), OWN, WALK, aims).corrected
+    settings = dataclasses.replace(alone(), correct=True, aims=aims)
+    answer = plan_one(question_of(wanting.part(0, 40), settings, OWN), str(program))
+    assert corrected
+    assert (corrected.point, corrected.level) == answer.chosen.levels
+    assert corrected.promised_fill == pytest.approx(answer.chosen.fill)
+    assert answer.chosen.fill > 0.98 > (past_of(wanting).kept.promised_fill or 1)
+    test = backtest_one(item_of(3), alone(), OWN, WALK, aims)
+    assert test.corrected == test.kept
+    assert past_of(item_of(3)).corrected is None
 
 
 def test_window_without_demand_keeps_the_plan() -> None:

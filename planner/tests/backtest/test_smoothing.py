@@ -55,7 +55,7 @@ def test_smoothing_by_hand() -> None:
 def test_level_without_spread() -> None:
     """A steady demand of 9 with a lead time of 2 needs 27, and orders of sqrt(2 * 50 * 9 / 0.25) = 60 items."""
     item = item_of(setup=Fraction(50), holding=Fraction(1, 4))
-    assert {*smoothed_levels(item, [9] * 30, 2.0, 0.0)} == {(27, 87)}
+    assert {*smoothed_levels(item, 0.9, [9] * 30, 2.0, 0.0)} == {(27, 87)}
 
 
 def test_wanted_share() -> None:

@@ -8,32 +8,47 @@ from typing import Any
 import numpy as np
 import pytest
 
-from crnplan.plan.backtest.one import Backtest, Outcome
+from crnplan.plan.backtest.estimates import Estimate, error_of
+from crnplan.plan.backtest.one import Backtest
+from crnplan.plan.backtest.outcomes import Traced
 from crnplan.plan.backtest.sums import (
     ALL_ITEMS,
+    BY_METHOD,
     BLOCK,
     BOTH,
     FEW,
     HOLDS,
+    LUCK,
     RARE,
     TIME,
     UNSURE,
-    Estimate,
     Group,
     Sums,
-    error_of,
     sums_of,
 )
 
 PERIODS, DEMAND = 52, 10
 
 
-def outcome(unmet: Sequence[int], cost: float = 5.0) -> Outcome:
+def outcome(unmet: Sequence[int], cost: float = 5.0, **changed: Any) -> Traced:
     """Returns an outcome of a policy that promised to meet 95%, and a cost of 4."""
-    fill = 1 - sum(unmet) / (DEMAND * len(unmet))
-    return Outcome(
-        1, 2, 4.0, 0.95, cost, fill, 3.0, 0.5, 0, (cost,) * len(unmet), (*unmet,)
-    )
+    facts: dict[str, Any] = {
+        "point": 1,
+        "level": 2,
+        "promised_cost": 4.0,
+        "promised_fill": 0.95,
+        "cost": cost,
+        "fill": 1 - sum(unmet) / (DEMAND * len(unmet)),
+        "stock": 3.0,
+        "orders": 0.5,
+        "changes": 0,
+        "costs": (cost,) * len(unmet),
+        "unmet": (*unmet,),
+        "stocks": (3,) * len(unmet),
+        "unmet_by_aim": (),
+        "stocks_by_aim": (),
+    }
+    return Traced(**facts | changed)
 
 
 def made(
@@ -47,12 +62,15 @@ def made(
         "record": 52,
         "first": 52,
         "mean": float(DEMAND),
+        "setup": 10.0,
+        "holding": 2.0,
         "demands": demands,
         "above": 1.5,
         "today": outcome([0] * len(unmet), 7.5),
         "kept": kept,
         "refitted": kept,
         "damped": None,
+        "corrected": None,
         "smoothed": kept,
         "shuffled": outcome(by_chance),
         "shuffled_demands": demands,
@@ -180,13 +198,14 @@ def test_error_is_that_of_repeated_catalogues() -> None:
         (0.25, 0.12, BOTH),
         (0.01, 0.01, HOLDS),
         (0.05, 0.0, HOLDS),
+        (0.03, 0.15, LUCK),
     ],
 )
 def test_verdicts_on_planted_pasts(
     share: float, by_chance: float, verdict: str
 ) -> None:
     """The promise is to miss 5%. Twice that in time and in a random order, or in one of both, gives the verdict."""
-    assert Sums.of("", catalogue(share, by_chance)).verdict == verdict
+    assert Sums.of("", catalogue(share, by_chance)).verdict.code == verdict
 
 
 def test_miss_by_both_parts_together() -> None:
@@ -196,38 +215,39 @@ def test_miss_by_both_parts_together() -> None:
         "group": "",
         "items": 50,
         "promised": 0.95,
-        "unmet": {},
         "dearer": sure,
-        "beside": {},
         "broken": 0,
         "above": 0,
         "missed": sure,
-        "changes": {},
+        "drift": None,
+        **dict.fromkeys(BY_METHOD, {}),
     }
     assert (
-        Sums(**facts, chance=close, time=Estimate(0.0075, 0.001, 2.0)).verdict == RARE
+        Sums(**facts, chance=close, time=Estimate(0.0075, 0.001, 2.0)).verdict.code
+        == RARE
     )
     assert (
-        Sums(**facts, chance=Estimate(0.0075, 0.001, 2.0), time=close).verdict == TIME
+        Sums(**facts, chance=Estimate(0.0075, 0.001, 2.0), time=close).verdict.code
+        == TIME
     )
     perhaps = facts | {"missed": Estimate(0.0165, 0.005, 2.0)}
-    assert Sums(**perhaps, chance=close, time=close).verdict == UNSURE
+    assert Sums(**perhaps, chance=close, time=close).verdict.code == UNSURE
 
 
 def test_few_items_have_no_verdict() -> None:
-    assert Sums.of("", catalogue(0.5, 0.05, items=9)).verdict == FEW
-    assert Sums.of("", catalogue(0.5, 0.05, items=10)).verdict == TIME
+    assert Sums.of("", catalogue(0.5, 0.05, items=9)).verdict.code == FEW
+    assert Sums.of("", catalogue(0.5, 0.05, items=10)).verdict.code == TIME
 
 
 def test_false_alarms_are_rare() -> None:
     """Of catalogues that keep their promise, at most 5% are said not to; of those that break it, most are found."""
     verdicts = [
-        Sums.of("", catalogue(0.055, 0.055, items=15, seed=seed)).verdict
+        Sums.of("", catalogue(0.055, 0.055, items=15, seed=seed)).verdict.code
         for seed in range(300)
     ]
     alarms = sum(verdict not in (HOLDS, UNSURE) for verdict in verdicts)
     found = sum(
-        Sums.of("", catalogue(0.10, 0.05, items=15, seed=seed)).verdict == TIME
+        Sums.of("", catalogue(0.10, 0.05, items=15, seed=seed)).verdict.code == TIME
         for seed in range(50)
     )
     assert alarms <= 15

@@ -10,7 +10,7 @@ from ..backtesting import write_backtest
 from ..errors import Refused
 from ..store.files import own_folder
 from ..store.means import Means
-from ..plan.backtest.one import Walk
+from ..plan.backtest.methods import Walk
 from ..plan.catalogue import planned_folder
 from ..plan.settings import read_config
 from ..read.catalogue_reading import CATALOGUE, read_into

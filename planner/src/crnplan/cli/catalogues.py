@@ -10,12 +10,13 @@ from typing import Any
 import click
 
 import crnplan as crn
-from ..catalogues import Catalogue, Lost, plan_catalogue, write_found
+from ..catalogues import Catalogue, Lost, plan_catalogue, settings_of, write_found
 from ..store.files import Folder, named_text, own_folder
 from ..store.means import Means
 from ..options import PLAN, within
 from ..show.catalogue_page import CATALOGUE_FILES
 from ..show.catalogue_tables import counted_rows, hardly_read, reasons_of, rejects_of
+from ..plan.backtest.catalogue import check_test
 from ..plan.catalogue import check_earlier
 from ..plan.question import Settings
 from ..plan.settings import CONFIG, read_config
@@ -53,11 +54,13 @@ def catalogue(**asked: Any) -> int:
             "--out is missing; name the folder for the plan, or say --check to only read the files"
         )
     check_earlier(asked["after"], asked["out"], settings)
+    if asked["as_backtest"] is not None:
+        check_test(asked["as_backtest"], asked["out"])
     is_guessed = not asked["columns"] and not {"demand", "items"} & config.keys()
     with tempfile.TemporaryDirectory(prefix="crnplan-") as room:
         out = Path(room) if asked["only_read"] else asked["out"]
         with own_folder(out, CATALOGUE, CATALOGUE_FILES) as folder:
-            read = read_files(folder, words, settings, asked, is_guessed)
+            read, settings = read_files(folder, words, settings, asked, is_guessed)
             if asked["only_read"]:
                 missing = only_read(read, asked["rejects"])
             else:
@@ -77,18 +80,19 @@ def read_files(
     settings: Settings,
     asked: Mapping[str, Any],
     is_guessed: bool,
-) -> Catalogue:
+) -> tuple[Catalogue, Settings]:
     """Reads the files of a catalogue into a folder, and says what is to be said of them: also what was found in them, if
-    their columns are guessed."""
+    their columns are guessed. Returns it with the settings by which it is planned."""
     tables = {kind: asked[kind] for kind in ("demand", "items", "orders")}
     read = Catalogue(read_into(folder, tables, words, asked["jobs"]))
     set_overrides(folder, asked["overrides"], words, asked["after"])
+    settings, said = settings_of(folder, settings, asked["as_backtest"])
     found = write_found(folder, read, settings)
     if is_guessed:
         click.echo(found, err=True)
-    for line in read.said:
+    for line in (*read.said, *said):
         click.echo(f"# {line}", err=True)
-    return read
+    return read, settings
 
 
 def only_read(read: Catalogue, rejects: Path | None) -> list[str]:

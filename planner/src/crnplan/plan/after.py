@@ -7,6 +7,7 @@ import heapq
 import itertools
 import json
 from collections.abc import Iterable, Iterator
+from pathlib import Path
 from typing import TYPE_CHECKING
 
 from ..errors import Refused
@@ -30,25 +31,25 @@ PLAN = "plan"  # a fact of the store: of which plan its changes are
 AT_ONCE = 1_000  # answers that are kept together
 
 
-def check_records(earlier: PlannedFolder, read: Catalogued) -> None:
-    """Raises Refused if a catalogue that was read is not a later state of an earlier one."""
-    every = read.fact("every")
-    if earlier.every != every:
+def check_records(path: Path, earlier: Catalogued, read: Catalogued) -> None:
+    """Raises Refused if a catalogue that was read is not a later state of an earlier one, which is in a folder."""
+    before, every = earlier.fact("every"), read.fact("every")
+    if before != every:
         raise Refused(
-            f"{earlier.path}: its periods are {earlier.every}s, and these are {every}s",
+            f"{path}: its periods are {before}s, and these are {every}s",
             "read the files by the same periods",
         )
-    names = heapq.merge(earlier.read.names(), read.names())
+    names = heapq.merge(earlier.names(), read.names())
     if not any(name == following for name, following in itertools.pairwise(names)):
         raise Refused(
-            f"{earlier.path}: none of its items is in these tables",
-            "name the folder of an earlier plan of this catalogue",
+            f"{path}: none of its items is in these tables",
+            "name a folder of this catalogue",
         )
-    missing = earlier.read.fact("periods")[1] - read.fact("periods")[1]
+    missing = earlier.fact("periods")[1] - read.fact("periods")[1]
     if missing > 0:
         raise Refused(
-            f"{earlier.path}: its record ends {missing:,} {every}s after this one",
-            "name the later files as DEMAND.csv, and the folder of the earlier plan behind --after",
+            f"{path}: its record ends {missing:,} {every}s after this one",
+            "name the later files as DEMAND.csv, and a folder of earlier ones",
         )
 
 

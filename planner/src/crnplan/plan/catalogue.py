@@ -246,20 +246,26 @@ def copied(files: Sequence[Path], room: Path) -> Path:
     return room / files[0].name
 
 
+def readable(index: Path, room: Path) -> tuple[Path, bool]:
+    """Returns a store that is read without writing beside it, and whether it is the one in its folder: with what a run
+    that was ended by force has left beside it, it is copied into a room."""
+    logs = index.with_name(f"{index.name}-wal"), index.with_name(
+        f"{index.name}-journal"
+    )
+    left = [log for log in logs if log.is_file()]
+    if left and index.is_file():
+        return copied((index, *left), room), False
+    return index, True
+
+
 @contextlib.contextmanager
 def copied_folder(path: Path, room: Path) -> Iterator[PlannedFolder]:
     """Opens the plan in a folder so that nothing is written into that, and no run works there. What a run that was
     ended by force has left is copied into a room. Raises Refused if no finished plan is in it, or if a run works
     there."""
-    index = path / ANSWERS
-    logs = index.with_name(f"{index.name}-wal"), index.with_name(
-        f"{index.name}-journal"
-    )
     with read_folder(path, CATALOGUE):
-        left = [log for log in logs if log.is_file()]
-        if left and index.is_file():
-            index = copied((index, *left), room)
-        with planned_folder(path, index, is_read=not left) as planned:
+        index, is_read = readable(path / ANSWERS, room)
+        with planned_folder(path, index, is_read) as planned:
             planned.check()
             yield planned
 
@@ -380,7 +386,7 @@ def planning(
         contextlib.closing(Store(folder.store(ANSWERS), Answer)) as answers,
     ):
         if earlier:
-            check_records(earlier, read)
+            check_records(earlier.path, earlier.read, read)
             take_prior(answers, earlier, again)
         seasons = seasons_of(answers, read, settings, again)
         settings = dataclasses.replace(settings, seasons=seasons)

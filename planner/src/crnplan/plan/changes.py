@@ -17,7 +17,8 @@ from ..read.item import Item
 from ..remarks import Remark, Value
 from .answer import Answer, Figures, LawFacts
 from .backtest.outcomes import Happened, Outcome
-from .backtest.sums import Estimate, Group
+from .backtest.estimates import Estimate
+from .backtest.sums import Group
 from .question import Settings
 
 # What an item's policy is beside the earlier one: the same, moved, the same though another costs less, new, or gone.

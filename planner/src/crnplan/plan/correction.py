@@ -138,11 +138,12 @@ def tried_on(
     prior: Prior,
     common: str,
     means: Means,
+    store: str = TRIALS,
 ) -> list[Trial]:
-    """Returns the trials of items, of which those that are kept in the folder are not made again."""
+    """Returns the trials of items, of which those that are kept in a store of the folder are not made again."""
     questions = [(name, read.digest(name, common)) for name in tried_names(read)]
     words, tried = (settings, prior), list[Trial]()
-    with contextlib.closing(Store(folder.store(TRIALS), Trial)) as trials:
+    with contextlib.closing(Store(folder.store(store), Trial)) as trials:
         work = Work(
             trials,
             questions.copy,
@@ -159,6 +160,18 @@ def tried_on(
     return tried
 
 
+def ways_of(settings: Settings) -> Settings:
+    """Returns those of some settings by which items are tried."""
+    return Settings(
+        settings.seed,
+        settings.fit,
+        settings.borrow,
+        lead_fit=settings.lead_fit,
+        window=settings.window,
+        seasons=settings.seasons,
+    )
+
+
 def aims_of(
     folder: Folder,
     answers: Store[Any],
@@ -171,14 +184,7 @@ def aims_of(
     """Returns at which fill rates the items of a catalogue aim. What was learned before is used again as it is, also if
     items change, unless it is to be learned `again`, or items are planned in another way. Trials are kept in the
     folder. Raises Refused for fewer than 30 items with a trial."""
-    on = Settings(
-        settings.seed,
-        settings.fit,
-        settings.borrow,
-        lead_fit=settings.lead_fit,
-        window=settings.window,
-        seasons=settings.seasons,
-    )
+    on = ways_of(settings)
     common, kept = on.common("", prior), json.loads(answers.fact(AIMS) or "null")
     if kept and kept["common"] == common and not again:
         return Aims.parse(kept["aims"])

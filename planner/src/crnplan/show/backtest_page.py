@@ -6,9 +6,10 @@ from typing import NamedTuple
 
 from ..plan.backtest.catalogue import Tested
 from ..plan.backtest.one import Backtest
-from ..plan.backtest.sums import BLOCK, KEPT, Group, summed
+from ..plan.backtest.methods import KEPT
+from ..plan.backtest.sums import BLOCK, Group, summed
 from ..read.item import Item
-from .backtest_tables import VERDICTS, first_line
+from .backtest_tables import first_line
 from .page import (
     OF_CHOSEN,
     OF_TODAY,
@@ -22,6 +23,7 @@ from .page import (
     rendered,
     tick,
 )
+from .verdicts import past_said
 
 MOST_DOTS, MOST_WORST = 3_000, 12
 DOTS, PROMISED = "dots", "of-promised"
@@ -140,7 +142,7 @@ def backtest_page(tested: Tested) -> str:
             "headline": first_line(sums),
             "tested": tested,
             "sums": sums,
-            "verdicts": VERDICTS,
+            "verdict": past_said,
             "every": tested.every,
             "promises": promise_plot(tests) if tests else None,
             "times": time_plot(tests, sums.promised, tested.every) if sums else None,

@@ -2,32 +2,20 @@
 from __future__ import annotations
 
 from collections.abc import Callable, Iterator
-from typing import NamedTuple
+from typing import Any, NamedTuple
 
 from ..plan.backtest.catalogue import Past, Tested
 from ..plan.backtest.one import Backtest
-from ..plan.backtest.sums import (
-    BOTH,
-    DAMPED,
-    FEW,
-    HOLDS,
-    KEPT,
-    LEAST_ITEMS,
-    POLICIES,
-    RARE,
-    REFITTED,
-    SLACK,
-    SMOOTHED,
-    TIME,
-    UNSURE,
-    Sums,
-)
+from ..plan.backtest.estimates import Estimate
+from ..plan.backtest.methods import CORRECTED, KEPT, METHODS
+from ..plan.backtest.sums import SLACK, Sums, moves_of
 from ..read.item import Item
 from ..remarks import Remark
-from ..table import Column, DataTable
+from ..table import Column, DataTable, aligned
 from ..words import advised, counted
 from ..columns import columns_of
-from .page import rendered
+from .page import met, number, percent, points, rendered
+from .verdicts import GAIN, METHOD_WORDS, gains_said, past_said
 
 BACKTEST, SUMS, SUMMARY, PAGE = (
     "backtest.csv",
@@ -36,24 +24,6 @@ BACKTEST, SUMS, SUMMARY, PAGE = (
     "backtest.html",
 )
 SHUFFLED = "shuffled"
-PROMISING = (*POLICIES[:4], SHUFFLED)
-CHANGING = REFITTED, DAMPED, SMOOTHED
-WORDS = {
-    "today": "today's policy",
-    "kept": "the plan that is kept",
-    "refitted": "plans that are refitted",
-    "damped": "refitted plans whose levels stay if others gain too little",
-    "smoothed": "exponential smoothing with a normal safety stock",
-    "shuffled": "the plan that is kept, with all periods in a random order",
-}
-VERDICTS = {
-    HOLDS: "the promise holds",
-    UNSURE: "unsure: the promise was missed, perhaps by chance",
-    TIME: "time breaks it: refit",
-    RARE: "rare large demands break it: aim higher (crnplan catalogue --correct)",
-    BOTH: "time and rare large demands break it: refit, and aim higher (crnplan catalogue --correct)",
-    FEW: f"no verdict: fewer than {LEAST_ITEMS} items",
-}
 
 
 class Row(NamedTuple):
@@ -82,15 +52,17 @@ class Row(NamedTuple):
         return None
 
 
-def _policy_columns(policy: str) -> Iterator[Column]:
-    """Yields the columns of a policy: what it promised if it does, and how its levels change if they do."""
+def _method_columns(
+    code: str, is_promising: bool = True, is_changing: bool = False
+) -> Iterator[Column]:
+    """Yields the columns of a method: what it promised if it does, and how its levels change if they do."""
     lacking = set[str]()
-    if policy not in PROMISING:
-        lacking |= {f"promised_{policy}", f"promised_fill_{policy}"}
-    if policy not in CHANGING:
-        lacking.add(f"changes_{policy}")
+    if not is_promising:
+        lacking |= {f"promised_{code}", f"promised_fill_{code}"}
+    if not is_changing:
+        lacking.add(f"changes_{code}")
     for column in columns_of(
-        "show", "backtest_policy", policy=policy, words=WORDS[policy]
+        "show", "backtest_policy", policy=code, words=METHOD_WORDS[code].meaning
     ):
         if column.name not in lacking:
             yield column
@@ -98,16 +70,17 @@ def _policy_columns(policy: str) -> Iterator[Column]:
 
 def _backtest_columns() -> Iterator[Column]:
     yield from columns_of("show", "backtest")
-    for policy in (*POLICIES, SHUFFLED):
-        yield from _policy_columns(policy)
+    for method in METHODS:
+        yield from _method_columns(method.code, method.is_promising, method.is_changing)
+    yield from _method_columns(SHUFFLED)
     yield from columns_of("show", "backtest_end")
 
 
-def _met_by(policy: str) -> Callable[[Sums], float | None]:
-    """Returns a function that returns the share of demand that a policy met at once."""
+def _met_by(code: str) -> Callable[[Sums], float | None]:
+    """Returns a function that returns the share of demand that a method met at once."""
 
     def met(sums: Sums) -> float | None:
-        unmet = sums.unmet.get(policy)
+        unmet = sums.unmet.get(code)
         if unmet:
             return 1 - unmet.value
         return None
@@ -116,30 +89,30 @@ def _met_by(policy: str) -> Callable[[Sums], float | None]:
 
 
 def verdict_of(sums: Sums) -> str:
-    return VERDICTS[sums.verdict]
+    return past_said(sums.verdict)
+
+
+def best_of(sums: Sums) -> str | None:
+    return sums.best and METHOD_WORDS[sums.best].name
 
 
 def _sum_columns() -> Iterator[Column]:
-    yield from columns_of("show", "backtest_sums", {"verdict": verdict_of})
-    for policy in POLICIES:
+    yield from columns_of(
+        "show", "backtest_sums", {"verdict": verdict_of, "best": best_of}
+    )
+    for method in METHODS:
+        code = method.code
+        words: dict[str, Any] = {"policy": code, "words": METHOD_WORDS[code].meaning}
         yield from columns_of(
-            "show",
-            "backtest_fill",
-            {"fill_{policy}": _met_by(policy)},
-            policy=policy,
-            words=WORDS[policy],
+            "show", "backtest_fill", {"fill_{policy}": _met_by(code)}, **words
         )
+        if code != KEPT:
+            yield from columns_of("show", "backtest_beside", **words)
+        yield from columns_of("show", "backtest_orders", **words)
+        if method.is_changing:
+            yield from columns_of("show", "backtest_changes", **words)
     yield from columns_of("show", "backtest_missed")
-    for policy in POLICIES:
-        if policy != KEPT:
-            yield from columns_of(
-                "show", "backtest_beside", policy=policy, words=WORDS[policy]
-            )
     yield from columns_of("show", "backtest_counts", slack=f"{100 * SLACK:g}")
-    for policy in CHANGING:
-        yield from columns_of(
-            "show", "backtest_changes", policy=policy, words=WORDS[policy]
-        )
 
 
 BACKTEST_COLUMNS = (*_backtest_columns(),)
@@ -157,6 +130,51 @@ def sums_table(tested: Tested) -> DataTable:
     return DataTable.of(SUM_COLUMNS, tested.sums, tested.decimals, "")
 
 
+def sides_of(sums: Sums) -> list[list[str]]:
+    """Returns methods side by side, with a heading: what each met at once, and in percent beside the kept plan its stock,
+    cost, and stock, alone and with orders, where both meet what was promised."""
+    at = f"at {percent(sums.promised)}"
+    heading = ["method", "met at once", "stock", "cost", "orders", "changes"]
+    rows = [[*heading, f"stock {at}", f"stock and orders {at}"]]
+    for method in METHODS:
+        code = method.code
+        if code in sums.unmet:
+            changes = sums.changes.get(code)
+            rows.append(
+                [
+                    METHOD_WORDS[code].name,
+                    met(sums.unmet[code]),
+                    more(sums.stock.get(code)),
+                    more(sums.beside.get(code)),
+                    number(sums.orders[code], 3),
+                    "-" if changes is None else number(changes, 3),
+                    *equal_cells(sums, code),
+                ]
+            )
+    return rows
+
+
+def equal_cells(sums: Sums, code: str) -> tuple[str, str]:
+    """Returns what stock, alone and with orders, is above that of the kept plan where both meet as much; with where that
+    is, if it is not what was promised."""
+    equal = sums.equal.get(code)
+    if equal is None:
+        return "-", "-"
+    at = percent(equal.fill)
+    place = "" if at == percent(sums.promised) else f" at {at}"
+    return f"{more(equal.stock)}{place}", f"{more(equal.spent)}{place}"
+
+
+def more(share: Estimate | None) -> str:
+    """Returns a share above another one in percent, with its standard error; - if there is none."""
+    return f"{points(share, '+')}%" if share else "-"
+
+
+def sides_text(sums: Sums) -> str:
+    """Returns methods side by side as lines of a text."""
+    return aligned(sides_of(sums)).rstrip("\n")
+
+
 def backtest_summary(tested: Tested) -> str:
     """Returns what was promised, what came and the verdicts, as a text."""
     return rendered(
@@ -166,20 +184,32 @@ def backtest_summary(tested: Tested) -> str:
             "planned": len(tested.items),
             "left_out": sum(isinstance(test, Remark) for _, test in tested.items),
             "file": BACKTEST,
-            "verdicts": VERDICTS,
+            "verdict": past_said,
+            "sides": sides_text,
+            "gains": gains_said,
+            "moves": moves_of(tested.sums),
         },
     )
 
 
 def first_line(sums: Sums | None) -> str:
-    """Returns the line of the first screen: what the past says of the promise of all items."""
+    """Returns the line of the first screen: what the past says of the promise of all items, and what gained most."""
     if sums is None:
         return "No item has a test on its own past."
-    came = 100 - 100 * sums.unmet[KEPT].value
-    return (
+    line = (
         f"On your own past a promised {100 * sums.promised:.1f}% was kept in {sums.items - sums.broken:,} of "
-        f"{counted(sums.items, 'item')}; together {came:.1f}%."
+        f"{counted(sums.items, 'item')}; together {came(sums, KEPT)}"
     )
+    if not sums.has_verdict:
+        return f"{line}."
+    if sums.best is None:
+        return f"{line}; {GAIN['none']}."
+    return f"{line}, and {came(sums, sums.best)} by {METHOD_WORDS[sums.best].meaning}."
+
+
+def came(sums: Sums, method: str) -> str:
+    """Returns what a method met at once."""
+    return f"{100 - 100 * sums.unmet[method].value:.1f}%"
 
 
 def past_line(past: Past | None) -> str:
@@ -194,8 +224,12 @@ def past_line(past: Past | None) -> str:
             "The test on your own past is not of this plan. Run crnplan backtest FOLDER again, then crnplan report "
             "FOLDER."
         )
+    if past.sums is None:
+        return first_line(None)
     lines = [first_line(past.sums)]
-    if past.corrects:
+    if past.corrects and CORRECTED in past.sums.unmet:
+        lines.append(f"Plans that aim as this one met {came(past.sums, CORRECTED)}.")
+    elif past.corrects:
         lines.append("That is without the correction.")
     if past.together:
         lines.append("That is with a fill rate for each item, not together.")

@@ -23,7 +23,7 @@ if TYPE_CHECKING:
     import jinja2
     from markupsafe import Markup
 
-    from ..plan.backtest.sums import Estimate
+    from ..plan.backtest.estimates import Estimate
 
 UNITS = 1000
 MOST_TICKS = 5  # at an axis

@@ -1,9 +1,11 @@
-"""The words of verdicts on items, which words.toml has."""
+"""The words of verdicts on items and on the past of a catalogue, which words.toml has."""
 from __future__ import annotations
 
+from collections.abc import Sequence
 from typing import NamedTuple
 
 from ..columns import declared
+from ..remarks import Remark
 
 
 class Verdict(NamedTuple):
@@ -15,8 +17,35 @@ class Verdict(NamedTuple):
     style: str = ""
 
 
+WORDS = declared("show/words.toml")
 # By verdict, in the order in which a page names them.
-VERDICTS = {
-    name: Verdict(**words)
-    for name, words in declared("show/words.toml")["verdicts"].items()
-}
+VERDICTS = {name: Verdict(**words) for name, words in WORDS["verdicts"].items()}
+PAST: dict[str, str] = WORDS["past"]
+GAIN: dict[str, str] = WORDS["gain"]
+
+
+class MethodWords(NamedTuple):
+    """The name of a method that a test runs, and what it is."""
+
+    name: str
+    meaning: str
+
+
+METHOD_WORDS = {code: MethodWords(*words) for code, words in WORDS["methods"].items()}
+
+
+def past_said(verdict: Remark) -> str:
+    """Returns what a verdict says of the past of a catalogue."""
+    return PAST[verdict.code].format(**verdict.facts)
+
+
+def gains_said(gains: Sequence[Remark]) -> str:
+    """Returns which methods have gained on the past, the best first, and how much."""
+    if not gains:
+        return GAIN["none"]
+    parts = list[str]()
+    for gain in gains:
+        name = METHOD_WORDS[gain.code].name
+        words = GAIN["apart" if gain.facts["fill"] is None else "one"]
+        parts.append(words.format(name=name, **gain.facts))
+    return f"gained: {', '.join(parts)}"

@@ -5,29 +5,36 @@ from __future__ import annotations
 import contextlib
 import dataclasses
 import json
-from collections.abc import Iterable, Sequence
+import tempfile
+from collections.abc import Iterator, Sequence
 from dataclasses import dataclass
 from pathlib import Path
 
 from ...compiled import load_compiler
 from ...demand.learning import Prior
-from ...store.files import IN_KEPT, Folder, faults_of
+from ...errors import Refused, argument
+from ...store.files import IN_KEPT, Folder, faults_of, read_folder
 from ...store.means import Means
-from ...read.catalogue_reading import READ, Catalogued
+from ...read.catalogue_reading import CATALOGUE, READ, Catalogued
 from ...read.item import PLANNED, Item
 from ...remarks import Remark
 from ...store.stored import Store
 from ...store.work import Work
-from ..catalogue import PlannedFolder, whole_digest
+from ..aims import Aims
+from ..after import check_records
+from ..catalogue import PlannedFolder, readable, whole_digest
+from ..correction import LEAST_ITEMS, tried_on, ways_of
 from ..learned import learned_of
 from ..question import Settings
-from .one import Backtest, Walk, backtest_item
-from .sums import ALL_ITEMS, Sums, sums_of
+from .methods import CORRECTED, KEPT, METHODS, Walk
+from .one import Backtest, backtest_item
+from .sums import Sums, sums_of, whole_of
 
 TESTS = f"{IN_KEPT}backtest.sqlite"
-TESTED = (
-    "tested"  # a fact of the store: the text that all digests have, and the settings
-)
+TRIALS = f"{IN_KEPT}backtest_trials.sqlite"  # of records alone
+# A fact of the store: the text that all digests have, the settings, and how the past was walked through.
+TESTED = "tested"
+AGAIN = "run crnplan backtest again"
 
 
 class Records(Catalogued):
@@ -46,11 +53,6 @@ class Records(Catalogued):
 
     def counting(self, item: Item) -> Item:
         return item.part(0, self.record).last(self.periods)
-
-
-def whole_of(sums: Iterable[Sums]) -> Sums | None:
-    """Returns the sums of all items among those of classes; None if there are none."""
-    return next((one for one in sums if one.group == ALL_ITEMS), None)
 
 
 @dataclass(frozen=True)
@@ -112,7 +114,9 @@ def past_of(planned: PlannedFolder) -> Past | None:
         fact = tests.fact(TESTED)
         if fact is None:
             return None
-        common, settings = json.loads(fact)
+        if not tests.is_ours:
+            return Past(None, True, False, False)
+        common, settings, _ = json.loads(fact)
         if settings != dataclasses.asdict(uncorrected(planned.settings)) or (
             tests.digest != whole_digest(planned.read, common)
         ):
@@ -120,6 +124,59 @@ def past_of(planned: PlannedFolder) -> Past | None:
         kept = (test for _, _, test in tests.answers() if isinstance(test, Backtest))
         corrects, together = planned.settings.correct, bool(planned.settings.together)
         return Past(whole_of(sums_of(kept)), False, corrects, together)
+
+
+def aims_before(
+    folder: Folder,
+    read: Records,
+    settings: Settings,
+    prior: Prior,
+    means: Means,
+) -> Aims | Remark:
+    """Returns at which fill rates items would have aimed at the end of their records by these alone, as `--correct` has
+    them; or why they would not. What was tried is kept in the folder."""
+    on = ways_of(settings)
+    common = on.common(f"record {read.record}", prior)
+    tried = tried_on(folder, read, on, prior, common, means, TRIALS)
+    if len(tried) >= LEAST_ITEMS:
+        return Aims.of(tried)
+    return Remark("not corrected", {"items": len(tried), "least": LEAST_ITEMS})
+
+
+@dataclass(frozen=True)
+class Lessons:
+    """What the items of a catalogue have learned up to the end of their records: the settings of their plans, what their
+    laws learn, at which fill rates corrected plans aim, None if they do not, and remarks on it.
+    """
+
+    settings: Settings
+    prior: Prior
+    aims: Aims | None
+    remarks: tuple[Remark, ...]
+
+    @classmethod
+    def of(
+        cls,
+        folder: Folder,
+        tests: Store[Backtest],
+        read: Records,
+        settings: Settings,
+        means: Means,
+    ) -> Lessons:
+        """Learns from the records of a catalogue."""
+        learned = learned_of(tests, read, settings, True)
+        settings = dataclasses.replace(
+            uncorrected(settings), borrow=learned.usual, every=read.fact("every")
+        )
+        aims = aims_before(folder, read, settings, learned.prior, means)
+        if isinstance(aims, Remark):
+            return cls(settings, learned.prior, None, (*learned.remarks, aims))
+        return cls(settings, learned.prior, aims, learned.remarks)
+
+    def common(self, walk: Walk) -> str:
+        """Returns what all tests depend on, as a text."""
+        aiming = dataclasses.replace(self.settings, aims=self.aims)
+        return aiming.common(repr(walk), self.prior)
 
 
 def backtest_into(
@@ -135,32 +192,92 @@ def backtest_into(
         ) as read,
         contextlib.closing(Store(folder.store(TESTS), Backtest)) as tests,
     ):
-        every, learned = read.fact("every"), learned_of(tests, read, settings, True)
-        settings = dataclasses.replace(
-            uncorrected(settings), borrow=learned.usual, every=every
-        )
-        common = settings.common(repr(walk), learned.prior)
+        lessons = Lessons.of(folder, tests, read, settings, means)
+        common = lessons.common(walk)
         work = Work(
             tests,
             lambda: read.digests(common),
             read.whole_item,
             backtest_item,
-            (settings, learned.prior, walk),
+            (lessons.settings, lessons.prior, walk, lessons.aims),
             load=load_compiler,
         )
-        fact = json.dumps([common, dataclasses.asdict(settings)])
+        fact = json.dumps([common, *map(dataclasses.asdict, (lessons.settings, walk))])
         work.finish(means.workers(), {TESTED: fact}, shown=means.shown)
         items = list[tuple[Item, Backtest | Remark]]()
         for item, (_, _, test) in zip(read.whole_items(), tests.answers(), strict=True):
             items.append((item, test))
         return Tested(
             walk,
-            every,
+            read.fact("every"),
             read.fact("decimals"),
             read.fact("counts")["items"]["named"],
             items,
             sums_of(test for _, test in items if isinstance(test, Backtest)),
-            learned.remarks,
+            lessons.remarks,
             work.now,
             work.kept,
         )
+
+
+def check_test(path: Path, out: Path | None) -> None:
+    """Raises Refused, before anything is written, if no test is in a folder, or if a plan goes into the same one."""
+    if out is not None and path.resolve() == out.resolve():
+        raise Refused(
+            f"{path}: the test and this plan need folders of their own",
+            "name another folder for this one",
+        )
+    if not (path / TESTS).is_file():
+        raise Refused(
+            f"{path}: no test on the past is in it",
+            f"run crnplan backtest {path} first",
+        )
+
+
+@contextlib.contextmanager
+def tested_folder(path: Path) -> Iterator[tuple[Records, Store[Backtest], Walk]]:
+    """Opens the test in a folder so that nothing is written into that: the records that were tested, the tests, and how
+    the past was walked through. Raises Refused if no finished test of the rows that were read last is in it.
+    """
+    with contextlib.ExitStack() as stack:
+        stack.enter_context(read_folder(path, CATALOGUE))
+        room = stack.enter_context(tempfile.TemporaryDirectory(prefix="crnplan-"))
+        index, is_read = readable(path / TESTS, Path(room))
+        tests = Store(index, Backtest, is_read=is_read, named=path / TESTS)
+        stack.callback(tests.close)
+        fact = tests.fact(TESTED)
+        if fact is None or not tests.is_ours:
+            raise Refused(f"{path}: its test is not finished by this version", AGAIN)
+        common, settings, walk = json.loads(fact)
+        records = Records(path / READ, walk["record"], settings["window"])
+        stack.callback(records.close)
+        if tests.digest != whole_digest(records, common):
+            raise Refused(
+                f"{path}: its test is not of the rows that were read last", AGAIN
+            )
+        yield records, tests, Walk(**walk)
+
+
+def settings_as(
+    path: Path, read: Catalogued, settings: Settings
+) -> tuple[Settings, Remark]:
+    """Returns the settings of a plan by the method that gained most in the test of a folder, of those by which there are
+    plans; without one the settings as they are. The remark has its code, and that of one that gained more.
+
+    Raises Refused if no finished test is there, if it is of another catalogue, and if the settings plan otherwise.
+    """
+    with tested_folder(path) as (records, tests, walk):
+        check_records(path, records, read)
+        kept = (test for _, _, test in tests.answers() if isinstance(test, Backtest))
+        sums = whole_of(sums_of(kept))
+    gained = [gain.code for gain in sums.gains] if sums else []
+    ways = {method.code: method.settings for method in METHODS if method.settings}
+    method = next((code for code in gained if code in ways), KEPT)
+    taken = ways[method](settings, walk)
+    if settings.correct and method != CORRECTED:
+        raise Refused(
+            f"{argument('correct')} and {argument('as_backtest', str(path))}: the test found {method} plans better",
+            "leave one out",
+        )
+    best = gained[0] if gained else method
+    return taken, Remark("as backtest", {"method": method, "best": best})

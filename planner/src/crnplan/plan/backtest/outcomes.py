@@ -11,10 +11,11 @@ import statistics
 from collections.abc import Iterable, Sequence
 from dataclasses import dataclass
 from fractions import Fraction
+from typing import NamedTuple
 
 import numpy as np
 
-from ...crnsim.periods import Past, Rates, periods_of
+from ...crnsim.periods import Past, Period, Rates, periods_of
 from ...demand.fitted import FittedLaw
 from ...read.item import Item
 from ..answer import Figures
@@ -41,6 +42,27 @@ class Outcome:
     unmet: tuple[int, ...]
 
 
+class Run(NamedTuple):
+    """s and S of each period by a method; the cost and the fill rate that it promised for each later one, none if it
+    promises nothing; and s and S of each period at each of several aims, the lowest first, none if it has no others.
+    """
+
+    levels: Sequence[Levels]
+    promises: Sequence[tuple[float, float]] = ()
+    aims: Sequence[Sequence[Levels]] = ()
+
+
+@dataclass(frozen=True)
+class Traced(Outcome):
+    """What a method comes to, with its stock at the end of each later period. For each of its aims, the lowest first,
+    there is a row with what was not met at once in each later period, and with the stock. All are in items.
+    """
+
+    stocks: tuple[int, ...]
+    unmet_by_aim: tuple[tuple[int, ...], ...]
+    stocks_by_aim: tuple[tuple[int, ...], ...]
+
+
 class Happened:
     """What has happened to an item, of which the first `record` periods are not counted."""
 
@@ -59,16 +81,20 @@ class Happened:
         """Returns how many later periods there are."""
         return len(self.past.demands) - self.record
 
+    def periods(self, levels: Sequence[Levels]) -> list[Period]:
+        """Returns the later periods of a policy whose s and S are those of each period."""
+        s, S = levels[0]
+        start = s + round(self.start * (S - s))
+        return periods_of(self.past, levels, start)[self.record :]
+
     def outcome(
         self, levels: Iterable[Levels], promises: Sequence[tuple[float, float]] = ()
     ) -> Outcome:
         """Returns what s and S of each period come to, with promises of cost and fill for each later one."""
         record, levels, mean = self.record, [*levels], statistics.fmean
-        s, S = levels[0]
-        start = s + round(self.start * (S - s))
         unmet, stocks = list[int](), list[int]()
         costs, orders = list[float](), list[bool]()
-        for period in periods_of(self.past, levels, start)[record:]:
+        for period in self.periods(levels):
             unmet.append(period.unmet)
             costs.append(float(period.cost(self.rates)))
             stocks.append(max(period.stock, 0))
@@ -90,6 +116,21 @@ class Happened:
             changes,
             tuple(costs),
             tuple(unmet),
+        )
+
+    def traced(self, run: Run) -> Traced:
+        """Returns what a method comes to, also at its other aims."""
+        outcome = self.outcome(run.levels, run.promises)
+        unmet, stocks = list[tuple[int, ...]](), list[tuple[int, ...]]()
+        for levels in (run.levels, *run.aims):
+            periods = self.periods(levels)
+            unmet.append(tuple(period.unmet for period in periods))
+            stocks.append(tuple(max(period.stock, 0) for period in periods))
+        return Traced(
+            **vars(outcome),
+            stocks=stocks[0],
+            unmet_by_aim=(*unmet[1:],),
+            stocks_by_aim=(*stocks[1:],),
         )
 
     def of_figures(self, figures: Sequence[Figures]) -> Outcome:

@@ -65,11 +65,11 @@ def wanted_share(item: Item) -> float:
 
 
 def smoothed_levels(
-    item: Item, demands: Sequence[int], lead: float, variance: float
+    item: Item, share: float, demands: Sequence[int], lead: float, variance: float
 ) -> Iterator[Levels]:
-    """Yields s and S of each period by the demand before it. An order must last for its lead time, in periods of this
-    mean and variance, and a period."""
-    share, setup, holding = wanted_share(item), float(item.setup), float(item.holding)
+    """Yields s and S of each period by the demand before it, of which a share is to be met at once. An order must last
+    for its lead time, in periods of this mean and variance, and a period."""
+    setup, holding = float(item.setup), float(item.holding)
     for mean, square in smoothed(demands):
         mean = max(mean, 0.0)
         periods = lead + 1

@@ -1,124 +1,69 @@
 """Adds up the tests of many items on their past, and says what breaks their promises.
 
-Items move together, and the periods of an item follow from one another. So errors are those of clusters in two ways:
-items, and blocks of periods with all items. Source: Cameron, Gelbach and Miller, Robust inference with multiway
-clustering, Journal of Business and Economic Statistics 29, 2011. Demand counts in units of an item's own mean, so that
-all items weigh alike. Costs are added as money.
+Demand counts in units of an item's own mean, so that all items weigh alike. Costs are added as money. Errors are those of
+`estimates.py`.
 
 A miss of the promised fill has two parts. What remains with all periods in a random order is due to demands that a
 record is too short to show: rare large ones. The rest is due to time: its level, its season, and runs of high demand.
+A promise that was kept is broken by nothing. If it would have been missed in a random order, it was kept by luck.
 """
 from __future__ import annotations
 
 import math
 from collections import defaultdict
-from collections.abc import Iterable, Mapping, Sequence
+from collections.abc import Iterable, Iterator, Mapping, Sequence
 from dataclasses import dataclass
-from functools import cached_property
-from typing import TYPE_CHECKING
+from operator import itemgetter
+from typing import TYPE_CHECKING, Any, NamedTuple
 
 import numpy as np
 
-from ...chances import Floats, Whole
-from ...decide.verdicts import t_quantile
-from ..answer import TODAY
+from ...chances import Floats
+from ...remarks import Remark, Value
+from .curves import Curve, Reading
+from .estimates import NO_BLOCK, Estimate, Ratio, error_of
+from .methods import KEPT, METHODS, Method
 from .one import Backtest
-from .outcomes import Outcome
+from .outcomes import Outcome, Traced
 
 if TYPE_CHECKING:
     from ..changes import Since
 
 BLOCK = 4  # periods
-NO_BLOCK = -1
 # Fewer items have no verdict.
 LEAST_ITEMS = 10
-VERDICTS = HOLDS, UNSURE, TIME, RARE, BOTH = ("holds", "unsure", "time", "rare", "both")
+VERDICTS = HOLDS, LUCK, UNSURE, TIME, RARE, BOTH = (
+    "holds",
+    "luck",
+    "unsure",
+    "time",
+    "rare",
+    "both",
+)
 FEW = "few"
-# Of catalogues whose promise holds, this share at most is said to break it: half of it for each part of a miss.
-ALARM = 0.05
 SLACK = 0.01  # of the fill: a smaller miss is none
-KEPT = "kept"
-REFITTED, DAMPED, SMOOTHED = "refitted", "damped", "smoothed"
-POLICIES = (TODAY, KEPT, REFITTED, DAMPED, SMOOTHED)
+SMALL = 30  # Of classes of fewer items it is said how far they moved.
+# The figures of `Sums` that are given by method.
+BY_METHOD = (
+    "unmet",
+    "beside",
+    "changes",
+    "gained",
+    "stock",
+    "equal",
+    "orders",
+)
 ALL_ITEMS = ""  # the class that stands for all items
 
 
-@dataclass(frozen=True)
-class Estimate:
-    """A figure, its standard error, and how many of these both ends of its interval are away."""
+class Equal(NamedTuple):
+    """A method beside the kept plan where both meet a share of demand at once: by which shares its stock, and what stock
+    and orders cost, are above those of that plan. A method that orders more often holds less.
+    """
 
-    value: float
-    error: float
-    quantile: float
-
-    @property
-    def low(self) -> float:
-        return self.value - self.quantile * self.error
-
-
-@dataclass(frozen=True)
-class Ratio:
-    """A ratio of two sums, as the parts that items add to both in a period: with their item and their block."""
-
-    above: Floats
-    below: Floats
-    items: Whole
-    blocks: Whole
-
-    @cached_property
-    def total(self) -> float:
-        """Returns what stands below the line, added exactly."""
-        return math.fsum(self.below.tolist())
-
-    @cached_property
-    def value(self) -> float:
-        """Returns the ratio; nan if nothing is below the line."""
-        return math.fsum(self.above.tolist()) / self.total if self.total else math.nan
-
-    @property
-    def by_block(self) -> Floats:
-        """Returns the ratio of each block in which something stands below the line."""
-        above = np.bincount(self.blocks, self.above)
-        below = np.bincount(self.blocks, self.below)
-        ratios: Floats = above[below > 0] / below[below > 0]
-        return ratios
-
-    @property
-    def influence(self) -> Floats:
-        """Returns by how much each part moves the ratio from that of all others."""
-        moved: Floats = (self.above - self.value * self.below) / self.total
-        return moved
-
-    @property
-    def estimate(self) -> Estimate:
-        return Estimate(self.value, *error_of(self.influence, self.items, self.blocks))
-
-    def less(self, other: Ratio) -> Estimate:
-        """Returns what this ratio is above another one of the same items."""
-        influence = np.concatenate([self.influence, -other.influence])
-        items = np.concatenate([self.items, other.items])
-        blocks = np.concatenate([self.blocks, other.blocks])
-        return Estimate(self.value - other.value, *error_of(influence, items, blocks))
-
-
-def squares(influence: Floats, clusters: Whole) -> float:
-    """Returns the sum of the squares of clusters, as for a sample of them."""
-    sums = np.bincount(np.unique(clusters, return_inverse=True)[1], influence)
-    return float((sums**2).sum()) * len(sums) / max(1, len(sums) - 1)
-
-
-def error_of(influence: Floats, items: Whole, blocks: Whole) -> tuple[float, float]:
-    """Returns the standard error of a sum of parts, and the quantile of its interval: the variance of items, and what
-    the items of a block have in common."""
-    timed, several = blocks != NO_BLOCK, [len(np.unique(items))]
-    common = 0.0
-    if timed.any():
-        pairs = items * (blocks.max() + 1) + blocks
-        common = squares(influence[timed], blocks[timed])
-        common -= squares(influence[timed], pairs[timed])
-        several.append(len(np.unique(blocks[timed])))
-    quantile = t_quantile(ALARM, max(1, min(several) - 1))
-    return math.sqrt(squares(influence, items) + max(0.0, common)), quantile
+    fill: float
+    stock: Estimate
+    spent: Estimate
 
 
 class Group:
@@ -194,6 +139,84 @@ class Group:
         kept = self.costs(KEPT)
         return self._ratio(self.costs(policy) - kept, kept)
 
+    def drift(self) -> Estimate | None:
+        """Returns what the kept plan left unmet more in the second half of the later periods than in the first; None if
+        nothing was asked for in a half."""
+        unmet = self.unmet(KEPT)
+        later = 2 * self.blocks > self.blocks.max()
+        halves = list[Ratio]()
+        for own in (later, ~later):
+            if not unmet.below[own].any():
+                return None
+            rows = unmet.above, unmet.below, unmet.items, unmet.blocks
+            halves.append(Ratio(*(row[own] for row in rows)))
+        return halves[0].less(halves[1])
+
+
+class Sides(Group):
+    """The tests of items of a class, or of all, with methods side by side."""
+
+    def __init__(self, tests: Sequence[Backtest]) -> None:
+        super().__init__(tests)
+        self.sides = tests
+        holding = np.array([test.holding for test in tests])
+        self.holding: Floats = holding[self.items]
+        self.setups = np.array([test.setup for test in tests])
+
+    def traced(self, method: str) -> list[Traced]:
+        """Returns what a method comes to, by item."""
+        return [getattr(test, method) for test in self.sides]
+
+    def gained(self, method: str) -> Estimate:
+        """Returns the share of demand that a method met at once more than the kept plan."""
+        more = self.unmet(KEPT).above - self.unmet(method).above
+        return self._ratio(more, self.asked).estimate
+
+    def stock(self, method: str) -> Floats:
+        """Returns the stock of a method by item and period, in money."""
+        return self.holding * joined(traced.stocks for traced in self.traced(method))
+
+    def more_stock(self, method: str) -> Estimate | None:
+        """Returns what the stock of a method is above that of the kept plan, as a share; None if that has none."""
+        kept = self.stock(KEPT)
+        more = self._ratio(self.stock(method) - kept, kept)
+        return more.estimate if more.total else None
+
+    def orders(self, method: str) -> Floats:
+        """Returns how many orders each item has in a period, by a method."""
+        orders: Floats = np.array([traced.orders for traced in self.traced(method)])
+        return orders
+
+    def curve(self, method: str) -> Curve:
+        """Returns what the aims of a method come to: demand in units of an item's own mean, stock in money."""
+        traced = self.traced(method)
+        unmet, stocks = list[Floats](), list[Floats]()
+        for aim in range(len(traced[0].unmet_by_aim)):
+            rows = joined(own.unmet_by_aim[aim] for own in traced)
+            unmet.append(rows / self.means)
+            rows = joined(own.stocks_by_aim[aim] for own in traced)
+            stocks.append(self.holding * rows)
+        return Curve(self.asked, unmet, stocks)
+
+    def equal(self, method: str) -> Equal | None:
+        """Returns a method beside the kept plan where both meet as much at once as that promised, or as near to it as both
+        get at any aim. None if they have nothing in common, or without a stock. Other aims are taken to have the orders of
+        a method's own."""
+        curves = [self.curve(code) for code in (method, KEPT)]
+        share = curves[0].nearest(curves[1], self.promised().value)
+        own, kept = (curve.at(share or 0.0) for curve in curves)
+        if share is None or own is None or kept is None or not kept.stock:
+            return None
+        setups = self.setups[self.items]
+        ordering = [setups * self.orders(code)[self.items] for code in (method, KEPT)]
+        spent = own.with_more(ordering[0]), kept.with_more(ordering[1])
+        return Equal(1 - share, self._more(own, kept), self._more(*spent))
+
+    def _more(self, own: Reading, kept: Reading) -> Estimate:
+        """Returns what is above the kept plan, as a share."""
+        more, influence = own.beside(kept)
+        return Estimate(more, *error_of(influence, self.items, self.blocks))
+
 
 def joined(rows: Iterable[Sequence[float]]) -> Floats:
     """Returns the figures of all items, one after another."""
@@ -203,14 +226,17 @@ def joined(rows: Iterable[Sequence[float]]) -> Floats:
 @dataclass(frozen=True)
 class Sums:
     """What the tests of the items of a class, or of all, add up to. Without a least gain no policy is damped, and
-    figures of today's policies are those of the items that have one.
+        figures of today's policies are those of the items that have one.
 
-    `promised` is the fill that the kept plan promised, `unmet` the share of demand by policy that was not met at once,
-    `dearer` what the kept plan cost over its promise, `beside` by policy what it cost over the kept plan. `missed` is
-    what the kept plan missed of the promised fill, of which `chance` remains in a random order and `time` does not. So
-    many items have `broken` it by more than a point, and a largest later demand `above` the largest before. `changes`
-    is how often the levels of an item change in a period, by policy.
-    """
+        `promised` is the fill that the kept plan promised, `unmet` the share of demand by policy that was not met at once,
+        `dearer` what the kept plan cost over its promise, `beside` by policy what it cost over the kept plan. `missed` is
+        what the kept plan missed of the promised fill, of which `chance` remains in a random order and `time` does not. So
+        many items have `broken` it by more than a point, and a largest later demand `above` the largest before. `changes`
+        is how often the levels of an item change in a period, by policy.
+
+        By method, `gained` is the fill above that of the kept plan, `stock` the stock in money above its stock, as a share,
+    `equal` both where they have the same fill, and `orders` those of an item in a period. `drift` is what the kept plan
+    left unmet more in the second half of the later periods than in the first."""
 
     group: str
     items: int
@@ -224,47 +250,114 @@ class Sums:
     broken: int
     above: int
     changes: Mapping[str, float]
+    gained: Mapping[str, Estimate]
+    stock: Mapping[str, Estimate]
+    equal: Mapping[str, Equal]
+    orders: Mapping[str, float]
+    drift: Estimate | None
 
     @classmethod
     def of(cls, group: str, tests: Sequence[Backtest]) -> Sums:
         """Adds up tests."""
         parts = Group(tests)
         missed, chance = parts.missed(), parts.by_chance(tests)
-        unmet, beside = dict[str, Estimate](), dict[str, Estimate]()
-        changes = dict[str, float]()
-        for policy, own in groups_of(tests).items():
-            unmet[policy] = own.unmet(policy).estimate
-            if policy != KEPT:
-                beside[policy] = own.beside(policy).estimate
-            if policy not in (TODAY, KEPT):
-                changes[policy] = own.changes(policy)
         broken = above = 0
         for test in tests:
             fill = test.kept.fill
             broken += fill is not None and (test.kept.promised_fill or 0) - fill > SLACK
             above += (test.above or math.inf) > 1
         return cls(
-            group,
-            len(tests),
-            1 - parts.promised().value,
-            unmet,
-            parts.dearer().estimate,
-            beside,
-            missed.estimate,
-            chance.estimate,
-            missed.less(chance),
-            broken,
-            above,
-            changes,
+            group=group,
+            items=len(tests),
+            promised=1 - parts.promised().value,
+            dearer=parts.dearer().estimate,
+            missed=missed.estimate,
+            chance=chance.estimate,
+            time=missed.less(chance),
+            broken=broken,
+            above=above,
+            drift=parts.drift(),
+            **by_method(tests),
         )
 
     @property
-    def verdict(self) -> str:
-        """Returns what breaks the promised fill, if anything does."""
-        if self.items < LEAST_ITEMS:
-            return FEW
+    def verdict(self) -> Remark:
+        """Returns what breaks the promised fill, if anything does. Facts are points of fill, and numbers of items."""
+        if not self.has_verdict:
+            return Remark(FEW, {"least": LEAST_ITEMS})
+        if self.is_missed:
+            return Remark(self.breach)
+        if self.chance.low <= SLACK:
+            return Remark(HOLDS)
+        points = {"chance": 100 * self.chance.value, "error": 100 * self.chance.error}
+        return Remark(LUCK, points)
+
+    @property
+    def has_verdict(self) -> bool:
+        """Returns whether the items are enough for a verdict."""
+        return self.items >= LEAST_ITEMS
+
+    @property
+    def is_missed(self) -> bool:
+        """Returns whether the kept plan missed what it promised."""
+        return self.missed.value > SLACK
+
+    def lifts(self, method: str) -> bool:
+        """Returns whether a method met more than the kept plan, beyond the error, though that missed its promise."""
+        return self.is_missed and self.gained[method].low > 0
+
+    def has_gained(self, method: str) -> bool:
+        """Returns whether a method has gained beyond its errors: its stock and orders cost less than those of the kept plan
+        where both meet as much at once; or it lifts what was met, and these cost no more. If they never meet as much, its
+        own stock must not be above that of the kept plan.
+        """
+        spent = self.spent(method)
+        if spent is None:
+            return False
+        is_cheaper = method in self.equal and spent.high < 0
+        return is_cheaper or (self.lifts(method) and spent.low <= 0)
+
+    def spent(self, method: str) -> Estimate | None:
+        """Returns what stock and orders of a method cost more than those of the kept plan where both meet as much at once;
+        if they never do, what its own stock is above that."""
+        equal = self.equal.get(method)
+        return equal.spent if equal else self.stock.get(method)
+
+    @property
+    def gains(self) -> list[Remark]:
+        """Returns the methods that have gained beyond their errors, the best first: if the promise was missed, those that
+        lift what was met come before others, and then those whose stock and orders cost least. Their facts are points of
+        fill above the kept plan, what `spent` says in percent, and the fill, in percent, at which that is.
+        """
+        if not self.has_verdict:
+            return []
+        gains = list[tuple[bool, float, Remark]]()
+        for method, gained in self.gained.items():
+            spent, equal = self.spent(method), self.equal.get(method)
+            if spent is None or not self.has_gained(method):
+                continue
+            facts: dict[str, Value] = {
+                "points": 100 * gained.value,
+                "points_error": 100 * gained.error,
+                "spent": 100 * spent.value,
+                "spent_error": 100 * spent.error,
+                "fill": 100 * equal.fill if equal else None,
+            }
+            rank = not self.lifts(method), spent.value
+            gains.append((*rank, Remark(method, facts)))
+        gains.sort(key=itemgetter(0, 1))
+        return [gain for _, _, gain in gains]
+
+    @property
+    def best(self) -> str | None:
+        """Returns the method that has gained most; None if none has."""
+        return next((gain.code for gain in self.gains), None)
+
+    @property
+    def breach(self) -> str:
+        """Returns the code of what has broken a promise that was missed, or that this may be chance."""
         rare = self.chance.low > SLACK
-        time = self.time.low > 0 and min(self.time.value, self.missed.value) > SLACK
+        time = self.time.low > 0 and self.time.value > SLACK
         if self.missed.low > SLACK and not rare and not time:  # by both together
             time = self.time.value > self.chance.value
             rare = not time
@@ -272,7 +365,7 @@ class Sums:
             return BOTH
         if rare or time:
             return RARE if rare else TIME
-        return HOLDS if self.missed.value <= SLACK else UNSURE
+        return UNSURE
 
 
 def summed(test: Backtest) -> bool:
@@ -287,14 +380,34 @@ def is_asked(tests: Sequence[Backtest]) -> bool:
     return bool(in_time and sum(sum(test.shuffled_demands) for test in tests))
 
 
-def groups_of(tests: Sequence[Backtest]) -> dict[str, Group]:
-    """Returns by policy the tests of the items that have it, if anything is asked for in these."""
-    groups = dict[str, Group]()
-    for policy in POLICIES:
-        own = [test for test in tests if getattr(test, policy)]
+def sides_of(tests: Sequence[Backtest]) -> Iterator[tuple[Method, Sides]]:
+    """Yields each method with the tests of the items that have it, if anything is asked for in these."""
+    for method in METHODS:
+        own = [test for test in tests if getattr(test, method.code)]
         if own and is_asked(own):
-            groups[policy] = Group(own)
-    return groups
+            yield method, Sides(own)
+
+
+def by_method(tests: Sequence[Backtest]) -> dict[str, Any]:
+    """Returns the figures of `Sums` that are given by method. Those beside the kept plan are not of this."""
+    figures: dict[str, dict[str, Any]] = {name: {} for name in BY_METHOD}
+    for method, sides in sides_of(tests):
+        code = method.code
+        own: dict[str, Any] = {
+            "unmet": sides.unmet(code).estimate,
+            "orders": float(sides.orders(code)[sides.items].mean()),
+        }
+        if method.is_changing:
+            own["changes"] = sides.changes(code)
+        if code != KEPT:
+            own["beside"] = sides.beside(code).estimate
+            own["gained"] = sides.gained(code)
+            own["stock"] = sides.more_stock(code)
+            own["equal"] = sides.equal(code)
+        for name, figure in own.items():
+            if figure is not None:
+                figures[name][code] = figure
+    return figures
 
 
 def sums_of(tests: Iterable[Backtest]) -> list[Sums]:
@@ -306,3 +419,26 @@ def sums_of(tests: Iterable[Backtest]) -> list[Sums]:
             if test.group:
                 groups[test.group].append(test)
     return [Sums.of(name, own) for name, own in sorted(groups.items()) if is_asked(own)]
+
+
+def whole_of(sums: Iterable[Sums]) -> Sums | None:
+    """Returns the sums of all items among those of classes; None if there are none."""
+    return next((one for one in sums if one.group == ALL_ITEMS), None)
+
+
+def moves_of(sums: Sequence[Sums]) -> Remark | None:
+    """Returns how far what was met at once moved from the first half of the later periods to the second: in the mean of
+    small classes, and for all items, in points. None if no class is small."""
+    whole, moves = whole_of(sums), list[float]()
+    for one in sums:
+        if one.group != ALL_ITEMS and one.items < SMALL and one.drift:
+            moves.append(100 * abs(one.drift.value))
+    if not moves or whole is None or whole.drift is None:
+        return None
+    facts: dict[str, Value] = {
+        "classes": len(moves),
+        "least": SMALL,
+        "moved": math.fsum(moves) / len(moves),
+        "whole": 100 * abs(whole.drift.value),
+    }
+    return Remark("small classes", facts)
