@@ -20,6 +20,7 @@ WITH_JOBS = (
     "laws_leads",
     "long_run",
     "fills",
+    "cut_sales",
     "borrowing",
     "doubt",
     "walk_forward",

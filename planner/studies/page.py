@@ -19,6 +19,7 @@ STUDIES = (
     "warnings",
     "dependence",
     "fills",
+    "cut_sales",
     "search",
     "borrowing",
     "doubt",

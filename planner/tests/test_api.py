@@ -404,7 +404,7 @@ def test_rows_that_were_read_and_not_planned(
 
 
 def test_a_series_is_never_silently_dense() -> None:
-    """Periods that a Series by period lacks count 0. One by dates with gaps is refused, and so is NaN."""
+    """Periods that a Series by period lacks count 0, and NaN for nothing. One by dates with gaps is refused."""
     weeks = pd.Series(
         [3, 0, 2, 4],
         pd.PeriodIndex(
@@ -422,5 +422,5 @@ def test_a_series_is_never_silently_dense() -> None:
     )
     with pytest.raises(ValueError, match="stand twice or are not in order"):
         crn.fit_demand(weeks[::-1], method="empirical")
-    with pytest.raises(ValueError, match="entry 2: nan is not a whole number"):
-        crn.fit_demand(pd.Series([1, float("nan")]), method="empirical")
+    unknown = crn.fit_demand(pd.Series([1, float("nan")]), method="empirical")
+    assert unknown == crn.fit_demand([1], method="empirical")

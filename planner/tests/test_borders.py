@@ -157,7 +157,8 @@ def test_most_orders(write: Write, crnplan: Command) -> None:
 
 
 def test_odd_rows(write: Write, crnplan: Command, program: Path) -> None:
-    """3,000 is 750 times 4. A row with too few cells lacks its last ones, and a text too many is rejected."""
+    """3,000 is 750 times 4. A row with too few cells lacks its last ones, as its quantity, and a text too many is
+    rejected."""
     day = datetime.date(2025, 1, 6)
     amounts = [4, 3, 1, 3_000, 2, 4, 4_500, *[1, 2, 3] * 12]
     days = [day + datetime.timedelta(7 * week) for week in range(len(amounts))]
@@ -182,9 +183,8 @@ def test_odd_rows(write: Write, crnplan: Command, program: Path) -> None:
     odd = [rows[0][:3], rows[1][:2], [*rows[2], ""], [*rows[3], "y"]]
     write("demand.csv", [["date", "item", "quantity", "note"], *odd, *rows[4:]])
     catalogue(crnplan, ["A"], "--program", program)
-    assert {
-        (row["line"], row["column"]) for row in rejects() if row["kind"] == "row"
-    } == {("3", "quantity"), ("5", "")}
+    found = {(row["line"], row["column"], row["kind"]) for row in rejects()}
+    assert found == {("3", "quantity", "suspicious"), ("5", "", "row")}
 
 
 @pytest.mark.parametrize("blank", [0, 2])

@@ -12,12 +12,13 @@ import pandas as pd
 import pytest
 
 from crnplan.decide.doubt import HELD
-from crnplan.demand.checks import STUDIED, losses
 from crnplan.demand.fitted import DOUBT
+from crnplan.demand.losses import STUDIED, losses
 from crnplan.theory import suggestions
 from planner.studies import (
     __main__,
     borrowing,
+    cut_sales,
     dependence,
     doubt,
     fills,
@@ -67,6 +68,11 @@ SMALL = {
         "set backlog law",
     ),
     "doubt": (lambda: doubt.study(**doubt.SMALL), 2, "law periods"),
+    "cut_sales": (
+        lambda: cut_sales.study(**cut_sales.SMALL),
+        4,
+        "law periods short way",
+    ),
     "dependence": (
         lambda: dependence.study(
             dependence.SMALL, dependence.SMALL_PATHS, dependence.SMALL_CYCLES
@@ -76,6 +82,7 @@ SMALL = {
     ),
 }
 FIGURES = {
+    "cut_sales": cut_sales.FIGURES,
     "laws": laws.FIGURES,
     "laws_leads": ["regret", "gain"],
     "borrowing": ["regret", "over"],

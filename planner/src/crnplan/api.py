@@ -45,6 +45,7 @@ from .read.catalogue_reading import CATALOGUE, READ, read_into
 from .read.defaults import Defaults
 from .read.items import Words
 from .read.opening import Table
+from .read.outages import OUT
 from .read.overriding import set_overrides
 from .read.told import made_from, words_of
 from .remarks import Remark
@@ -309,14 +310,14 @@ def take_tables(
     sales: Table | Catalogue,
     masters: Table | None,
     orders: Table | None,
+    out_of_stock: Table | None,
     words: Words,
     jobs: int | None,
 ) -> None:
     """Reads a catalogue into a folder by so many processes, or copies one that was read elsewhere."""
     if not isinstance(sales, Catalogue):
-        read_into(
-            folder, {"demand": sales, "items": masters, "orders": orders}, words, jobs
-        )
+        tables = {"demand": sales, "items": masters, "orders": orders}
+        read_into(folder, {**tables, OUT: out_of_stock}, words, jobs)
     elif sales.path.resolve() != folder.store(READ).resolve():
         part = folder.room() / Path(READ).name
         shutil.copyfile(sales.path, part)
@@ -352,6 +353,7 @@ def plan(
     orders: str | Path | pd.DataFrame | None = None,
     *,
     out: str | Path | None = None,
+    out_of_stock: Table | None = None,
     overrides: Table | None = None,
     after: str | Path | None = None,
     as_backtest: str | Path | None = None,
@@ -372,7 +374,8 @@ def plan(
     each movement (item, date, quantity, and perhaps returned), or for each item, with a column for each period. `masters` has a row for each item: item, setup (money an
     order), holding and backlog (money an item and period) or fill (the wanted share of demand met at once), lead
     (with its unit, as "lead (days)"), and perhaps today's s and S (items), description, stock, price, class, status, borrow, order_min, pack,
-    s_min, coverage and shelf_life. `orders` has dates of orders: item, ordered, received. Or `sales` is a Catalogue that
+    s_min, coverage and shelf_life. `orders` has dates of orders: item, ordered, received, and `out_of_stock` the
+    times in which there was none of an item: item, from, to. Or `sales` is a Catalogue that
     `read_catalogue` has read, and the other tables and words of reading are left out.
 
     **How it is read.** `read_catalogue` says what tables may be, how they are read, and what its words mean: those here
@@ -430,7 +433,7 @@ def plan(
     room = Room() if out is None else None
     path = room.path if room else Path(out or "")
     with own_folder(path, CATALOGUE, CATALOGUE_FILES) as folder:
-        take_tables(folder, sales, masters, orders, reading, jobs)
+        take_tables(folder, sales, masters, orders, out_of_stock, reading, jobs)
         set_overrides(folder, overrides, reading, earlier)
         settings, _ = settings_of(folder, settings, test)
         write_found(folder, Catalogue(folder.path / READ), settings)

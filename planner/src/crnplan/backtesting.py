@@ -114,6 +114,7 @@ def backtest(
     every: int = 13,
     window: int = 52,
     least_gain: float | None = None,
+    out_of_stock: str | Path | pd.DataFrame | None = None,
     out: str | Path | None = None,
     period: str = "week",
     jobs: int | None = None,
@@ -137,7 +138,7 @@ def backtest(
     in a random order, which takes time out of them. Lead times of the past are drawn from the item's own law. Random
     numbers follow from the `seed` and the item's name. An item with fewer than `record` and `every` periods is left out.
 
-    Tables are as in `plan`, and so are `columns`, `units`, `start`, `end`, `date_formats`, `fit`, `borrow`,
+    Tables are as in `plan`, and so are `out_of_stock`, `columns`, `units`, `start`, `end`, `date_formats`, `fit`, `borrow`,
     `confidence`, `jobs` and `cluster`; a `period` is a day, week or month. Or `sales` is a Catalogue that
     `read_catalogue` has read. With `out` the folder keeps tables and all tests: tested again, only what has changed is
     tested. No crnsim is needed.
@@ -153,5 +154,5 @@ def backtest(
     with tempfile.TemporaryDirectory(prefix="crnplan-") as room, own_folder(
         Path(out or room), CATALOGUE
     ) as folder:
-        take_tables(folder, sales, masters, orders, reading, jobs)
+        take_tables(folder, sales, masters, orders, out_of_stock, reading, jobs)
         return write_backtest(folder, settings, walk, means)

@@ -32,6 +32,7 @@ from .read.defaults import Defaults
 from .read.items import Counts, Words
 from .read.lateness import receipt_remarks
 from .read.observed import Day
+from .read.outages import OUT
 from .read.opening import Table
 from .read.told import merged, told_of, words_of
 from .remarks import Remark
@@ -83,7 +84,7 @@ class Catalogue:
                 *defaulted(read.fact("sources")),
                 *receipt_remarks(read),
             ]
-            return [*read.fact("said"), *map(advised, remarks)]
+            return [*map(worded, read.fact("said")), *map(advised, remarks)]
 
     @property
     def missing(self) -> list[str]:
@@ -150,6 +151,7 @@ class ReadingWords(FileWords, total=False):
     today: Day | None
     net: bool
     negate: bool
+    empty: str | None
     twice: str | None
     far: str
     least: int
@@ -172,6 +174,7 @@ def read_catalogue(
     items: Table,
     orders: Table | None = None,
     *,
+    out_of_stock: Table | None = None,
     jobs: int | None = None,
     **words: Unpack[ReadingWords],
 ) -> Catalogue:
@@ -179,9 +182,11 @@ def read_catalogue(
     demand and orders there may be several files with one heading, as "demand-2026-*.csv".
 
     `demand` has a row for each movement (item, date, quantity, perhaps returned), or for each item, with a column for
-    each period, in which an empty cell is no demand. `items` has one for each item (item, setup, holding, backlog or
+    each period. An empty quantity is a period whose demand is "unknown", or "none", as `empty` says; by default it is
+    unknown in the row of a date, and none in a table with a column for each period, unless others say 0. `items` has one for each item (item, setup, holding, backlog or
     fill, lead, perhaps s, S, description, stock, price, class, and bounds), `orders` the dates of orders (item, ordered,
-    received). `columns` names columns by file and role, as {"demand": {"quantity":
+    received), `out_of_stock` the times in which there was none of an item (item, from, to, both days included; without an
+    end it lasts): the demand of such a period is not known. `columns` names columns by file and role, as {"demand": {"quantity":
     "Menge"}}; others are found by usual names, to which `names` adds. `units` states what a column counts, as {"items":
     {"lead": "day"}}; else its heading does. Periods are `every` day, week (ISO) or month. The record is that of the
     whole file, or from `start` to `end`; rows after `today` are rejected. With `net` quantities below 0 are taken off
@@ -202,9 +207,8 @@ def read_catalogue(
     Raises Refused and RefusedFaults for files that can't be read. Rows and items with faults are in `rejects`.
     """
     reading, room = words_of(words), Room()
-    path = read_alone(
-        room.path, {"demand": demand, "items": items, "orders": orders}, reading, jobs
-    )
+    tables = {"demand": demand, "items": items, "orders": orders, OUT: out_of_stock}
+    path = read_alone(room.path, tables, reading, jobs)
     return Catalogue(path, room)
 
 

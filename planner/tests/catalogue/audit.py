@@ -17,7 +17,8 @@ Week = tuple[int, int]
 
 @dataclass
 class Audit:
-    """What the second program finds: rows read, the rows taken by item, and sums by item and ISO week."""
+    """What the second program finds: rows read, the rows taken by item, and sums by item and ISO week, without rows whose
+    quantity is empty."""
 
     read: int = 0
     taken: Counter[str] = field(default_factory=Counter)
@@ -53,11 +54,12 @@ def audit(path: Path, above: int, first: datetime.date, last: datetime.date) -> 
                 len(row) == 5
                 and row[1]
                 and day
-                and row[3].isdigit()
+                and (row[3] == "" or row[3].isdigit())
                 and row[4].isdigit()
             ):
                 week = day.isocalendar()[:2]
                 found.taken[row[1]] += 1
-                found.asked[row[1]][week] += int(row[3])
-                found.back[row[1]][week] += int(row[4])
+                if row[3]:
+                    found.asked[row[1]][week] += int(row[3])
+                    found.back[row[1]][week] += int(row[4])
     return found

@@ -180,7 +180,7 @@ def _plant_rows(source: random.Random, its: Made) -> None:
     """Plants faults into rows of demand, each in a row of its own, and double rows and orders below all others."""
     above = len(TITLES) + 2  # the line of the first row
     texts = [
-        *(("Menge", 3, it) for it in BAD_QUANTITIES),
+        *(("Menge" if it else "leer", 3, it) for it in BAD_QUANTITIES),
         *(("Buchungstag", 2, it) for it in BAD_DATES),
         ("Artikel", 1, ""),
         ("zu lang", 4, "0;mehr"),

@@ -1,6 +1,7 @@
 """Tests of the checks of a history: planted effects, and the lines for planners."""
 from __future__ import annotations
 
+import dataclasses
 import math
 import time
 import tomllib
@@ -16,16 +17,8 @@ from hypothesis import given, settings, strategies as st
 from scipy import stats
 
 import crnplan as crn
-from crnplan.demand.checks import (
-    STUDIED,
-    Check,
-    Checks,
-    Loss,
-    check_history,
-    loss_of,
-    losses,
-    remarks_of,
-)
+from crnplan.demand.checks import Check, Checks, check_history, remarks_of
+from crnplan.demand.losses import STUDIED, Loss, loss_of, losses
 from crnplan.demand.seasons import Season, seasons_of
 from crnplan.demand.permutation import drawn_orders
 from crnplan.errors import Refused, spelt
@@ -305,3 +298,30 @@ def test_time() -> None:
         check_history(STEADY, season=52)
         times.append(time.process_time() - start)
     assert min(times) <= 0.05
+
+
+def test_gaps_keep_the_dates_of_periods() -> None:
+    """Beside unknown weeks, the largest demand and the last one have their own weeks, and a season has its own parts; it is
+    not tested if one of these has no week that is known."""
+    counts = [3, 5, 4, 2, 6, 4, 3, 5, 4, 2, 6, 4, 5] * 8
+    counts[60] = 40
+    unknown = tuple(range(8, 60, 4))
+    history = crn.History(
+        tuple(counts), (None,) * 104, (), (), "week", 2870, unknown=unknown
+    )
+    checks = crn.check_history(history)
+    assert checks.largest[0].facts["period_1"] == history.periods[60]
+    assert "season" in [test.name for test in checks.tests]
+    quarters = seasons_of("week", 2870, 104, None)[0][0].part_of
+    gone = tuple(np.flatnonzero(quarters == 2).tolist())
+    checks = crn.check_history(dataclasses.replace(history, unknown=gone))
+    assert checks.periods == 104 - len(gone)
+    assert "season" not in [test.name for test in checks.tests]
+
+
+def test_a_shift_after_a_gap_has_its_date() -> None:
+    """The period since which demand is another is that of the record, also behind unknown ones."""
+    counts = [1, 2, 1, 2, 1] * 6 + [9, 8, 9, 8, 9] * 6
+    rows = [*counts[:10], *[None] * 7, *counts[10:]]
+    (shift,) = [test for test in crn.check_history(rows).tests if test.name == "shift"]
+    assert shift.facts["name"] == "period 38"

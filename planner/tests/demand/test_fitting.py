@@ -338,7 +338,10 @@ def test_refused(case: dict[str, Any]) -> None:
 
 def test_what_has_no_text() -> None:
     """A number that is not there, and too many, are refused. The greatest number of boxes is taken."""
-    for numbers, said in (([None], "demand: entry 1: "), ([1] * 65_537, "65,537 numb")):
+    for numbers, said in (
+        ([None], "0 numbers of demand"),
+        ([1] * 65_537, "65,537 numb"),
+    ):
         with pytest.raises(Refused, match=said):
             fit_demand(numbers)
     law = fit_demand([10_001, 3, 70_001, 80_000], method="empirical", box=8)

@@ -49,6 +49,18 @@ def test_years_without_demand() -> None:
     assert Years.of([1] * 11, "month", 2021 * 12).ratios.shape == (0, 12)
 
 
+def test_years_with_unknown_periods() -> None:
+    """A week counts as the others of its month, and a month of which nothing is known as the others of its year."""
+    by_half = Years.of([1, 3] * 6, "month", 2021 * 12, [0, 2])
+    assert by_half.ratios[0, :4] * 2.2 == pytest.approx([2.2, 3, 2.2, 3])
+    weeks = [5] * 52
+    weeks[10] = 0
+    first = period_of(date(2021, 1, 4), "week")
+    assert Years.of(weeks, "week", first, [10]).ratios == pytest.approx(1)
+    nothing = Years.of([7] * 12, "month", 2021 * 12, range(12))
+    assert not nothing.ratios.any()
+
+
 def test_pooled() -> None:
     """Items weigh by their periods with demand; a year that fewer than half of them have is left out."""
     row = np.arange(12.0)

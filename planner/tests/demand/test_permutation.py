@@ -21,14 +21,15 @@ SEASONS = {"season": np.array([0, 1, 0, 1, 0, 1])}
 KINDS = Orders(ALL_ORDERS[0], SEASONS).names
 
 
-def statistics(rows: Any, parts: Any = ()) -> Floats:
+def statistics(rows: Any, parts: Any = (), places: Any = None) -> Floats:
     """Returns the statistics of rows, which have the same numbers, by the parts of a season if there are some."""
     first = np.array(rows[0], dtype=float)
     orders = np.argsort(np.argsort(rows, axis=1, kind="stable"), axis=1)
     orders = np.argsort(first, kind="stable")[orders]
     part_of = np.array(parts, int).reshape(-1, len(first))
     ranks = centred(stats.rankdata(first))
-    return permutation.statistics_in(centred(first), ranks, orders, part_of)
+    places = np.arange(len(first)) if places is None else places
+    return permutation.statistics_in(centred(first), ranks, orders, part_of, places)
 
 
 @settings(max_examples=60)
@@ -54,6 +55,30 @@ def test_statistics(numbers: list[int], length: int) -> None:
     (row,) = statistics([numbers], np.arange(size) % length)
     found = dict(zip(KINDS, row.tolist()))
     assert found == pytest.approx(expected, abs=1e-12)
+
+
+@settings(max_examples=40)
+@given(
+    numbers=st.lists(st.integers(0, 30), min_size=10, max_size=30).filter(np.ptp),
+    seed=st.integers(0, 999),
+)
+def test_gaps_are_no_neighbours(numbers: list[int], seed: int) -> None:
+    """With unknown periods, products are of pairs that are known, and ranks are correlated with true times; a split and
+    a season see the known periods alone."""
+    size = len(numbers)
+    places = np.random.default_rng(seed).choice(2 * size, size, replace=False)
+    places = np.sort(places) - places.min()
+    far = dict(zip(places.tolist(), (np.array(numbers) - np.mean(numbers)).tolist()))
+    boxed = 0.0
+    for lag in (1, 2, 3):
+        pairs = [far[it] * far[it + lag] for it in far if it + lag in far]
+        boxed += sum(pairs) ** 2 / max(len(pairs), 1)
+    boxed *= size * (size + 2) / sum(it**2 for it in far.values()) ** 2
+    trend = stats.pearsonr(stats.rankdata(numbers), places)[0] ** 2
+    (row,) = statistics([numbers], np.arange(size) % 3, places)
+    (close,) = statistics([numbers], np.arange(size) % 3)
+    assert row[:2] == pytest.approx([boxed, trend], abs=1e-12)
+    assert row[2:].tolist() == close[2:].tolist()
 
 
 @pytest.mark.parametrize("kind", KINDS)

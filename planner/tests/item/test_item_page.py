@@ -302,3 +302,26 @@ def test_figures(numbers: list[int], method: str) -> None:
         ]
         assert row[2:4] == pytest.approx([np.mean(sample), variance], abs=6e-5)
         assert row[4:] == [*quantiles, max(sample)]
+
+
+def test_unknown_weeks_are_gaps(room: Path, plan: Plan) -> None:
+    """A week without a demand is refused until it is stated what that means. Then it is drawn as a gap, is an empty cell of
+    the table, and counts for nothing in what is said."""
+    path = room / "history.csv"
+    lines = path.read_text().splitlines()
+    lines[3] = lines[3].split(",")[0] + ","
+    path.write_text("\n".join(lines) + "\n")
+    assert plan().refuses("say [history] empty = unknown")
+    settings = room / "settings.toml"
+    text = settings.read_text()
+    settings.write_text(text.replace("[history]", '[history]\nempty = "unknown"', 1))
+    status, output, errors = plan()
+    assert status == 0, errors
+    written = [row["demand"] for row in list_of(room / "plan/demand.csv")]
+    assert written == [line.split(",")[1] for line in lines[1:]] and not written[2]
+    counts = [int(line.split(",")[1]) for line in lines[1:] if line[-1] != ","]
+    page = page_of(room / "plan")
+    said = f"{len(counts):,} weeks, {sum(counts):,} items, {counts.count(0):,} weeks"
+    assert f"{said} without demand, and 1 weeks not known." in page.source
+    assert page.source.count('class="gap"') == 1
+    assert "the demand of 1 more is not known" in page.source

@@ -43,7 +43,7 @@ TWOS = weekly([2] * WEEKS)
 
 
 def test_frames() -> None:
-    """Frames are read as files are. A missing number is an empty cell, which is rejected with its row."""
+    """Frames are read as files are. A missing number is an empty cell, whose row is named."""
     demand, masters = demand_of("A"), masters_of(MASTER)
     read = read_catalogue(demand, masters, today=TODAY)
     assert items_of(read)["A"].counts == tuple(demand.quantity)
@@ -51,8 +51,9 @@ def test_frames() -> None:
     assert items_of(read_catalogue(*indexed, today=TODAY)) == items_of(read)
     demand.loc[2, "quantity"] = float("nan")
     rejects = read_catalogue(demand, masters, today=TODAY).rejects
-    rejects = rejects[rejects.kind == "row"][["line", "column", "reason"]]
-    assert rejects.values.tolist() == [[4, "quantity", "the cell is empty"]]
+    rejects = rejects[["kind", "line", "column", "reason"]].values.tolist()
+    why = "1 rows have no quantity, so that the demand of their periods is not known"
+    assert rejects == [["suspicious", 4, "quantity", f"{why} (line 4)"]]
 
 
 @pytest.mark.parametrize(

@@ -21,6 +21,7 @@ from matplotlib.ticker import MaxNLocator
 from crnplan.crnsim.periods import Period
 from crnplan.curve.parts import Point
 from crnplan.demand.fitting import fit_demand
+from crnplan.read.item import Item
 from crnplan.show.curves import curve_ends
 from crnplan.show.item_plots import history_plot
 from crnplan.show.law_words import source_words
@@ -144,7 +145,7 @@ def test_compiled_templates_are_kept(
 
 def test_bars_of_a_long_history() -> None:
     """Of 521 weeks the last 520 are drawn, but for those without demand. A curve's axes end near its named points."""
-    item = SimpleNamespace(counts=(9, 0, *[1] * 519), box=1)
+    item = Item("A", (9, 0, *[1] * 519), (1,), None, Fraction(1), Fraction(1))
     law = fit_demand(item.counts, method="empirical")
     depth: Any = SimpleNamespace(question=SimpleNamespace(item=item, demand=law))
     plot = history_plot(depth, [f"W{week}" for week in range(521)], "week")

@@ -23,7 +23,7 @@ Made = TypeVar("Made")
 VERSION = "# A scenario with the table [returns] has version = 2.\n"
 # How cells are read, a history, and lead times.
 RULES = ("delimiter", "encoding", "decimal", "date_formats", "item", "leave_out")
-OF_HISTORY = ("returns", "date", "net", "whole", "start", "end")
+OF_HISTORY = ("returns", "date", "net", "whole", "start", "end", "empty")
 OF_LEADS = ("every", "ordered", "received")
 # The words of `crnplan suggest` that need no history.
 OWN = ("scenario", "initial", "unit_zero", "file", "form")

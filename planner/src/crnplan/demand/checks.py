@@ -1,25 +1,23 @@
 """Checks whether a history is what a table takes it for: many independent periods of one law."""
 from __future__ import annotations
 
-import functools
 import math
-import tomllib
 from collections.abc import Callable, Iterable, Iterator, Mapping, Sequence
 from dataclasses import dataclass, field, replace
 from functools import cached_property, partial
-from pathlib import Path
-from typing import TYPE_CHECKING, NamedTuple
+from typing import TYPE_CHECKING
 
 import numpy as np
 
-from ..chances import Floats
+from ..chances import Floats, Whole
 from ..money import Number, whole
 from ..read.dates import first_day, period_name
 from ..read.observed import History, Observed
 from ..read.quiet import chance_of_quiet, quiet_periods
 from ..remarks import Remark, Value
 from ..words import advised, sentence
-from .fitted import numbers_of
+from .fitted import placed_numbers
+from .losses import loss_of
 from .outliers import LEAST_DEMANDS, outliers_of
 from .permutation import (
     Orders,
@@ -46,8 +44,6 @@ LEVELS = ("trend", "shift")
 MOST_LARGEST = 3  # periods that are shown with the law, with the share of the variance that they make
 # So many periods without demand at the end of the record are named if as many come by luck with at most this chance.
 NO_DEMAND = 0.05
-# The laws of demand of the study planner/studies/dependence.py, with their coefficients of variation.
-STUDIED = {"steady": 0.316, "erratic": 1.0}
 Effect = tuple[float, dict[str, Value]]  # its size, and the facts for its words
 
 
@@ -72,21 +68,31 @@ class Check:
 class Facts:
     """What is checked: numbers, the seasons that they are many enough for, the number of the first period, and `every`
     (day, week or month, None without dates). The differences between parts of the seasons that are `taken` out are not
-    in the numbers that are `left`, which keep the mean."""
+    in the numbers that are `left`, which keep the mean. `places` are those of the numbers' periods, from 0, rising: by
+    default one after another, else those whose demand is known."""
 
     numbers: Sequence[int]
     seasons: Sequence[Season]
     every: str | None = None
     first: int = 1
     taken: tuple[str, ...] = ()
+    known: Sequence[int] | None = None
+
+    @cached_property
+    def places(self) -> Whole:
+        """Returns the places of the periods, from 0."""
+        if self.known is None:
+            return np.arange(len(self.numbers))
+        return np.array(self.known, int)
+
+    def number(self, place: int) -> int:
+        """Returns the number of the period of one of the numbers."""
+        return self.first + int(self.places[place])
 
     def name(self, place: int) -> str:
         """Returns the name of a period: its date, or its number."""
-        return (
-            period_name(self.first + place, self.every)
-            if self.every
-            else f"period {self.first + place}"
-        )
+        number = self.number(place)
+        return period_name(number, self.every) if self.every else f"period {number}"
 
     @cached_property
     def left(self) -> Floats:
@@ -100,7 +106,7 @@ class Facts:
 
     def autocorrelation(self) -> Effect:
         """Returns the autocorrelation of neighbours. The facts have the largest one too, if it is of another lag."""
-        by_lag = autocorrelations(centred(self.left))
+        by_lag = autocorrelations(centred(self.left), self.places)
         lag = int(np.argmax(np.abs(by_lag)))
         at_1 = float(by_lag[0])
         return at_1, {"at_1": at_1, "lag": lag + 1, "at_lag": float(by_lag[lag])}
@@ -110,9 +116,9 @@ class Facts:
         how much the mean of the last third is above that of the first; None if the first third has no demand.
         """
         numbers = self.left
-        time = centred(np.arange(len(numbers), dtype=float))
+        time = centred(self.places.astype(float))
         third = len(numbers) // 3
-        rise = float(time @ numbers / (time @ time) * time[-1])
+        rise = float(time @ numbers / (time @ time) * (time[-1] - time[0]) / 2)
         return rise / float(numbers.mean()), {
             "change": _change(numbers[:third], numbers[-third:])
         }
@@ -124,7 +130,7 @@ class Facts:
         change = _change(self.left[:place], self.left[place:])
         since = None
         if self.every:
-            since = first_day(self.first + place, self.every).isoformat()
+            since = first_day(self.number(place), self.every).isoformat()
         size = math.inf if change is None else change
         return size, {"change": change, "name": self.name(place), "since": since}
 
@@ -169,7 +175,7 @@ def tests_of(facts: Facts, in_full: bool = True) -> tuple[Check, ...]:
     if len(facts.numbers) < LEAST_PERIODS or len({*facts.numbers}) == 1:
         return ()
     seasons = {season.name: season.part_of for season in facts.seasons}
-    orders = Orders(facts.numbers, seasons)
+    orders = Orders(facts.numbers, seasons, facts.places)
     level = FALSE_ALARMS / len(orders.names)
     most = 1.0 if in_full else level
     if not (p_values := orders.p_values(most)):
@@ -178,7 +184,9 @@ def tests_of(facts: Facts, in_full: bool = True) -> tuple[Check, ...]:
         facts, taken=tuple(name for name in seasons if p_values.get(name, 1.0) <= level)
     )
     if rest.taken:
-        left = Orders(rest.left, {}).p_values(most) if np.ptp(rest.left) else {}
+        left = dict[str, float]()
+        if np.ptp(rest.left):
+            left = Orders(rest.left, {}, facts.places).p_values(most)
         p_values |= {name: left.get(name, 1.0) for name in LEVELS}
     effects = {
         "autocorrelation": facts.autocorrelation(),
@@ -283,7 +291,8 @@ class Checks:
 def check_history(
     observed: Observed | Iterable[Number], *, season: int | None = None
 ) -> Checks:
-    """Checks a history of demand, or any whole numbers from 0, one for each period in their order.
+    """Checks a history of demand, or any whole numbers from 0, one for each period in their order. Periods that are not
+    known (those of the history, None and NaN) are left out, and are no neighbours of others.
 
     Permutation tests look for autocorrelation (Ljung and Box), a trend (Spearman), a shift of the level, and a season
     (Kruskal and Wallis) from two years on. With dates the calendar says the seasons: weekdays of days, and quarters of
@@ -294,12 +303,20 @@ def check_history(
     The same history has the same checks. Raises RefusedFaults for numbers that are not whole, and Refused for a season
     of less than 2 periods.
     """
-    numbers = numbers_of(observed, "demand")
+    known = placed_numbers(observed, "demand", may_lack=True)
+    numbers, places = [*known.values()], [*known]
     if season is not None:
         season = whole(season, "season")
     if isinstance(observed, History):
-        return _checked(numbers, observed.every, observed.first, season, True)
-    return _checked(numbers, None, 1, season, True)
+        every, first = observed.every, observed.first
+        return _checked(numbers, every, first, season, True, places)
+    checks = _checked(numbers, None, 1, season, True, places)
+    lacking = places[-1] + 1 - len(places)
+    if lacking:
+        facts: dict[str, Value] = {"count": lacking, "periods": places[-1] + 1}
+        note = Remark("periods are unknown", facts)
+        checks = replace(checks, notes=(note, *checks.notes))
+    return checks
 
 
 def remarks_of(
@@ -307,10 +324,12 @@ def remarks_of(
     every: str | None = None,
     first: int = 1,
     season: int | None = None,
+    places: Sequence[int] | None = None,
 ) -> tuple[Remark, ...]:
     """Returns the warnings and the notes of `check_history` on whole numbers, which takes a few milliseconds. `every`
-    and `first` are those of `History`."""
-    checks = _checked(numbers, every, first, season, False)
+    and `first` are those of `History`, and `places` those of the numbers' periods, from 0: by default one after
+    another."""
+    checks = _checked(numbers, every, first, season, False, places)
     return *checks.warnings, *checks.notes
 
 
@@ -320,9 +339,16 @@ def _checked(
     first: int,
     season: int | None,
     in_full: bool,
+    places: Sequence[int] | None = None,
 ) -> Checks:
-    seasons, untested = seasons_of(every, first, len(numbers), season)
-    facts = Facts(numbers, seasons, every, first)
+    if places is None or not places or len(places) == places[-1] + 1:
+        places = None  # the numbers have no gaps
+    size = len(numbers) if places is None else places[-1] + 1
+    seasons, untested = seasons_of(every, first, size, season)
+    if places is not None:
+        of_known = (season.at(places) for season in seasons)
+        seasons = [season for season in of_known if season.is_whole]
+    facts = Facts(numbers, seasons, every, first, known=places)
     checks = Checks(
         len(numbers), len(numbers) - numbers.count(0), tests_of(facts, in_full)
     )
@@ -337,7 +363,7 @@ def _checked(
         unknown += untested
     elif len(numbers) < LEAST_PERIODS:
         unknown.append(Remark("few periods", {"periods": len(numbers)}))
-    largest = largest_periods(numbers, every, first) if in_full else ()
+    largest = largest_periods(numbers, every, first, places) if in_full else ()
     return replace(
         checks,
         warnings=tuple(_warnings(facts, checks)),
@@ -354,7 +380,8 @@ def _warnings(facts: Facts, checks: Checks) -> Iterator[Remark]:
     if {*LEVELS} <= {*kinds}:
         far = centred(replace(facts, taken=tuple(kinds)).left)
         no_parts = np.empty((0, len(far)), int)
-        _, trend, shift = statistics_in(far, far, in_order(len(far)), no_parts)[0]
+        order = in_order(len(far))
+        _, trend, shift = statistics_in(far, far, order, no_parts, facts.places)[0]
         del kinds["trend" if shift > trend else "shift"]
     lengths = {season.name: season.length for season in facts.seasons}
     for name in (*LEVELS, "season", "weekday", "autocorrelation"):
@@ -371,48 +398,6 @@ def _warnings(facts: Facts, checks: Checks) -> Iterator[Remark]:
         yield Remark(
             name, {"p": test.p, **test.facts, "beside": int(is_beside), **lost}
         )
-
-
-class Loss(NamedTuple):
-    """What planner/studies/dependence.py measured, in percent, as means over twelve settings: an effect on one of its
-    laws, the length of a season (in periods, else 0), how much more the planned policy costs than the best one, how
-    much its promised cost is above the true one, and how much higher S is in the best policy.
-    """
-
-    effect: str
-    study: str
-    effect_size: int
-    effect_length: int
-    regret: float
-    promise: float
-    level: float
-
-
-@functools.cache
-def losses() -> tuple[Loss, ...]:
-    return tuple(
-        Loss(*row)
-        for row in tomllib.loads(
-            Path(__file__).with_name("study.toml").read_text("utf-8")
-        )["rows"]
-    )
-
-
-def loss_of(kind: str, size: float, variation: float, length: int = 0) -> Loss:
-    """Returns what was lost with the effect that is nearest to one of this kind and size, which may be infinite, if a
-    period's demand has this coefficient of variation."""
-    law = min(
-        STUDIED, key=lambda name: abs(math.log(max(variation, 1e-9) / STUDIED[name]))
-    )
-
-    def distance(loss: Loss) -> tuple[float, float]:
-        """Returns how far a loss is by the length of a season, and then by the size."""
-        of_length = (
-            abs(math.log(loss.effect_length / length)) if length else loss.effect_length
-        )
-        return of_length, abs(loss.effect_size / 100 - min(size, 10.0))
-
-    return min((loss for loss in losses() if loss[:2] == (kind, law)), key=distance)
 
 
 def _notes(facts: Facts) -> Iterator[Remark]:
@@ -463,10 +448,13 @@ def share_of_variance(numbers: Sequence[int], places: Sequence[int]) -> float:
 
 
 def largest_periods(
-    numbers: Sequence[int], every: str | None = None, first: int = 1
+    numbers: Sequence[int],
+    every: str | None = None,
+    first: int = 1,
+    places: Sequence[int] | None = None,
 ) -> tuple[Remark, ...]:
     """Returns a remark on the three largest demands, with their periods and the share of the variance that they make;
-    nothing if fewer than 10 periods have demand. `every` and `first` are those of `History`.
+    nothing if fewer than 10 periods have demand. `every`, `first` and `places` are those of `remarks_of`.
     """
     if len(numbers) - numbers.count(0) < LEAST_DEMANDS:
         return ()
@@ -476,7 +464,9 @@ def largest_periods(
             "largest periods",
             {
                 "share": share,
-                **_largest(Facts(numbers, (), every, first), MOST_LARGEST),
+                **_largest(
+                    Facts(numbers, (), every, first, known=places), MOST_LARGEST
+                ),
             },
         ),
     )

@@ -13,6 +13,7 @@ from ..formats import MOST_WEIGHT
 from ..law import Law
 from ..money import whole
 from ..read.faults import RefusedFiles
+from ..read.frames import is_missing
 from ..read.observed import Observed
 from ..remarks import Remark
 from ..words import advised, counted, sentence
@@ -186,27 +187,24 @@ def numbers_of(
     observed: Observed | Iterable[Any],
     what: str,
     wrong: Callable[[int, int], str] = lambda number, most: "",
+    may_lack: bool = False,
 ) -> list[int]:
-    """Returns observed whole numbers of any kind, also floats that are whole. A Series of pandas by period has 0 in
-    each period that it lacks.
+    """Returns the numbers of `placed_numbers`.
 
     `wrong` says by a number and the largest one why a scenario can't have it; it is nothing between two numbers that a
-    scenario can have. Raises RefusedFiles with the places of all such numbers, and Refused for a Series by dates whose
-    periods are not known, are not in order, or stand twice.
+    scenario can have. Raises RefusedFiles with the places of all such numbers, and as `placed_numbers` does.
     """
-    if isinstance(observed, Observed):
-        numbers = [*observed.counts]
-    else:
-        numbers = _whole_numbers(_dense(observed, what), what)
+    known = placed_numbers(observed, what, may_lack)
+    numbers = [*known.values()]
     most = max(numbers, default=0)
     if numbers and (wrong(most, most) or wrong(min(numbers), most)):
         reasons = [wrong(number, most) for number in numbers]
         places = (
-            observed.places
+            map(observed.places.__getitem__, known)
             if isinstance(observed, Observed)
             else (
-                Fault(f"column {what!r}: entry {place}, {number},")
-                for place, number in enumerate(numbers, 1)
+                Fault(f"column {what!r}: entry {place + 1}, {number},")
+                for place, number in known.items()
             )
         )
         faults = [
@@ -217,6 +215,33 @@ def numbers_of(
         if faults:
             raise RefusedFiles(faults)
     return numbers
+
+
+def placed_numbers(
+    observed: Observed | Iterable[Any], what: str, may_lack: bool = False
+) -> dict[int, int]:
+    """Returns observed whole numbers of any kind, also floats that are whole, by their places from 0, without the unknown
+    periods of a history. If numbers `may_lack`, so are those of any sequence that are None or NaN. A Series of pandas by
+    period has 0 in each period that it lacks.
+
+    Raises Refused for what is no whole number, if there is none or there are too many, and for a Series by dates whose
+    periods are not known, are not in order, or stand twice.
+    """
+    if isinstance(observed, Observed):
+        known = {place: observed.counts[place] for place in observed.known_places}
+    else:
+        known = dict(enumerate(_dense(observed, what)))
+    if {*map(type, known.values())} != {int}:
+        known = {
+            place: whole(number, f"{what}: entry {place + 1}")
+            for place, number in known.items()
+            if not (may_lack and is_missing(number))
+        }
+    if not 1 <= len(known) <= MOST_WEIGHT:
+        raise Refused(
+            f"there are {len(known):,} numbers of {what}; give 1 to {MOST_WEIGHT:,}"
+        )
+    return known
 
 
 def _dense(observed: Any, what: str) -> Iterable[Any]:
@@ -248,20 +273,6 @@ def _dense(observed: Any, what: str) -> Iterable[Any]:
             'resample("W").sum(), so that periods without demand count 0',
         )
     return cast(Iterable[Any], observed)
-
-
-def _whole_numbers(observed: Iterable[Any], what: str) -> list[int]:
-    numbers = [*observed]
-    if {*map(type, numbers)} != {int}:
-        numbers = [
-            whole(number, f"{what}: entry {place}")
-            for place, number in enumerate(numbers, 1)
-        ]
-    if not 1 <= len(numbers) <= MOST_WEIGHT:
-        raise Refused(
-            f"there are {len(numbers):,} numbers of {what}; give 1 to {MOST_WEIGHT:,}"
-        )
-    return numbers
 
 
 def fit_words(law: FittedLaw) -> Iterator[str]:

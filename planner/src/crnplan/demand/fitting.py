@@ -53,7 +53,7 @@ def below_0(number: int, most: int) -> str:
 
 
 def boxes_of(observed: Observed | Iterable[Number], box: int) -> list[int]:
-    """Returns demand in boxes of `box` items, rounded up. Raises RefusedFaults with the place of each number that is
+    """Returns the demand that is known in boxes of `box` items, rounded up. Raises RefusedFaults with the place of each number that is
     too large for a scenario or below 0."""
     if box < 1:
         raise Refused(f"{box} is no number of items in a box; it is at least 1")
@@ -66,7 +66,8 @@ def boxes_of(observed: Observed | Iterable[Number], box: int) -> list[int]:
             f"{argument('box', str(-(-most // MOST_DEMAND)))} or more"
         )
 
-    return [-(-number // box) for number in numbers_of(observed, "demand", wrong)]
+    numbers = numbers_of(observed, "demand", wrong, may_lack=True)
+    return [-(-number // box) for number in numbers]
 
 
 def risen(weights: Floats, counts: Whole) -> Floats:
@@ -195,7 +196,8 @@ def fit_demand(
     borrow: Prior | None = None,
     item_class: str | None = None,
 ) -> FittedLaw:
-    """Fits the law of demand to a history, or to any whole numbers from 0, one for each period.
+    """Fits the law of demand to a history, or to any whole numbers from 0, one for each period. One that is None or NaN
+    is not known, and left out, as are the unknown periods of a history.
 
     `method` is one of these:
 

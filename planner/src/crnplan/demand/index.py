@@ -37,6 +37,18 @@ LEAST_INDEX = 0.2  # Lower ones would blow up what little is asked for then.
 FLAT: Floats = np.ones(MONTHS)
 
 
+def filled(amounts: Floats, cells: Whole) -> Floats:
+    """Returns amounts with the mean of the others of its cell in place of each NaN, which stays if there are none."""
+    is_known = np.isfinite(amounts)
+    if is_known.all():
+        return amounts
+    most = int(cells.max()) + 1
+    sums = np.bincount(cells[is_known], amounts[is_known], most)
+    sizes = np.bincount(cells[is_known], minlength=most)
+    means = np.divide(sums, sizes, out=np.full(most, np.nan), where=sizes > 0)
+    return np.where(is_known, amounts, means[cells])
+
+
 class Years(NamedTuple):
     """The whole years at the end of a record, the last one first: a row for each year with the ratios of the mean demand
     of its months, from January, to that of the year, and which share of its periods has demand. A year without demand has
@@ -46,15 +58,25 @@ class Years(NamedTuple):
     asked: Floats
 
     @classmethod
-    def of(cls, counts: Sequence[int], every: str, first: int) -> Years:
+    def of(
+        cls,
+        counts: Sequence[int],
+        every: str,
+        first: int,
+        unknown: Sequence[int] = (),
+    ) -> Years:
         """Divides a record by day, week or month, whose first period has a number, into years of 365 days, 52 weeks or 12
-        months."""
+        months. Periods at `unknown` places count as the others of their month, or else of their year.
+        """
         year = CALENDAR[every]["season"]
         years = len(counts) // year
         start = len(counts) - years * year
         months = months_of(every, first, len(counts))[start:]
-        amounts = np.array(counts[start:], float).reshape(years, year)
         cells = np.repeat(np.arange(years), year) * MONTHS + months
+        amounts = np.array(counts, float)
+        amounts[[*unknown]] = np.nan
+        amounts = filled(filled(amounts[start:], cells), cells // MONTHS)
+        amounts = np.nan_to_num(amounts).reshape(years, year)
         sums = np.bincount(cells, amounts.ravel(), years * MONTHS)
         sizes = np.bincount(cells, minlength=years * MONTHS)
         means = (sums / sizes).reshape(years, MONTHS)

@@ -166,7 +166,9 @@ def samples_of(items: Iterable[tuple[str, Any]]) -> list[Sample]:
     for name, observed in items:
         try:
             samples.append(
-                Sample.of(numbers_of(observed, f"demand of {name}", below_0))
+                Sample.of(
+                    numbers_of(observed, f"demand of {name}", below_0, may_lack=True)
+                )
             )
         except RefusedFaults as refused:
             faults.extend(refused.faults)

@@ -49,10 +49,18 @@ def centred(rows: Floats) -> Floats:
     return np.asarray(rows - rows.mean(axis=-1, keepdims=True))
 
 
-def autocorrelations(far: Floats) -> Floats:
-    """Returns the autocorrelations at the lags 1, 2 and so on, by the distances from the mean."""
-    lags = range(1, LAGS + 1)
-    products = [np.einsum("i,i", far[lag:], far[:-lag]) for lag in lags]
+def autocorrelations(far: Floats, places: Whole) -> Floats:
+    """Returns the autocorrelations at the lags 1, 2 and so on, by the distances from the mean, of periods at some places
+    from 0. Those of periods that are not known count for nothing: the sum over the pairs that are is scaled to that of
+    all (Dunsmuir and Robinson, Estimation of time series models in the presence of missing data, 1981).
+    """
+    spread, seen = np.zeros((2, places[-1] + 1))
+    spread[places], seen[places] = far, 1
+    products = list[float]()
+    for lag in range(1, LAGS + 1):
+        pairs = seen[lag:] @ seen[:-lag]
+        share = (len(far) - lag) / pairs if pairs else 0.0
+        products.append(share * np.einsum("i,i", spread[lag:], spread[:-lag]))
     return np.asarray(products / np.einsum("i,i", far, far))
 
 
@@ -84,10 +92,14 @@ def between_parts(ranks: Floats, part_of: Whole) -> float:
 
 
 @compiled
-def statistics_in(far: Floats, ranks: Floats, orders: Places, parts: Whole) -> Floats:
-    """Returns a row of statistics for each order of a history, whose numbers and ranks are at distances from their mean:
+def statistics_in(
+    far: Floats, ranks: Floats, orders: Places, parts: Whole, places: Whole
+) -> Floats:
+    """Returns a row of statistics for each order of a history, whose numbers and ranks are at distances from their mean.
+    Its periods are those at some places from 0, rising; the others are not known, and no neighbours:
 
-    - that of Ljung and Box (On a measure of lack of fit in time series models, 1978, section 1), with three lags;
+    - that of Ljung and Box (On a measure of lack of fit in time series models, 1978, section 1), with three lags, each
+      by the pairs of periods that there are;
     - the square of Spearman's rank correlation with time (Lehmann, Nonparametrics, 1975, chapter 7);
     - the greatest share of the squares that one step explains: it orders histories as the largest standardised
       difference of means (Hawkins, Testing a sequence of observations for a shift in location, 1977);
@@ -95,7 +107,13 @@ def statistics_in(far: Floats, ranks: Floats, orders: Places, parts: Whole) -> F
       one-criterion variance analysis, 1952), with ties.
     """
     size = len(far)
-    time = np.arange(size) - (size - 1) / 2
+    time = places - places.mean()
+    spread, seen = np.zeros(places[-1] + 1), np.zeros(places[-1] + 1)
+    for place in range(size):
+        seen[places[place]] = 1.0
+    pairs = np.ones(LAGS + 1)
+    for lag in range(1, LAGS + 1):
+        pairs[lag] = max(np.dot(seen[lag:], seen[:-lag]), 1.0)
     weights = step_weights(size)
     rank_squares = np.sum(ranks**2)
     found = np.zeros((len(orders), 3 + len(parts)))
@@ -107,9 +125,10 @@ def statistics_in(far: Floats, ranks: Floats, orders: Places, parts: Whole) -> F
             below += numbers[place]
             slope += ranked[place] * time[place]
             explained = max(explained, below**2 * weights[place])
+            spread[places[place]] = numbers[place]
         for lag in range(1, LAGS + 1):
-            product = np.dot(numbers[lag:], numbers[:-lag])
-            found[each, 0] += product**2 / (size - lag)
+            product = np.dot(spread[lag:], spread[:-lag])
+            found[each, 0] += product**2 / pairs[lag]
         found[each, 1] = slope**2
         found[each, 2] = explained
         for season in range(len(parts)):
@@ -150,10 +169,14 @@ drawn_orders = functools.lru_cache(KEPT)(Drawn)
 
 
 class Orders:
-    """A history and drawn orders of it. A season has the part of each period."""
+    """A history and drawn orders of it. A season has the part of each period. The periods are at some places in time
+    from 0, rising, by default one after another."""
 
     def __init__(
-        self, numbers: Sequence[int] | Floats, seasons: Mapping[str, Whole]
+        self,
+        numbers: Sequence[int] | Floats,
+        seasons: Mapping[str, Whole],
+        places: Whole | None = None,
     ) -> None:
         _, codes, counts = np.unique(numbers, return_inverse=True, return_counts=True)
         ranks = np.cumsum(counts) - counts / 2 - len(numbers) / 2
@@ -161,6 +184,7 @@ class Orders:
         self.far = centred(np.array(numbers, float))
         self.ranks = ranks[codes]
         self.parts = np.array([*seasons.values()], int).reshape(-1, len(numbers))
+        self.places = np.arange(len(numbers)) if places is None else places
 
     def orders(self, at_once: int) -> Iterator[Places]:
         """Yields the order of the history, and then drawn ones, so many in each array."""
@@ -176,7 +200,7 @@ class Orders:
     def statistics(self, at_once: int = TIMES) -> Iterator[Floats]:
         """Yields rows of the statistics of these orders, each with those of `names`."""
         for orders in self.orders(at_once):
-            yield statistics_in(self.far, self.ranks, orders, self.parts)
+            yield statistics_in(self.far, self.ranks, orders, self.parts, self.places)
 
     def bounds(self, level: float) -> dict[str, float]:
         """Returns the number above which each statistic has a p value of at most a level."""

@@ -3,6 +3,7 @@ from __future__ import annotations
 
 import datetime
 import functools
+from collections.abc import Sequence
 from typing import NamedTuple
 
 import numpy as np
@@ -32,6 +33,15 @@ class Season(NamedTuple):
     part_of: Whole
     parts: int
     unit: str
+
+    def at(self, places: Sequence[int]) -> Season:
+        """Returns the season of some of the periods alone, by their places from 0."""
+        return self._replace(part_of=self.part_of[[*places]])
+
+    @property
+    def is_whole(self) -> bool:
+        """Returns whether each part has a period."""
+        return len(np.unique(self.part_of)) == self.parts
 
     def ends(self, part: int) -> tuple[int, int]:
         """Returns the first and the last weekday, quarter or place of a part, from 1 on."""

@@ -79,10 +79,12 @@ class Pair(NamedTuple):
     left: Remark | None
 
 
-def periods_of(item: Item, start: int, stop: int) -> list[tuple[int, int]]:
+def periods_of(item: Item, start: int, stop: int) -> list[tuple[int, int, bool]]:
     """Returns what was asked for and what came back of an item in each period from one on before another, by their
-    numbers."""
-    periods = [*zip(item.counts, item.returns or (0,) * len(item.counts))]
+    numbers, and whether that is all that is known of it."""
+    size, unknown = len(item.counts), {*item.unknown}
+    gaps = (place in unknown for place in range(size))
+    periods = [*zip(item.counts, item.returns or (0,) * size, gaps)]
     return periods[max(0, start - item.first) : max(0, stop - item.first)]
 
 
@@ -96,11 +98,11 @@ def rows_of(old: Item, new: Item, stop: int) -> Iterator[Remark]:
         rows = None
         if not changed and old.first == new.first:
             rows = new.rows - old.rows
-        items = sum(asked for asked, _ in added)
+        items = sum(asked for asked, *_ in added)
         facts = {"periods": len(added), "rows": rows, "items": items}
         yield Remark("new rows", facts)
     if changed:
-        items = sum(after - before for (before, _), (after, _) in zip(then, now))
+        items = sum(after[0] - before[0] for before, after in zip(then, now))
         yield Remark("changed rows", {"periods": changed, "items": items})
     if new.first != old.first:
         yield Remark("other first period", {"periods": new.first - old.first})
@@ -156,18 +158,17 @@ def since_of(old: Planned, now: Item, settings: Settings, stop: int) -> Since | 
     None if there are no such periods. It is in use from the first period of the record on.
     """
     item, answer = old
-    record = max(0, stop - now.first)
+    places, now = now.known_places, now.known
+    record = sum(now.first + place < stop for place in places)
     demands = now.counts[record:]
     if not demands:
         return None
-    past = dataclasses.replace(item, counts=now.counts, returns=now.returns)
+    past = dataclasses.replace(item, counts=now.counts, returns=now.returns, unknown=())
     lead = fit_lead(item.leads, method=settings.lead_fit)
     happened = Happened(past, lead, settings.seed_of("since", item.name), record)
-    first = now.first + record
-    kept = happened.of_figures(
-        [answer.chosen_in(first + place) for place in range(happened.later)]
-    )
-    return Since(now.first + record, sum(now.counts) / len(now.counts), demands, kept)
+    later = [now.first + place for place in places[record:]]
+    kept = happened.of_figures([answer.chosen_in(period) for period in later])
+    return Since(later[0], sum(now.counts) / len(now.counts), demands, kept)
 
 
 def change_of(

@@ -69,11 +69,11 @@ def allowed_by(
     item, seed = question.item, question.seed("allowed")
     named: dict[str, Any] = {"times": laws, "box": item.box, "seed": seed}
     if question.borrow == NONE:
-        drawn = allowed_laws(item.counts, **named)
+        drawn = allowed_laws(question.counts, **named)
     else:
         drawn = borrowed_laws(
             question.prior,
-            item.counts,
+            question.counts,
             question.group,
             is_new=question.is_new,
             **named,

@@ -49,7 +49,7 @@ from .what_ifs import Moves, moves_of
 
 MOST_PERIODS = 104  # of a trajectory
 RULES = "delimiter", "encoding", "decimal", "item", "leave_out"
-OF_HISTORY = "demand", "returns", "date", "net", "whole"
+OF_HISTORY = "demand", "returns", "date", "net", "whole", "empty"
 
 
 class Shown(NamedTuple):
@@ -275,10 +275,11 @@ class Depth:
         """Returns the decision without the periods that `largest_periods` names. None if it names none, or if there is
         no plan without them."""
         question, item = self.question, self.question.item
-        counts = question.as_read.counts
-        if not largest_periods(counts):
+        as_read = question.as_read
+        known, places = as_read.known, as_read.known_places
+        if not largest_periods(known.counts):
             return None
-        left = item.without(largest_places(counts))
+        left = item.without([places[rank] for rank in largest_places(known.counts)])
         try:
             settings = replace(question.settings, seasons=None)
             flat = question_of(left, settings, question.prior)
@@ -388,6 +389,7 @@ def read_item(history: str | Path, settings: str | Path) -> Facts:
         returns if any(returns) else (),
         bounds=Bounds(**tables["bounds"]),
         stock=today["stock"],
+        unknown=demand.unknown,
         first=demand.first,
         rows=len(demand.counts),
     )

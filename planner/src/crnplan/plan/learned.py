@@ -64,8 +64,9 @@ def teaching(read: Catalogued, by_class: bool) -> Iterator[tuple[str, str]]:
 
 
 def learners(read: Catalogued, by_class: bool) -> Iterator[Item]:
-    """Yields in order of their names the items with a past from which others learn, but for those counted in boxes: of
-    many so many are drawn, or as many of each class."""
+    """Yields in order of their names the items with a past from which others learn, but for those counted in boxes, and
+    those of whose periods none is known: of many so many are drawn, or as many of each class.
+    """
     most = MOST_READ
     if by_class:
         groups = Counter(group for _, group in teaching(read, by_class))
@@ -73,7 +74,7 @@ def learners(read: Catalogued, by_class: bool) -> Iterator[Item]:
         if groups.total() > MOST_OF_CLASSES:
             most = max(MOST_PULLED + 1, MOST_OF_CLASSES // len(groups))
     for item in map(read.item, drawn_of_groups(teaching(read, by_class), most)):
-        if item and item.box == 1:
+        if item and item.box == 1 and item.known.counts:
             yield item
 
 
@@ -176,7 +177,7 @@ def learned_now(
     histories, groups = list[Any](), list[str]()
     for as_read in learners(read, way == CLASS):
         item, _ = without_season(as_read, settings)
-        histories.append(np.array(item.counts, np.uint32))
+        histories.append(np.array(item.known.counts, np.uint32))
         groups.append(item.group)
     prior = learn(histories, groups if way == CLASS else None, way, least=least)
     basis = basis_of(read, settings)

@@ -164,21 +164,38 @@ def share_of(question: Question) -> Share | None:
     return Share(group, settings.together[group], weight, is_least)
 
 
+def remarks_of_cut(question: Question) -> Iterator[Remark]:
+    """Yields what the law of an item takes for the demand of its cut periods, if there are some."""
+    item, expected = question.item, question.expected
+    if not item.cut:
+        return
+    facts: dict[str, Value] = {"periods": len(item.cut), "used": len(expected)}
+    facts |= {"sales": sum(item.least), "expected": sum(expected)}
+    yield Remark("cut periods" if expected else "cut periods left out", facts)
+
+
 def remarks_of_past(question: Question, allowed: Allowed | None) -> Iterator[Remark]:
     """Yields what must be said of the history of an item."""
     item, settings, learned = question.item, question.settings, question.learned
     if question.season:
         yield question.season.remark
+    yield from remarks_of_cut(question)
     if question.is_new:
         facts: dict[str, Value] = {
-            "periods": len(item.counts),
+            "periods": len(item.known.counts),
             "prior": learned.prior if learned else "",
             "low": allowed.fill_low if allowed else None,
             "high": allowed.fill_high if allowed else None,
         }
         yield Remark("new", facts)
         return
-    yield from checked(item.counts, settings.every, item.first, settings.cycle)
+    yield from checked(
+        item.known.counts,
+        settings.every,
+        item.first,
+        settings.cycle,
+        item.known_places,
+    )
     if question.all_year.lower:
         yield question.all_year.lower
     if item.demands < LEAST_DEMANDS:
@@ -227,7 +244,7 @@ def plan_one(question: Question, program: str) -> Answer:
     Raises Refused if the item can't be planned, Disagreement if the run is further from theory than chance allows, and
     ProgramError.
     """
-    periods = len(question.item.counts)
+    periods = len(question.item.known.counts)
     if not any(question.demand.values):
         raise NoPolicy(Remark("no demand in window", {"periods": periods}))
     if question.is_new and not question.learned:
@@ -325,7 +342,7 @@ def or_fault(item: Item, answer: Callable[..., Result], *words: Any) -> Result |
     """Returns what a function of an item and further words returns, or as a code and facts why there is no such answer.
     Raises ProgramError, since then no item has one."""
     if item.past == NO_DEMAND:
-        return Remark(IDLE, {"periods": len(item.counts)})
+        return Remark(IDLE, {"periods": len(item.known.counts)})
     try:
         return answer(item, *words)
     except Unplanned as why:

@@ -10,6 +10,7 @@ from functools import cached_property
 from typing import Any
 
 from .. import __version__
+from ..demand.cut_sales import expected_demands
 from ..demand.fitted import Borrowed, FittedLaw
 from ..demand.fitting import fit_demand, fit_lead
 from ..demand import AUTO
@@ -271,7 +272,7 @@ class Terms:
             return None
         if aims is None:
             return float(wanted)
-        counts = [float(self.demand.mean)] if self.is_new else self.item.counts
+        counts = [float(self.demand.mean)] if self.is_new else self.item.known.counts
         return aims.aim(counts, float(wanted))
 
     @property
@@ -374,6 +375,7 @@ class Terms:
 class Question(Terms):
     """What is asked for an item: its terms, with laws that are fitted.
 
+    `expected` is what was asked for in its cut periods, as its likeliest law has it, to which its law is fitted too.
     `borrow` says from whom its law is learned, and `prior` what was learned. `rate_error` is by which share a rate is
     rounded. `before` is the policy of an earlier plan in boxes; None if there is none, or not in whole boxes. An item
     that is planned by its season has the counts that it would have had without, and the law of a month; None for others.
@@ -387,6 +389,12 @@ class Question(Terms):
     rate_error: float
     before: Levels | None = None
     season: InSeason | None = field(default=None, repr=False)
+    expected: tuple[int, ...] = ()
+
+    @property
+    def counts(self) -> tuple[int, ...]:
+        """Returns the demands that the law is fitted to: those that are known, and what is expected of cut periods."""
+        return self.item.known.counts + self.expected
 
     @property
     def group(self) -> str | None:
@@ -437,7 +445,7 @@ class Question(Terms):
 
     def alone(self) -> Question:
         """Returns the question of an item that learns its law from no other."""
-        law = fit_demand(self.item.counts, box=self.item.box)
+        law = fit_demand(self.counts, box=self.item.box)
         asked = dataclasses.replace(self, borrow=NONE, demand=law)
         return asked.with_season(self.season)
 
@@ -482,6 +490,17 @@ def terms_of(item: Item, laws: Laws, settings: Settings) -> Terms:
     return Terms(item, settings, rates, scale, laws.demand, laws.lead, laws.returns)
 
 
+def expected_of(item: Item, fit: str) -> tuple[int, ...]:
+    """Returns what was asked for in the cut periods of an item by its likeliest law, in whole boxes; nothing for periods
+    without sales, and if no law of the method says it."""
+    if not any(item.least):
+        return ()
+    box = item.box
+    known = [-(-count // box) for count in item.known.counts]
+    least = [-(-count // box) for count in item.least]
+    return tuple(box * count for count in expected_demands(known, least, fit))
+
+
 def why_unknown(item: Item, prior: Prior, borrow: str) -> str | None:
     """Returns the code for which a new item learns its law from no others; None if it does."""
     if NONE in (borrow, prior.borrow):
@@ -500,9 +519,10 @@ def without_season(item: Item, settings: Settings) -> tuple[Item, Index | None]:
 
 
 def flat_of(item: Item, settings: Settings) -> tuple[Item, Settings]:
-    """Returns an item with the counts that it would have had without its season, and settings that know of none."""
+    """Returns an item by its known periods alone, with the counts that it would have had without its season; and settings
+    that know of none."""
     item, _ = without_season(item, settings)
-    return item, dataclasses.replace(settings, seasons=None)
+    return item.known, dataclasses.replace(settings, seasons=None)
 
 
 def question_of(
@@ -519,16 +539,18 @@ def question_of(
     box = item.box
     borrow = NONE if settings.fit != "auto" else item.borrow or settings.borrow or NONE
     if item.past == NEW and (why := why_unknown(item, prior, borrow)):
-        raise NoPolicy(Remark(why, {"periods": len(item.counts)}))
+        raise NoPolicy(Remark(why, {"periods": len(item.known.counts)}))
+    known, expected = item.known, expected_of(item, settings.fit)
+    counts = known.counts + expected
     rates, scale, error = rates_of(item)
     if borrow == NONE:
-        demand = fit_demand(item.counts, method=settings.fit, box=box)
+        demand = fit_demand(counts, method=settings.fit, box=box)
     else:
         group = item.group if borrow == CLASS else None
-        demand = law_of(prior, item.counts, group, box=box, is_new=item.past == NEW)
+        demand = law_of(prior, counts, group, box=box, is_new=item.past == NEW)
     returns = None
-    if item.returns:
-        returns = fit_demand(item.returns, method=settings.fit, box=box)
+    if known.returns:
+        returns = fit_demand(known.returns, method=settings.fit, box=box)
     lead = fit_lead(item.leads, method=settings.lead_fit)
     question = Question(
         item,
@@ -542,6 +564,7 @@ def question_of(
         borrow,
         error,
         in_boxes(before, box),
+        expected=expected,
     )
     if settings.seasons and index:
         season = settings.seasons.in_season(as_read, index, demand, lead)

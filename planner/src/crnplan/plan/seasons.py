@@ -108,7 +108,8 @@ class Seasons:
         """Learns the seasons of the classes of items."""
         groups = defaultdict[str, list[Years]](list)
         for item in items:
-            groups[item.group].append(Years.of(item.counts, every, item.first))
+            years = Years.of(item.counts, every, item.first, item.unknown)
+            groups[item.group].append(years)
         indices = {name: class_index(groups[name]) for name in sorted(groups)}
         return cls(every, {name: index for name, index in indices.items() if index})
 
@@ -124,7 +125,7 @@ class Seasons:
         """Returns the index of an item: its own if that is clear, else that of its class; None without a season, or if
         amounts without it, or with another month's, would be beyond the range of a law.
         """
-        years = Years.of(item.counts, self.every, item.first)
+        years = Years.of(item.counts, self.every, item.first, item.unknown)
         index = own_index(years, self.classes.get(item.group))
         if index is None:
             return None

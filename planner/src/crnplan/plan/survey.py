@@ -108,8 +108,8 @@ class Survey:
             self.asked.append(
                 self._periods
                 * float(item.price)
-                * sum(item.counts)
-                / max(len(item.counts), 1)
+                * sum(item.known.counts)
+                / max(len(item.known.counts), 1)
             )
 
     def _note(self, item: Item, answer: Answer | Remark) -> None:

@@ -53,7 +53,7 @@ class Lying:
     @property
     def periods(self) -> int:
         """Returns for how many periods at the end of the record nobody has asked for it."""
-        return quiet_periods(self.item.counts)
+        return quiet_periods(self.item.known.counts)
 
     @property
     def reasons(self) -> list[Remark]:
@@ -329,7 +329,7 @@ class _Sorted:
         planned = answer if isinstance(answer, Answer) else None
         arrivals = self.holdings.arrivals.get(item.name, ())
         standing = Standing(item, planned, hand, arrivals, self.day, self.every)
-        is_quiet = is_dead(item.counts, self.every)
+        is_quiet = is_dead(item.known.counts, self.every)
         is_idle = item.past == NO_DEMAND and is_quiet and not hand.owed
         if is_ended:
             self.ended.append(Lying(item, hand, standing.on_order))

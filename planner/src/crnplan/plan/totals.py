@@ -162,7 +162,7 @@ class Totals:
 
     def add(self, item: Item, answer: Answer) -> None:
         self.verdicts[answer.verdict] += 1
-        self.letters.update((item.abc, xyz_of(item.counts)))
+        self.letters.update((item.abc, xyz_of(item.known.counts)))
         self.promised += answer.confidence_cost is not None
         self.covered += answer.coverage_cost is not None
         self.overridden += answer.override is not None

@@ -93,6 +93,7 @@ AMOUNTS: dict[str, dict[str, str]] = {
     "stock": {"stock": "number", "owed": "owed"},
     "on_order": {"quantity": "on order"},
     "overrides": {"s": "items", "S": "items"},
+    "out_of_stock": {},
 }
 
 

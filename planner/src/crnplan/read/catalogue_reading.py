@@ -408,14 +408,18 @@ def counts_in(
 def remarks_of(
     tables: Mapping[str, FiledTable], parts: Sequence[PartRead]
 ) -> Iterator[Remark]:
-    """Yields what is to be said of the rows of tables: over which places items are summed, states of rows, and items
-    that differ by zeros alone."""
+    """Yields what is to be said of the rows of tables: over which places items are summed, states of rows, items that
+    differ by zeros alone, and unknown periods."""
     for kind, table in tables.items():
         places = Counter[str]()
         for part in parts:
             places.update(part.split[kind])
         yield from said_of_marks(kind, table, places)
     yield from zeros_apart(part.apart for part in parts)
+    items = sum((Counter(part.items) for part in parts), Counter[str]())
+    if items["unknown"]:
+        facts = {"items": items["unknown"], "periods": items["unknown_periods"]}
+        yield Remark("items with unknown periods", facts)
 
 
 def sources_by_role(parts: Iterable[PartRead]) -> dict[str, dict[str, int]]:

@@ -25,7 +25,15 @@ if TYPE_CHECKING:
 # The roles of each table in order, and those that each must have. s and S differ by their case.
 ROLES = {
     kind: ["item", *HEADINGS[kind]]
-    for kind in ("demand", "items", "orders", "stock", "on_order", "overrides")
+    for kind in (
+        "demand",
+        "items",
+        "orders",
+        "stock",
+        "on_order",
+        "overrides",
+        "out_of_stock",
+    )
 }
 COLUMNS = [f"{kind}.{role}" for kind, roles in ROLES.items() for role in roles]
 NEEDED = {
@@ -35,6 +43,7 @@ NEEDED = {
     "stock": {"item", "stock"},
     "on_order": {"item", "quantity"},
     "overrides": {"item"},
+    "out_of_stock": {"item", "from", "to"},
 }
 # Each needs the other one.
 LEVELS = {"s": "S", "S": "s", "override_s": "override_S", "override_S": "override_s"}

@@ -23,7 +23,12 @@ PriceOf = Callable[[int], Fraction | None]  # of an item by its code
 # The amounts that are summed, of which the first one has a value.
 SUMMED = {kind: (*roles,) for kind, roles in AMOUNTS.items()} | {"items": ("stock",)}
 # The columns whose first and last dates are named.
-DATED = {"demand": "date", "orders": "ordered", "on_order": "due"}
+DATED = {
+    "demand": "date",
+    "orders": "ordered",
+    "on_order": "due",
+    "out_of_stock": "from",
+}
 MOST_EXACT = 1 << 62  # of sums of whole numbers of 64 bits
 NONE = Fraction(0)
 

@@ -41,12 +41,12 @@ class FrameSheet(Sheet):
 
 def cell_of(value: Any) -> Cell:
     """Returns the cell of a value: dates without their time of day, whole numbers as such, and times in days."""
-    if value is None or isinstance(value, str):
+    if isinstance(value, str):
         return value
+    if is_missing(value):
+        return None
     # A number of numpy is what it shows: 0.1 of 32 bits is no 0.10000000149011612.
     text = str(value)
-    if text in MISSING:
-        return None
     value = getattr(value, "item", lambda: value)()
     if isinstance(value, datetime.datetime):
         return value.date()
@@ -57,6 +57,11 @@ def cell_of(value: Any) -> Cell:
     if isinstance(value, bool) or not isinstance(value, (int, float, Decimal)):
         return text
     return number_of(value, text)
+
+
+def is_missing(value: Any) -> bool:
+    """Returns whether a value says that there is none: None, NaN, NaT, or what pandas has for it."""
+    return value is None or not isinstance(value, str) and str(value) in MISSING
 
 
 def number_of(value: int | float | Decimal, text: str) -> Cell:

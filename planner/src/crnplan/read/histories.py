@@ -4,6 +4,7 @@ from __future__ import annotations
 
 import datetime
 from collections.abc import Mapping, Sequence
+from dataclasses import replace
 from fractions import Fraction
 from typing import Any
 
@@ -55,13 +56,15 @@ def read_history(
     date_formats: Sequence[str] = (),
     item: Mapping[str, str] | None = None,
     leave_out: bool = False,
+    empty: str | None = None,
 ) -> History:
     """Reads a history of demand from a CSV file (`-` is standard input), a sheet (FILE.xlsx!SHEET) or a DataFrame.
     `demand`, `returns` and `date` name its columns. Numbers are converted into items if a heading says `packs of 12`.
     Without `date` each row is a period. With it each row is a movement. They are summed by day, ISO week or month
     (`every`), and a period without one has the demand 0. The record is from `start` to `end`, else from the first to
     the last movement, of all items if `item` is given. With `whole` periods at its ends that may be partial are left
-    out. With `net` amounts below 0 are taken off their period. Further words are those of `Rules`: `delimiter`,
+    out. With `net` amounts below 0 are taken off their period. A row without a demand is refused, unless `empty` says
+    that its period is "unknown", or that there was "none". Further words are those of `Rules`: `delimiter`,
     `encoding`, `decimal`, `date_formats`, `item` and `leave_out`.
 
     Raises RefusedFaults with all faults of the file. With `leave_out` rows with faults are left out, and are in
@@ -70,6 +73,7 @@ def read_history(
     rules = Rules(
         delimiter, encoding, decimal, tuple(date_formats), item or {}, leave_out, every
     )
+    rules = replace(rules, empty=empty)
     names = {"quantity": demand} | ({} if returns is None else {"returned": returns})
     if date is not None:
         return _dated(table, rules, names, date, net, whole, (start, end))
@@ -131,11 +135,17 @@ def _undated(table: Table, rules: Rules, names: Mapping[str, str]) -> History:
         reading.keep()
         reading.suspect()
         counts = dict[str, list[int]]()
-        cells = dict[str, list[Said]]()
+        cells = dict[str, list[Said | None]]()
+        lines = [*reading.rows.lines[reading.used].tolist(), *reading.missing]
+        order = np.argsort(lines, kind="stable").tolist()
+        rest = len(reading.missing)
         for role in names:
-            counts[role] = reading.of(role)
-            cells[role] = reading.cells(role)
-        return reading.history(counts, cells)
+            numbers, said = reading.of(role), reading.cells(role)
+            counts[role] = [*map([*numbers, *[0] * rest].__getitem__, order)]
+            cells[role] = [*map([*said, *[None] * rest].__getitem__, order)]
+        gaps = [*reading.blank[reading.used].tolist(), *[True] * rest]
+        unknown = [place for place, row in enumerate(order) if gaps[row]]
+        return reading.history(counts, cells, unknown)
 
 
 def _dated(
@@ -276,9 +286,10 @@ def _summed(
     if unmet:
         raise RefusedFiles(reading.placed(unmet), reading.finish()[0])
     cells = dict[str, list[Said | None]]()
+    gaps = np.unique(numbers[reading.blank[rows]]).tolist()
     for role, sums in counts.items():
         cells[role] = _sum_cells(reading, role, rows, numbers, sums, every, periods)
-    return reading.history(counts, cells, every, periods[0])
+    return reading.history(counts, cells, gaps, every, periods[0])
 
 
 def _sum_cells(

@@ -42,6 +42,14 @@ def some(amounts: Sequence[int]) -> tuple[int, ...]:
     return tuple(amounts) if any(amounts) else ()
 
 
+def among(places: Collection[int], kept: Sequence[int]) -> tuple[int, ...]:
+    """Returns where some places are if only the kept ones are left, which are in order."""
+    if not places:
+        return ()
+    wanted = {*places}
+    return tuple(new for new, place in enumerate(kept) if place in wanted)
+
+
 @dataclass(frozen=True)
 class Item:
     """The facts of an item, the same for one item and for a million. All amounts are of items, and money is exact.
@@ -51,7 +59,9 @@ class Item:
     and `backlog` money an item and period, `unit` money for each item ordered, which only counts over coming periods.
     `fill` is the share of demand that is wanted at once; an item has a `backlog`, a `fill`, or both. `group` is its
     class, `borrow` from whom it learns its law, perhaps empty. `bounds` are those of its orders and levels. `past` is
-    empty, NEW or one of UNORDERED. `override` is what the planner sets, whatever is chosen.
+    empty, NEW or one of UNORDERED. `override` is what the planner sets, whatever is chosen. `unknown` has the places,
+    from 0, of the periods whose demand is not known: their counts are what was seen. All that fits, tests or sums demand
+    takes `known`. `cut` has those of them in which an item was out of stock: at least their counts were asked for.
 
     What follows is no part of the plan: `stock` is today's, `price` the money that an item of stock is worth,
     `supplier_min` the money that an order of all items of the `supplier` comes to at least, `first` the number of the
@@ -78,6 +88,8 @@ class Item:
     bounds: Bounds = Bounds()
     past: str = USUAL
     override: Override | None = None
+    unknown: tuple[int, ...] = ()
+    cut: tuple[int, ...] = ()
     stock: Fraction | None = None
     price: Fraction | None = None
     description: str = ""
@@ -97,12 +109,31 @@ class Item:
     @cached_property
     def box(self) -> int:
         """Returns how many items are counted as one, so that the demand of a period is within the program's range."""
-        return max(1, -(-max((*self.counts, *self.returns), default=0) // MOST_DEMAND))
+        known = self.known
+        most = max((*known.counts, *known.returns, *self.least), default=0)
+        return max(1, -(-most // MOST_DEMAND))
+
+    @property
+    def known(self) -> Item:
+        """Returns the item as if the periods whose demand is not known had not been."""
+        return self.without(self.unknown) if self.unknown else self
+
+    @property
+    def least(self) -> tuple[int, ...]:
+        """Returns the sales of the cut periods, of which each is the least that was asked for."""
+        return tuple(self.counts[place] for place in self.cut)
+
+    @property
+    def known_places(self) -> list[int]:
+        """Returns the places of the periods whose demand is known, from 0."""
+        unknown = {*self.unknown}
+        return [place for place in range(len(self.counts)) if place not in unknown]
 
     @property
     def demands(self) -> int:
-        """Returns how many periods have demand."""
-        return len(self.counts) - self.counts.count(0)
+        """Returns how many periods have demand that is known."""
+        counts = self.known.counts
+        return len(counts) - counts.count(0)
 
     @property
     def value(self) -> Fraction | None:
@@ -115,15 +146,24 @@ class Item:
             self,
             counts=self.counts[start:stop],
             returns=some(self.returns[start:stop]),
+            unknown=among(self.unknown, range(start, stop)),
+            cut=among(self.cut, range(start, stop)),
             first=self.first + start,
         )
 
     def without(self, places: Collection[int]) -> Item:
         """Returns the item without some of its periods, which are counted from 0."""
-        kept = [place for place in range(len(self.counts)) if place not in places]
-        counts = tuple(map(self.counts.__getitem__, kept))
-        returns = some([*map(self.returns.__getitem__, kept if self.returns else ())])
-        return replace(self, counts=counts, returns=returns)
+        left = {*places}
+        kept = [place for place in range(len(self.counts)) if place not in left]
+        return replace(
+            self,
+            counts=tuple(map(self.counts.__getitem__, kept)),
+            returns=some(
+                [*map(self.returns.__getitem__, kept if self.returns else ())]
+            ),
+            unknown=among(self.unknown, kept),
+            cut=among(self.cut, kept),
+        )
 
     def last(self, window: int | None) -> Item:
         """Returns the item as it is known by its last so many periods, or by all if that is None."""

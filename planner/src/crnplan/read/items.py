@@ -91,6 +91,7 @@ class Words(Rules):
             every=self.every,
             decimals=own.get("decimal", {}),
             day_first=own.get("day_first", {}),
+            empty=self.empty,
         )
 
     def __post_init__(self) -> None:

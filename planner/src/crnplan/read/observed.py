@@ -31,12 +31,21 @@ YEAR = {"day": 365, "week": 52, "month": 12}  # in periods
 @dataclass(frozen=True)
 class Observed:
     """Whole numbers read from a file. A number has its place, or None if no row says it. `notes` are what is to be said
-    of the file, with its place; `faults` are those of rows that were left out."""
+    of the file, with its place; `faults` are those of rows that were left out. `unknown` has the places in `counts`,
+    from 0, of the numbers that are not known, which nothing is fitted to: a count is what was seen there.
+    """
 
     counts: tuple[int, ...]
     places: tuple[Fault | None, ...] = field(repr=False, compare=False)
     notes: tuple[Fault, ...] = field(repr=False, compare=False)
     faults: tuple[Fault, ...] = field(repr=False, compare=False)
+    unknown: tuple[int, ...] = field(default=(), kw_only=True)
+
+    @property
+    def known_places(self) -> list[int]:
+        """Returns the places in `counts` of the numbers that are known, from 0."""
+        unknown = {*self.unknown}
+        return [place for place in range(len(self.counts)) if place not in unknown]
 
 
 @dataclass(frozen=True)
@@ -58,7 +67,8 @@ class History(Observed):
         return tuple(period_name(number, self.every) for number in numbers)
 
     def series(self) -> pd.Series:
-        """Returns the demand as a Series of whole numbers, by a PeriodIndex, or 1, 2, 3 and so on without dates."""
+        """Returns the demand as a Series of whole numbers, by a PeriodIndex, or 1, 2, 3 and so on without dates. It is NA
+        in periods whose demand is not known."""
         import pandas as pd
 
         index: pd.Index = pd.RangeIndex(
@@ -70,7 +80,11 @@ class History(Observed):
             index = pd.period_range(
                 first, periods=len(self.counts), freq=frequency, name=self.every
             )
-        return pd.Series(self.counts, index, name="demand")
+        series = pd.Series(self.counts, index, name="demand")
+        if self.unknown:
+            series = series.astype("Int64")
+            series.iloc[[*self.unknown]] = pd.NA
+        return series
 
 
 @dataclass(frozen=True)

@@ -11,7 +11,7 @@ from typing import NamedTuple
 import numpy as np
 
 from ..formats import MOST_ITEMS, MOST_LEAD
-from ..remarks import Remark
+from ..remarks import Remark, Value
 from .cells import UNPRINTABLE, Cell, Flags, Numbers, fault, named_lines, text_of
 from .choosing import named_values, places_of
 from .controls import Controls, controls_of, together
@@ -22,10 +22,13 @@ from .item import PHASE_OUT, STOPPED, Item, overridden, some
 from .items import OUTSIDE, Reject, Words
 from .leads import remark_on
 from .masters import Master, Masters
+from .moves import Moves
 from .observed import summed, sums_of
+from .outages import OUT, outage_places, outages_in
 from .quiet import chance_of_quiet, months_of, quiet_periods
 from .repeated import is_called_total, total_rows
 from .rows import Rows, far_above
+from .sources import NONE
 from .status import BY_TEST, past_of
 from .tables import OPEN, PLACES, REJECTED, USED, WITH_ITEM, TableReader
 
@@ -37,25 +40,17 @@ class Left(Exception):
     """An item that is left out. Its arguments are the table and the line that say why, and what is wrong there."""
 
 
-class Moves(NamedTuple):
-    """The movements of an item in the order of their rows: lines, periods, amounts asked for and back."""
-
-    lines: Numbers
-    periods: Numbers
-    asked: Numbers
-    back: Numbers
-
-
 def quiet_remark(item: Item, every: str) -> Remark:
     """Returns for how long nobody has asked for an item, and how likely that is of an active one."""
-    quiet = quiet_periods(item.counts)
+    counts = item.known.counts
+    quiet = quiet_periods(counts)
     return Remark(
         "asked for no longer",
         {
             "periods": quiet,
             "every": every,
-            "last": period_name(item.first + len(item.counts) - 1 - quiet, every),
-            "chance": chance_of_quiet(months_of(item.counts[1:], every)),
+            "last": period_name(item.first + item.known_places[-1 - quiet], every),
+            "chance": chance_of_quiet(months_of(counts[1:], every)),
         },
     )
 
@@ -95,8 +90,9 @@ class Reader:
         self.sources = Counter[tuple[str, str]]()
         self.letters = dict[int, str]()
         self.twice = Counter[int]()
-        self.numbers = dict.fromkeys(COUNTED, 0)
+        self.numbers = Counter(dict.fromkeys(COUNTED, 0))
         self.moves_of, totals = self._moves()
+        self.outages_of = outages_in(self.tables.get(OUT), self.record)
         known = set[int]()
         for own in rows.values():
             known.update(np.unique(own.items[own.good]).tolist())
@@ -112,13 +108,18 @@ class Reader:
         return [self._value_of_demand(item) for item in self.items]
 
     def _value_of_demand(self, item: int) -> Fraction | None:
-        moves = self.moves_of(item)
-        asked = int(moves.asked.sum())
+        moves = self.moves_of(item).known
         price = self.masters.price(self._cells(self.masters_of(item)))
-        if asked <= 0 or price is None:
+        if not len(moves.lines) or price is None:
             return None
         first = self.record.first_of(int(moves.periods.min()))
-        return price * Fraction(asked, self.record.periods.stop - first)
+        periods = self.record.periods.stop - first
+        unknown = self._unknown(item, first, periods)
+        is_known = ~np.isin(moves.periods - first, unknown)
+        asked = int(moves.asked[is_known].sum())
+        if asked <= 0:
+            return None
+        return price * Fraction(asked, periods - len(unknown))
 
     def _cells(self, masters: Numbers) -> dict[str, Cell]:
         """Returns the cells of the first of these rows of masters, by role; none without a row."""
@@ -189,11 +190,14 @@ class Reader:
             sizes = column.of_rows(factors, np.int64)
             asked = asked * sizes
             back = back * sizes
-        bad = demand.bad
+        blank = demand.blank("quantity")
+        bad = demand.bad & ~blank
+        blank &= words.empty != NONE
         totals = self._reject_moves(np.flatnonzero(rows.good & bad))
         good = self._without_twins(rows.good & ~bad)
         periods = periods_of_days(days, words.every)
-        moves = rows.by_item(good, np.stack([rows.lines, periods, asked, back]))
+        facts = np.stack([rows.lines, periods, asked, back, blank])
+        moves = rows.by_item(good, facts)
         return lambda item: Moves(*moves(item)), totals
 
     def _reject_moves(self, bad: Numbers) -> set[int]:
@@ -276,46 +280,86 @@ class Reader:
         self, code: int, moves: Moves, leads: Sequence[int], receipts: Sequence[int]
     ) -> Item:
         """Returns an item by its code, with what its orders took in periods and in days. Raises Left."""
-        words = self.words
         self._check_measures(code)
         master = self._master(code, leads, moves)
         self._check_far(moves)
-        first = self._first(master.since, moves)
-        asked, back, netted = self._counts(moves, first)
-        by_test = words.stopped == BY_TEST
+        first = self._first(master.since, moves.known)
+        asked, back, netted = self._counts(moves.known, first)
         item = replace(
             master.item,
             counts=tuple(asked),
             returns=some(back),
-            past=past_of(master.item.status, asked, words.least, words.every, by_test),
+            unknown=self._unknown(code, first, len(asked)),
+            cut=self._cut(code, first, len(asked)),
             first=first,
             rows=len(moves.lines),
             abc=self.letters.get(code, ""),
             receipts=tuple(receipts),
         )
+        item = replace(item, past=self._past(item))
         if item.levels and round(item.levels[1] / item.box) > MOST_ITEMS:
             wrong = fault("S", item.levels[1], "S too large", most=MOST_ITEMS)
             raise Left("items", item.line, wrong)
         self.decimals = max(self.decimals, master.decimals)
         self.sources.update(master.sources.items())
-        remarks = list[Remark]()
-        masters = len(self.masters_of(code))
-        if masters > 1:
-            remarks.append(Remark("equal masters", {"masters": masters}))
-        if first > self.record.periods[0]:
-            self.numbers["late"] += master.since is None
-            start = "late" if master.since is None else "since"
-            remarks.append(Remark(start, {"period": period_name(first, words.every)}))
-        remarks += self._remarks(item, netted, self.twice[code])
+        is_late = first > self.record.periods[0] and master.since is None
+        self.numbers["late"] += is_late
+        self._note_unknown(item, moves)
+        remarks = tuple(self._remarks(item, code, is_late, netted))
         if remarks:
-            item = replace(item, remarks=tuple(remarks))
+            item = replace(item, remarks=remarks)
         return overridden(item, item.override)
 
-    def _remarks(self, item: Item, netted: int, twins: int) -> Iterator[Remark]:
-        """Yields what is to be said of an item and of its rows: of the amounts that were taken off earlier periods, and of
-        the rows that stand twice."""
+    def _past(self, item: Item) -> str:
+        """Returns what the periods of an item whose demand is known say of its past, or its status."""
+        words, known = self.words, item.known.counts
+        by_test = words.stopped == BY_TEST
+        return past_of(item.status, known, words.least, words.every, by_test)
+
+    def _unknown(self, code: int, first: int, count: int) -> tuple[int, ...]:
+        """Returns the places of the periods whose demand is not known, of so many from one on: those that a row leaves
+        without an amount, and those in which an item was out of stock."""
+        blank = self.moves_of(code).blank_places(first, count)
+        return tuple(sorted(blank | outage_places(self.outages_of(code), first, count)))
+
+    def _cut(self, code: int, first: int, count: int) -> tuple[int, ...]:
+        """Returns those of the places in which an item was out of stock, and all rows have an amount."""
+        places = outage_places(self.outages_of(code), first, count)
+        if places:
+            places -= self.moves_of(code).blank_places(first, count)
+        return tuple(sorted(places))
+
+    def _note_unknown(self, item: Item, moves: Moves) -> None:
+        """Counts the unknown periods of an item, and names the rows that leave them so, if no word says that they do."""
+        if not item.unknown:
+            return
+        self.numbers["unknown"] += 1
+        self.numbers["unknown_periods"] += len(item.unknown)
+        lines = moves.lines[moves.blank == 1].tolist()
+        if lines and self.words.empty is None:
+            named = named_lines([*map(self.demand.rows.sheet.called, lines)])
+            what = fault("quantity", "", "unknown rows", lines=named, rows=len(lines))
+            self.demand.name("suspicious", lines[0], item.name, [what])
+
+    def _remarks(
+        self, item: Item, code: int, is_late: bool, netted: int
+    ) -> Iterator[Remark]:
+        """Yields what is to be said of an item and of its rows: of where it begins, of the amounts that were taken off
+        earlier periods, and of the rows that stand twice."""
+        masters, twins = len(self.masters_of(code)), self.twice[code]
+        if masters > 1:
+            yield Remark("equal masters", {"masters": masters})
+        if item.first > self.record.periods[0]:
+            start = period_name(item.first, self.words.every)
+            yield Remark("late" if is_late else "since", {"period": start})
         if item.box > 1:
             yield Remark("boxes", {"items": item.box})
+        facts: dict[str, Value] = {"every": self.words.every, "of": len(item.counts)}
+        if len(item.unknown) > len(item.cut):
+            gaps = len(item.unknown) - len(item.cut)
+            yield Remark("unknown periods", {**facts, "periods": gaps})
+        if item.cut:
+            yield Remark("out of stock", {**facts, "periods": len(item.cut)})
         if netted:
             yield Remark("taken off earlier", {"amounts": netted})
         if item.stock and item.stock < 0:

@@ -13,13 +13,13 @@ from ..remarks import Remark, Value
 from ..words import message
 from .amounts import DECIMALS, KINDS, NAMES, other_reading
 from .blocks import DATES
-from .cells import MOST_NAMED, Numbers, named_lines, shown, some_of, text_of
+from .cells import MOST_NAMED, Flags, Numbers, named_lines, shown, some_of, text_of
 from .columns import NO_ROW, converted, refused_heading, stated_columns
 from .faults import RefusedFiles, RowFault
 from .observed import History
 from .repeated import total_of
 from .rows import TIMES_NEXT, far_above
-from .sources import Column, Sheet, sample
+from .sources import UNKNOWN, Column, Sheet, sample
 from .tables import TableReader
 
 # A way of writing that at most one row in so many has is suspicious.
@@ -60,6 +60,8 @@ class Reading:
         self.table = self._table({**names, **items}, amounts)
         self.rows = self.table.rows
         self.numbers = dict[str, Numbers]()
+        # Rows without a demand, if it is stated what that means.
+        self.blank: Flags = np.zeros(len(self.rows), bool)
         self.has_rest = sum(map(bool, sheet.heading)) > len(amounts)
         self._faults = list[Said]()
         self._notes = list[Said]()
@@ -179,15 +181,19 @@ class Reading:
             )
         if self.sheet.columns[role].unit.isdecimal():
             self.note_unit(role)
+        self.numbers[role] = self.table.read_amounts(role, kind)
+        if self.rules.empty:
+            if role == "quantity":
+                self.blank = self.table.blank(role)
+            return
         empty = self.said(Remark(KINDS[kind][0]), role=role)
         for line in self.missing:
             self._faults.append(empty._replace(line=line))
-        self.numbers[role] = self.table.read_amounts(role, kind)
 
     def keep(self) -> None:
         """Keeps the rows whose cells were all read. Raises RefusedFaults for faults. If rows with faults are to be left
         out, this is noted, and one at least must be left."""
-        bad = self.table.bad[self.used]
+        bad = (self.table.bad & ~self.blank)[self.used]
         for row in self.used[bad].tolist():
             for role, _, remark in self.table.faults(row):
                 self._faults.append(self.said(remark, row, role))
@@ -243,15 +249,23 @@ class Reading:
         self,
         counts: Mapping[str, Sequence[int]],
         cells: Mapping[str, Sequence[Said | None]],
+        empty: Sequence[int],
         every: str | None = None,
         first: int = 1,
     ) -> History:
-        """Returns the history of demand, with that of returns in it if there is one: counts and cells by role."""
+        """Returns the history of demand, with that of returns in it if there is one: counts and cells by role, and the
+        places of periods that a row leaves without a demand."""
+        unknown = tuple(empty) if self.rules.empty == UNKNOWN else ()
+        if empty:
+            code = "periods are unknown" if unknown else "periods without demand"
+            self.note(code, count=len(empty), periods=len(counts["quantity"]))
         said = self.finish()
         made = dict[str, History]()
         for role, numbers in counts.items():
             places = self.places(cells[role])
-            made[role] = History(tuple(numbers), places, *said, every, first)
+            made[role] = History(
+                tuple(numbers), places, *said, every, first, unknown=unknown
+            )
         return replace(made["quantity"], returns=made.get("returned"))
 
     def total(

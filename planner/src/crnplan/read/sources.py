@@ -30,6 +30,8 @@ TextRow = tuple[int, list[str]]
 RoleOf = Callable[[str], str | None]
 HEAD_BYTES, MOST_LETTERS = 1_000_000, 2_000_000
 SAMPLE_ROWS, TITLE_ROWS, SHOWN_ROWS = 1_000, 50, 3
+# What an empty cell of demand means, if it is stated: a period whose demand is not known, or none.
+EMPTY = UNKNOWN, NONE = "unknown", "none"
 DELIMITERS = {",": ",", ";": ";", "tab": "\t", "\t": "\t"}
 # The names by which the headings of the periods of a wide table, and the cells below them, are columns with roles.
 HEADINGS_NAME, CELLS_NAME = "(headings)", "(cells)"
@@ -73,7 +75,7 @@ class Rules:
 
     `item` has the text of each column in the rows of the item. `leave_out`: go on without rows that have a fault.
     `every` is the period of dates that are whole weeks or months. `decimals` are the decimal signs of single columns by
-    role, which count before `decimal`. `day_first` says by sign whether the day comes first in a date with slashes or
+    role, which count before `decimal`. `empty` says what an empty cell of demand means, one of EMPTY. `day_first` says by sign whether the day comes first in a date with slashes or
     dashes that may have the month first.
     """
 
@@ -86,6 +88,7 @@ class Rules:
     every: str | None = None
     decimals: Mapping[str, str] = field(default_factory=dict)
     day_first: Mapping[str, bool] = field(default_factory=dict)
+    empty: str | None = None
 
     def decimal_of(self, role: str) -> str | None:
         """Returns the stated decimal sign of a column; None if its cells say it."""
@@ -99,6 +102,10 @@ class Rules:
         for sign in (self.decimal, *self.decimals.values()):
             if sign is not None and sign not in DECIMALS:
                 raise Refused(f"{argument('decimal', sign)} is not one of . and ,")
+        if self.empty is not None and self.empty not in EMPTY:
+            raise Refused(
+                f"{argument('empty', self.empty)} is not one of {', '.join(EMPTY)}"
+            )
         try:
             b"a".decode(self.encoding or "utf-8", "replace")
         except (LookupError, ValueError) as fault:

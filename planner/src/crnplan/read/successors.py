@@ -21,7 +21,8 @@ Find = Callable[[str], Item | None]
 
 
 def summed(item: Item, old: Item) -> Item:
-    """Returns an item with the demand, and what came back, of another one too, from the first period of both on."""
+    """Returns an item with the demand, and what came back, of another one too, from the first period of both on. A
+    period is known if that of each is."""
     first = min(item.first, old.first)
 
     def together(name: str) -> tuple[int, ...]:
@@ -32,7 +33,14 @@ def summed(item: Item, old: Item) -> Item:
         return tuple(map(sum, zip(*rows, strict=True)))
 
     counts, returns = map(together, ("counts", "returns"))
-    return replace(item, first=first, counts=counts, returns=some(returns))
+    unknown, cut = set[int](), set[int]()
+    for part in (item, old):
+        unknown.update(part.first - first + place for place in part.unknown)
+        cut.update(part.first - first + place for place in part.cut)
+    for part in (item, old):
+        cut -= {part.first - first + place for place in {*part.unknown} - {*part.cut}}
+    joint = replace(item, first=first, counts=counts, returns=some(returns))
+    return replace(joint, unknown=tuple(sorted(unknown)), cut=tuple(sorted(cut)))
 
 
 def check_chains(predecessors: Mapping[str, str]) -> None:
@@ -95,10 +103,10 @@ def succeeded(
 def heir(item: Item, old: Item, words: Words) -> Item:
     """Returns an item that succeeds another one, with its demand."""
     joint = summed(item, old)
-    past = past_of(item.status, joint.counts, words.least, words.every, False)
+    past = past_of(item.status, joint.known.counts, words.least, words.every, False)
     first = period_name(old.first, words.every)
     remark = Remark(
-        "successor", {"item": old.name, "items": sum(old.counts), "first": first}
+        "successor", {"item": old.name, "items": sum(old.known.counts), "first": first}
     )
     return with_remark(replace(joint, past=past), remark)
 

@@ -142,6 +142,15 @@ class TableReader:
             bad |= self.rows.having(role, wrong)
         return bad
 
+    def blank(self, role: str) -> Flags:
+        """Returns which rows have an empty cell in a column of amounts, and nothing else that is wrong."""
+        column = self.rows.columns[role]
+        blank = column.of_rows((cell == "" for cell in column.distinct), bool)
+        for other, wrong in self.wrong.items():
+            if other != role:
+                blank &= ~self.rows.having(other, wrong)
+        return blank
+
     def faults(self, row: int) -> list[CellFault]:
         """Returns what is wrong with the cells of a row that were read."""
         faults = list[CellFault]()

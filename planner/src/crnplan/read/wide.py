@@ -1,7 +1,9 @@
 """Reads wide tables of demand, with a row for each item and a column for each day, week or month, as rows with a date and
 a quantity.
 
-An empty cell is no demand, as a period without a row is. A column that lacks between others is refused, and so are
+An empty cell is no demand, as a period without a row is: most systems leave it empty. It is a period whose demand is not
+known if that is stated. If other cells of the table say 0, an empty one behind the first filled one of its row may be
+either, and the table is refused until it is stated. A column that lacks between others is refused, and so are
 columns for other periods than those of the record. Columns and rows of totals are left out.
 """
 from __future__ import annotations
@@ -15,7 +17,15 @@ from ..remarks import Remark, Value
 from .cells import TOTAL, Cell, Unreadable, text_of
 from .date_forms import written
 from .dates import Day, DateReader, period_name, period_of
-from .sources import CELLS_NAME, HEADINGS_NAME, Column, Row, Sheet, refused
+from .sources import (
+    CELLS_NAME,
+    HEADINGS_NAME,
+    UNKNOWN,
+    Column,
+    Row,
+    Sheet,
+    refused,
+)
 
 # A role that a wide table has no column for.
 NO_WIDE_ROLE = "returned"
@@ -24,6 +34,7 @@ LEAST_PERIODS = 2
 LINE_BITS = 23
 # An item whose name only begins like a total is an item.
 WHOLE_TOTAL = re.compile(rf"(?:{TOTAL.pattern})\W*", re.IGNORECASE)
+EMPTY_CELLS = "empty cells"  # the code of what is said of these
 # Days without a column in between are no gap: a shop is closed on them.
 MOST_CLOSED = 6
 
@@ -37,6 +48,11 @@ def reader_of(sheet: Sheet) -> DateReader | None:
         if sum(map(reader.is_date, sheet.heading)) >= LEAST_PERIODS:
             return reader
     return None
+
+
+def is_zero(text: str) -> bool:
+    """Returns whether a text says 0."""
+    return re.fullmatch(r"-?0+([.,]0*)?", text) is not None
 
 
 def period_of_days(days: Sequence[Day]) -> str:
@@ -69,7 +85,8 @@ class WideSheet(Sheet):
         self.order = sorted(days, key=days.__getitem__)
         self.names = [*map(sheet.heading.__getitem__, self.order)]
         facts: dict[str, Value] = {"first": self.names[0], "last": self.names[-1]}
-        self.notes: list[Remark] = [Remark("wide", {"count": len(days), **facts})]
+        code = "wide unknown" if self.rules.empty == UNKNOWN else "wide"
+        self.notes: list[Remark] = [Remark(code, {"count": len(days), **facts})]
         if totals:
             left_out = ", ".join(map(repr, map(sheet.heading.__getitem__, totals)))
             facts = {"count": len(totals), "names": left_out}
@@ -84,14 +101,34 @@ class WideSheet(Sheet):
         return self.file_name, line, self.sheet.heading[place - 1] if place else ""
 
     def rows(self) -> Iterator[Row]:
+        zeros = empty = 0
         for line, cells in self.sheet.rows():
             if line > self.line:
                 yield from self._rows_of(line, cells)
+                texts = self._texts(cells)
+                zeros += sum(map(is_zero, texts))
+                empty += texts.count("")
         self.hidden = self.sheet.hidden
+        if zeros and empty and self.rules.empty is None:
+            raise self.refused("zeros and empty cells", zeros=zeros, empty=empty)
+        if empty and self.rules.empty != UNKNOWN:
+            self.notes = [note for note in self.notes if note.code != EMPTY_CELLS]
+            self.notes.append(Remark(EMPTY_CELLS, {"count": empty}))
+
+    def _texts(self, cells: Sequence[Cell]) -> list[str]:
+        """Returns the texts below periods of the row of an item, from the first filled one on."""
+        cells = [*cells, *[""] * (self.width - len(cells))]
+        if WHOLE_TOTAL.fullmatch(
+            text_of(cells[self.fixed[self.columns["item"].place]])
+        ):
+            return []
+        texts = (text_of(cells[place]) for place in self.order)
+        return [*itertools.dropwhile(lambda text: text == "", texts)]
 
     def _rows_of(self, line: int, cells: Sequence[Cell]) -> Iterator[Row]:
-        """Yields a row for each filled cell below a period; one without a quantity for a total, and for a blank row; and
-        one with 0 for an item that has no filled cell."""
+        """Yields a row for each filled cell below a period, or for each one if an empty one is unknown; one without a
+        quantity for a total, and for a blank row; and one with 0 for an item that has no filled cell.
+        """
         if any(map(text_of, cells[self.width :])):
             yield line, [*cells, *[""] * (len(self.heading) + 1 - len(cells))]
             return
@@ -100,6 +137,8 @@ class WideSheet(Sheet):
         fixed = [cells[place] for place in self.fixed]
         item = text_of(fixed[self.columns["item"].place])
         filled = [place for place in self.days if text_of(cells[place])]
+        if self.rules.empty == UNKNOWN and item:
+            filled = [*self.days]
         if WHOLE_TOTAL.fullmatch(item) or not (filled or item):
             yield line, [*fixed, "", "", text * (item != "")]
         elif not filled:

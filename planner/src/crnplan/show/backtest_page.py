@@ -44,7 +44,7 @@ class Worst(NamedTuple):
 
     @classmethod
     def of(cls, item: Item, test: Backtest) -> Worst:
-        counts, record = item.counts, test.record
+        counts, record = item.known.counts, test.record
         count, scale = len(counts), Scale(0, max(1, *counts), ())
         return cls(
             item,

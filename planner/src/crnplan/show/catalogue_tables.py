@@ -107,7 +107,7 @@ class Decision:
     @property
     def xyz(self) -> str | None:
         if self.answer:
-            return xyz_of(self.item.counts)
+            return xyz_of(self.item.known.counts)
         return None
 
     @property

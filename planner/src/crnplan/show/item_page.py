@@ -155,8 +155,9 @@ class ItemWords:
     def largest(self) -> str:
         """Returns which demands are the largest, and what the decision would be without them; nothing if few periods
         have demand."""
-        every, counts = self.settings.every, self.item.counts
-        remarks = largest_periods(counts, every, self.item.first)
+        every, item = self.settings.every, self.item
+        places = item.known_places
+        remarks = largest_periods(item.known.counts, every, item.first, places)
         return self._sentences("largest", remarks)
 
     @property
@@ -168,13 +169,15 @@ class ItemWords:
     @property
     def facts(self) -> str:
         """Returns what is known of the history and of the lead times."""
-        item, periods = self.item, f"{self.every}s"
+        item, periods = self.item.known, f"{self.every}s"
         least, most = min(item.leads), max(item.leads)
         span = str(least) if least == most else f"{least} to {most}"
         back = f", {sum(item.returns):,} returned" if item.returns else ""
+        unknown = len(self.item.unknown)
+        gaps = f", and {unknown:,} {periods} not known" if unknown else ""
         return (
             f"{item.name}: {len(item.counts):,} {periods}, {sum(item.counts):,} items{back}, "
-            f"{item.counts.count(0):,} {periods} without demand. Lead times: {len(item.leads):,}, of {span} "
+            f"{item.counts.count(0):,} {periods} without demand{gaps}. Lead times: {len(item.leads):,}, of {span} "
             f"{periods}."
         )
 
@@ -250,12 +253,12 @@ def coming_of(words: ItemWords) -> DataTable | None:
 
 
 def demand_of(words: ItemWords) -> DataTable:
-    item = words.item
-    if item.returns:
-        return DataTable(
-            DEMAND_COLUMNS, [*zip(words.period_names, item.counts, item.returns)]
-        )
-    return DataTable(DEMAND_COLUMNS[:2], [*zip(words.period_names, item.counts)])
+    """Returns the demand by period, with an empty cell if it is not known, as a history has it."""
+    item, gaps = words.item, {*words.item.unknown}
+    counts = [None if place in gaps else n for place, n in enumerate(item.counts)]
+    amounts: list[Sequence[Any]] = [words.period_names, counts]
+    amounts += [item.returns] * bool(item.returns)
+    return DataTable(DEMAND_COLUMNS[: len(amounts)], [*zip(*amounts)], missing="")
 
 
 def laws_of(question: Question, single: FittedLaw | None) -> DataTable:

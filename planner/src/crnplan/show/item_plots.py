@@ -8,6 +8,7 @@ from typing import NamedTuple
 
 from ..demand.fitted import QUANTILES
 from ..plan.item import Depth
+from ..read.item import Item
 from .page import (
     OF_CHOSEN,
     OF_TODAY,
@@ -29,15 +30,19 @@ MEAN, HIGH, OF_ALONE = "of-mean", "of-high", "of-alone"
 Counts = Sequence[tuple[int, int]]  # values with their weights
 
 
-def history_said(counts: Sequence[int], names: Sequence[str], every: str) -> str:
+def history_said(item: Item, names: Sequence[str], every: str) -> str:
     """Returns what a picture of a history shows, in figures."""
+    counts = item.known.counts
     if not counts:
         return f"no {every} of the record"
-    most = max(counts)
+    most, gaps = max(counts), ""
+    if item.unknown:
+        gaps = f"; the demand of {len(item.unknown):,} more is not known"
+    greatest = names[item.known_places[counts.index(most)]]
     return (
         f"{len(counts):,} {every}s from {names[0]} to {names[-1]}, {sum(counts):,} items; "
         f"{counts.count(0):,} {every}s without demand; the greatest demand is {most:,}, in "
-        f"{names[counts.index(most)]}"
+        f"{greatest}{gaps}"
     )
 
 
@@ -45,7 +50,10 @@ def history_plot(depth: Depth, names: Sequence[str], every: str) -> Plot:
     """Returns the demand by period as bars, of the last periods if they are many. Lines are the mean of the law, which
     counts in boxes, and what 99 of 100 periods do not exceed by it."""
     item, figures = depth.question.as_read, depth.question.all_year.figures
-    counts, box = item.counts, item.box
+    gaps = {*item.unknown}
+    hidden = gaps - {*item.cut}
+    counts = [0 if place in hidden else n for place, n in enumerate(item.counts)]
+    box = item.box
     mean, high = box * figures.mean, box * figures.quantiles[QUANTILES[1]]
     mean_name = f"mean of the law: {number(mean, 2)} a {every}"
     high_name = f"99 of 100 {every}s by the law: at most {number(high)}"
@@ -53,9 +61,12 @@ def history_plot(depth: Depth, names: Sequence[str], every: str) -> Plot:
     if len(counts) > MOST_BARS:
         across = f"{every}; the {len(counts) - MOST_BARS:,} before are not drawn"
     scale = Scale.of([*shown, mean, high], is_whole=True)
+    heights = [scale.high * (place in gaps) for place in range(len(counts))]
+    if gaps:
+        across += "; what is grey is not known"
     return Plot(
         title=f"Demand by {every}, and the law that it is planned by",
-        description=f"{history_said(counts, names, every)}; {mean_name}; {high_name}.",
+        description=f"{history_said(item, names, every)}; {mean_name}; {high_name}.",
         scale=scale,
         marks=marks_of(names[-MOST_BARS:]) if names else [],
         across=across,
@@ -64,6 +75,7 @@ def history_plot(depth: Depth, names: Sequence[str], every: str) -> Plot:
             Line(high_name, HIGH, scale.level(high)),
         ],
         bars=bars(shown, scale),
+        gaps=bars(heights[-MOST_BARS:], scale),
     )
 
 
@@ -99,7 +111,7 @@ class DrawnLaw(NamedTuple):
 def laws_drawn(depth: Depth) -> list[DrawnLaw]:
     """Returns what was seen, the law, and that of the item alone, but for laws that are as what was seen."""
     item = depth.question.item
-    boxes = Counter(-(-count // item.box) for count in item.counts)
+    boxes = Counter(-(-count // item.box) for count in item.known.counts)
     seen = sorted(boxes.items())
     drawn = []
     if seen:

@@ -308,7 +308,7 @@ def bars(heights: Sequence[float], scale: Scale, first: int = 0, count: int = 0)
 
 class Plot(NamedTuple):
     """A picture: what it shows, as a title and in figures; its scale upwards, and the marks and the name of the axis
-    across. Bars are a path."""
+    across. Bars are a path, and so are gaps: periods that are not known."""
 
     title: str
     description: str
@@ -317,6 +317,7 @@ class Plot(NamedTuple):
     across: str
     lines: Sequence[Line]
     bars: str = ""
+    gaps: str = ""
 
 
 def marks_of(names: Sequence[str]) -> list[Mark]:

@@ -105,8 +105,12 @@ def backtest_one(
 def backtest_item(
     item: Item, settings: Settings, prior: Prior, walk: Walk, aims: Aims | None = None
 ) -> Backtest | Remark:
-    """Returns an item's test on its past, or why it has none."""
-    needed = walk.record + walk.every
-    if len(item.counts) < needed:
-        return Remark(SHORT_RECORD, {"periods": len(item.counts), "needed": needed})
-    return or_fault(item, backtest_one, settings, prior, walk, aims)
+    """Returns an item's test on its past, or why it has none. Unknown periods are left out, as if they had not been, so
+    what a policy would have met in these counts for nothing. `first` is right for the first later period.
+    """
+    places, needed = item.known_places, walk.record + walk.every
+    if len(places) < needed:
+        return Remark(SHORT_RECORD, {"periods": len(places), "needed": needed})
+    gaps = places[walk.record] - walk.record
+    known = dataclasses.replace(item.known, first=item.first + gaps)
+    return or_fault(known, backtest_one, settings, prior, walk, aims)
