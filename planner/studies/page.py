@@ -23,6 +23,8 @@ STUDIES = (
     "search",
     "borrowing",
     "doubt",
+    "seasons",
+    "season_plans",
     "walk_forward",
     "broken",
     "level_spread_tail",

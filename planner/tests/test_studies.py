@@ -27,6 +27,8 @@ from planner.studies import (
     level_spread_tail,
     page,
     search,
+    season_plans,
+    seasons,
     warnings,
 )
 
@@ -73,6 +75,16 @@ SMALL = {
         4,
         "law periods short way",
     ),
+    "seasons": (
+        lambda: seasons.study(seasons.SMALL, 100),
+        len(seasons.SMALL),
+        "kind season years items",
+    ),
+    "season_plans": (
+        lambda: season_plans.study(season_plans.SMALL, 1, 30),
+        4,
+        "season demand weeks wanted way",
+    ),
     "dependence": (
         lambda: dependence.study(
             dependence.SMALL, dependence.SMALL_PATHS, dependence.SMALL_CYCLES
@@ -89,6 +101,8 @@ FIGURES = {
     "borrowing_odd": ["regret", "over"],
     "level_spread_tail": level_spread_tail.FIGURES,
     "doubt": doubt.FIGURES,
+    "seasons": seasons.FIGURES,
+    "season_plans": season_plans.FIGURES,
     "dependence": ["regret", "promise"],
 }
 
@@ -165,6 +179,17 @@ def test_no_row_is_missing(top: Path) -> None:
     assert (alarms["histories"] >= 400).all()
     seasons = sum(it.kind == "season" for it in warnings.EFFECTS)
     assert len(effects) == len(warnings.EFFECTS) * len(laws.PERIODS) - 2 * seasons
+
+
+def test_stored_seasons(top: Path) -> None:
+    """At most 2% of classes without a season are taken for having one, and plans by month need less stock."""
+    table = stored(top, "seasons")
+    assert len(table) == len(seasons.CASES)
+    assert (table.query("season == 'none'")["seen"] <= 0.02).all()
+    table = stored(top, "season_plans").query("way == 'monthly'")
+    assert len(table) == 2 * len(season_plans.CASES)
+    assert (table.query("season == 'strong'")["at_equal_fill"] < 0.9).all()
+    assert (table.query("season == 'none'")["at_equal_fill"] - 1).abs().max() < 0.02
 
 
 def test_stored_figures_of_dependence(top: Path) -> None:

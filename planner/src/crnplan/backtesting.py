@@ -137,6 +137,7 @@ def backtest(
     too, so that stocks are compared where as much is met at once. The kept plan is also run with all periods of the item
     in a random order, which takes time out of them. Lead times of the past are drawn from the item's own law. Random
     numbers follow from the `seed` and the item's name. An item with fewer than `record` and `every` periods is left out.
+    No season is planned.
 
     Tables are as in `plan`, and so are `out_of_stock`, `columns`, `units`, `start`, `end`, `date_formats`, `fit`, `borrow`,
     `confidence`, `jobs` and `cluster`; a `period` is a day, week or month. Or `sales` is a Catalogue that

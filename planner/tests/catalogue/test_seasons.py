@@ -136,6 +136,19 @@ def test_what_is_kept(room: Path, tmp_path: Path, program: Path) -> None:
         assert planned.settings.seasons and not planned.settings.seasons.classes
 
 
+def test_levels_of_a_planner(room: Path, tmp_path: Path, program: Path) -> None:
+    """An item whose planner has set levels has none in the calendar."""
+    folder = Path(shutil.copytree(room / "plan", tmp_path / "plan"))
+    levels = pd.DataFrame({"item": ["warm-21"], "s": [5], "S": [99]})
+    words: dict[str, Any] = {**WORDS, "program": program, "overrides": levels}
+    plan = crn.plan(room / "demand.csv", room / "items.csv", out=folder, **words)
+    assert {*plan.levels["item"]} == {
+        name for name in plan.decisions["item"] if "warm" in name
+    } - {"warm-21"}
+    row = plan.decisions.set_index("item").loc["warm-21"]
+    assert (row["s_override"], row["S_override"]) == (5, 99) and row["fill_override"]
+
+
 def test_orders_of_a_day(room: Path) -> None:
     """An item is ordered by the levels of the month of the day."""
     levels = pd.read_csv(room / "plan/levels.csv", parse_dates=["from", "to"])
@@ -150,6 +163,30 @@ def test_orders_of_a_day(room: Path) -> None:
             assert table.loc[name, ["s", "S"]].tolist() == [s, S]
 
 
+def test_after_an_earlier_plan(room: Path, tmp_path: Path, program: Path) -> None:
+    """Levels of each month stay if others gain little, and what the earlier plan came to is by those of its months."""
+    masters = pd.read_csv(room / "items.csv").drop(columns="fill").assign(backlog=9)
+    tables, words = [room / "demand.csv", masters], {"program": program}
+    until: dict[str, Any] = {**WORDS, **words, "end": "2023-12-31"}
+    crn.plan(*tables, out=tmp_path / "before", **until)
+    plan = crn.plan(
+        *tables, after=tmp_path / "before", least_gain=0.9, **{**WORDS, **words}
+    )
+    before = crn.open_plan(tmp_path / "before").levels.set_index(["item", "from"])
+    changes = plan.changes.set_index("item")
+    warm = [name for name in changes.index if "warm" in name]
+    assert {*changes.loc[warm, "change"]} <= {"damped", "same"}
+    stays = plan.levels.set_index(["item", "from"])
+    both = stays.join(before, rsuffix="_before", how="inner")
+    assert len(both) > 50 and (both["S"] == both["S_before"]).mean() > 0.9
+    with planned_folder(plan.path) as planned:
+        for change in planned.changes():
+            if change.name in warm:
+                assert change.since and change.before and change.undamped
+                assert change.gain is not None and 0 <= change.gain
+                assert change.gain < 0.9 * change.before.cost
+
+
 def test_page_of_an_item(room: Path, tmp_path: Path, program: Path) -> None:
     """The page of an item has its demand as it was, and figures of the first month."""
     folder = Path(shutil.copytree(room / "plan", tmp_path / "plan"))
@@ -161,4 +198,10 @@ def test_page_of_an_item(room: Path, tmp_path: Path, program: Path) -> None:
     assert chosen[["s", "S"]].tolist() == month[["s", "S"]].tolist()
     assert chosen["difference"] == pytest.approx(chosen["cost"] - today["cost"])
     crn.report(folder, ["warm-21"], program=program)
-    assert [*(folder / "items").glob("*.html")]
+    (page,) = [path.read_text() for path in (folder / "items").glob("*.html")]
+    assert "Levels of the coming year, above the demand of the last one" in page
+    months = crn.open_plan(folder).levels.query("item == 'warm-21'")
+    for s, S in months[["s", "S"]].to_numpy():
+        assert f"s {s} and S {S}" in page
+    plain = crn.open_plan(folder, program=program).item("plain-20")
+    assert "Levels of the coming year" not in plain.page

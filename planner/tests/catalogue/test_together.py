@@ -444,3 +444,28 @@ def test_learned_again_in_its_folder(
     again = crn.plan(*files, out=tmp_path / "plan", learn_again=True, **words)
     other = crn.plan(*files, out=tmp_path / "other", **words)
     assert groups_of(again) == groups_of(other) != first
+
+
+KINDS: tuple[dict[str, Any], ...] = (
+    {},
+    {"leads": (1, 3, 2)},
+    {"leads": (1, 3), "returns": (1, 0, 0) * 20},
+    {"bounds": Bounds(pack=6, order_min=20, coverage=Fraction(12))},
+    {"counts": tuple(item_of(1).counts[place] * 991 for place in range(60))},
+)
+
+
+@pytest.mark.parametrize("place", range(len(KINDS)))
+def test_offers_are_those_of_plans(place: int) -> None:
+    """By each price an item is planned with the policy that its offer has, and with its figures."""
+    facts = {"price": Fraction(30), "backlog": None, "fill": Fraction(19, 20)}
+    item = item_of(place, **facts | KINDS[place])
+    prices = [0.02, 0.3, 4.0]
+    offered = ByPrice(question_of(item, priced(1.0, prices=None)), prices)
+    for each, price in enumerate(prices):
+        question = question_of(item, priced(price))
+        levels = best_of(question)[0].levels
+        figures, mean = question.figures(levels), float(question.demand.mean)
+        assert offered.pairs[each] == levels
+        assert offered.unmet[each] == pytest.approx((1 - figures.fill) * mean)
+        assert offered.stock[each] * item.box == pytest.approx(figures.stock)

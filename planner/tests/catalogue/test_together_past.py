@@ -12,7 +12,7 @@ import pytest
 import crnplan as crn
 from crnplan.backtesting import write_backtest
 from crnplan.demand.learning import Prior
-from crnplan.plan import offers
+from crnplan.plan import offers, together
 from crnplan.plan.backtest.catalogue import past_of as past_of_folder
 from crnplan.plan.backtest.one import Walk
 from crnplan.plan.catalogue import planned_folder
@@ -21,7 +21,7 @@ from crnplan.plan.drawn import Drawn
 from crnplan.plan.offers import Asked, ByPrice, Offer, met_on_past, past_of
 from crnplan.plan.prices import REST, Price
 from crnplan.plan.question import NONE, Levels, Settings, question_of
-from crnplan.plan.together import price_on_past
+from crnplan.plan.together import OnPast
 from crnplan.read.catalogue_reading import CATALOGUE
 from crnplan.read.item import Item
 from crnplan.show.backtest_tables import past_line
@@ -146,15 +146,15 @@ def test_price_on_the_past_by_hand() -> None:
     """
     prices = (1.0, 10.0, 100.0, 1000.0)
     met = np.array([0.8, 0.9, 0.89, 0.94])
+    found = OnPast(prices, met, 40)
     for wanted, price, share in (
         (0.85, 10**0.5, 0.85),
         (0.92, 10**2.5, 0.92),
         (0.7, 1.0, 0.8),
         (0.99, 1000.0, 0.94),
     ):
-        found = price_on_past(prices, met, wanted, 40)
-        assert found.price == pytest.approx(price, rel=1e-3)
-        assert found.met == pytest.approx(share, abs=1e-4) and found.tried == 40
+        assert found.price(wanted) == pytest.approx(price, rel=1e-3)
+        assert found.share(price) == pytest.approx(share)
 
 
 def test_drawn_items_by_hand() -> None:
@@ -198,3 +198,17 @@ def test_backtests_plan_item_by_item(program: Path, tmp_path: Path) -> None:
         line = past_line(past_of_folder(folder))
     said = " That is with a fill rate for each item, not together."
     assert line == tests.text.splitlines()[0] + said
+
+
+def test_price_is_never_below_that_of_theory(
+    corrected: crn.Plan, program: Path, monkeypatch: pytest.MonkeyPatch
+) -> None:
+    """If the past met more than theory promises, the price is that of theory, and what the past met with it is told."""
+    monkeypatch.setattr(
+        together, "met_on_past", lambda *known: np.linspace(0.95, 1, 26)
+    )
+    price, plain = (
+        price_in(planned(program, correct=is_on)) for is_on in (True, False)
+    )
+    assert price.price == plain.price and price.promised == plain.promised
+    assert price.past and 0.95 <= price.past < 0.953

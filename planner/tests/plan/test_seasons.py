@@ -24,7 +24,7 @@ from crnplan.plan.one import of_month, plan_asked, plan_one
 from crnplan.plan.question import NONE, Question, question_of, without_season
 from crnplan.plan.seasons import Seasons, Stretch, coming_year, is_long
 from crnplan.read.dates import period_of
-from crnplan.read.item import Item
+from crnplan.read.item import NEW, Item
 from planner.tests.plan.items import alone, item_of
 
 RANDOM = np.random.default_rng(5)
@@ -118,6 +118,15 @@ def test_law_of_a_month() -> None:
     )
 
 
+def test_item_without_past() -> None:
+    """A new item has the season of its class, also without a period."""
+    settings = alone(every="week", seasons=SEASONS)
+    for counts in ((), (4, 0, 9)):
+        item = seasonal(counts=counts, past=NEW)
+        flat, index = without_season(item, settings)
+        assert index is SEASONS.classes["warm"] and len(flat.counts) == len(counts)
+
+
 def test_own_season() -> None:
     """An item with a clear season of its own has that in place of that of its class."""
     counts = RANDOM.poisson(200 * FACTORS[26:182]).tolist()
@@ -165,8 +174,10 @@ def test_year(program: Path) -> None:
     assert answer.law.mean == pytest.approx(float(question.all_year.mean))
     assert answer.remarks[0].code == "season planned"
     month = of_month(question, answer, str(program))
-    assert month.chosen == question.figures(best[0]) and month.calendar == ()
-    assert month == plan_one(question, str(program))
+    assert month.chosen == question.figures(best[0])
+    assert month == dataclasses.replace(
+        plan_one(question, str(program)), calendar=answer.calendar
+    )
     without = question_of(seasonal(group=""), alone(every="week", seasons=SEASONS))
     plain = plan_one(without, str(program))
     assert plain.calendar == () and of_month(without, plain, "") is plain
@@ -221,6 +232,9 @@ def test_verdicts_of_a_year(program: Path) -> None:
     kept = dataclasses.replace(item, levels=first.chosen.levels)
     answer = plan_asked((kept, None), *words)
     assert isinstance(answer, Answer) and answer.verdict == SAME
+    first = answered(program)
+    answer = answered(program, levels=first.chosen.levels)
+    assert answer.verdict == CHEAPER and answer.chosen == first.chosen
     bounds = {"max_coverage": 1}
     bounded = answered(program, bounds, fill=Fraction(99, 100), levels=(1, 3))
     assert bounded.verdict == BOUNDED
@@ -234,6 +248,10 @@ def test_month_of_a_day(program: Path) -> None:
     assert answer.month(first.first - 9) == answer.month(first.first) == first
     assert answer.month(last.end - 1) == last
     assert answer.month(last.end) == first == Month(*answer.calendar[0])
+    assert answer.chosen_in(first.first) == answer.chosen
+    late = answer.chosen_in(last.first)
+    assert late.levels == (last.s, last.S) and late.fill == answer.chosen.fill
+    assert answer.laws.demand == asked().all_year.table
 
 
 def test_confidence_and_doubt() -> None:

@@ -59,18 +59,20 @@ def sampled_sums(
     sums = {name: np.zeros(3) for name in (TODAY, CHOSEN, *choices)}
     for _, drawn in sample:
         item, answer = gathered.folder.item(drawn)
-        price = float(item.price or 0)
+        price, question = float(item.price or 0), gathered.folder.question(item)
         stocks = dict[str, tuple[Levels, float]]()
         for name, figures in (
             (TODAY, answer.today or answer.chosen),
             (CHOSEN, answer.chosen),
         ):
+            if question.season:  # The curve knows of none, and nor do the runs.
+                figures = question.flat.figures(figures.levels)
             stocks[name] = figures.levels, price * figures.stock
         for name, chosen in policies.items():
             policy = next(chosen)
             stocks[name] = (policy.point, policy.level), policy.value
         counted = stocks_by_run(
-            gathered.folder.question(item),
+            question.flat,
             (levels for levels, _ in stocks.values()),
             program,
         )

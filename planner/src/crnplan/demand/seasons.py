@@ -57,7 +57,7 @@ def months_of(every: str, first: int, size: int) -> Whole:
     Thursday."""
     middle = datetime.timedelta(3 if every == "week" else 0)
     days = (first_day(first + place, every) + middle for place in range(size))
-    return np.array([day.month - 1 for day in days])
+    return np.array([day.month - 1 for day in days], int)
 
 
 @functools.lru_cache(256)

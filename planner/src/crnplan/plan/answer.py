@@ -203,6 +203,13 @@ class Answer:
         place = start + max(0, period - start) % (end - start)
         return next(month for month in months if place < month.end)
 
+    def laws_in(self, period: int) -> Laws:
+        """Returns the laws of the month of a coming period."""
+        month = self.month(period)
+        if month is None:
+            return self.laws
+        return replace(self.laws, demand=self.laws.demand.times(month.factor))
+
     def chosen_in(self, period: int) -> Figures:
         """Returns the chosen policy with the levels of the month of a coming period."""
         month = self.month(period)

@@ -1,6 +1,7 @@
 """What items that are planned together leave unmet at some prices: by theory, and on the past."""
 from __future__ import annotations
 
+import dataclasses
 import math
 from collections.abc import Mapping, Sequence
 from dataclasses import dataclass, field
@@ -35,8 +36,8 @@ class Asked:
 
 @dataclass(frozen=True)
 class Offer:
-    """What an item asks for a period, in units of weight, and by price what its policies leave unmet of that; and what
-    stock costs to hold a period, in money: by price, and by fill rate. On the past nothing is known of stock.
+    """What an item asks for a period, in units of weight, and by price what its policies leave unmet of that; and, if
+    there are fill rates, what stock costs to hold a period, in money: by price, and by fill rate.
     """
 
     asked: float
@@ -60,8 +61,9 @@ class Sums:
         self.items += 1
         self.asked += offer.asked
         self.unmet = self.unmet + offer.unmet
-        self.held = self.held + offer.held
-        self.alone = self.alone + offer.alone
+        if offer.alone:
+            self.held = self.held + offer.held
+            self.alone = self.alone + offer.alone
         self.draws.add(name, offer.asked)
 
     @property
@@ -124,12 +126,16 @@ def offer_of(
     own = asked[question.together or ""]
     policies = ByPrice(question, own.prices)
     weight = item.box * settings.weight_of(item)
+    offer = Offer(
+        weight * float(question.demand.mean), tuple((weight * policies.unmet).tolist())
+    )
+    if not own.fills:
+        return offer
     holding = question.money(question.rates["holding"])
-    return Offer(
-        weight * float(question.demand.mean),
-        tuple((weight * policies.unmet).tolist()),
-        tuple((holding * policies.stock).tolist()),
-        tuple(holding * stock_with(question, fill) for fill in own.fills),
+    return dataclasses.replace(
+        offer,
+        held=tuple((holding * policies.stock).tolist()),
+        alone=tuple(holding * stock_with(question, fill) for fill in own.fills),
     )
 
 

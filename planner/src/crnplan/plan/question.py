@@ -424,7 +424,7 @@ class Question(Terms):
 
     @property
     def flat(self) -> Question:
-        """Returns the question of the whole year, without a season that the item may have."""
+        """Returns the question as if there were no season, by the counts and the law without it."""
         return dataclasses.replace(self, demand=self.all_year, season=None)
 
     def at(self, season: InSeason) -> Question:

@@ -130,7 +130,7 @@ class Seasons:
         if index is None:
             return None
         swing = max(index.values) / min(index.values)
-        return index if max(item.counts) * swing < MOST_DEMAND else None
+        return index if max(item.counts, default=0) * swing < MOST_DEMAND else None
 
     def is_own(self, item: Item, index: Index) -> bool:
         """Returns whether the index of an item is not that of its class."""

@@ -7,7 +7,6 @@ when it is due; what has no date, or is overdue, comes in time.
 """
 from __future__ import annotations
 
-import dataclasses
 import datetime
 import math
 from collections import Counter
@@ -24,7 +23,7 @@ from ..read.observed import Day
 from ..read.stock import NONE, Arrival, OnHand
 from ..remarks import Remark, Value
 from ..theory.walk import NOTHING, LatticeLaw, power_of, sum_of
-from .answer import Answer, Laws, Month
+from .answer import Answer, Laws
 
 MOST_DAYS = 36_525  # from today to a latest date
 Money = Fraction | None  # None if an item has no price
@@ -68,27 +67,23 @@ class Standing:
         override = self.item.override and self.item.override.levels
         if override:
             return override
-        if self.answer and self.month:
-            return self.month.s, self.month.S
-        return self.answer.chosen.levels if self.answer else (0, 0)
+        if self.answer is None:
+            return 0, 0
+        if self.answer.calendar:
+            return self.answer.chosen_in(self.period).levels
+        return self.answer.chosen.levels
 
     @cached_property
-    def month(self) -> Month | None:
-        """Returns the month of the day, if the item is planned by its season; None for others."""
-        if self.answer is None or not self.answer.calendar:
-            return None
-        return self.answer.month(period_of(self.day, self.every))
+    def period(self) -> int:
+        """Returns the number of the period of the day."""
+        return period_of(self.day, self.every)
 
     @cached_property
     def laws(self) -> Laws:
         """Returns the laws of the plan, by a season those of the month of the day; of an item that is phased out those by
         which nothing more is asked for."""
-        if self.answer and self.month:
-            laws = self.answer.laws
-            demand = laws.demand.times(self.month.factor)
-            return dataclasses.replace(laws, demand=demand)
         if self.answer:
-            return self.answer.laws
+            return self.answer.laws_in(self.period)
         return Laws(
             self.item.box, Law((0,), (1,)), Law.of(Counter(self.item.leads)), None
         )

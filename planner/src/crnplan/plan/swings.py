@@ -101,9 +101,10 @@ def swing_of(terms: Terms, chosen: Levels) -> Swing:
 
 
 def swing_on(item: Item, answer: Answer, settings: Settings) -> Swing:
-    """Returns the figures of an item with its answer."""
+    """Returns the figures of an item with its answer: of the first month if it is planned by its season."""
     chosen = answer.chosen.point // item.box, answer.chosen.level // item.box
-    terms = terms_of(item, answer.laws, settings)
+    laws = answer.laws_in(item.first + len(item.counts))
+    terms = terms_of(item, laws, settings)
     return swing_of(replace(terms, cells=CELLS), chosen)
 
 

@@ -41,7 +41,7 @@ COARSE, FINER, ON_PAST = (
 )
 # Prices of a unit of weight, times what a typical one costs to hold for a period: eight a decade.
 GRID: Floats = 10.0 ** (np.arange(-16, 57) / 8)
-FINE = 64  # prices between two of these
+FINE = 32  # prices between two of these, which are 0.9% apart
 MORE = 24  # of these, above the one by theory, are tried on the past
 DIGITS = 4  # of a price
 # What may be left unmet of each item, times what may be of all together: for the one fill rate with the same stock.
@@ -51,11 +51,27 @@ Answered = Callable[..., Offer | Remark]
 
 
 class OnPast(NamedTuple):
-    """A price that was found on the past: the share that `tried` items met with it."""
+    """The shares that `tried` items together met on the past with some rising prices. Between two both follow by the
+    logarithm of the price. A price that met less than a lower one met as much."""
 
-    price: float
-    met: float
+    prices: tuple[float, ...]
+    met: Floats
     tried: int
+
+    @property
+    def unmet(self) -> Floats:
+        falling: Floats = np.minimum.accumulate(1 - self.met)
+        return falling
+
+    def price(self, wanted: float) -> float:
+        """Returns the price with which the wanted share was met; if none is, the highest."""
+        logs = np.log(self.prices)
+        log = float(np.interp(1 - wanted, self.unmet[::-1], logs[::-1]))
+        return rounded(np.exp([log]))[0]
+
+    def share(self, price: float) -> float:
+        """Returns the share that was met with a price."""
+        return 1 - float(np.interp(math.log(price), np.log(self.prices), self.unmet))
 
 
 def members_of(
@@ -118,9 +134,10 @@ class Finding:
         for name, group, unit in members_of(read, settings):
             self.groups[name] = group
             units.setdefault(group, []).append(unit)
-        for group in settings.together.keys() - units.keys():
+        for group in sorted(settings.together.keys() - units.keys()):
             raise Refused(
-                f"{self._stated(group)}: no item is planned by it, since each has a backlog cost, or no price",
+                f"{self._stated(group)}: no item is planned by it: none is of such a class, or each has a backlog cost or "
+                "no price",
                 "leave it out",
             )
         self.units = {
@@ -182,10 +199,10 @@ class Finding:
             unmet = 1 - self.settings.together[group]
             fills = tuple(1 - min(MOST_UNMET, times * unmet) for times in TIMES)
             low, high = grids[group][max(place - 1, 0)], grids[group][place]
-            prices = rounded(np.geomspace(low, high, FINE + 1))
+            prices = {*rounded(np.geomspace(low, high, FINE + 1))}
             if group in past:
-                prices = (past[group].price,)
-            asked[group] = Asked(prices, fills)
+                prices.add(past[group].price(self.settings.together[group]))
+            asked[group] = Asked(tuple(sorted(prices)), fills)
         found = self.sums(asked, FINER)
         return Prices(
             {
@@ -210,12 +227,12 @@ class Finding:
         grids: Mapping[str, tuple[float, ...]],
         places: Mapping[str, int],
     ) -> dict[str, OnPast]:
-        """Returns the prices with which groups met their shares on the past: no lower than those of the grid by theory.
-        Raises Refused for a group with fewer than 30 items that can be tried."""
+        """Returns what groups met on the past with prices of the grid, from about that by theory on. Raises Refused for a
+        group with fewer than 30 items that can be tried."""
         drawn = {group: sums.drawn for group, sums in coarse.items()}
         names = {name: group for group, some in drawn.items() for name in some.names}
         asked = {
-            group: Asked(grids[group][place : place + MORE + 1])
+            group: Asked(grids[group][max(place - 1, 0) : place + MORE + 1])
             for group, place in places.items()
         }
         ordered = {name: names[name] for name in sorted(names)}
@@ -231,8 +248,7 @@ class Finding:
                     f"plan without {argument('correct')}",
                 )
             met = met_on_past(own, some, sizes, coarse[group].asked)
-            wanted = self.settings.together[group]
-            found[group] = price_on_past(asked[group].prices, met, wanted, len(own))
+            found[group] = OnPast(asked[group].prices, met, len(own))
         return found
 
     def sizes_of(self, names: Mapping[str, str]) -> dict[str, float]:
@@ -248,15 +264,18 @@ class Finding:
     def price_of(
         self, group: str, sums: Sums, asked: Asked, past: OnPast | None
     ) -> Price:
-        """Returns the price of a group by the sums at finer prices, or the one of the past."""
-        place = 0 if past else self.place_of(group, sums)
+        """Returns the price of a group by the sums at finer prices, but no less than that of the past."""
+        wanted, place = self.settings.together[group], self.place_of(group, sums)
+        if past:
+            place = max(place, asked.prices.index(past.price(wanted)))
+        price = asked.prices[place]
         return Price(
-            self.settings.together[group],
-            asked.prices[place],
+            wanted,
+            price,
             float(sums.met[place]),
             fill_with(float(sums.held[place]), asked.fills, sums.alone),
             sums.items,
-            past.met if past else None,
+            past.share(price) if past else None,
             past.tried if past else 0,
         )
 
@@ -266,19 +285,6 @@ def fill_with(held: float, fills: tuple[float, ...], by_fill: Floats) -> float:
     unmet, of which the stock costs as much as `by_fill` says."""
     rising = np.maximum.accumulate(by_fill)
     return -math.expm1(float(np.interp(held, rising, np.log1p(-np.array(fills)))))
-
-
-def price_on_past(
-    prices: tuple[float, ...], met: Floats, wanted: float, tried: int
-) -> OnPast:
-    """Returns the price at which the wanted share was met on the past: between two by their logarithms. If none meets it,
-    that is the highest."""
-    unmet = np.minimum.accumulate(1 - met)
-    logs = np.log(prices)
-    log = float(np.interp(1 - wanted, unmet[::-1], logs[::-1]))
-    (price,) = rounded(np.exp([log]))
-    share = 1 - float(np.interp(math.log(price), logs, unmet))
-    return OnPast(price, share, tried)
 
 
 def prices_of(

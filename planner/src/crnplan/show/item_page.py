@@ -29,7 +29,7 @@ from ..table import MONEY, DataTable
 from ..words import advised, exactness, sentence
 from .catalogue_tables import DECISION_COLUMNS, Decision, exact_of
 from ..columns import columns_of, declared
-from .item_plots import ALONE, history_plot, law_plot, stock_plot
+from .item_plots import ALONE, history_plot, law_plot, season_plot, stock_plot
 from .law_words import law_said, law_words
 from .page import Scale, capital, number, rendered, templates
 from .verdicts import VERDICTS
@@ -81,7 +81,7 @@ class ItemWords:
         self.decimals = currency.decimals
         self.level = f"{100 * self.settings.level:g}%"
         self.near = f"within {100 * WITHIN:g}%"
-        self.law = law_words(self.question.demand)
+        self.law = law_words(self.question.all_year)
         self.by, step = "crnsim", self.answer.step * self.item.box
         self.exactness = exactness(step)
         if self.answer.source == THEORY:
@@ -208,12 +208,12 @@ class ItemWords:
     @property
     def statistics(self) -> list[str]:
         """Returns how the law of demand was fitted, for statisticians; nothing if it is as it was seen."""
-        return [*map(capital, fit_words(self.question.demand))]
+        return [*map(capital, fit_words(self.question.all_year))]
 
     @property
     def law_said(self) -> str:
         """Returns in plain words by which law demand is planned."""
-        return law_said(self.question.demand)
+        return law_said(self.question.all_year)
 
     @property
     def over_coming_periods(self) -> str:
@@ -274,7 +274,7 @@ def laws_of(question: Question, single: FittedLaw | None) -> DataTable:
         rows.append(row)
 
     for table, law in {
-        "demand": question.demand,
+        "demand": question.all_year,
         "returns": question.returns,
         "lead": question.lead,
     }.items():
@@ -374,6 +374,7 @@ def item_page(words: ItemWords) -> str:
             "coming": coming,
             "laws": [*laws_of(words.question, depth.single).spelt(is_shown=True)],
             "history_plot": history_plot(depth, words.period_names, words.every),
+            "season_plot": season_plot(depth, words.every),
             "law_plot": law_plot(depth, words.every),
             "stock_plot": stock_plot(depth, words.every),
         },

@@ -7,7 +7,9 @@ from collections.abc import Iterable, Sequence
 from typing import NamedTuple
 
 from ..demand.fitted import QUANTILES
+from ..demand.seasons import months_of
 from ..plan.item import Depth
+from ..read.dates import period_name
 from ..read.item import Item
 from .page import (
     OF_CHOSEN,
@@ -150,6 +152,48 @@ def law_plot(depth: Depth, every: str) -> Plot:
     )
 
 
+def steps(name: str, css: str, heights: Sequence[float], scale: Scale) -> Line:
+    """Returns a line with a step for each period."""
+    path = f"M0 {scale.down(heights[0]):g}"
+    for place, height in enumerate(heights, 1):
+        path += f"V{scale.down(height):g}H{UNITS * place / len(heights):g}"
+    return Line(name, css, path)
+
+
+def season_plot(depth: Depth, every: str) -> Plot | None:
+    """Returns the demand of the last year of the record as bars, and for the same periods of the coming year s, S and the
+    mean of the law with its season as lines; None for an item that is not planned by a season.
+    """
+    season, months = depth.question.season, depth.answer.months
+    if season is None or not months:
+        return None
+    names, low, high, means = list[str](), list[int](), list[int](), list[float]()
+    mean, said = float(season.law.mean), list[str]()
+    for month in months:
+        periods = month.end - month.first
+        (place,) = months_of(every, month.first, 1)
+        names += [period_name(month.first + it, every) for it in range(periods)]
+        low += [month.s] * periods
+        high += [month.S] * periods
+        means += [mean * season.index.values[place]] * periods
+        said.append(f"from {names[-periods]} on s {month.s:,} and S {month.S:,}")
+    shown = depth.question.as_read.counts[-len(names) :]
+    scale = Scale.of([*shown, *high, *means], is_whole=True)
+    return Plot(
+        title="Levels of the coming year, above the demand of the last one",
+        description=f"{', '.join(said)}.",
+        scale=scale,
+        marks=marks_of(names),
+        across=f"{every} of the coming year; bars are the demand a year before",
+        lines=[
+            steps("S", OF_CHOSEN, high, scale),
+            steps("s", HIGH, low, scale),
+            steps("mean of the law", MEAN, means, scale),
+        ],
+        bars=bars(shown, scale),
+    )
+
+
 def stock_plot(depth: Depth, every: str) -> Plot:
     """Returns the stock of policies at the end of each period as lines with a step for each period."""
     box = depth.question.item.box
@@ -159,11 +203,8 @@ def stock_plot(depth: Depth, every: str) -> Plot:
     scale = Scale.of([*itertools.chain(*stocks.values())], is_whole=True)
     lines, said = [], []
     for name, own in stocks.items():
-        path = f"M0 {scale.down(own[0]):g}"
-        for place, stock in enumerate(own, 1):
-            path += f"V{scale.down(stock):g}H{UNITS * place / len(own):g}"
         css = OF_CHOSEN if name == depth.chosen else OF_TODAY
-        lines.append(Line(name, css, path))
+        lines.append(steps(name, css, own, scale))
         least, most, mean = number(min(own)), number(max(own)), sum(own) / len(own)
         said.append(
             f"{name}: from {least} to {most}, {number(mean, 1)} in the mean, items owed at the end of "
