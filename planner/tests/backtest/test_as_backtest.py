@@ -1,6 +1,7 @@
 """Tests plans as a test on the past found best: by the command and in Python, and what is refused."""
 from __future__ import annotations
 
+import contextlib
 import shutil
 from collections.abc import Callable
 from pathlib import Path
@@ -12,7 +13,8 @@ import pytest
 
 import crnplan as package
 from crnplan.errors import Refused
-from crnplan.plan.backtest.catalogue import TESTS
+from crnplan.plan.aims import Trial
+from crnplan.plan.backtest.catalogue import TESTED, TESTS, Past, past_of
 from crnplan.plan.backtest.one import Backtest
 from crnplan.plan.catalogue import planned_folder
 from crnplan.store.stored import Store
@@ -111,6 +113,16 @@ def test_plans_as_the_test_found_best(
     assert python.table.csv.encode() == (own / "as/decisions.csv").read_bytes()
 
 
+def test_other_records_are_tried_anew(room: Path) -> None:
+    """Tested again from longer records, corrected plans are those of a test that is made anew."""
+    own = room / "lumpy"
+    tables, walk = (own / "demand.csv", own / "items.csv"), WALK | {"record": 40}
+    again = package.backtest(*tables, out=own / "past", **walk, **WAYS)
+    anew = package.backtest(*tables, out=own / "anew", **walk, **WAYS)
+    assert again.table.csv == anew.table.csv
+    assert again.text == anew.text
+
+
 def refusal(room: Path, kind: str, **words: Any) -> str:
     """Returns why a plan of a catalogue is refused."""
     own = room / kind
@@ -136,7 +148,8 @@ def test_what_is_refused(room: Path) -> None:
 
 
 def test_tests_that_are_not_whole(room: Path) -> None:
-    """A test that was broken off, and one of other rows than were read last, are refused."""
+    """A test that was broken off, one of an older version, and one of other rows than were read last, are refused, and the
+    page of a plan says that its test is old."""
     own, past = room / "steady", room / "steady/past"
     write(own, lumpy)
     package.plan(
@@ -144,6 +157,13 @@ def test_tests_that_are_not_whole(room: Path) -> None:
     )
     said = refusal(room, "steady", as_backtest=past)
     assert "not of the rows that were read last" in said
+    (past / TESTS).unlink()
+    with contextlib.closing(Store(past / TESTS, Trial)) as older:
+        older.keep_facts({TESTED: "[]"})
+    with planned_folder(past) as planned:
+        assert past_of(planned) == Past(None, True, False, False)
+    said = refusal(room, "steady", as_backtest=past)
+    assert "is not finished by this version" in said
     (past / TESTS).unlink()
     Store(past / TESTS, Backtest).close()
     said = refusal(room, "steady", as_backtest=past)

@@ -149,6 +149,28 @@ def test_values_of_a_notebook(room: Path) -> None:
     assert f"\n  {tests.gains}\n" in tests.text
 
 
+def check_sides(table: list[list[str]], written: Mapping[str, str]) -> None:
+    """Checks that methods stand side by side as in the table of sums."""
+    names = {"today's": "today"}
+    assert [row[0] for row in table[1:]] == ["today's", "kept", "refitted", "smoothed"]
+    columns = "stock_{}", "cost_{}", "equal_stock_{}", "equal_spent_{}"
+    for row in table[1:]:
+        code = names.get(row[0], row[0])
+        met = float(row[1].partition(" ± ")[0])
+        assert met == pytest.approx(100 * float(written[f"fill_{code}"]), abs=0.06)
+        assert float(row[4]) == pytest.approx(
+            float(written[f"orders_{code}"]), abs=6e-4
+        )
+        for cell, column in zip((row[2], row[3], row[6], row[7]), columns):
+            if code == "kept":
+                assert cell == "-"
+                continue
+            value, _, error = cell.partition("%")[0].partition(" ± ")
+            name = column.format(code)
+            figures = [100 * float(written[name + end]) for end in ("", "_error")]
+            assert [float(value), float(error)] == pytest.approx(figures, abs=0.06)
+
+
 def test_page(made: Path) -> None:
     """The page says what the text says, has a row for each class, and asks for no other file."""
     page, text = Page(made / "out/backtest.html"), (
@@ -163,18 +185,14 @@ def test_page(made: Path) -> None:
     )
     for row in sums[1:]:
         own = written[row[0].replace("all", "")]
-        assert row[1:4] == [own["verdict"], own["items"], own["broken"]]
-        assert float(row[4].rstrip("%")) == pytest.approx(
-            100 * float(own["promised_fill"]), abs=0.06
+        assert [row[1], *row[3:5]] == [own["verdict"], own["items"], own["broken"]]
+        shares = [100 * float(own[name]) for name in ("promised_fill", "fill_kept")]
+        shown = [float(cell.partition(" ± ")[0].rstrip("%")) for cell in row[5:7]]
+        assert shown == pytest.approx(shares, abs=0.06)
+        assert float(row[7].partition(" ± ")[0]) == pytest.approx(
+            -100 * float(own["drift"]), abs=0.06
         )
-        fills = dict(zip(sums[0][5:], row[5:], strict=True))
-        for policy, shown in fills.items():
-            value, error = (
-                100 * float(own[f"fill_{policy}{end}"]) for end in ("", "_error")
-            )
-            assert [
-                float(word) for word in shown.rstrip("%").split(" ± ")
-            ] == pytest.approx([value, error], abs=0.06)
+    check_sides(page.tables["Methods side by side"], written[""])
     worst = page.tables["The items that missed most"][1:]
     assert worst
     assert {row[0] for row in worst} <= {

@@ -199,7 +199,8 @@ def test_few_items_are_refused(tmp_path: Path, program: Path) -> None:
 
 
 def test_backtests_do_not_see_what_came(room: Path, crnplan: Command) -> None:
-    """What was learned is from all periods, so a folder is tested as if nothing was."""
+    """What was learned is from all periods, so a folder is tested as if nothing was: what its records alone say corrects
+    plans of the test."""
     (room / "crnplan.toml").write_text("")
     walk = "--record 13 --every 13 --window 13 --jobs 1".split()
     told = crnplan("backtest", room / "plan", *walk)
@@ -209,7 +210,5 @@ def test_backtests_do_not_see_what_came(room: Path, crnplan: Command) -> None:
     assert told.output == plain.text
     crnplan("report", room / "plan")
     line = told.output.splitlines()[0]
-    assert (
-        f"{line} That is without the correction."
-        in Page(room / "plan/report.html").words
-    )
+    assert line.endswith("% by the plan that aims as by --correct.")
+    assert line in Page(room / "plan/report.html").words

@@ -1,15 +1,17 @@
 """Draws the test of a catalogue on its past as one HTML page: what was promised and what came, by item and in time."""
 from __future__ import annotations
 
+import math
 from collections.abc import Sequence
 from typing import NamedTuple
 
 from ..plan.backtest.catalogue import Tested
 from ..plan.backtest.one import Backtest
-from ..plan.backtest.methods import KEPT
-from ..plan.backtest.sums import BLOCK, Group, summed
+from ..plan.answer import TODAY
+from ..plan.backtest.methods import CORRECTED, KEPT, REFITTED, SMOOTHED
+from ..plan.backtest.sums import BLOCK, Group, Sums, moves_of, sides_of, summed
 from ..read.item import Item
-from .backtest_tables import first_line
+from .backtest_tables import class_rows, first_line, side_rows
 from .page import (
     OF_CHOSEN,
     OF_TODAY,
@@ -21,13 +23,24 @@ from .page import (
     path_of,
     percent,
     rendered,
-    tick,
 )
-from .verdicts import past_said
+from .verdicts import METHOD_WORDS, gains_said, past_said
 
-MOST_DOTS, MOST_WORST = 3_000, 12
-DOTS, PROMISED = "dots", "of-promised"
-LINES = {KEPT: OF_CHOSEN, "refitted": "of-better", "smoothed": OF_TODAY}
+MOST_WORST = 12
+MOST_POINTS, BIN = (
+    50,
+    5,
+)  # of the picture of items: where it ends, and the width of a bar
+MOST_STOCK = 300.0  # percent of that of the kept plan, which a picture shows
+PROMISED = "of-promised"
+LINES = {
+    TODAY: "of-now",
+    KEPT: OF_CHOSEN,
+    REFITTED: "of-better",
+    CORRECTED: "of-corrected",
+    SMOOTHED: OF_TODAY,
+}
+IN_TIME = KEPT, REFITTED, SMOOTHED
 LEAST_END = 99.0  # percent, up to which an axis of service begins
 Tests = Sequence[tuple[Item, Backtest]]
 
@@ -55,33 +68,60 @@ class Worst(NamedTuple):
         )
 
 
-def promise_plot(tests: Sequence[Backtest]) -> Plot:
-    """Returns the share of demand that each item met at once, against what was promised, as dots."""
-    pairs = []
-    for test in tests[:MOST_DOTS]:
+def spread_plot(tests: Sequence[Backtest]) -> Plot:
+    """Returns how many items met how many points more at once, or less, than was promised, as bars of 5 points each."""
+    counts, met = [0] * (2 * MOST_POINTS // BIN), 0
+    for test in tests:
         promised, came = test.kept.promised_fill, test.kept.fill
         if promised is not None and came is not None:
-            pairs.append((100 * promised, 100 * came))
-    across = Scale.between(
-        min([LEAST_END, *(promised for promised, _ in pairs)]), 100.0
-    )
-    up = Scale.between(min([LEAST_END, *(came for _, came in pairs)]), 100.0)
-    dots = "".join(
-        f"M{across.at(promised):g} {up.down(came):g}h0" for promised, came in pairs
-    )
-    low = max(across.low, up.low)
-    equal = path_of(across, up, [(low, low), (100.0, 100.0)])
-    met = sum(came >= promised for promised, came in pairs)
+            points = 100 * (came - promised)
+            points = max(-MOST_POINTS, min(points, MOST_POINTS - 1))
+            counts[math.floor((points + MOST_POINTS) / BIN)] += 1
+            met += came >= promised
+    scale = Scale.of(counts, is_whole=True)
+    across = Scale.between(-MOST_POINTS, MOST_POINTS)
     return Plot(
-        title="Demand met at once, by item: what came against what was promised",
-        description=f"{len(pairs):,} items, of which {met:,} met at least what was promised.",
+        title="Items by what they met at once, less what was promised",
+        description=f"{sum(counts):,} items, of which {met:,} met at least what was promised.",
+        scale=scale,
+        marks=across.marks,
+        across=f"points above the promise, in steps of {BIN}; the ends have all beyond",
+        lines=[],
+        bars=bars(counts, scale),
+    )
+
+
+def curve_plot(tests: Sequence[Backtest], promised: float) -> Plot:
+    """Returns what each method met at once by its stock, over its aims, with what was promised. Stocks are in percent of
+    that of the kept plan."""
+    curves, said = dict[str, list[tuple[float, float]]](), list[str]()
+    for method, sides in sides_of(tests):
+        curve, kept = sides.curve(method.code), sides.stock(KEPT).sum() or 1.0
+        points = list[tuple[float, float]]()
+        for share, stocks in zip(curve.shares, curve.stocks):
+            points.append((100 * float(stocks.sum() / kept), 100 - 100 * share))
+        if points:
+            curves[method.code] = points
+            (low, least), (high, most) = points[0], points[-1]
+            name = METHOD_WORDS[method.code].name
+            said.append(
+                f"{name}: {least:.1f}% with {low:.0f}, {most:.1f}% with {high:.0f}"
+            )
+    every = [point for points in curves.values() for point in points]
+    across = Scale.of([min(MOST_STOCK, max((x for x, _ in every), default=0.0))])
+    up = Scale.between(min([LEAST_END, *(y for _, y in every)]), 100.0)
+    lines = [Line(f"promised: {percent(promised)}", PROMISED, up.level(100 * promised))]
+    for code, points in curves.items():
+        shown = [(x, y) for x, y in points if x <= across.high]
+        path = path_of(across, up, shown)
+        lines.append(Line(METHOD_WORDS[code].name, LINES[code], path))
+    return Plot(
+        title="Demand met at once by stock, over the aims of each method",
+        description=f"Stock in percent of the kept plan's. {'; '.join(said)}.",
         scale=up,
-        marks=[(across.at(value), tick(value), "") for value in across.ticks],
-        across="promised, %",
-        lines=[
-            Line("as promised", PROMISED, equal),
-            Line("an item", f"{DOTS} {OF_CHOSEN}", dots),
-        ],
+        marks=across.marks,
+        across="mean stock in money, in percent of the kept plan's",
+        lines=lines,
     )
 
 
@@ -89,7 +129,7 @@ def time_plot(tests: Sequence[Backtest], promised: float, every: str) -> Plot:
     """Returns the share of demand that was met at once in time, by blocks of periods, with what was promised."""
     group = Group(tests)
     shares: dict[str, list[float]] = {}
-    for policy in LINES:
+    for policy in IN_TIME:
         shares[policy] = (100 - 100 * group.unmet(policy).by_block).tolist()
     least = min(min(own) for own in shares.values())
     scale = Scale.between(min(100 * promised - 1, least), 100.0)
@@ -127,6 +167,19 @@ def worst_of(tested: Tests) -> list[Worst]:
     return [Worst.of(item, test) for item, test in most]
 
 
+def plots_of(
+    tests: Sequence[Backtest], sums: Sums | None, every: str
+) -> dict[str, Plot]:
+    """Returns the pictures of a page by name; none without sums."""
+    if sums is None:
+        return {}
+    return {
+        "curves": curve_plot(tests, sums.promised),
+        "times": time_plot(tests, sums.promised, every),
+        "spread": spread_plot(tests),
+    }
+
+
 def backtest_page(tested: Tested) -> str:
     """Returns the page of a catalogue's test on its past."""
     pairs = [
@@ -144,8 +197,11 @@ def backtest_page(tested: Tested) -> str:
             "sums": sums,
             "verdict": past_said,
             "every": tested.every,
-            "promises": promise_plot(tests) if tests else None,
-            "times": time_plot(tests, sums.promised, tested.every) if sums else None,
+            "gains": gains_said,
+            "sides": side_rows,
+            "classes": class_rows(tested.sums),
+            "moves": moves_of(tested.sums),
             "worst": worst_of(pairs),
+            **plots_of(tests, sums, tested.every),
         },
     )

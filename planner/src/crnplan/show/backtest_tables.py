@@ -1,7 +1,8 @@
 """The tables of a catalogue's test on its past: a row for each item, and the sums of all items and of each class."""
 from __future__ import annotations
 
-from collections.abc import Callable, Iterator
+import dataclasses
+from collections.abc import Callable, Iterator, Sequence
 from typing import Any, NamedTuple
 
 from ..plan.backtest.catalogue import Past, Tested
@@ -130,7 +131,7 @@ def sums_table(tested: Tested) -> DataTable:
     return DataTable.of(SUM_COLUMNS, tested.sums, tested.decimals, "")
 
 
-def sides_of(sums: Sums) -> list[list[str]]:
+def side_rows(sums: Sums) -> list[list[str]]:
     """Returns methods side by side, with a heading: what each met at once, and in percent beside the kept plan its stock,
     cost, and stock, alone and with orders, where both meet what was promised."""
     at = f"at {percent(sums.promised)}"
@@ -154,6 +155,34 @@ def sides_of(sums: Sums) -> list[list[str]]:
     return rows
 
 
+def class_rows(all_sums: Sequence[Sums]) -> list[list[str]]:
+    """Returns a row for all items and for each class, with a heading: what was promised and came, how far that moved from
+    the first half of the later periods to the second, the verdict, and what gained."""
+    heading = ["class", "verdict", "what gained", "items", "missed by over a point"]
+    rows = [[*heading, "promised", "met at once", "second half beside first"]]
+    for sums in all_sums:
+        rows.append(
+            [
+                sums.group or "all",
+                past_said(sums.verdict),
+                gains_said(sums.gains) if sums.has_verdict else "-",
+                number(sums.items),
+                number(sums.broken),
+                percent(sums.promised),
+                met(sums.unmet[KEPT]),
+                moved(sums.drift),
+            ]
+        )
+    return rows
+
+
+def moved(drift: Estimate | None) -> str:
+    """Returns by how many points what was met at once moved, by what was left unmet more; - if that is not known."""
+    if drift is None:
+        return "-"
+    return points(dataclasses.replace(drift, value=-drift.value), "+")
+
+
 def equal_cells(sums: Sums, code: str) -> tuple[str, str]:
     """Returns what stock, alone and with orders, is above that of the kept plan where both meet as much; with where that
     is, if it is not what was promised."""
@@ -172,7 +201,7 @@ def more(share: Estimate | None) -> str:
 
 def sides_text(sums: Sums) -> str:
     """Returns methods side by side as lines of a text."""
-    return aligned(sides_of(sums)).rstrip("\n")
+    return aligned(side_rows(sums)).rstrip("\n")
 
 
 def backtest_summary(tested: Tested) -> str:
@@ -227,10 +256,10 @@ def past_line(past: Past | None) -> str:
     if past.sums is None:
         return first_line(None)
     lines = [first_line(past.sums)]
-    if past.corrects and CORRECTED in past.sums.unmet:
-        lines.append(f"Plans that aim as this one met {came(past.sums, CORRECTED)}.")
-    elif past.corrects:
+    if past.corrects and CORRECTED not in past.sums.unmet:
         lines.append("That is without the correction.")
+    elif past.corrects and past.sums.best != CORRECTED:
+        lines.append(f"Plans that aim as this one met {came(past.sums, CORRECTED)}.")
     if past.together:
         lines.append("That is with a fill rate for each item, not together.")
     return " ".join(lines)

@@ -306,14 +306,11 @@ class Sums:
         """Returns whether a method met more than the kept plan, beyond the error, though that missed its promise."""
         return self.is_missed and self.gained[method].low > 0
 
-    def has_gained(self, method: str) -> bool:
-        """Returns whether a method has gained beyond its errors: its stock and orders cost less than those of the kept plan
-        where both meet as much at once; or it lifts what was met, and these cost no more. If they never meet as much, its
-        own stock must not be above that of the kept plan.
+    def has_gained(self, method: str, spent: Estimate) -> bool:
+        """Returns whether a method that has spent so much has gained beyond its errors: its stock and orders cost less than
+        those of the kept plan where both meet as much at once; or it lifts what was met, and these cost no more. If they
+        never meet as much, its own stock must not be above that of the kept plan.
         """
-        spent = self.spent(method)
-        if spent is None:
-            return False
         is_cheaper = method in self.equal and spent.high < 0
         return is_cheaper or (self.lifts(method) and spent.low <= 0)
 
@@ -334,7 +331,7 @@ class Sums:
         gains = list[tuple[bool, float, Remark]]()
         for method, gained in self.gained.items():
             spent, equal = self.spent(method), self.equal.get(method)
-            if spent is None or not self.has_gained(method):
+            if spent is None or not self.has_gained(method, spent):
                 continue
             facts: dict[str, Value] = {
                 "points": 100 * gained.value,
