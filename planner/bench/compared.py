@@ -18,7 +18,8 @@ import pandas as pd
 
 from crnplan.plan.catalogue import ANSWERS
 from crnplan.plan.learned import learned_of
-from crnplan.plan.question import ALL, Question, Settings, question_of
+from crnplan.plan.how import ALL, Settings
+from crnplan.plan.question import Question, question_of
 from crnplan.read.items import Words
 from crnplan.read.catalogue_reading import CATALOGUE, Catalogued, read_alone
 from crnplan.read.item import Item

@@ -38,8 +38,8 @@ from crnplan.errors import Refused
 from crnplan.plan.backtest.methods import Walk, Walked
 from crnplan.plan.backtest.estimates import squares
 from crnplan.plan.backtest.sums import SLACK
-from crnplan.plan.question import NONE, Settings
-from planner.studies.level_spread_tail import WALK, item_of, made_series, sets_of
+from crnplan.plan.how import NONE, Settings
+from planner.studies.level_spread_tail import WALK, item_of, sets_of
 from planner.studies.page import markdown
 from planner.studies.real_series import Series
 from planner.studies.walk_forward import WALKS

@@ -45,7 +45,8 @@ from crnplan.crnsim.periods import Past, periods_of
 from crnplan.plan.backtest.estimates import Ratio
 from crnplan.plan.backtest.sums import BLOCK
 from crnplan.plan.correction import levels_of, trial_of
-from crnplan.plan.question import ALL, NONE, Levels, Settings, question_of
+from crnplan.plan.how import ALL, NONE, Settings
+from crnplan.plan.question import Levels, question_of
 from crnplan.read.item import Item
 from planner.studies.page import markdown
 from planner.studies.real_series import Series, real_series

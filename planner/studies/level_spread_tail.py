@@ -45,7 +45,8 @@ from crnplan.plan.backtest.smoothing import (
 )
 from crnplan.plan.backtest.estimates import Ratio
 from crnplan.plan.backtest.sums import BLOCK
-from crnplan.plan.question import NONE, Levels, Question, Settings, question_of
+from crnplan.plan.how import NONE, Settings
+from crnplan.plan.question import Levels, Question, question_of
 from crnplan.read.item import Item
 from planner.studies.page import markdown
 from planner.studies.real_series import Series, real_series

@@ -26,7 +26,8 @@ import pandas as pd
 from crnplan.theory.every_gap import best_policies
 from crnplan.demand.learning import Prior, learn
 from crnplan.plan.backtest.smoothing import smoothed_levels
-from crnplan.plan.question import ALL, NONE, Levels, Question, Settings, question_of
+from crnplan.plan.how import ALL, Settings
+from crnplan.plan.question import Levels, Question, question_of
 from crnplan.read.item import Item
 from planner.studies.fair import NOMINAL, Member, Moving, compared, real_sets, walked
 from planner.studies.page import markdown

@@ -33,7 +33,8 @@ from crnplan.demand.seasons import months_of
 from crnplan.plan.aims import FILLS
 from crnplan.plan.backtest.sums import BLOCK, Ratio
 from crnplan.plan.correction import levels_of
-from crnplan.plan.question import NONE, Levels, Question, Settings, question_of
+from crnplan.plan.how import NONE, Settings
+from crnplan.plan.question import Levels, Question, question_of
 from crnplan.plan.seasons import Seasons
 from crnplan.read.dates import period_of
 from crnplan.read.item import Item

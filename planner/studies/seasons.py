@@ -20,7 +20,6 @@ of 1. Seeds are fixed: [place of the kind, of the season, years, items].
 """
 from __future__ import annotations
 
-import itertools
 import math
 from collections.abc import Iterable
 from datetime import date

@@ -3,7 +3,7 @@ from __future__ import annotations
 
 import datetime
 import shutil
-from collections.abc import Iterable, Mapping, Sequence
+from collections.abc import Iterable, Mapping
 from dataclasses import dataclass, field, replace
 from functools import cached_property
 from pathlib import Path
@@ -37,7 +37,7 @@ from .plan.backtest.catalogue import check_test
 from .plan.catalogue import check_earlier, planned_folder
 from .plan.totals import Totals
 from .plan.item import Depth
-from .plan.question import Settings
+from .plan.how import Settings
 from .plan.one import of_month
 from .plan.survey import Survey
 from .plan.what_ifs import Moves

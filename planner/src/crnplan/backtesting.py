@@ -28,7 +28,7 @@ from .show.backtest_tables import (
 from .show.verdicts import gains_said, past_said
 from .plan.backtest.catalogue import Tested, backtest_into
 from .plan.backtest.methods import Walk
-from .plan.question import Settings
+from .plan.how import Settings
 from .read.catalogue_reading import CATALOGUE
 from .read.items import Words
 from .read.told import made_from, words_of

@@ -18,7 +18,7 @@ from .show.control_tables import controls_of
 from .show.page import rendered
 from .plan.backtest.catalogue import settings_as
 from .plan.catalogue import planning
-from .plan.question import Settings
+from .plan.how import Settings
 from .plan.totals import Totals
 from .read.catalogue_reading import (
     READ,

@@ -22,7 +22,7 @@ from crnplan.plan.backtest.catalogue import TESTS, Records
 from crnplan.plan.backtest.methods import Walk
 from crnplan.plan.backtest.one import Backtest, backtest_one
 from crnplan.plan.backtest.sums import TIME
-from crnplan.plan.question import NONE, Settings
+from crnplan.plan.how import NONE, Settings
 from crnplan.read.catalogue_reading import CATALOGUE, READ
 from crnplan.read.item import Item
 from crnplan.store.stored import Store

@@ -30,7 +30,8 @@ from crnplan.plan.backtest.one import (
 )
 from crnplan.plan.backtest.outcomes import Run
 from crnplan.plan.one import plan_one
-from crnplan.plan.question import NONE, Settings, question_of
+from crnplan.plan.how import NONE, Settings
+from crnplan.plan.question import question_of
 from crnplan.read.item import Item
 from crnplan.remarks import Remark
 from planner.tests.catalogue.test_damping import costed

@@ -19,7 +19,8 @@ from crnplan.plan.aims import Aims
 from crnplan.plan.answer import Answer
 from crnplan.plan.catalogue import PlannedFolder, planned_folder
 from crnplan.plan.one import plan_one
-from crnplan.plan.question import NONE, question_of
+from crnplan.plan.how import NONE
+from crnplan.plan.question import question_of
 from crnplan.read.item import Item
 from planner.tests.conftest import Command, rows_of
 from planner.tests.show.page_reader import Page

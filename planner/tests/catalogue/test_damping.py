@@ -12,7 +12,8 @@ import pytest
 from crnplan.plan.after import taken
 from crnplan.plan.choice import allowed_by
 from crnplan.plan.one import plan_one
-from crnplan.plan.question import Levels, Settings, question_of
+from crnplan.plan.how import Settings
+from crnplan.plan.question import Levels, question_of
 from crnplan.read.item import Item
 from crnplan.scenario import Policy
 from crnplan.theory.many_laws import figures_of_laws

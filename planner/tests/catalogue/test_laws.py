@@ -29,7 +29,8 @@ from crnplan.plan.learned import (
 )
 from crnplan.plan.choice import allowed_by
 from crnplan.plan.one import plan_one
-from crnplan.plan.question import ALL, CLASS, NONE, Question, Settings, question_of
+from crnplan.plan.how import ALL, CLASS, NONE, Settings
+from crnplan.plan.question import Question, question_of
 from crnplan.read.catalogue_reading import (
     ADD_ITEM,
     CATALOGUE as FOLDER,

@@ -19,7 +19,8 @@ import pandas as pd
 import pytest
 
 import crnplan as crn
-from crnplan.plan.question import Question, Settings
+from crnplan.plan.how import Settings
+from crnplan.plan.question import Question
 from planner.tests.catalogue.audit import Audit, audit
 from planner.tests.catalogue.conftest import (
     FILES,

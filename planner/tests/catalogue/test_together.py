@@ -19,13 +19,14 @@ from crnplan.plan.answer import Answer, Share
 from crnplan.plan.catalogue import planned_folder
 from crnplan.plan.choice import best_of
 from crnplan.plan.prices import REST, Price, Prices
-from crnplan.plan.question import NONE, NoPolicy, Question, Settings, question_of
+from crnplan.plan.how import NONE, Settings
+from crnplan.plan.question import NoPolicy, Question, question_of
 from crnplan.plan.together import fill_with
 from crnplan.plan.offers import Asked, ByPrice, offer_of, past_of
 from crnplan.read.bounds import Bounds
 from crnplan.read.item import Item
 from planner.tests.catalogue.conftest import TABLES
-from planner.tests.conftest import Command, cases_beside, rows_of
+from planner.tests.conftest import Command, cases_beside
 from planner.tests.plan.items import SHORT, item_of, tables_of
 
 REFUSED = cases_beside(__file__)["refused"]

@@ -20,7 +20,8 @@ from crnplan.plan.correction import blocks_of
 from crnplan.plan.drawn import Drawn
 from crnplan.plan.offers import Asked, ByPrice, Offer, met_on_past, past_of
 from crnplan.plan.prices import REST, Price
-from crnplan.plan.question import NONE, Levels, Settings, question_of
+from crnplan.plan.how import NONE, Settings
+from crnplan.plan.question import Levels, question_of
 from crnplan.plan.together import OnPast
 from crnplan.read.catalogue_reading import CATALOGUE
 from crnplan.read.item import Item

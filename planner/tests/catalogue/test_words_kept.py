@@ -16,7 +16,7 @@ import pytest
 
 import crnplan as crn
 from crnplan.cli.catalogues import catalogue
-from crnplan.plan.question import Settings
+from crnplan.plan.how import Settings
 from crnplan.plan.settings import CATALOGUE_RULES
 from crnplan.read.catalogue_reading import READ
 from crnplan.read.cells import Unreadable

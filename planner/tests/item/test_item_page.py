@@ -16,7 +16,8 @@ import crnplan as crn
 from crnplan.demand.fitted import Diagnostics, FittedLaw
 from crnplan.show.item_page import LAW_COLUMNS, laws_of
 from crnplan.show.law_words import law_words
-from crnplan.plan.question import Settings, question_of
+from crnplan.plan.how import Settings
+from crnplan.plan.question import question_of
 from planner.tests.conftest import Command, cases_beside
 from planner.tests.item.conftest import Plan
 from planner.tests.show.page_reader import Page, rows_of as list_of

@@ -10,7 +10,7 @@ from typing import Any
 import numpy as np
 import pandas as pd
 
-from crnplan.plan.question import Settings
+from crnplan.plan.how import Settings
 from crnplan.read.item import Item
 
 # Short runs: a plan takes little time.

@@ -17,7 +17,8 @@ from crnplan.demand.learning import Prior
 from crnplan.errors import Refused
 from crnplan.plan.aims import FILLS, Aims, Trial, Tried
 from crnplan.plan.correction import BLOCKS, blocks_of, levels_of, trial_of
-from crnplan.plan.question import NONE, Levels, Settings
+from crnplan.plan.how import NONE, Settings
+from crnplan.plan.question import Levels
 from crnplan.read.item import Item
 from crnplan.theory.long_run import Candidate, LongRun
 from planner.tests.plan.items import item_of

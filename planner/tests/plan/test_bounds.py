@@ -21,7 +21,8 @@ from crnplan.plan.catalogue import planned_folder
 from crnplan.plan.changes import masters_of
 from crnplan.plan.item import Depth, read_item
 from crnplan.plan.one import plan_one
-from crnplan.plan.question import Question, Settings, question_of
+from crnplan.plan.how import Settings
+from crnplan.plan.question import Question, question_of
 from crnplan.read.bounds import Bounds
 from crnplan.read.item import Item
 from crnplan.remarks import Value

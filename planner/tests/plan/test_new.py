@@ -18,7 +18,8 @@ from crnplan.plan.correction import tried_names
 from crnplan.plan.item import Depth
 from crnplan.plan.choice import allowed_by
 from crnplan.plan.one import plan_asked, plan_one
-from crnplan.plan.question import Settings, question_of
+from crnplan.plan.how import Settings
+from crnplan.plan.question import question_of
 from crnplan.read.item import NEW, NO_DEMAND, Item
 from crnplan.remarks import Remark
 from crnplan.theory.lattice import NoTheory

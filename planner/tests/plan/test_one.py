@@ -30,7 +30,8 @@ from crnplan.plan.answer import (
 from crnplan.plan.item import Depth
 from crnplan.plan.checked_run import Disagreement
 from crnplan.plan.one import plan_asked, plan_one
-from crnplan.plan.question import Question, Settings, question_of
+from crnplan.plan.how import Settings
+from crnplan.plan.question import Question, question_of
 from crnplan.plan.what_ifs import Moves
 from crnplan.read.item import Item
 from crnplan.remarks import Remark

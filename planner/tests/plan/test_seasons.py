@@ -21,7 +21,8 @@ from crnplan.plan.choice import allowed_by, choice_of
 from crnplan.plan.correction import trial_of
 from crnplan.demand.learning import Prior
 from crnplan.plan.one import of_month, plan_asked, plan_one
-from crnplan.plan.question import NONE, Question, question_of, without_season
+from crnplan.plan.how import NONE, without_season
+from crnplan.plan.question import Question, question_of
 from crnplan.plan.seasons import Seasons, Stretch, coming_year, is_long
 from crnplan.read.dates import period_of
 from crnplan.read.item import NEW, Item

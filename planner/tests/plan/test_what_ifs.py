@@ -8,7 +8,8 @@ import pytest
 
 import crnplan as crn
 from crnplan.plan.answer import Laws
-from crnplan.plan.question import Settings, Terms, terms_of
+from crnplan.plan.how import Settings
+from crnplan.plan.question import Terms, terms_of
 from crnplan.plan.what_ifs import AS_IT_IS, Moves, cases_of, moves_of
 from crnplan.read.item import Item
 from crnplan.theory.lattice import theories_of

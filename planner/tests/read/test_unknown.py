@@ -16,7 +16,8 @@ from crnplan.plan.backtest.one import Walk, backtest_item
 from crnplan.plan.correction import trial_of
 from crnplan.plan.changes import rows_of
 from crnplan.plan.one import plan_one
-from crnplan.plan.question import NONE, question_of
+from crnplan.plan.how import NONE
+from crnplan.plan.question import question_of
 from crnplan.read.item import Item
 from crnplan.read.successors import summed
 from planner.tests.conftest import Command

@@ -32,7 +32,7 @@ from crnplan.plan.answer import (
     Run,
 )
 from crnplan.plan.catalogue import ANSWERS, TOTALS, Planned, PlannedFolder
-from crnplan.plan.question import Settings
+from crnplan.plan.how import Settings
 from crnplan.plan.survey import Survey
 from crnplan.plan.swings import CASES, SWINGS, Swing, drawn_items
 from crnplan.plan.totals import Totals

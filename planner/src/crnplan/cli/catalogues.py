@@ -18,7 +18,7 @@ from ..show.catalogue_page import CATALOGUE_FILES
 from ..show.catalogue_tables import counted_rows, hardly_read, reasons_of, rejects_of
 from ..plan.backtest.catalogue import check_test
 from ..plan.catalogue import check_earlier
-from ..plan.question import Settings
+from ..plan.how import Settings
 from ..plan.settings import CONFIG, read_config
 from ..read.catalogue_reading import CATALOGUE, read_into
 from ..read.items import Words

@@ -14,15 +14,13 @@ from pathlib import Path
 from typing import TYPE_CHECKING, NamedTuple
 
 from ..columns import columns_of
-from ..errors import Refused
 from ..store.files import own_folder
 from ..store.clusters import Scheduler
 from ..store.means import Means
 from ..plan.answer import CHOSEN, TODAY, Answer
 from ..plan.catalogue import planned_folder
-from ..plan.question import Settings
+from ..plan.how import Settings
 from ..read.catalogue_reading import CATALOGUE, Catalogued
-from ..remarks import Remark
 from ..store.stored import Store
 from ..table import DataTable, Result, aligned
 from ..theory.levels import NEAR

@@ -25,7 +25,8 @@ from ..store.means import Means
 from ..plan.answer import CHOSEN, TODAY, Answer
 from ..plan.catalogue import PlannedFolder
 from ..plan.one import or_fault
-from ..plan.question import Settings, terms_of
+from ..plan.how import Settings
+from ..plan.question import terms_of
 from ..read.item import Item
 from ..remarks import Remark
 from ..store.stored import Question, Store

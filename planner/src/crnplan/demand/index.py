@@ -15,7 +15,6 @@ first, as growth gives one to each year. The study planner/studies/seasons.py me
 """
 from __future__ import annotations
 
-import itertools
 import math
 from collections.abc import Sequence
 from typing import NamedTuple

@@ -20,7 +20,8 @@ from ..store.stored import Store, sealed
 from ..store.work import Known
 from .answer import Answer
 from .changes import Change, Pair, change_of
-from .question import LEARNED, Levels, Settings
+from .how import LEARNED, Settings
+from .question import Levels
 from .seasons import coming_year
 
 if TYPE_CHECKING:

@@ -45,7 +45,8 @@ from .learned import (
     seasons_of,
 )
 from .one import plan_asked
-from .question import LEARNED, NONE, Question, Settings, question_of
+from .how import LEARNED, NONE, Settings
+from .question import Question, question_of
 from .together import PRICES, prices_of, wants_aims
 from .totals import Totals
 

@@ -19,7 +19,7 @@ from .answer import Answer, Figures, LawFacts
 from .backtest.outcomes import Happened, Outcome
 from .backtest.estimates import Estimate
 from .backtest.sums import Group
-from .question import Settings
+from .how import Settings
 
 # What an item's policy is beside the earlier one: the same, moved, the same though another costs less, new, or gone.
 KINDS = SAME, MOVED, DAMPED, NEW, GONE = ("same", "moved", "damped", "new", "gone")

@@ -19,7 +19,8 @@ from ..theory.every_gap import best_policies
 from ..theory.long_run import NO_POLICY, Candidate, LongRun
 from ..theory.many_laws import Promises
 from .answer import ALONE, BEFORE, CHOSEN, OVERRIDE, TODAY, UNDAMPED
-from .question import NONE, Levels, NoPolicy, Question, Terms
+from .how import NONE
+from .question import Levels, NoPolicy, Question, Terms
 
 LAWS = 100  # that are drawn
 CLOSE = 1e-9  # Costs whose ratio differs from 1 by less are equal but for rounding.

@@ -34,7 +34,8 @@ from ..store.work import Work
 from .aims import FILLS, Aims, Trial
 from .learned import drawn_of_groups
 from .one import or_fault
-from .question import Levels, Question, Settings, flat_of, question_of
+from .how import Settings, flat_of
+from .question import Levels, Question, question_of
 
 TRIALS, AIMS = (
     f"{IN_KEPT}trials.sqlite",

@@ -43,7 +43,8 @@ from .answer import ALONE, CHOSEN, THEORY, TODAY, Answer, Figures
 from .checked_run import Sample
 from .choice import LAWS, allowed_by, choice_of
 from .one import plan_one
-from .question import NONE, Levels, Question, Settings, question_of, terms_of
+from .how import NONE, Settings
+from .question import Levels, Question, question_of, terms_of
 from .settings import Tables, read_settings
 from .what_ifs import Moves, moves_of
 

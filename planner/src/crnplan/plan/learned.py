@@ -18,7 +18,7 @@ from ..read.catalogue_reading import Catalogued
 from ..read.item import NO_DEMAND, TEACHING, Item
 from ..remarks import Remark
 from ..store.stored import Store
-from .question import ALL, CLASS, NONE, Settings, without_season
+from .how import ALL, CLASS, NONE, Settings, without_season
 from .seasons import Seasons, is_long
 
 # Facts beside answers: what was learned, and by which window and without which seasons laws were.

@@ -17,7 +17,8 @@ from .choice import by_prices
 from .correction import unmet_in_blocks
 from .drawn import Draws, Drawn, estimated
 from .one import or_fault
-from .question import Levels, NoPolicy, Question, Settings, flat_of, question_of
+from .how import Settings, flat_of
+from .question import Levels, NoPolicy, Question, question_of
 
 MOST_TRIED, MOST_TAKEN = (
     1_000,

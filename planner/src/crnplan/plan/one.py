@@ -57,7 +57,8 @@ from .bounds import COVERAGES
 from .checked_run import Sample, check_run, run_of, scenario_of
 from .choice import CLOSE, Choice, allowed_by, best_by_price, choice_of, levels_of
 from .packs import remarks_of_packs
-from .question import Levels, NoPolicy, Question, Settings, Unplanned, question_of
+from .how import Settings
+from .question import Levels, NoPolicy, Question, Unplanned, question_of
 from .yearly import Planned, over_year
 
 Result = TypeVar("Result")

@@ -31,7 +31,8 @@ from .answer import CHOSEN, TODAY as TODAY_POLICY, Answer
 from .catalogue import PlannedFolder
 from .drawn import Drawn, Estimate, estimated
 from .one import or_fault
-from .question import Levels, Settings, Terms, terms_of
+from .how import Settings
+from .question import Levels, Terms, terms_of
 from .survey import Survey, size_of
 from .totals import Totals, asked_value
 from .what_ifs import Case, figures_in

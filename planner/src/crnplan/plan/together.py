@@ -33,7 +33,7 @@ from ..store.work import Work
 from .correction import LEAST_ITEMS
 from .offers import Asked, Offer, Sums, met_on_past, offer_asked, past_asked
 from .prices import UNITS, Price, Prices
-from .question import Settings
+from .how import Settings
 
 PRICES = "prices"  # a fact of the store of answers
 COARSE, FINER, ON_PAST = (

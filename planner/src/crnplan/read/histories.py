@@ -10,7 +10,7 @@ from typing import Any
 
 import numpy as np
 
-from ..errors import Refused, RefusedFaults
+from ..errors import Refused
 from ..formats import MOST_WEIGHT
 from ..remarks import Remark
 from ..words import message

@@ -22,7 +22,7 @@ from ..plan.answer import CHOSEN, TODAY, Answer
 from ..plan.backtest.catalogue import past_of
 from ..plan.catalogue import PlannedFolder, planned_folder
 from ..plan.item import Depth
-from ..plan.question import Settings
+from ..plan.how import Settings
 from ..plan.survey import Decided, Survey, saving_of
 from ..plan.swings import keep_swings
 from ..plan.totals import Totals

@@ -12,14 +12,14 @@ from typing import Any, NamedTuple
 
 from ..crnsim.trajectory import table_of
 from ..decide.doubt import WITHIN
-from ..decide.verdicts import POLICY, Compared
+from ..decide.verdicts import POLICY
 from ..demand import EMPIRICAL
 from ..demand.checks import largest_periods
 from ..demand.fitted import Figures as LawFigures, FittedLaw, fit_words
 from ..errors import Fault, spelt, worded
 from ..money import Currency
 from ..plan.answer import THEORY, Figures
-from ..plan.item import Coming, Depth, Shown
+from ..plan.item import Coming, Depth
 from ..plan.question import Question
 from ..plan.settings import as_setting
 from ..read.dates import EVERY, period_name

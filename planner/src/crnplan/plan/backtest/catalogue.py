@@ -25,7 +25,7 @@ from ..after import check_records
 from ..catalogue import PlannedFolder, readable, whole_digest
 from ..correction import LEAST_ITEMS, tried_on, ways_of
 from ..learned import learned_of
-from ..question import Settings
+from ..how import Settings
 from .methods import CORRECTED, KEPT, METHODS, Walk
 from .one import Backtest, backtest_item
 from .sums import Sums, sums_of, whole_of

@@ -20,7 +20,8 @@ from ...read.item import Item
 from ..aims import FILLS, Aims
 from ..answer import TODAY, Figures
 from ..choice import choice_of
-from ..question import Levels, Question, Settings, question_of
+from ..how import Settings
+from ..question import Levels, Question, question_of
 from .outcomes import Happened, Outcome, Run
 from .smoothing import smoothed_levels, wanted_share
 

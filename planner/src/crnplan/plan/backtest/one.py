@@ -20,7 +20,7 @@ from ...read.item import Item
 from ...remarks import Remark
 from ..aims import Aims
 from ..one import or_fault
-from ..question import Settings
+from ..how import Settings
 from .methods import METHODS, Walk, Walked
 from .outcomes import Outcome, Traced
 
