@@ -34,8 +34,8 @@ def write(folder: Path) -> list[Path]:
         name, mean = f"{group}-{place:02}", 6 + place
         counts = random.poisson(mean * (wave if group == "warm" else 1.0), WEEKS)
         rows += [(name, day, count) for day, count in zip(days, counts) if count]
-        masters.append((name, group, 20, 1, "0.95", 2, 2 * mean, 6 * mean, 1))
-    columns = "item,class,setup,holding,fill,lead (weeks),s,S,stock".split(",")
+        masters.append((name, group, 20, 1, "0.95", 2, 2 * mean, 6 * mean, 1, 3))
+    columns = "item,class,setup,holding,fill,lead (weeks),s,S,stock,price".split(",")
     tables = {
         "demand": pd.DataFrame(rows, columns=["item", "date", "quantity"]),
         "items": pd.DataFrame(masters, columns=columns),
@@ -185,6 +185,16 @@ def test_after_an_earlier_plan(room: Path, tmp_path: Path, program: Path) -> Non
                 assert change.since and change.before and change.undamped
                 assert change.gain is not None and 0 <= change.gain
                 assert change.gain < 0.9 * change.before.cost
+
+
+def test_curve(room: Path, tmp_path: Path, program: Path) -> None:
+    """The curve knows of no season: its stocks are those of runs by laws without it."""
+    folder = Path(shutil.copytree(room / "plan", tmp_path / "plan"))
+    plan = crn.open_plan(folder, program=program)
+    drawn = plan.curve(fill=0.96, confirm=2 * ITEMS, jobs=1)
+    first, *lines = drawn.confirmed
+    assert f"the stock of {2 * ITEMS} of {2 * ITEMS} items" in first
+    assert len(lines) == len(drawn.said) and not any("apart" in it for it in lines)
 
 
 def test_page_of_an_item(room: Path, tmp_path: Path, program: Path) -> None:

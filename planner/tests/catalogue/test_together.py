@@ -21,7 +21,7 @@ from crnplan.plan.choice import best_of
 from crnplan.plan.prices import REST, Price, Prices
 from crnplan.plan.how import NONE, Settings
 from crnplan.plan.question import NoPolicy, Question, question_of
-from crnplan.plan.together import fill_with
+from crnplan.plan.together import Finding, fill_with
 from crnplan.plan.offers import Asked, ByPrice, offer_of, past_of
 from crnplan.read.bounds import Bounds
 from crnplan.read.item import Item
@@ -470,3 +470,21 @@ def test_offers_are_those_of_plans(place: int) -> None:
         assert offered.pairs[each] == levels
         assert offered.unmet[each] == pytest.approx((1 - figures.fill) * mean)
         assert offered.stock[each] * item.box == pytest.approx(figures.stock)
+
+
+def test_offers_are_kept(
+    tmp_path: Path, program: Path, monkeypatch: pytest.MonkeyPatch
+) -> None:
+    """A run that was broken off before the price was found asks no item again."""
+    files, calls = write(tmp_path), list[object]()
+    words: dict[str, Any] = {"together": WANTED, "program": program, **SETTINGS}
+
+    def broken_off(*known: object) -> Price:
+        raise KeyboardInterrupt
+
+    with monkeypatch.context() as patched, pytest.raises(KeyboardInterrupt):
+        patched.setattr(Finding, "price_of", broken_off)
+        crn.plan(*files, out=tmp_path / "plan", **words)
+    monkeypatch.setitem(Finding.sums.__globals__, "offer_asked", calls.append)
+    plan = crn.plan(*files, out=tmp_path / "plan", **words)
+    assert not calls and groups_of(plan)[REST].items == COUNT - BACKLOG

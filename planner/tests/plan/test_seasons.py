@@ -253,6 +253,8 @@ def test_month_of_a_day(program: Path) -> None:
     late = answer.chosen_in(last.first)
     assert late.levels == (last.s, last.S) and late.fill == answer.chosen.fill
     assert answer.laws.demand == asked().all_year.table
+    mean = float(answer.laws_in(last.first).demand.mean)
+    assert mean == pytest.approx(answer.law.mean * last.factor, rel=1e-3)
 
 
 def test_confidence_and_doubt() -> None:

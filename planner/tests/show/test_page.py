@@ -147,7 +147,8 @@ def test_bars_of_a_long_history() -> None:
     """Of 521 weeks the last 520 are drawn, but for those without demand. A curve's axes end near its named points."""
     item = Item("A", (9, 0, *[1] * 519), (1,), None, Fraction(1), Fraction(1))
     law = fit_demand(item.counts, method="empirical")
-    depth: Any = SimpleNamespace(question=SimpleNamespace(item=item, demand=law))
+    question = SimpleNamespace(as_read=item, all_year=law)
+    depth: Any = SimpleNamespace(question=question)
     plot = history_plot(depth, [f"W{week}" for week in range(521)], "week")
     assert plot.bars.count("M") == 519
     assert plot.across == "week; the 1 before are not drawn"
