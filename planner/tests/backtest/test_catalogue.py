@@ -24,7 +24,7 @@ from crnplan.plan.backtest.one import Backtest, backtest_one
 from crnplan.plan.backtest.sums import TIME
 from crnplan.plan.how import NONE, Settings
 from crnplan.read.catalogue_reading import CATALOGUE, READ
-from crnplan.read.item import Item
+from crnplan.read.item import PLANNED, Item
 from crnplan.store.stored import Store
 from planner.tests.conftest import Command, rows_of
 from planner.tests.show.page_reader import Page
@@ -127,7 +127,7 @@ def test_rows_are_those_of_each_item(made: Path, items: Mapping[str, Item]) -> N
 
 def test_items_as_they_were_at_the_end_of_their_records(made: Path) -> None:
     """What a test learns from, it sees up to that day, and of it the last periods that count."""
-    with contextlib.closing(Records(made / "out" / READ, 40, 30)) as records:
+    with contextlib.closing(Records(made / "out" / READ, 40, 30, PLANNED)) as records:
         pairs = [*zip(records.whole_items(), records.items(), strict=True)]
     assert len(pairs) == ITEMS
     for whole, known in pairs:

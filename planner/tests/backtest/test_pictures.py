@@ -92,5 +92,5 @@ def test_line_of_a_corrected_plan() -> None:
     }
     for end, own in ends.items():
         sums = Sums.of("", own)
-        assert past_line(Past(sums, False, False)) == first_line(sums)
-        assert past_line(Past(sums, False, True)) == first_line(sums) + end
+        assert past_line(Past(sums, False, False, False)) == first_line(sums)
+        assert past_line(Past(sums, False, True, False)) == first_line(sums) + end

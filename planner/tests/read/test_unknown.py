@@ -14,10 +14,12 @@ from crnplan.demand.learning import Prior
 from crnplan.errors import RefusedFaults
 from crnplan.plan.backtest.one import Walk, backtest_item
 from crnplan.plan.correction import trial_of
-from crnplan.plan.changes import rows_of
+from crnplan.plan.changes import rows_of, since_of
+from crnplan.plan.learned import learners
 from crnplan.plan.one import plan_one
 from crnplan.plan.how import NONE
 from crnplan.plan.question import question_of
+from crnplan.read.catalogue_reading import Catalogued
 from crnplan.read.item import Item
 from crnplan.read.successors import summed
 from planner.tests.conftest import Command
@@ -63,6 +65,18 @@ def test_a_week_without_a_quantity_is_unknown() -> None:
     (reject,) = read.rejects.itertuples()
     assert reject.kind == "suspicious" and "lines 5, 6, 19" in reject.reason
     assert read.counts["files"]["demand"]["used"] == 26 and not read.missing
+
+
+def test_items_teach_by_known_periods_alone() -> None:
+    """An item of whose last weeks none is known teaches nothing by a window of these, and all its known ones without it."""
+    demand = demand_of("A", "B").astype({"quantity": float})
+    demand.loc[21:25, "quantity"] = np.nan
+    read = crn.read_catalogue(demand, masters_of(MASTER, MASTER), today=TODAY)
+    names = list[list[str]]()
+    for window in (5, None):
+        taught = learners(Catalogued(read.path, window), False)
+        names.append([item.name for item in taught])
+    assert names == [["B"], ["A", "B"]]
 
 
 def test_what_an_empty_cell_means_may_be_stated() -> None:
@@ -225,6 +239,20 @@ def test_the_past_is_that_of_the_known_periods() -> None:
     assert dataclasses.replace(first, first=40) == second
     trials = [trial_of(item, alone(), Prior(NONE)) for item in (gaps, gaps.known)]
     assert trials[0] == trials[1]
+
+
+def test_what_came_since_is_that_of_the_known_periods(program: Path) -> None:
+    """What the policy of an earlier plan came to leaves out unknown periods, those before its end too."""
+    item, settings = item_of(3), alone()
+    old = item.part(0, 40)
+    plan = old, plan_one(question_of(old, settings), str(program))
+    now = dataclasses.replace(item, unknown=(3, 40, 45))
+    since, same = since_of(plan, now, settings, 40), since_of(
+        plan, now.known, settings, 39
+    )
+    assert since and same and (since.first, same.first) == (41, 39)
+    assert since.demands == (*item.counts[41:45], *item.counts[46:])
+    assert dataclasses.replace(since, first=39) == same
 
 
 def test_a_period_that_is_no_longer_known_has_changed() -> None:

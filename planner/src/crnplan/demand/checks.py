@@ -68,8 +68,8 @@ class Check:
 class Facts:
     """What is checked: numbers, the seasons that they are many enough for, the number of the first period, and `every`
     (day, week or month, None without dates). The differences between parts of the seasons that are `taken` out are not
-    in the numbers that are `left`, which keep the mean. `places` are those of the numbers' periods, from 0, rising: by
-    default one after another, else those whose demand is known."""
+    in the numbers that are `left`, which keep the mean. `known` has the places of the numbers' periods, from 0, rising, if
+    others between them are not known."""
 
     numbers: Sequence[int]
     seasons: Sequence[Season]

@@ -163,7 +163,8 @@ def since_of(old: Planned, now: Item, settings: Settings, stop: int) -> Since | 
     demands = now.counts[record:]
     if not demands:
         return None
-    past = dataclasses.replace(item, counts=now.counts, returns=now.returns, unknown=())
+    happened_to = {"counts": now.counts, "returns": now.returns}
+    past = dataclasses.replace(item, **happened_to, unknown=(), cut=())
     lead = fit_lead(item.leads, method=settings.lead_fit)
     happened = Happened(past, lead, settings.seed_of("since", item.name), record)
     later = [now.first + place for place in places[record:]]

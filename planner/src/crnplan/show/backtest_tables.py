@@ -253,13 +253,12 @@ def past_line(past: Past | None) -> str:
             "The test on your own past is not of this plan. Run crnplan backtest FOLDER again, then crnplan report "
             "FOLDER."
         )
-    if past.sums is None:
-        return first_line(None)
-    lines = [first_line(past.sums)]
-    if past.corrects and CORRECTED not in past.sums.unmet:
+    sums, lines = past.sums, [first_line(past.sums)]
+    is_tested = sums is not None and CORRECTED in sums.unmet
+    if past.corrects and not is_tested:
         lines.append("That is without the correction.")
-    elif past.corrects and past.sums.best != CORRECTED:
-        lines.append(f"Plans that aim as this one met {came(past.sums, CORRECTED)}.")
+    elif past.corrects and sums and sums.best != CORRECTED:
+        lines.append(f"Plans that aim as this one met {came(sums, CORRECTED)}.")
     if past.together:
         lines.append("That is with a fill rate for each item, not together.")
     return " ".join(lines)

@@ -16,7 +16,7 @@ from ...errors import Refused, argument
 from ...store.files import IN_KEPT, Folder, faults_of, read_folder
 from ...store.means import Means
 from ...read.catalogue_reading import CATALOGUE, READ, Catalogued
-from ...read.item import PLANNED, Item
+from ...read.item import Item
 from ...remarks import Remark
 from ...store.stored import Store
 from ...store.work import Work
@@ -32,7 +32,8 @@ from .sums import Sums, sums_of, whole_of
 
 TESTS = f"{IN_KEPT}backtest.sqlite"
 TRIALS = f"{IN_KEPT}backtest_trials.sqlite"  # of records alone
-# A fact of the store: the text that all digests have, the settings, and how the past was walked through.
+# A fact of the store: the text that all digests have, the settings, how the past was walked through, and the columns of
+# items on which tests depend.
 TESTED = "tested"
 AGAIN = "run crnplan backtest again"
 
@@ -46,7 +47,7 @@ class Records(Catalogued):
         path: Path,
         record: int,
         periods: int | None,
-        planned: Sequence[str] = PLANNED,
+        planned: Sequence[str],
     ) -> None:
         super().__init__(path, planned=planned)
         self.record, self.periods = record, periods
@@ -116,7 +117,7 @@ def past_of(planned: PlannedFolder) -> Past | None:
             return None
         if not tests.is_ours:
             return Past(None, True, False, False)
-        common, settings, _ = json.loads(fact)
+        common, settings, *_ = json.loads(fact)
         if settings != dataclasses.asdict(uncorrected(planned.settings)) or (
             tests.digest != whole_digest(planned.read, common)
         ):
@@ -202,7 +203,8 @@ def backtest_into(
             (lessons.settings, lessons.prior, walk, lessons.aims),
             load=load_compiler,
         )
-        fact = json.dumps([common, *map(dataclasses.asdict, (lessons.settings, walk))])
+        trees = map(dataclasses.asdict, (lessons.settings, walk))
+        fact = json.dumps([common, *trees, read.planned])
         work.finish(means.workers(), {TESTED: fact}, shown=means.shown)
         items = list[tuple[Item, Backtest | Remark]]()
         for item, (_, _, test) in zip(read.whole_items(), tests.answers(), strict=True):
@@ -248,8 +250,8 @@ def tested_folder(path: Path) -> Iterator[tuple[Records, Store[Backtest], Walk]]
         fact = tests.fact(TESTED)
         if fact is None or not tests.is_ours:
             raise Refused(f"{path}: its test is not finished by this version", AGAIN)
-        common, settings, walk = json.loads(fact)
-        records = Records(path / READ, walk["record"], settings["window"])
+        common, settings, walk, planned = json.loads(fact)
+        records = Records(path / READ, walk["record"], settings["window"], planned)
         stack.callback(records.close)
         if tests.digest != whole_digest(records, common):
             raise Refused(
