@@ -134,6 +134,18 @@ def test_season_of_a_class() -> None:
     assert class_index([item_with(STRONG, 1) for _ in range(12)]) is None
 
 
+def test_small_seasons() -> None:
+    """A season of less than 0.9 to 1.1 is not planned, however clear; of an item that is its difference from its class."""
+    for size, is_planned in ((0.09, False), (0.12, True)):
+        wave = 1 + size * (STRONG - 1) / 0.6
+        class_ = [item_with(wave, 3, 1e6) for _ in range(10)]
+        assert bool(class_index(class_)) is is_planned
+        assert bool(own_index(class_[0], None)) is is_planned
+        of_class = Index(tuple(STRONG.tolist()), 0.0, 1.0, 3)
+        own = own_index(item_with(STRONG + wave - 1, 3, 1e6), of_class)
+        assert (own is not of_class) is is_planned
+
+
 def test_season_of_an_item() -> None:
     """An item has a season of its own if that is clear in three years or more with demand."""
     of_class = Index(tuple(STRONG.tolist()), 0.0, 1.0, 3)

@@ -32,6 +32,9 @@ FALSE_ALARMS, OWN_ALARMS = 0.01, 0.001
 OWN_YEARS = 3
 OWN_ASKED = 0.5  # Items with fewer periods with demand have no season of their own: it would be wild.
 LEAST_ITEMS = 10  # of a class: the study has no fewer
+# A season that varies less than a sine of 0.9 to 1.1, as a root mean square, is not worth levels of its own: one of 0.85
+# to 1.15 that is not planned costs at most 1% (planner/studies/dependence.py).
+LEAST_SWING = 0.07
 LEAST_INDEX = 0.2  # Lower ones would blow up what little is asked for then.
 FLAT: Floats = np.ones(MONTHS)
 
@@ -154,13 +157,21 @@ def index_of(ratios: Floats, expected: Floats = FLAT) -> Index:
     return Index(tuple(values.tolist()), chance_of(far), share, years)
 
 
+def differs(index: Index, expected: Floats) -> bool:
+    """Returns whether an index varies enough beside an expected one to be planned."""
+    far = np.array(index.values) - expected
+    return float((far**2).mean()) >= LEAST_SWING**2
+
+
 def class_index(items: Sequence[Years]) -> Index | None:
-    """Returns the season of a class; None if the test sees none, or there are fewer than 10 items or two years."""
+    """Returns the season of a class; None if the test sees none, it hardly varies, or there are fewer than 10 items or
+    two years."""
     known = [item for item in items if len(item.asked) >= YEARS]
     if len(known) < LEAST_ITEMS:
         return None
     index = index_of(pooled(known))
-    return index if index.chance <= FALSE_ALARMS else None
+    is_seen = index.chance <= FALSE_ALARMS and differs(index, FLAT)
+    return index if is_seen else None
 
 
 def own_index(item: Years, of_class: Index | None) -> Index | None:
@@ -168,8 +179,10 @@ def own_index(item: Years, of_class: Index | None) -> Index | None:
     clearly another season than its class; else that of its class."""
     if len(item.asked) < OWN_YEARS or item.asked.min() < OWN_ASKED:
         return of_class
-    index = index_of(item.ratios, np.array(of_class.values) if of_class else FLAT)
-    return index if index.chance <= OWN_ALARMS else of_class
+    expected = np.array(of_class.values) if of_class else FLAT
+    index = index_of(item.ratios, expected)
+    is_seen = index.chance <= OWN_ALARMS and differs(index, expected)
+    return index if is_seen else of_class
 
 
 def flattened(

@@ -45,7 +45,7 @@ FINE = 32  # prices between two of these, which are 0.9% apart
 MORE = 24  # of these, above the one by theory, are tried on the past
 DIGITS = 4  # of a price
 # What may be left unmet of each item, times what may be of all together: for the one fill rate with the same stock.
-TIMES = (8.0, 5.6, 4.0, 2.8, 2.0, 1.4, 1.0, 0.7, 0.5)
+TIMES = (8.0, 4.0, 2.0, 1.4, 1.0, 0.7)
 MOST_UNMET = 0.9
 Answered = Callable[..., Offer | Remark]
 
