@@ -16,7 +16,7 @@ from crnplan.demand.fitting import fit_demand
 from crnplan.demand.sample import Sample
 from crnplan.plan.choice import allowed_by
 from crnplan.plan.one import remarks_of_past
-from crnplan.plan.question import question_of
+from crnplan.plan.question import expected_of, question_of
 from planner.tests.plan.items import alone, item_of
 
 
@@ -134,6 +134,14 @@ def test_the_bias_of_sales_is_taken_away(seed: int) -> None:
     both = [*known, *expected_demands(known, least)]
     assert np.mean([*known, *least]) < 5.4 and np.mean(known) < 5.4
     assert np.mean(both) == pytest.approx(6, abs=4 * math.sqrt(24 / 2_000))
+
+
+def test_large_sales_are_counted_in_boxes() -> None:
+    """Sales beyond the program's range make boxes, in which the expected demand is counted."""
+    counts = (*[3_000, 5_000, 4_400, 6_100] * 5, 15_000)
+    item = item_of(0, counts=counts, unknown=(20,), cut=(20,))
+    (expected,) = expected_of(item, "auto")
+    assert item.box == 2 and expected >= 15_000 and expected % 2 == 0
 
 
 def test_a_plan_takes_cut_periods() -> None:

@@ -44,13 +44,15 @@ def test_weeks_with_a_day_out_of_stock_are_unknown(
 
 
 def test_times_add_up_with_empty_rows() -> None:
-    """Several times of an item, and rows without a quantity, leave periods unknown together, and are counted once."""
+    """Several times of an item, and rows without a quantity, leave periods unknown together, and are counted once. In a
+    period with both, nothing is sold at least."""
     demand = demand_of("A")
-    demand["quantity"] = demand.quantity.astype(float).where(demand.index != 4)
+    demand["quantity"] = demand.quantity.astype(float).where(~demand.index.isin([1, 4]))
     rows = [("A", "2026-03-02", "2026-03-03"), ("A", "2026-03-08", "2026-03-10")]
     out = pd.DataFrame(rows, columns=["item", "from", "to"])
     read = crn.read_catalogue(demand, masters_of(MASTER), today=TODAY, out_of_stock=out)
-    assert items_of(read)["A"].unknown == (0, 1, 4)
+    item = items_of(read)["A"]
+    assert (item.unknown, item.cut, item.least) == ((0, 1, 4), (0,), (2,))
     assert read.counts["items"]["unknown_periods"] == 3
     assert read.counts["files"]["out_of_stock"]["used"] == 2 and not read.missing
 
@@ -69,19 +71,19 @@ def test_rows_with_faults_are_rejected(first: str, last: str, why: str) -> None:
 
 def test_classes_are_by_the_demand_that_is_known() -> None:
     """The mean demand by which A, B and C are cut is that of the known periods, whatever was sold in the others: nine
-    items of 77 in 26 weeks, and one of 1,287 in 13 and 39 in the other 13, which is 66% of all value, or 10%.
-    """
+    items of 77 in 26 weeks, and one of 1,287 in 13 and 39 in the other 13, which is 66% of all value, or 10%. An item is
+    A if those of higher value have less than 50%."""
     names = [f"I-{place}" for place in range(10)]
     demand, masters = demand_of(*names), masters_of(*[MASTER] * 8)
     masters = pd.concat([masters, masters[:2]]).assign(item=names, price="1")
     demand.loc[(demand.item == "I-9") & (demand.index % 26 < 13), "quantity"] = 99
     days = ["2026-03-02"], ["2026-05-31"]
     out = pd.DataFrame({"item": ["I-9"], "from": days[0], "to": days[1]})
-    words: dict[str, Any] = {"today": TODAY, "far": "keep", "setup": 45}
+    words: dict[str, Any] = {"today": TODAY, "far": "keep", "abc": "50,80"}
     whole = items_of(crn.read_catalogue(demand, masters, **words))
     known = items_of(crn.read_catalogue(demand, masters, out_of_stock=out, **words))
     letters = ["".join(item.abc for item in read.values()) for read in (whole, known)]
-    assert letters == ["AAAAAAAAAA", "AAAAAAAAAA"]
+    assert letters == ["BBBBBBBBBA", "AAAAAAAAAA"]
 
 
 def test_the_command_takes_the_table(crnplan: Command, tmp_path: Path) -> None:
@@ -96,7 +98,9 @@ def test_the_command_takes_the_table(crnplan: Command, tmp_path: Path) -> None:
     )
     assert status == 0 and "[catalogue.out_of_stock]" in errors
     assert 'from = "fehlt ab"' in errors
-    assert "is not known: 1, with 3 such periods" in errors
+    assert (
+        "is not known: 1, with 3 such periods; out of stock in these: 1 items" in errors
+    )
 
 
 def test_plans_and_tests_of_the_past_take_the_table(program: Path) -> None:
@@ -116,3 +120,17 @@ def test_plans_and_tests_of_the_past_take_the_table(program: Path) -> None:
     assert not crn.backtest(demand, masters, **past).frame.left_out.any()
     (why,) = crn.backtest(demand, masters, out_of_stock=out, **past).frame.left_out
     assert "it has 23 periods" in why
+
+
+def test_the_command_backtest_takes_the_table(crnplan: Command, tmp_path: Path) -> None:
+    """Two tables have it beside them; a planned folder has its own."""
+    (tmp_path / "demand.csv").write_text(f"item,date,quantity\n{weekly([3, 1] * 13)}")
+    (tmp_path / "items.csv").write_text(MASTERS)
+    (tmp_path / "out.csv").write_text("item,from,to\nA,2026-03-02,2026-03-22\n")
+    walk = "--record", 20, "--every", 4, "--jobs", 1
+    files = tmp_path / "demand.csv", tmp_path / "items.csv", "--out", tmp_path / "plan"
+    out = "--out-of-stock", tmp_path / "out.csv"
+    status, _, errors = crnplan("backtest", *files, *out, *walk)
+    assert status == 0, errors
+    assert "it has 23 periods" in (tmp_path / "plan/backtest.csv").read_text()
+    assert crnplan("backtest", tmp_path / "plan", *out).refuses("--out-of-stock")

@@ -14,6 +14,7 @@ from ..plan.backtest.methods import Walk
 from ..plan.catalogue import planned_folder
 from ..plan.settings import read_config
 from ..read.catalogue_reading import CATALOGUE, read_into
+from ..read.outages import OUT
 from .catalogues import words_of
 from .words import command
 
@@ -22,6 +23,7 @@ from .words import command
 def backtest(
     tables: Sequence[Path],
     orders: str | None,
+    out_of_stock: str | None,
     out: Path | None,
     record: int,
     every: int,
@@ -33,9 +35,9 @@ def backtest(
 ) -> None:
     words = None
     if len(tables) == 1:
-        if out or orders or config:
+        if out or orders or out_of_stock or config:
             raise Refused(
-                "a planned folder has its own --out, --orders and --config: leave them out"
+                "a planned folder has its own --out, --orders, --out-of-stock and --config: leave them out"
             )
         with planned_folder(tables[0]) as planned:
             settings = planned.settings
@@ -52,7 +54,7 @@ def backtest(
     with own_folder(out or tables[0], CATALOGUE) as folder:
         if words is not None:
             files = {"demand": tables[0], "items": tables[1], "orders": orders}
-            read_into(folder, files, words, jobs)
+            read_into(folder, {**files, OUT: out_of_stock}, words, jobs)
         means = Means(jobs, cluster, shown=True)
         tests = write_backtest(folder, settings, walk, means)
     click.echo(tests.text, nl=False)

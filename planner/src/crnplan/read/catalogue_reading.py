@@ -418,8 +418,9 @@ def remarks_of(
     yield from zeros_apart(part.apart for part in parts)
     items = sum((Counter(part.items) for part in parts), Counter[str]())
     if items["unknown"]:
+        cut = {"cut": items["cut"], "cut_periods": items["cut_periods"]}
         facts = {"items": items["unknown"], "periods": items["unknown_periods"]}
-        yield Remark("items with unknown periods", facts)
+        yield Remark("items with unknown periods", {**facts, **cut})
 
 
 def sources_by_role(parts: Iterable[PartRead]) -> dict[str, dict[str, int]]:

@@ -334,6 +334,9 @@ class Reader:
             return
         self.numbers["unknown"] += 1
         self.numbers["unknown_periods"] += len(item.unknown)
+        if item.cut:
+            self.numbers["cut"] += 1
+            self.numbers["cut_periods"] += len(item.cut)
         lines = moves.lines[moves.blank == 1].tolist()
         if lines and self.words.empty is None:
             named = named_lines([*map(self.demand.rows.sheet.called, lines)])
