@@ -98,11 +98,11 @@ class Planned:
             prior = Prior(NONE)
             if tree["borrow"] != NONE:
                 prior = Prior.parse(answers.fact(PRIOR) or "", str(answers.named))
-            found = tree["settings"]
+            stated = tree["settings"]
             for name, kind in LEARNED.items():
-                if found.get(name) is not None:
-                    found[name] = kind.parse(found[name])
-            settings = Settings(**found)
+                if stated.get(name) is not None:
+                    stated[name] = kind.parse(stated[name])
+            settings = Settings(**stated)
             return cls(
                 settings, prior, str(tree["common"]), str(tree.get("earlier", ""))
             )

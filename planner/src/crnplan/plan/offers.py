@@ -90,7 +90,9 @@ class ByPrice:
     def __init__(self, question: Question, prices: Sequence[float]) -> None:
         theory, least = question.theory, question.aim
         weight = question.item.box * question.settings.weight_of(question.item)
-        gaps, figures = by_prices(question, theory, [weight * it for it in prices])
+        gaps, figures = by_prices(
+            question, theory, [weight * price for price in prices]
+        )
         if not len(gaps):
             raise NoPolicy(Remark("no policy", {"fill": least}))
         tops: Whole = figures[0].astype(int)

@@ -84,7 +84,9 @@ def members_of(
     fields = "name", "holding", "backlog", "price", "category", "past"
     for name, holding, backlog, price, category, past in read.values(*fields):
         facts: dict[str, Any] = {"backlog": backlog, "price": price}
-        item = Item(name, (), (), None, holding, holding, category=category, **facts)
+        item = Item(
+            name, (), (), None, Fraction(0), holding, category=category, **facts
+        )
         if past in UNORDERED or settings.named_group(item) is None:
             continue
         group = settings.group_of(item)
@@ -203,11 +205,11 @@ class Finding:
             if group in past:
                 prices.add(past[group].price(self.settings.together[group]))
             asked[group] = Asked(tuple(sorted(prices)), fills)
-        found = self.sums(asked, FINER)
+        finer = self.sums(asked, FINER)
         return Prices(
             {
-                group: self.price_of(group, found[group], asked[group], past.get(group))
-                for group in found
+                group: self.price_of(group, finer[group], asked[group], past.get(group))
+                for group in finer
             }
         )
 
@@ -238,7 +240,7 @@ class Finding:
         ordered = {name: names[name] for name in sorted(names)}
         tried = dict(self.offers(asked, ON_PAST, past_asked, ordered))
         sizes = self.sizes_of(ordered)
-        found = dict[str, OnPast]()
+        shares = dict[str, OnPast]()
         for group, some in drawn.items():
             own = {name: tried[name] for name in some.names if name in tried}
             if len(own) < LEAST_ITEMS:
@@ -248,8 +250,8 @@ class Finding:
                     f"plan without {argument('correct')}",
                 )
             met = met_on_past(own, some, sizes, coarse[group].asked)
-            found[group] = OnPast(asked[group].prices, met, len(own))
-        return found
+            shares[group] = OnPast(asked[group].prices, met, len(own))
+        return shares
 
     def sizes_of(self, names: Mapping[str, str]) -> dict[str, float]:
         """Returns what items ask for by theory, of which it is kept."""

@@ -434,7 +434,7 @@ def together_of(folder: PlannedFolder, totals: Totals) -> DataTable | None:
         for group, price in sorted(prices.groups.items())
     ]
     has = {"past": folder.settings.correct, "at_least": folder.settings.at_least}
-    columns = [it for it in TOGETHER_COLUMNS if has.get(it.name, True)]
+    columns = [column for column in TOGETHER_COLUMNS if has.get(column.name, True)]
     return DataTable.of(columns, groups)
 
 
