@@ -26,6 +26,7 @@ from .page import (
 
 ALONE = "the law of this item alone"
 MOST_BARS = 520
+UNKNOWN = "; what is grey is not known"
 # The classes of lines of the law of a period's demand (its mean, and what 99 of 100 periods do not exceed), and of the
 # law of the item alone.
 MEAN, HIGH, OF_ALONE = "of-mean", "of-high", "of-alone"
@@ -48,14 +49,26 @@ def history_said(item: Item, names: Sequence[str], every: str) -> str:
     )
 
 
+def drawn_demand(item: Item) -> tuple[list[int], list[bool]]:
+    """Returns the demand of each period as it is drawn, of which nothing is if none was seen, and whether it is unknown."""
+    unknown, cut = {*item.unknown}, {*item.cut}
+    counts = list[int]()
+    for place, count in enumerate(item.counts):
+        counts.append(0 if place in unknown - cut else count)
+    return counts, [place in unknown for place in range(len(counts))]
+
+
+def gaps_of(is_unknown: Sequence[bool], scale: Scale) -> str:
+    """Returns bars of full height where demand is unknown."""
+    return bars([scale.high * is_gap for is_gap in is_unknown], scale)
+
+
 def history_plot(depth: Depth, names: Sequence[str], every: str) -> Plot:
     """Returns the demand by period as bars, of the last periods if they are many. Lines are the mean of the law, which
     counts in boxes, and what 99 of 100 periods do not exceed by it."""
     item, figures = depth.question.as_read, depth.question.all_year.figures
-    gaps = {*item.unknown}
-    hidden = gaps - {*item.cut}
-    counts = [0 if place in hidden else n for place, n in enumerate(item.counts)]
     box = item.box
+    counts, is_unknown = drawn_demand(item)
     mean, high = box * figures.mean, box * figures.quantiles[QUANTILES[1]]
     mean_name = f"mean of the law: {number(mean, 2)} a {every}"
     high_name = f"99 of 100 {every}s by the law: at most {number(high)}"
@@ -63,9 +76,8 @@ def history_plot(depth: Depth, names: Sequence[str], every: str) -> Plot:
     if len(counts) > MOST_BARS:
         across = f"{every}; the {len(counts) - MOST_BARS:,} before are not drawn"
     scale = Scale.of([*shown, mean, high], is_whole=True)
-    heights = [scale.high * (place in gaps) for place in range(len(counts))]
-    if gaps:
-        across += "; what is grey is not known"
+    if any(is_unknown):
+        across += UNKNOWN
     return Plot(
         title=f"Demand by {every}, and the law that it is planned by",
         description=f"{history_said(item, names, every)}; {mean_name}; {high_name}.",
@@ -77,7 +89,7 @@ def history_plot(depth: Depth, names: Sequence[str], every: str) -> Plot:
             Line(high_name, HIGH, scale.level(high)),
         ],
         bars=bars(shown, scale),
-        gaps=bars(heights[-MOST_BARS:], scale),
+        gaps=gaps_of(is_unknown[-MOST_BARS:], scale),
     )
 
 
@@ -177,20 +189,23 @@ def season_plot(depth: Depth, every: str) -> Plot | None:
         high += [month.S] * periods
         means += [mean * season.index.values[place]] * periods
         said.append(f"from {names[-periods]} on s {month.s:,} and S {month.S:,}")
-    shown = depth.question.as_read.counts[-len(names) :]
+    counts, is_unknown = drawn_demand(depth.question.as_read)
+    shown, is_gap = counts[-len(names) :], is_unknown[-len(names) :]
     scale = Scale.of([*shown, *high, *means], is_whole=True)
+    across = f"{every} of the coming year; bars are the demand a year before"
     return Plot(
         title="Levels of the coming year, above the demand of the last one",
         description=f"{', '.join(said)}.",
         scale=scale,
         marks=marks_of(names),
-        across=f"{every} of the coming year; bars are the demand a year before",
+        across=across + UNKNOWN * any(is_gap),
         lines=[
             steps("S", OF_CHOSEN, high, scale),
             steps("s", HIGH, low, scale),
             steps("mean of the law", MEAN, means, scale),
         ],
         bars=bars(shown, scale),
+        gaps=gaps_of(is_gap, scale),
     )
 
 
