@@ -123,6 +123,19 @@ def test_other_records_are_tried_anew(room: Path) -> None:
     assert again.text == anew.text
 
 
+def test_items_that_were_planned_together(
+    room: Path, crnplan: Command, program: Path
+) -> None:
+    """The test in the folder of a plan of all items together is read as any other."""
+    tables, past = (room / "steady/demand.csv", room / "steady/items.csv"), room / "all"
+    ways: Any = WAYS | SHORT | {"program": program, "jobs": 1}
+    package.plan(*tables, together=0.95, weigh="units", out=past, **ways)
+    words = "--record", RECORD, "--every", 4, "--window", 13, "--jobs", 1
+    assert crnplan("backtest", past, *words).status == 0
+    plan = package.plan(*tables, as_backtest=past, **ways)
+    assert plan.table.csv == package.plan(*tables, **ways).table.csv
+
+
 def refusal(room: Path, kind: str, **words: Any) -> str:
     """Returns why a plan of a catalogue is refused."""
     own = room / kind
