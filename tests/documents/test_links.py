@@ -90,7 +90,7 @@ def test_readme_fits_three_screens() -> None:
 
 
 def test_words_of_the_guide() -> None:
-    """The guide has at most 4,700 words, and its first sections at most 400 each."""
+    """The guide has at most 4,850 words, and its first sections at most 400 each."""
     text = text_of("docs/GUIDE.md")
     for heading in (
         "Monday morning",
@@ -98,10 +98,11 @@ def test_words_of_the_guide() -> None:
         "What is decided, and ordered",
         "All items together",
         "One price",
+        "Season",
         r"Does it hold on your past\?",
     ):
         (section,) = re.findall(
             rf"^## {heading}\n.*?(?=^## )", text, re.MULTILINE | re.DOTALL
         )
         assert len(section.split()) <= 400
-    assert words_of("docs/GUIDE.md") <= 4_700
+    assert words_of("docs/GUIDE.md") <= 4_850

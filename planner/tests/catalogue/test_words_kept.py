@@ -38,6 +38,7 @@ FILES = "demand.csv", "items.csv", "--orders", "orders.csv"
 # What names inputs and outputs, or how the work is done: it is no word of reading or planning.
 OTHERS = {
     *("demand", "items", "orders", "out_of_stock", "overrides", "after", "config"),
+    "as_backtest",
     *("out", "only_read", "rejects", "csv_style"),
     *("anyway", "again", "jobs", "cluster", "program", "help"),
 }

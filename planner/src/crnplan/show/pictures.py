@@ -1,7 +1,8 @@
 """Draws pictures by matplotlib, and saves them as PNG or SVG. It is imported only if a picture is asked for.
 
 Each picture is a new `Figure`. A notebook shows it, and other pictures there stay as they are. All pictures can be read
-in grey.
+in grey. Pages have pictures of their own (`page.Plot`): these take the width, the colours and the fonts of the page, and
+need no library that takes half a second to load.
 """
 from __future__ import annotations
 
