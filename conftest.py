@@ -137,8 +137,14 @@ def pytest_xdist_make_scheduler(config: pytest.Config, log: Any) -> Any:
 
 
 def pytest_collection_modifyitems(items: list[pytest.Item]) -> None:
-    """Puts the tests that run alone last. The others stay in their order."""
-    items.sort(key=is_serial)
+    """Puts the tests that run alone last, and first those that may take longer than others, so that no worker ends with
+    one. The others stay in their order."""
+    items.sort(key=lambda item: (is_serial(item), not is_long(item)))
+
+
+def is_long(item: pytest.Item) -> bool:
+    """Returns whether a test has a limit of time of its own."""
+    return item.get_closest_marker("timeout") is not None
 
 
 def is_serial(item: pytest.Item) -> bool:

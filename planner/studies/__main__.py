@@ -27,6 +27,7 @@ WITH_JOBS = (
     "broken",
     "level_spread_tail",
     "correction",
+    "moving",
 )
 PRINTED = ("long_run",)  # its table is a text
 SEVERAL = ("borrowing", "walk_forward")  # they write more than one file, into a folder

@@ -11,7 +11,7 @@ replacement, of clusters (stores, cities, regions) and of groups (brands) at onc
 """
 from __future__ import annotations
 
-from collections.abc import Callable, Iterable, Sequence
+from collections.abc import Callable, Collection, Iterable, Sequence
 from concurrent.futures import ProcessPoolExecutor
 from dataclasses import dataclass
 from functools import cached_property, partial
@@ -31,6 +31,7 @@ SEED = 1
 NOMINAL = (0.8, 0.87, 0.92, 0.95, 0.97, 0.98, 0.9875, 0.9925, 0.9965, 0.9985, 0.9995)
 FILLS = (0.9, 0.95, 0.98)
 CASE = 24  # units of juice and of cheese
+STORES = 3  # One store of so many is taken of orange juice.
 
 
 class Member(NamedTuple):
@@ -202,10 +203,11 @@ class Estimate(NamedTuple):
 
 
 def compared(
-    moving: Moving, ways: dict[str, list[Whole]], base: str
+    moving: Moving, ways: dict[str, list[Whole]], base: str, aiming: Collection[str]
 ) -> Iterable[dict[str, float | str]]:
-    """Yields a row for each way and each of `FILLS`: the fill that the way realizes if it aims at it, the stock that it
-    needs to realize it, and by how many percent that is more than another way needs."""
+    """Yields a row for each way and each of `FILLS`: the stock that it needs to realize that fill, by how many percent
+    that is more than another way needs, and of ways that are `aiming` at `NOMINAL` the fill that they realize if they
+    aim at it."""
     samples = samples_of(moving)
     curves = {name: Curve.of(moving, levels, samples) for name, levels in ways.items()}
     for wanted in FILLS:
@@ -223,7 +225,7 @@ def compared(
                 "more": more.value,
                 "more_error": more.error,
             }
-            if share is not None:
+            if share is not None and name in aiming:
                 realized = Estimate.of(100 * curve.fill[:, share])
                 row |= {"realized": realized.value, "realized_error": realized.error}
             yield row
@@ -275,11 +277,12 @@ def real_sets() -> dict[str, Moving]:
         ("cheese", "cheese", of_cheese, 39, 61, CASE, 26),
         ("juice", "juice", of_juice, 78, 108, CASE, 52),
         ("cases", "cases", of_cases, 104, 156, 1, 52),
-        ("measles", "measles", of_cases, 104, 156, 1, 52),
     )
     made = dict[str, Moving]()
     for name, of, names, record, periods, unit, window in sets:
         members = members_of(known.get(of, ()), names, record, periods, unit)
+        if names is of_juice:
+            members = tuple(one for one in members if int(one.cluster) % STORES == 0)
         if members:
             made[name] = Moving(name, members, record, 4, window)
     return made

@@ -4,8 +4,8 @@
     python -m planner.studies.moving cheese --jobs 4                             some sets alone
 
 Sets are real series, as far as packages of R are installed: cheese by chain and city and orange juice by store and
-brand, in cases of 24 units, and weekly cases of diseases. Nothing was tuned on them. `fair.py` says how ways are
-compared.
+brand, in cases of 24 units, and weekly cases of diseases; nothing was tuned on them. Beside them are made ones whose
+demand stands still, or has promotions (`made_moving.py`). `fair.py` says how ways are compared.
 
 - `item`: each item by itself, at one fill rate for all, by the law of its last periods.
 - `together`: all items by one price of what is not met at once, by the same laws.
@@ -29,7 +29,16 @@ from crnplan.plan.backtest.smoothing import smoothed_levels
 from crnplan.plan.how import ALL, Settings
 from crnplan.plan.question import Levels, Question, question_of
 from crnplan.read.item import Item
-from planner.studies.fair import NOMINAL, Member, Moving, compared, real_sets, walked
+from planner.studies.fair import (
+    LEAD,
+    NOMINAL,
+    Member,
+    Moving,
+    compared,
+    real_sets,
+    walked,
+)
+from planner.studies.made_moving import RECORD, made_set
 from planner.studies.page import markdown
 
 STORED = Path(__file__).with_name("moving.csv")
@@ -39,17 +48,17 @@ WIDE = 10  # Policies whose gap has so many cells keep it at all fill rates.
 PRICES = (1, 2, 4, 7, 12, 20, 35, 70, 150, 400, 1500)
 
 
-def item_of(member: Member, setup: float, fill: float = 0.95) -> Item:
+def item_of(member: Member, setup: float) -> Item:
     """Returns an item that is known by some counts: an order takes 2 periods, stock costs 1."""
     return Item(
         member.name,
         tuple(member.counts.tolist()),
-        (2,),
+        (LEAD,),
         None,
         Fraction(max(setup, 0.01)).limit_denominator(100),
         Fraction(1),
         None,
-        Fraction(fill).limit_denominator(10_000),
+        Fraction(19, 20),
     )
 
 
@@ -88,13 +97,16 @@ def by_price(member: Member, setup: float, prior: Prior | None) -> list[Levels]:
 def by_smoothing(member: Member, setup: float, prior: Prior | None) -> list[Levels]:
     """Returns what the rule of thumb has for each fill rate after the last period."""
     counts, policies = member.counts.tolist(), []
+    item = item_of(member, setup)
     for fill in NOMINAL:
-        item = item_of(member, setup, fill)
-        *_, last = smoothed_levels(item, [*counts, 0], 2, 0)
+        *_, last = smoothed_levels(item, fill, [*counts, 0], LEAD, 0)
         policies.append((max(1, last[0]), last[1]))
     return policies
 
 
+KINDS = ("flat, steady", "flat, erratic", "promotions")  # of made sets
+SMALL = "small"  # a set for a test, in no table
+AIMING = ("item", "smoothed")  # at a fill rate
 WAYS = {"item": by_item, "together": by_price, "smoothed": by_smoothing}
 
 
@@ -105,6 +117,22 @@ def prior_of(moving: Moving) -> Prior | None:
     return learn([member.counts[: moving.record] for member in moving.members])
 
 
+def small_set() -> Moving:
+    """Returns a few items of a made set, planned twice."""
+    whole = made_set(KINDS[1])
+    members = tuple(
+        member._replace(counts=member.counts[: RECORD + 8])
+        for member in whole.members[::12]
+    )
+    return Moving(SMALL, members, RECORD, 4, RECORD)
+
+
+def all_sets() -> dict[str, Moving]:
+    """Returns the real sets that are there, the made ones, and the small one."""
+    made = {kind: made_set(kind) for kind in KINDS}
+    return real_sets() | made | {SMALL: small_set()}
+
+
 def study(moving: Moving, jobs: int) -> Iterator[dict[str, Any]]:
     """Yields the rows of a set."""
     prior = prior_of(moving)
@@ -112,7 +140,7 @@ def study(moving: Moving, jobs: int) -> Iterator[dict[str, Any]]:
         name: walked(moving, partial(way, prior=prior), jobs)
         for name, way in WAYS.items()
     }
-    yield from compared(moving, levels, "item")
+    yield from compared(moving, levels, "item", AIMING)
 
 
 def shown(row: dict[str, Any]) -> str:
@@ -124,23 +152,31 @@ def shown(row: dict[str, Any]) -> str:
     return f"{row['more']:+.1f} ± {row['more_error']:.1f}"
 
 
+def aimed(row: dict[str, Any]) -> str:
+    """Returns what was realized by plans that aim at a fill, with its error."""
+    if np.isnan(row["realized"]):
+        return "-"
+    return f"{row['realized']:.1f} ± {row['realized_error']:.1f}"
+
+
 def tables() -> dict[str, str]:
-    """Returns the stored figures for the page."""
-    rows, lines = pd.read_csv(STORED).to_dict("records"), []
-    for row in rows:
-        if row["way"] == "item":
-            line = {
-                "set": row["set"],
-                "items": row["items"],
-                "fill": f"{row['fill']:.0%}",
-                "stock, periods": f"{row['stock']:.2f}",
-            }
-            lines.append(line)
-    for line in lines:
-        for row in rows:
-            if (row["set"], f"{row['fill']:.0%}") == (line["set"], line["fill"]):
-                if row["way"] != "item":
-                    line[f"{row['way']}, %"] = shown(row)
+    """Returns the stored figures for the page: a line for each set and fill."""
+    stored, lines = pd.read_csv(STORED), []
+    for (name, fill), rows in stored.groupby(["set", "fill"], sort=False):
+        by_way = {row["way"]: row for row in rows.to_dict("records")}
+        own = by_way["item"]
+        if name == SMALL:
+            continue
+        line = {
+            "set": name,
+            "items": own["items"],
+            "fill": f"{fill:.0%}",
+            "aimed at, item": aimed(own),
+            "stock, item": "-" if np.isnan(own["stock"]) else f"{own['stock']:.2f}",
+        }
+        for way in [*by_way][1:]:
+            line[f"{way}, %"] = shown(by_way[way])
+        lines.append(line)
     return {"moving": markdown(pd.DataFrame(lines))}
 
 
@@ -151,7 +187,7 @@ def tables() -> dict[str, str]:
 def main(sets: Sequence[str], jobs: int, out: Path | None) -> None:
     """Compare ways on the sets that are there, or on some of them."""
     rows = []
-    for name, moving in real_sets().items():
+    for name, moving in all_sets().items():
         if not sets or name in sets:
             rows += study(moving, jobs)
     table = pd.DataFrame(rows)

@@ -29,6 +29,7 @@ STUDIES = (
     "broken",
     "level_spread_tail",
     "correction",
+    "moving",
 )
 PLACE = re.compile(
     r"(?P<start><!-- (?P<name>[a-z-]+) -->\n).*?(?P<end><!-- end -->)", re.DOTALL

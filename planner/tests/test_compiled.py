@@ -8,6 +8,7 @@ import subprocess
 import sys
 import tempfile
 from collections.abc import Callable, Iterator
+from fractions import Fraction
 from pathlib import Path
 from types import ModuleType
 
@@ -16,6 +17,7 @@ import pytest
 
 from crnplan.store.caches import cache_folder
 from crnplan.compiled import compiled
+from planner.tests.conftest import heed_interrupts
 
 
 def loop(values: np.ndarray) -> float:
@@ -164,6 +166,36 @@ def test_the_first_call_of_a_loop_loads_numba() -> None:
     words = [sys.executable, "-c", LOADED]
     ran = subprocess.run(words, capture_output=True, text=True, check=True)
     assert ran.stdout.split() == ["False", "True"]
+
+
+INTERRUPTED = """
+import os, signal, sys
+import crnplan
+
+class Interrupting:
+    @staticmethod
+    def find_spec(name, path, target=None):
+        if name == "numba.core.typing":
+            sys.meta_path.remove(Interrupting)
+            os.kill(os.getpid(), signal.SIGINT)
+
+sys.meta_path.insert(0, Interrupting)
+counts = [0, 2, 1, 0, 3, 1, 0, 4, 2, 0, 1, 2]
+try:
+    crnplan.fit_demand(counts)
+except KeyboardInterrupt:
+    print(crnplan.fit_demand(counts).mean)
+"""
+
+
+def test_an_interrupt_does_not_break_off_the_loading_of_numba() -> None:
+    """It comes once numba is there as a whole."""
+    words = [sys.executable, "-c", INTERRUPTED]
+    ran = subprocess.run(
+        words, capture_output=True, text=True, preexec_fn=heed_interrupts
+    )
+    assert ran.stderr == ""
+    assert float(Fraction(ran.stdout.strip())) > 1
 
 
 @pytest.fixture

@@ -109,11 +109,12 @@ def test_a_way_beside_itself() -> None:
     levels = np.array([(4 + 3 * step, 8 + 3 * step) for step in range(11)])
     plain = walked(moving, lambda member, setup: levels.tolist())
     dear = [own + 12 for own in plain]
-    rows = [*compared(moving, {"plain": plain, "dear": dear}, "plain")]
+    rows = [*compared(moving, {"plain": plain, "dear": dear}, "plain", ["plain"])]
     assert {row["way"] for row in rows} == {"plain", "dear"}
     for row in rows:
         if row["way"] == "plain" and not np.isnan(float(row["more"])):
             assert (row["more"], row["more_error"]) == (0, 0)
+        assert ("realized" in row) == (row["way"] == "plain" and row["fill"] != 0.9)
 
 
 def test_names_of_series() -> None:

@@ -25,6 +25,7 @@ from planner.studies import (
     laws,
     laws_leads,
     level_spread_tail,
+    moving,
     page,
     search,
     season_plans,
@@ -164,6 +165,16 @@ def test_stored_figures(top: Path) -> None:
     several = table.loc[table["leads"].str.contains(" "), "excess"]
     assert suggestions.MOST_EXCESS == pytest.approx(several.max(), abs=0.051)
     assert table["excess"].min() > -1e-6
+
+
+def test_small_part_of_ways(top: Path) -> None:
+    """A few items of a made set need as much stock by each way as is stored."""
+    keys, table = ["way", "fill"], stored(top, "moving")
+    table = table[table["set"] == moving.SMALL].set_index(keys)
+    rows = pd.DataFrame(moving.study(moving.small_set(), 1)).set_index(keys)
+    for name in ("stock", "more", "realized"):
+        wanted = table.loc[rows.index, name].to_numpy()
+        assert rows[name].to_numpy() == pytest.approx(wanted, rel=1e-4, nan_ok=True)
 
 
 def test_no_row_is_missing(top: Path) -> None:

@@ -12,12 +12,14 @@ import functools
 import hashlib
 import importlib
 import os
+import sys
 from collections.abc import Callable, Iterator, Mapping
 from pathlib import Path
 from types import CodeType, FunctionType
 from typing import Any, TypeVar, cast
 
 from .store.caches import cache_folder, is_own
+from .store.interrupts import interrupted_later
 
 Loop = TypeVar("Loop", bound=Callable[..., Any])
 
@@ -40,6 +42,7 @@ class Compiled:
         It is kept in the folder that `NUMBA_CACHE_DIR` names, if that is the user's own, else in `cache_folder`, and
         nowhere if there is none.
         """
+        load_compiler()
         from numba import config, njit
 
         loop, stated = self.__wrapped__, config.CACHE_DIR
@@ -62,8 +65,11 @@ def compiled(loop: Loop) -> Loop:
 
 
 def load_compiler() -> None:
-    """Loads numba, so that processes which are forked from this one have it."""
-    importlib.import_module("numba")
+    """Loads numba, so that processes which are forked from this one have it. An interrupt would leave a part of it, with
+    which nothing goes on."""
+    if "numba" not in sys.modules:
+        with interrupted_later():
+            importlib.import_module("numba")
 
 
 def named(code: CodeType) -> Iterator[str]:
