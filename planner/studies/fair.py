@@ -75,14 +75,18 @@ def setup_of(mean: float) -> float:
 
 def levels_of(moving: Moving, plan: Plan, place: int) -> Whole:
     """Returns the levels of an item in each period from the end of the record on: periods, shares, s and S. A plan sees
-    the last periods alone."""
+    the last periods alone. Where nothing was asked for in these, the last levels stay; at first they are by the record.
+    """
     member, levels = moving.members[place], []
     setup = setup_of(moving.means[place])
     for period in range(moving.record, len(member.counts)):
         if (period - moving.record) % moving.every == 0:
             first = max(0, period - moving.window)
+            if not levels and not member.counts[first:period].any():
+                first = 0
             known = member._replace(counts=member.counts[first:period], first=first)
-            planned = np.array(plan(known, setup), int)
+            if known.counts.any():
+                planned = np.array(plan(known, setup), int)
         levels.append(planned)
     return np.array(levels)
 

@@ -75,6 +75,13 @@ def test_plans_are_made_again_and_see_no_later_period() -> None:
     assert levels[:, 0].tolist() == [[1, 10], [1, 10], [2, 10], [2, 10]]
 
 
+def test_levels_stay_where_nothing_is_asked_for() -> None:
+    """The first ones are then by the whole record."""
+    moving = Moving("made", moving_of([3, 0, 0, 0, 0, 0]).members, 3, 1, 2)
+    (levels,) = walked(moving, lambda member, setup: [(int(member.counts.sum()), 9)])
+    assert levels[:, 0].tolist() == [[3, 9]] * 3
+
+
 def test_items_of_a_cluster_are_drawn_together() -> None:
     weights = samples_of(moving_of([1, 1], [1, 1], [1, 1], [1, 1]))
     assert (weights[0] == 1).all()
