@@ -2,6 +2,7 @@
 
     python -m planner.studies.moving --jobs 4 --out planner/studies/moving.csv    what is stored
     python -m planner.studies.moving cheese --jobs 4                             some sets alone
+    python -m planner.studies.moving --small                                     a few items, in some seconds
 
 Sets are real series, as far as packages of R are installed: cheese by chain and city and orange juice by store and
 brand, in cases of 24 units, and weekly cases of diseases; nothing was tuned on them. Beside them are made ones whose
@@ -183,11 +184,13 @@ def tables() -> dict[str, str]:
 @click.command()
 @click.argument("sets", nargs=-1)
 @click.option("--jobs", type=click.IntRange(1), default=1, show_default=True)
+@click.option("--small", is_flag=True, help="Only a set for a test.")
 @click.option("--out", type=click.Path(dir_okay=False, path_type=Path))
-def main(sets: Sequence[str], jobs: int, out: Path | None) -> None:
+def main(sets: Sequence[str], jobs: int, small: bool, out: Path | None) -> None:
     """Compare ways on the sets that are there, or on some of them."""
+    taken = {SMALL: small_set()} if small else all_sets()
     rows = []
-    for name, moving in all_sets().items():
+    for name, moving in taken.items():
         if not sets or name in sets:
             rows += study(moving, jobs)
     table = pd.DataFrame(rows)

@@ -17,6 +17,7 @@ from typing import NamedTuple
 import numpy as np
 
 from ..chances import Floats
+from ..compiled import load_compiler
 from ..decide.sensitivity import changed_demand
 from ..store.digests import digest_of
 from ..errors import Refused
@@ -136,10 +137,7 @@ def keep_swings(
             swing_asked,
             (folder.settings,),
             batch=1,
-            # One item has this process load the compiled loops.
-            load=lambda: swing_asked(
-                folder.item(kept.lacking(drawn)[0][0]), folder.settings
-            ),
+            load=load_compiler,
         )
         work.finish(means.workers(), shown=means.shown)
 
