@@ -130,6 +130,15 @@ def test_sums_of_todays_policies_are_of_the_items_that_have_one() -> None:
     assert "today" not in Sums.of("", tests[1:]).unmet
 
 
+def test_demands_above_the_past() -> None:
+    """One that is as large as the largest before is not above it, nor is none at all; any is, with nothing before."""
+    ratios = (None, 0.0, 1.0, 1.01)
+    tests = [
+        made([0] * 4, [0] * 4, place, above=above) for place, above in enumerate(ratios)
+    ]
+    assert Sums.of("", tests).above == 2
+
+
 def test_demand_counts_in_units_of_the_item() -> None:
     """An item of a hundred times the demand weighs no more than another one."""
     small, large = made([1] * PERIODS, [2] * PERIODS, 0), made(

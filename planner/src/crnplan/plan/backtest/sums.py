@@ -265,7 +265,7 @@ class Sums:
         for test in tests:
             fill = test.kept.fill
             broken += fill is not None and (test.kept.promised_fill or 0) - fill > SLACK
-            above += (test.above or math.inf) > 1
+            above += test.above is None or test.above > 1
         return cls(
             group=group,
             items=len(tests),
