@@ -27,13 +27,14 @@ from .seasons import CALENDAR, YEARS, months_of
 
 MONTHS = 12
 FREQUENCIES = 2  # once and twice a year
-# The nominal level of the test of a class, which the study finds kept below 2%, and that of an item of its own.
+# The p value up to which the test sees a season of a class (the study finds at most 2% false alarms with it), and one of
+# an item of its own.
 FALSE_ALARMS, OWN_ALARMS = 0.01, 0.001
 OWN_YEARS = 3
 OWN_ASKED = 0.5  # Items with fewer periods with demand have no season of their own: it would be wild.
 LEAST_ITEMS = 10  # of a class: the study has no fewer
-# A season that varies less than a sine of 0.9 to 1.1, as a root mean square, is not worth levels of its own: one of 0.85
-# to 1.15 that is not planned costs at most 1% (planner/studies/dependence.py).
+# The least root mean square of a season that is planned: that of a sine from 0.9 to 1.1. One from 0.85 to 1.15 costs at
+# most 1% if it is not planned (planner/studies/dependence.py).
 LEAST_SWING = 0.07
 LEAST_INDEX = 0.2  # Lower ones would blow up what little is asked for then.
 FLAT: Floats = np.ones(MONTHS)

@@ -68,9 +68,8 @@ class Item:
     first period, `line` and `rows` are the line of the master and the rows of demand. `abc` is the class by the value
     of demand, empty without a price, and `category` the class that is shown: `group`, or `abc` if no item of the
     catalogue has a class. `status` is what the master says of it, perhaps empty, and `predecessor` the item whose demand
-    it takes, if it succeeds one.
-    catalogue has a class. `receipts` are the days that its received orders took, and `stated` those of its master, in the
-    mean, None if it states none.
+    it takes, if it succeeds one. `receipts` are the days that its received orders took, and `stated` those of its
+    master, in the mean, None if it states none.
     """
 
     name: str
