@@ -13,6 +13,7 @@ import sysconfig
 
 TOP = os.path.dirname(os.path.dirname(os.path.abspath(__file__)))
 REQUIREMENT = re.compile(r"([\w.-]+)>=([\d.]+)")
+VERSION = re.compile(r'^__version__ = "(.*)"', re.MULTILINE)
 # The folder of an environment, in its script `activate` and in the scripts of its packages.
 HOME = re.compile(r"^VIRTUAL_ENV=[\"']?(/.*?)[\"']?$|(/.*?)/bin/python", re.MULTILINE)
 
@@ -20,6 +21,12 @@ HOME = re.compile(r"^VIRTUAL_ENV=[\"']?(/.*?)[\"']?$|(/.*?)/bin/python", re.MULT
 def requirements(texts):
     """Returns the least version of each library that some requirements name."""
     return dict(REQUIREMENT.match(re.sub(r"[ ()]", "", it)).groups() for it in texts)
+
+
+def version_of_crnplan():
+    """Returns the version of crnplan in this checkout."""
+    with open(f"{TOP}/planner/src/crnplan/__init__.py", encoding="utf-8") as file:
+        return VERSION.search(file.read())[1]
 
 
 def is_less(version, least):
@@ -84,11 +91,11 @@ def installed_otherwise(project, asked):
         it.name: it.value for it in found.entry_points if it.group == "console_scripts"
     }
     if (found.version, scripts, requirements(found.requires or [])) != (
-        project["version"],
+        version_of_crnplan(),
         project["scripts"],
         asked,
     ):
-        return "planner/pyproject.toml has changed"
+        return "what planner/pyproject.toml declares has changed"
     broken = [it for it in scripts if not is_of_here(it)]
     return f".venv/bin/{broken[0]} is missing or of another place" if broken else None
 

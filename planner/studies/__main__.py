@@ -23,11 +23,16 @@ WITH_JOBS = (
     "cut_sales",
     "borrowing",
     "doubt",
+    "seasons",
+    "season_real",
+    "by_commands",
     "walk_forward",
     "broken",
     "level_spread_tail",
     "correction",
+    "costs",
     "moving",
+    "promotions",
 )
 PRINTED = ("long_run",)  # its table is a text
 SEVERAL = ("borrowing", "walk_forward")  # they write more than one file, into a folder

@@ -3,8 +3,7 @@
     python -m planner.studies.correction --out planner/studies/correction.csv    what is stored, in half an hour
     python -m planner.studies.correction "steady 1, 52" rides                             some sets alone
 
-Sets are real series, as far as packages of R are installed, and made ones. Long series are cut into several sets by
-time; of sets with more than 100 series every fifth is taken. A way learns from the first part of each record alone at
+`correction_sets.py` says which sets there are. A way learns from the first part of each record alone at
 which fill rate to aim: that at which the items of a set have met the wanted one. It is judged on the periods after it.
 
 - `none`: aims at the wanted fill rate.
@@ -35,7 +34,6 @@ from typing import Any, NamedTuple
 import click
 import numpy as np
 import pandas as pd
-from scipy.signal import lfilter
 
 from crnplan.chances import Floats
 from crnplan.demand.learning import LEAST_ON_REQUEST, Prior, learn
@@ -49,14 +47,14 @@ from crnplan.plan.how import ALL, NONE, Settings
 from crnplan.plan.question import Levels, question_of
 from crnplan.read.item import Item
 from planner.studies.page import markdown
-from planner.studies.real_series import Series, real_series
-from planner.studies.walk_forward import COVER, HOLDING, LEAD, MADE, MANY, STRIDE
+from planner.studies.correction_sets import LEAST_ITEMS, SMALL, Catalogue, catalogues
+from planner.studies.real_series import Series
+from planner.studies.walk_forward import COVER, HOLDING, LEAD
 
 STORED = Path(__file__).with_name("correction.csv")
 WANTED = (0.95, 0.98)
 EVERY, WINDOW = 13, 52
 BLOCKS = "blocks"
-LEAST_ITEMS = 10
 GROUPS = {  # of sets: made ones and `cases`, on which the way was chosen, others that change, and epidemics
     "chosen on": ("steady", "promotions", "shifts", "cases"),
     "unseen": ("juice", "cheese", "homes", "prescriptions", "rides"),
@@ -64,7 +62,6 @@ GROUPS = {  # of sets: made ones and `cases`, on which the way was chosen, other
 }
 TAKEN = "blocks class"
 SHOWN = ("none all", "half all", "blocks all", TAKEN, "walk class", "hindsight all")
-SMALL = "small"  # a set for a test, in no table
 Part = tuple[int, int]  # the first period, and the one after the last
 
 
@@ -93,15 +90,6 @@ class Tested(NamedTuple):
     mean: float
     trials: dict[str, Trial]
     judged: dict[str, Runs]
-
-
-class Catalogue(NamedTuple):
-    """A set: its series, how many periods the record has, and after which one the last one ends."""
-
-    name: str
-    series: Sequence[Series]
-    record: int
-    stop: int
 
 
 def half(record: int) -> list[Pass]:
@@ -348,94 +336,6 @@ def rows_of(catalogue: Catalogue, tests: Sequence[Tested]) -> Iterator[dict[str,
                     "by_hand": done.stock
                     / np.interp(done.fill, fills, [one.stock for one in curve]),
                 }
-
-
-def _shifts(random: np.random.Generator, periods: int) -> Floats:
-    """Draws demand whose level changes by chance, once in 40 periods, by a factor whose logarithm deviates by 0.5."""
-    changes = np.where(
-        random.random(periods) < 1 / 40, random.normal(0, 0.5, periods), 0.0
-    )
-    mean = np.exp(random.uniform(np.log(1), np.log(30)) + np.cumsum(changes))
-    return random.negative_binomial(3, 3 / (3 + mean))
-
-
-def _outbreaks(random: np.random.Generator, periods: int) -> Floats:
-    """Draws demand with an outbreak once in 30 periods, which then falls by a quarter in each period."""
-    starts = np.where(
-        random.random(periods) < 1 / 30, random.exponential(8, periods), 0.0
-    )
-    level = lfilter([1], [1, -0.75], starts)
-    return random.negative_binomial(
-        3, 3 / (3 + np.exp(random.uniform(np.log(0.5), np.log(15))) * (1 + level))
-    )
-
-
-KINDS = {
-    "steady": MADE["steady"],
-    "promotions": MADE["promotions"],
-    "shifts": _shifts,
-    "outbreaks": _outbreaks,
-}
-
-
-def made(
-    kind: str, number: int, record: int, items: int = 40, later: int = 52
-) -> Catalogue:
-    """Returns a made set."""
-    random = np.random.default_rng([[*KINDS].index(kind), number, record])
-    return Catalogue(
-        f"{kind} {number}, {record}",
-        [
-            Series(
-                f"{kind} {place}", tuple(KINDS[kind](random, record + later).tolist())
-            )
-            for place in range(items)
-        ],
-        record,
-        record + later,
-    )
-
-
-def cut(
-    name: str, series: Sequence[Series], record: int, later: int, step: int
-) -> Iterator[Catalogue]:
-    """Yields sets that begin after so many periods each, as long as ten series last."""
-    lengths = sorted((len(one.counts) for one in series), reverse=True)
-    last = lengths[min(LEAST_ITEMS, len(lengths)) - 1]
-    for number, start in enumerate(range(0, last - record - later + 1, step), 1):
-        taken = [
-            one._replace(counts=one.counts[start:])
-            for one in series
-            if len(one.counts) >= start + record + later
-        ]
-        yield Catalogue(f"{name} {number}, {record}", taken, record, record + later)
-
-
-# The record, the later periods, and after how many periods the next set of the same series begins.
-CUTS = {
-    "cheese": [(39, 22, 99)],
-    "juice": [(52, 44, 99)],
-    "prescriptions": [(13, 10, 99)],
-    "homes": [(52, 52, 60)],
-    **dict.fromkeys(
-        ("cases", "flu", "measles", "rides"), [(52, 52, 260), (104, 52, 260)]
-    ),
-}
-
-
-def catalogues(is_small: bool = False) -> Iterator[Catalogue]:
-    """Yields the small set, and all others unless that is to be all."""
-    yield made("shifts", 9, 26, 12, 26)._replace(name=SMALL)
-    if is_small:
-        return
-    for number in (1, 2):
-        yield from (
-            made(kind, number, record) for kind in KINDS for record in (52, 104)
-        )
-    for name, series in real_series().items():
-        taken = series[::STRIDE] if len(series) > MANY else series
-        for record, later, step in CUTS.get(name, ()):
-            yield from cut(name, taken, record, later, step)
 
 
 def kind_of(name: str) -> str:

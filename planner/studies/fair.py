@@ -47,14 +47,16 @@ class Member(NamedTuple):
 
 @dataclass(frozen=True)
 class Moving:
-    """A set of items: how many periods are their record, after how many more they are planned again, and how many of
-    the last periods a plan sees."""
+    """A set of items: how many periods are their record, after how many more they are planned again, how many of the
+    last periods a plan sees, and whether its groups are classes that a planner knows.
+    """
 
     name: str
     members: tuple[Member, ...]
     record: int
     every: int
     window: int
+    has_classes: bool = False
 
     @cached_property
     def means(self) -> Floats:
@@ -274,6 +276,11 @@ def of_cases(name: str) -> tuple[str, str]:
     return data, data
 
 
+def of_itself(name: str) -> tuple[str, str]:
+    """Returns the name of a series twice: each is a cluster of its own."""
+    return name, name
+
+
 def real_sets() -> dict[str, Moving]:
     """Returns the real sets whose packages of R are installed."""
     known = real_series()
@@ -281,6 +288,7 @@ def real_sets() -> dict[str, Moving]:
         ("cheese", "cheese", of_cheese, 39, 61, CASE, 26),
         ("juice", "juice", of_juice, 78, 108, CASE, 52),
         ("cases", "cases", of_cases, 104, 156, 1, 52),
+        ("homes", "homes", of_itself, 104, 168, 1, 52),
     )
     made = dict[str, Moving]()
     for name, of, names, record, periods, unit, window in sets:

@@ -26,7 +26,8 @@ import pandas as pd
 from crnplan.demand.fitting import fit_demand
 from crnplan.demand.posterior import allowed_laws
 from crnplan.law import Law
-from crnplan.scenario import Costs, Policy, Scenario
+from crnplan.policies import Policy
+from crnplan.scenario import Costs, Scenario
 from crnplan.theory.lattice import theories_of
 from crnplan.chances import Floats
 from crnplan.theory.long_run import Candidate, LongRun

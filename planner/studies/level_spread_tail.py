@@ -81,7 +81,7 @@ def on_lattice(points: Floats, chances: Floats, mean: float) -> Law:
     law = np.zeros(low.max() + 2)
     np.add.at(law, low, chances * (1 - points + low))
     np.add.at(law, low + 1, chances * (points - low))
-    return Law.of_chances(law)
+    return Law.of_chances(law / law.sum())
 
 
 def swapped(law: FittedLaw, parts: str, ratios: Ratios) -> Law:

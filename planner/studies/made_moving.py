@@ -54,6 +54,13 @@ def shifts(group: int, own: np.random.Generator, shared: np.random.Generator) ->
     return np.asarray(np.exp(np.cumsum(steps)))
 
 
+def mixed(group: int, own: np.random.Generator, shared: np.random.Generator) -> Floats:
+    """Returns a level that stands still, or jumps as that of `shifts`, of every other item."""
+    if own.random() < 0.5:
+        return flat(group, own, shared)
+    return shifts(group, own, shared)
+
+
 def promotions(
     group: int, own: np.random.Generator, shared: np.random.Generator
 ) -> Floats:
@@ -69,6 +76,7 @@ KINDS: dict[str, tuple[Level, bool]] = {
     "trend": (trend, True),
     "shifts": (shifts, True),
     "promotions": (promotions, True),
+    "mixed": (mixed, True),
 }
 
 
@@ -85,4 +93,4 @@ def made_set(kind: str, seed: int = 1) -> Moving:
             counts = own.negative_binomial(size, size / (size + means))
             name, label = f"{kind} {group}-{number}", f"class {group}"
             members.append(Member(name, name, label, counts))
-    return Moving(kind, tuple(members), RECORD, EVERY, WINDOW)
+    return Moving(kind, tuple(members), RECORD, EVERY, WINDOW, has_classes=True)

@@ -5,16 +5,23 @@
     python -m planner.studies.moving --small                                     a few items, in some seconds
 
 Sets are real series, as far as packages of R are installed: cheese by chain and city and orange juice by store and
-brand, in cases of 24 units, and weekly cases of diseases; nothing was tuned on them. Beside them are made ones whose
-demand stands still, or has promotions (`made_moving.py`). `fair.py` says how ways are compared.
+brand, in cases of 24 units, weekly cases of diseases, and homes by city and month; nothing was tuned on them. Beside them are made ones whose demand stands still, moves, or has promotions
+(`made_moving.py`). `fair.py` says how ways are compared.
 
 - `item`: each item by itself, at one fill rate for all, by the law of its last periods.
 - `together`: all items by one price of what is not met at once, by the same laws.
 - `smoothed`: exponential smoothing of mean and error with a normal safety stock, each item by itself.
+- `mean`: the mean of the levels of `together` and `smoothed`, of a price and a fill rate at the same place.
+- `followed`: as `together`, by the law of the last periods at their level, as `crnplan catalogue --follow auto` has it. The
+  weight of the smoothed level is that of the class by the records; `half` and `wholly` have a fixed one.
+- `damped trend`: as `followed`, with a trend in the smoothed level that fades (Gardner and McKenzie, Forecasting trends
+  in time series, 1985).
 """
 from __future__ import annotations
 
-from collections.abc import Iterator, Sequence
+from collections import defaultdict
+from collections.abc import Iterator, Mapping, Sequence
+from dataclasses import replace
 from fractions import Fraction
 from functools import partial
 from pathlib import Path
@@ -24,8 +31,20 @@ import click
 import numpy as np
 import pandas as pd
 
+from crnplan.chances import Whole
 from crnplan.theory.every_gap import best_policies
 from crnplan.demand.learning import Prior, learn
+from crnplan.demand.fitted import FittedLaw
+from crnplan.demand.level import (
+    AHEAD,
+    FIRST,
+    LEAST_FACTOR,
+    MOST_FACTOR,
+    SMOOTHING,
+    Moves,
+    factor_of,
+    weight_of,
+)
 from crnplan.plan.backtest.smoothing import smoothed_levels
 from crnplan.plan.how import ALL, Settings
 from crnplan.plan.question import Levels, Question, question_of
@@ -44,6 +63,10 @@ from planner.studies.page import markdown
 
 STORED = Path(__file__).with_name("moving.csv")
 LEAST_LEARNED = 100  # items from which others learn, as a catalogue does
+DAMPING, SLOPE = (
+    0.95,
+    0.1,
+)  # of a trend: what is left of it a period later, and the share of errors that it takes
 WIDE = 10  # Policies whose gap has so many cells keep it at all fill rates.
 # What an item that is not met at once costs beside a period of it in stock: from low service to high.
 PRICES = (1, 2, 4, 7, 12, 20, 35, 70, 150, 400, 1500)
@@ -69,9 +92,8 @@ def question(member: Member, setup: float, prior: Prior | None) -> Question:
     return question_of(item_of(member, setup), Settings(borrow=borrow), prior)
 
 
-def by_item(member: Member, setup: float, prior: Prior | None) -> list[Levels]:
+def by_fill(asked: Question) -> list[Levels]:
     """Returns the cheapest policy for each fill rate."""
-    asked = question(member, setup, prior)
     theory, box = asked.theory.free, asked.item.box
     middle = theory.best(0.98)
     gap = theory.gap_of(*middle.levels)
@@ -83,10 +105,9 @@ def by_item(member: Member, setup: float, prior: Prior | None) -> list[Levels]:
     return [(box * max(1, policy.point), box * max(1, policy.level)) for policy in best]
 
 
-def by_price(member: Member, setup: float, prior: Prior | None) -> list[Levels]:
+def by_price(asked: Question) -> list[Levels]:
     """Returns the best policy for each price."""
-    asked = question(member, setup, prior)
-    theory, box = asked.theory, asked.item.box
+    theory, box, setup = asked.theory, asked.item.box, float(asked.item.setup)
     costs = np.array(
         [[setup] * len(PRICES), [box] * len(PRICES), np.multiply(box, PRICES)]
     )
@@ -95,20 +116,72 @@ def by_price(member: Member, setup: float, prior: Prior | None) -> list[Levels]:
     return [(box * int(s), box * int(S)) for s, S in pairs]
 
 
-def by_smoothing(member: Member, setup: float, prior: Prior | None) -> list[Levels]:
+def by_smoothing(asked: Question) -> list[Levels]:
     """Returns what the rule of thumb has for each fill rate after the last period."""
-    counts, policies = member.counts.tolist(), []
-    item = item_of(member, setup)
+    policies = list[Levels]()
     for fill in NOMINAL:
-        *_, last = smoothed_levels(item, fill, [*counts, 0], LEAD, 0)
+        counts = [*asked.item.counts, 0]
+        *_, last = smoothed_levels(asked.item, fill, counts, LEAD, 0)
         policies.append((max(1, last[0]), last[1]))
     return policies
 
 
-KINDS = ("flat, steady", "flat, erratic", "promotions")  # of made sets
+def damped(counts: Sequence[int]) -> float:
+    """Returns the mean of the next periods by a damped trend: the level with a slope, which grows less and less."""
+    level, slope = float(np.mean(counts[:FIRST])), 0.0
+    for count in counts[FIRST:]:
+        error = count - level - DAMPING * slope
+        level += DAMPING * slope + SMOOTHING * error
+        slope = DAMPING * slope + SMOOTHING * SLOPE * error
+    powers = np.cumsum(DAMPING ** np.arange(1, AHEAD + 1))
+    return max(0.0, level + slope * float(powers.mean()))
+
+
+def by_level(asked: Question, factor: float) -> list[Levels]:
+    """Returns the best policy for each price by the law of the record so many times."""
+    law, known = asked.demand.times(factor), asked.demand
+    moved = FittedLaw.made(law, known.family, known.diagnostics, known.box)
+    return by_price(replace(asked, demand=moved))
+
+
+def by_all(
+    member: Member, setup: float, prior: Prior | None, weights: Mapping[str, float]
+) -> list[Levels]:
+    """Returns the policies of all ways of `PLANNED`, one after the other, with the weight of each class."""
+    asked = question(member, setup, prior)
+    counts, weight = asked.item.counts, weights.get(member.group, weights.get("", 0.0))
+    slope = weight * (damped(counts) / np.mean(counts) - 1)
+    known = by_price(asked)
+    policies = by_fill(asked) + known + by_smoothing(asked)
+    for factor in (
+        factor_of(counts, weight),
+        factor_of(counts, 0.5),
+        factor_of(counts, 1.0),
+        min(max(1 + slope, LEAST_FACTOR), MOST_FACTOR),
+    ):
+        policies += known if factor == 1 else by_level(asked, factor)
+    return policies
+
+
+KINDS = (  # of made sets
+    *("flat, steady", "flat, erratic", "promotions", "shifts", "mixed", "trend"),
+    *("season, steady", "season, erratic"),
+)
 SMALL = "small"  # a set for a test, in no table
 AIMING = ("item", "smoothed")  # at a fill rate
-WAYS = {"item": by_item, "together": by_price, "smoothed": by_smoothing}
+MOVED = ("followed", "followed by half", "followed wholly", "damped trend")
+PLANNED = ("item", "together", "smoothed", *MOVED)
+# Beside which way others are compared.
+BESIDE = {"item": ("item", "together", "smoothed"), "together": ("mean", *MOVED)}
+
+
+def weights_of(moving: Moving) -> dict[str, float]:
+    """Returns what the records of a set say of the weight of each class, or under an empty name of all items."""
+    groups = defaultdict[str, list[Moves]](list)
+    for member in moving.members:
+        name = member.group if moving.has_classes else ""
+        groups[name].append(Moves.of(member.counts[: moving.record].tolist()))
+    return {name: weight_of(moves) for name, moves in groups.items()}
 
 
 def prior_of(moving: Moving) -> Prior | None:
@@ -136,12 +209,21 @@ def all_sets() -> dict[str, Moving]:
 
 def study(moving: Moving, jobs: int) -> Iterator[dict[str, Any]]:
     """Yields the rows of a set."""
-    prior = prior_of(moving)
-    levels = {
-        name: walked(moving, partial(way, prior=prior), jobs)
-        for name, way in WAYS.items()
-    }
-    yield from compared(moving, levels, "item", AIMING)
+    weights = weights_of(moving)
+    plan = partial(by_all, prior=prior_of(moving), weights=weights)
+    every = walked(moving, plan, jobs)
+    levels = dict[str, list[Whole]]()
+    for place, name in enumerate(PLANNED):
+        part = slice(place * len(NOMINAL), (place + 1) * len(NOMINAL))
+        levels[name] = [own[:, part] for own in every]
+    pairs = zip(levels["together"], levels["smoothed"])
+    levels["mean"] = [np.rint((one + other) / 2).astype(int) for one, other in pairs]
+    weight = float(np.mean([*weights.values()]))
+    for base, names in BESIDE.items():
+        ways = {name: levels[name] for name in (base, *names)}
+        for row in compared(moving, ways, base, AIMING):
+            if row["way"] in names:
+                yield {**row, "beside": base, "weight": weight}
 
 
 def shown(row: dict[str, Any]) -> str:
@@ -162,23 +244,28 @@ def aimed(row: dict[str, Any]) -> str:
 
 def tables() -> dict[str, str]:
     """Returns the stored figures for the page: a line for each set and fill."""
-    stored, lines = pd.read_csv(STORED), []
+    stored = pd.read_csv(STORED)
+    lines, moved = list[dict[str, Any]](), list[dict[str, Any]]()
     for (name, fill), rows in stored.groupby(["set", "fill"], sort=False):
         by_way = {row["way"]: row for row in rows.to_dict("records")}
         own = by_way["item"]
         if name == SMALL:
             continue
-        line = {
-            "set": name,
-            "items": own["items"],
-            "fill": f"{fill:.0%}",
+        line = {"set": name, "items": own["items"], "fill": f"{fill:.0%}"}
+        stock = {
             "aimed at, item": aimed(own),
             "stock, item": "-" if np.isnan(own["stock"]) else f"{own['stock']:.2f}",
         }
-        for way in [*by_way][1:]:
-            line[f"{way}, %"] = shown(by_way[way])
-        lines.append(line)
-    return {"moving": markdown(pd.DataFrame(lines))}
+        ways = {f"{way}, %": shown(by_way[way]) for way in BESIDE["item"][1:]}
+        lines.append(line | stock | ways)
+        if BESIDE["together"][0] in by_way:
+            known = {"weight": f"{own['weight']:.2f}"}
+            ways = {f"{way}, %": shown(by_way[way]) for way in BESIDE["together"]}
+            moved.append(line | known | ways)
+    return {
+        "moving": markdown(pd.DataFrame(lines)),
+        "followed": markdown(pd.DataFrame(moved)),
+    }
 
 
 @click.command()

@@ -28,7 +28,8 @@ from crnplan import formats
 from crnplan.crnsim.program import find_program, run_all
 from crnplan.crnsim.report import joined, parts_of, rows_of
 from crnplan.law import Law
-from crnplan.scenario import Scenario, key_words
+from crnplan.changing import key_words
+from crnplan.scenario import Scenario
 from crnplan.toml.scenarios import plain_text
 
 Words = npt.NDArray[np.uint64]

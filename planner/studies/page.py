@@ -20,16 +20,23 @@ STUDIES = (
     "dependence",
     "fills",
     "cut_sales",
+    "stated_laws",
     "search",
+    "reviews",
     "borrowing",
     "doubt",
     "seasons",
     "season_plans",
+    "season_year",
+    "season_real",
+    "by_commands",
     "walk_forward",
     "broken",
     "level_spread_tail",
     "correction",
+    "costs",
     "moving",
+    "promotions",
 )
 PLACE = re.compile(
     r"(?P<start><!-- (?P<name>[a-z-]+) -->\n).*?(?P<end><!-- end -->)", re.DOTALL

@@ -1,7 +1,7 @@
 """Measures the seasons of classes: how often the test sees one that is not there, one that is, and how far off it is.
 
-    python -m planner.studies.seasons --out planner/studies/seasons.csv    all, in about ten minutes
-    python -m planner.studies.seasons --small                              a small part, in some seconds
+    python -m planner.studies.seasons --jobs 4 --out planner/studies/seasons.csv    all, in some minutes
+    python -m planner.studies.seasons --small                                       a small part, in some seconds
 
 A class has 10 or 60 items with a record of 2, 3 or 4 years of weeks. Means are lognormal, with 6 in the median and a
 deviation of 1 of the logarithm; demand is negative binomial with a size of 3. Kinds of demand:
@@ -22,6 +22,7 @@ from __future__ import annotations
 
 import math
 from collections.abc import Iterable
+from concurrent.futures import ProcessPoolExecutor
 from datetime import date
 from pathlib import Path
 from typing import Any
@@ -53,7 +54,7 @@ KINDS = (
 )
 OF_SEASONS = ("independent", "lumpy", "common shocks")  # of which power is measured
 YEARS, ITEMS = (2, 3, 4), (10, 60)
-CLASSES = {"none": 2000, "mild": 400, "strong": 400}
+CLASSES = {"none": 1000, "mild": 200, "strong": 200}
 FIGURES = ("seen", "own", "error")
 CASES = [
     (kind, season, years, items)
@@ -140,10 +141,12 @@ def case(kind: str, season: str, years: int, items: int, count: int) -> dict[str
 
 
 def study(
-    cases: Iterable[tuple[str, str, int, int]], count: int | None = None
+    cases: Iterable[tuple[str, str, int, int]], count: int | None = None, jobs: int = 1
 ) -> pd.DataFrame:
     """Returns a row for each case, of so many classes, or of as many as are stored."""
-    return pd.DataFrame([case(*words, count or CLASSES[words[1]]) for words in cases])
+    words = [(*own, count or CLASSES[own[1]]) for own in cases]
+    with ProcessPoolExecutor(jobs) as pool:
+        return pd.DataFrame([*pool.map(case, *zip(*words))])
 
 
 def table_of(rows: pd.DataFrame) -> pd.DataFrame:
@@ -183,14 +186,15 @@ def tables() -> dict[str, str]:
 
 @click.command()
 @click.option("--small", is_flag=True, help="Run a small part.")
+@click.option("--jobs", type=click.IntRange(1), default=1, show_default=True)
 @click.option(
     "--out",
     type=click.Path(dir_okay=False, path_type=Path),
     help="Write the rows as CSV.",
 )
-def main(small: bool, out: Path | None) -> None:
+def main(small: bool, jobs: int, out: Path | None) -> None:
     """Measure the test and the index of the seasons of classes."""
-    rows = study(SMALL, 100) if small else study(CASES)
+    rows = study(SMALL, 100) if small else study(CASES, jobs=jobs)
     if out:
         rows.to_csv(out, index=False, float_format="%.4f")
     click.echo(rows.round(3).to_string(index=False))

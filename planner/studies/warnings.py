@@ -31,7 +31,7 @@ import numpy as np
 import numpy.typing as npt
 import pandas as pd
 
-from crnplan.demand.checks import FALSE_ALARMS, Facts, tests_of
+from crnplan.demand.order_tests import FALSE_ALARMS, Facts, tests_of
 from crnplan.demand.outliers import outliers_of
 from crnplan.demand.seasons import seasons_of
 from crnplan.demand.permutation import ROUNDING, Orders

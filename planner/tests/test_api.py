@@ -17,11 +17,13 @@ import click
 import numpy
 import pandas as pd
 import pytest
+from matplotlib.axes import Axes
 from matplotlib.figure import Figure
 
 import crnplan as crn
 from crnplan import catalogues
-from crnplan.api import PlanWords, TodayWords
+from crnplan.given import PlanWords
+from crnplan.planned import TodayWords
 from crnplan.cli import COMMANDS, Spelling, group
 from crnplan.table import Result
 from planner.tests.conftest import Command, HEAVY, cases_beside, heavy_of
@@ -95,7 +97,9 @@ def names_of_types() -> dict[str, object]:
     """Returns the names in annotations that modules import for checks of types alone."""
     names: dict[str, object] = {
         "Floats": numpy.ndarray,
+        "Whole": numpy.ndarray,
         "Figure": Figure,
+        "Axes": Axes,
         "pd": pd,
         "np": numpy,
         "Client": object,
@@ -166,15 +170,10 @@ def test_spelling(command: str, name: str, spelt: str) -> None:
 def test_words_of_a_call(few: list[pd.DataFrame]) -> None:
     """Words of reading and planning are shown with their defaults, and one that is misspelt is refused by its name."""
     words = inspect.signature(crn.plan).parameters
-    assert (words["level"].default, words["every"].default, words["sales"].default) == (
-        0.95,
-        "week",
-        inspect._empty,
-    )
-    assert words.keys() - inspect.signature(crn.read_catalogue).parameters.keys() >= {
-        "level",
-        "seed",
-    }
+    defaults = [words[name].default for name in ("season", "every", "sales")]
+    assert defaults == ["auto", "week", inspect.Parameter.empty]
+    others = inspect.signature(crn.read_catalogue).parameters
+    assert words.keys() - others.keys() >= {"season", "seed"}
     with pytest.raises(
         TypeError, match=r"^plan\(\) got an unexpected keyword argument 'levle'"
     ):
@@ -208,7 +207,7 @@ def test_from_a_history_to_a_decision(tmp_path: Path, program: Path) -> None:
     assert list(theory["policy"])[:2] == ["today", "best"]
     assert list(report.frame.index) == list(theory["policy"])
     assert report._repr_html_().count("<tr>") == len(theory) + 1
-    assert report._repr_html_().endswith("</table>\n")
+    assert report._repr_html_().endswith("<p>and 1 more column, in frame</p>\n")
     assert isinstance(report.frame.loc["best", "per_period"], Fraction)
     assert isinstance(int(report.frame.loc["best", "total"]), int)
     assert set(decision.index) == set(theory["policy"])
@@ -315,7 +314,7 @@ def test_decisions_are_typed(plan: crn.Plan) -> None:
 
 @pytest.mark.parametrize("name", ["plan", "item", "doubt", "compare", "moves", "curve"])
 def test_each_result_shows_itself_in_the_same_way(name: str, plan: crn.Plan) -> None:
-    """Each has a frame, a text, and a table for a notebook with a heading for each column."""
+    """Each has a frame, a text, and a table for a notebook with a heading for each of at most eight columns."""
     item = plan.item("K-102")
     result = {
         "plan": lambda: plan,
@@ -328,7 +327,7 @@ def test_each_result_shows_itself_in_the_same_way(name: str, plan: crn.Plan) -> 
     assert isinstance(result, Result)
     assert len(result.frame) > 1
     assert result.text.count("\n") > 5
-    assert result._repr_html_().count("<th ") == len(result.table.names)
+    assert result._repr_html_().count("<th ") == min(8, len(result.table.names))
 
 
 def test_items_and_curve_of_a_plan(
@@ -354,7 +353,7 @@ def test_items_and_curve_of_a_plan(
 @pytest.mark.parametrize(
     "words, message",
     [
-        ({"level": 2}, "level=2 is not between 0 and 1"),
+        ({"level": 2}, "level: 2 may be 2% or 2 as a share; write 2% or 0.02"),
         ({"fit": "best"}, "fit"),
         ({"masters": None}, "masters is missing"),
         ({"borrow": "some"}, "borrow"),

@@ -19,7 +19,9 @@ from crnplan import errors, formats
 from crnplan.demand.fitting import fit_demand
 from crnplan.errors import ProgramError, Refused, ScenarioError
 from crnplan.law import Law
-from crnplan.scenario import Costs, Policy, Scenario, policies_of, read_policies
+from crnplan.named_policies import read_policies
+from crnplan.policies import Policy, policies_of
+from crnplan.scenario import Costs, Scenario
 from crnplan.toml import scenarios
 from crnplan.toml.scenarios import faults_of
 from planner.tests.conftest import Command, cases_beside
@@ -194,7 +196,7 @@ def test_wrong_changes(
     "law, what",
     [
         ("x", "entry 1"),
-        ({1: 0.5}, "weight of 1"),
+        ({1: "0.5"}, "weight of 1"),
         ({0.5: 1}, "value"),
         ([2, 1.5], "entry 2"),
         (np.array([True]), "entry 1"),

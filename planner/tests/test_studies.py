@@ -11,13 +11,17 @@ import numpy as np
 import pandas as pd
 import pytest
 
+from crnplan.crnsim.periods import Past, periods_of
 from crnplan.decide.doubt import HELD
 from crnplan.demand.fitted import DOUBT
 from crnplan.demand.losses import STUDIED, losses
+from crnplan.plan.seasons import Seasons
 from crnplan.theory import suggestions
 from planner.studies import (
+    costs,
     __main__,
     borrowing,
+    by_commands,
     cut_sales,
     dependence,
     doubt,
@@ -27,11 +31,18 @@ from planner.studies import (
     level_spread_tail,
     moving,
     page,
+    reviews,
+    promotions,
     search,
     season_plans,
+    season_real,
+    season_year,
     seasons,
+    sold_shops,
+    stated_laws,
     warnings,
 )
+from planner.studies.fair import NOMINAL, Member, Moving
 
 
 def stored(top: Path, name: str) -> pd.DataFrame:
@@ -86,6 +97,17 @@ SMALL = {
         4,
         "season demand weeks wanted way",
     ),
+    "reviews": (lambda: reviews.study(**reviews.SMALL), 2, "law leads review way"),
+    "costs": (
+        lambda: pd.DataFrame(costs.study(*costs.catalogues(True))),
+        4,
+        "set policy backlog",
+    ),
+    "season_year": (
+        lambda: season_year.study(season_year.SMALL),
+        1,
+        "season demand lead wanted",
+    ),
     "dependence": (
         lambda: dependence.study(
             dependence.SMALL, dependence.SMALL_PATHS, dependence.SMALL_CYCLES
@@ -95,6 +117,8 @@ SMALL = {
     ),
 }
 FIGURES = {
+    "costs": costs.FIGURES,
+    "reviews": reviews.FIGURES,
     "cut_sales": cut_sales.FIGURES,
     "laws": laws.FIGURES,
     "laws_leads": ["regret", "gain"],
@@ -104,6 +128,7 @@ FIGURES = {
     "doubt": doubt.FIGURES,
     "seasons": seasons.FIGURES,
     "season_plans": season_plans.FIGURES,
+    "season_year": season_year.FIGURES,
     "dependence": ["regret", "promise"],
 }
 
@@ -177,6 +202,60 @@ def test_small_part_of_ways(top: Path) -> None:
         assert rows[name].to_numpy() == pytest.approx(wanted, rel=1e-4, nan_ok=True)
 
 
+def test_stated_laws(top: Path) -> None:
+    """A small part has a row for each way, and the true law needs no more than itself. As stored, the law of quantiles that
+    is kept is no further off than the other one, and sums of paths keep more of a promise than periods taken apart.
+    """
+    rows = stated_laws.study(
+        *(stated_laws.SMALL, stated_laws.MEANS[:1], stated_laws.LEADS[:2], (0.0,))
+    ).set_index("way")
+    assert len(rows) == 2 + 4 + 2 and rows.loc["known", "more"] == 0
+    assert rows.loc["moments", "off"] < 0.5
+    table = stored(top, "stated_laws").set_index(["part", "way"])
+    for count in stated_laws.SHARES:
+        kept, other = (
+            table.loc["quantiles", f"{way} {count}"] for way in ("between", "nearest")
+        )
+        assert kept["off"] < other["off"] and kept["more"] < other["more"]
+    for rho in stated_laws.RHOS[1:]:
+        apart, together = (
+            table.loc[f"paths {rho:g}", way] for way in ("apart", "together")
+        )
+        assert together["off"] < apart["off"] / 2
+        assert together["more"] < 2 * together["more_error"]
+
+
+def test_small_part_of_promotions(top: Path) -> None:
+    """A few classes see their season as often as is stored, and their indices are as far off."""
+    rows = pd.DataFrame(promotions.index_rows(promotions.SMALL[0], 4))
+    rows[["seen_error", "off_error"]] += 0.01
+    table = stored(top, "promotions").query("part == 'index'")
+    keys = ["season", "promotions", "demand", "weeks", "left_out"]
+    table = table.astype({"weeks": int})
+    compare(rows, table, keys, ["seen", "off"])
+
+
+def test_ways_with_promotions() -> None:
+    """Planned once, a season without promoted weeks needs less stock than with them. By hand, the law of an item that has
+    seen no high week has those of another one, of 12 beside a median of 4, in a part of its weeks.
+    """
+    rows = pd.DataFrame(promotions.stock_rows(("season", "class", "steady"), 1, 108))
+    more = rows[rows["fill"] == 0.95].set_index("way")["more"]
+    assert more["nothing"] == 0 and more["marked"] < 0 and more["found"] < 0
+    counts = np.tile([2, 4], 20)
+    high = np.where(np.arange(40) % 10 == 0, 12, counts)
+    members = [Member(name, name, "", own) for name, own in zip("AB", (counts, high))]
+    pooled, alone = promotions.PooledTail(members=members), promotions.Alone()
+    part = 26 * (4 / 80) / (26 + 40)
+    own, mixed = (way.question(members[0], 5.0).demand for way in (alone, pooled))
+    wanted = (1 - part) * float(own.mean) + part * 3 * 3
+    assert float(mixed.mean) == pytest.approx(wanted, abs=1e-3)
+    assert (
+        pooled.question(members[1], 5.0).demand
+        == alone.question(members[1], 5.0).demand
+    )
+
+
 def test_no_row_is_missing(top: Path) -> None:
     table = stored(top, "laws")
     assert {*table["law"]} == {*laws.LAWS}
@@ -201,6 +280,85 @@ def test_stored_seasons(top: Path) -> None:
     assert len(table) == 2 * len(season_plans.CASES)
     assert (table.query("season == 'strong'")["at_equal_fill"] < 0.9).all()
     assert (table.query("season == 'none'")["at_equal_fill"] - 1).abs().max() < 0.02
+    table = stored(top, "season_year")
+    assert len(table) == len(season_year.CASES)
+    missed, is_strong = table["promised"] - table["fill"], table["season"] == "strong"
+    assert missed[is_strong].abs().max() < 0.006 and missed.max() < 0.02
+
+
+def test_levels_of_a_shop() -> None:
+    """What levels of each week come to is what the periods of a past do, with what customers give back."""
+    shop = by_commands.made_shop("mixed", 8)
+    record, random = shop.record, np.random.default_rng(3)
+    low = random.integers(5, 60, (8, by_commands.LATER))
+    levels = np.stack([low, low + random.integers(1, 50, low.shape)], axis=2)
+    met = by_commands.met_by(shop, levels.astype(float))
+    assert shop.returned.any()
+    for item in range(8):
+        asked, back = shop.counts[item, record:], shop.returned[item, record:]
+        leads = [int(shop.leads[item])] * by_commands.LATER
+        pairs = [(int(s), int(S)) for s, S in levels[item]]
+        past = Past(asked.tolist(), back.tolist(), leads)
+        periods = periods_of(past, pairs, round(sum(pairs[0]) / 2))
+        assert met["unmet"][item].tolist() == [period.unmet for period in periods]
+        assert met["stock"][item].tolist() == [max(it.stock, 0) for it in periods]
+        assert met["owed"][item].tolist() == [max(-it.stock, 0) for it in periods]
+        assert (met["orders"][item] > 0).tolist() == [it.ordered > 0 for it in periods]
+
+
+def test_small_part_by_commands(top: Path) -> None:
+    """A few items that are planned twice meet about what is wanted; what is stored is of whole makes, and of some ways of
+    more shops."""
+    (row,) = by_commands.study(by_commands.small_cases(), 1).to_dict("records")
+    assert (row["make"], row["items"]) == ("flat", by_commands.SMALL_ITEMS)
+    assert row["fill"] > 90 and row["low"] <= row["fill"] and row["beside"] == 0
+    table = stored(top, "by_commands")
+    ways = [
+        (way, share) for way, its in by_commands.WAYS.items() for share in its.shares
+    ]
+    for make, rows in table.groupby("make"):
+        known = [*zip(rows["seed"], rows["way"], rows["wanted"].fillna(""))]
+        cases = [(1, *way) for way in ways]
+        if make in by_commands.SEVERAL:
+            cases = [it[2:5] for it in by_commands.cases_of(str(make))]
+        assert known == cases
+
+
+def test_shop_of_sales(monkeypatch: pytest.MonkeyPatch) -> None:
+    """A shop of a real set sells what that has week by week, and of each item for as much."""
+    counts = np.random.default_rng(1).poisson([[3.0], [40.0]], (2, 61))
+    members = tuple(
+        Member(name, name, "chain", own) for name, own in zip(("a", "b"), counts)
+    )
+    made = {"cheese": Moving("cheese", members, 39, 4, 26)}
+    monkeypatch.setattr(sold_shops, "sets", lambda: made)
+    shop = by_commands.shop_of("cheese", 2, 1)
+    sold = shop.sales.pivot(index="article", columns="date", values="quantity")
+    assert (sold.to_numpy() == counts).all() and shop.record == 39
+    worth = counts[:, :39].mean(axis=1) * shop.prices
+    assert worth == pytest.approx([sold_shops.WORTH] * 2, rel=0.01)
+
+
+def test_small_part_of_real_seasons(top: Path) -> None:
+    """Plans by month of an item with a season have levels for each period; what is stored saves stock everywhere."""
+    shop = by_commands.made_shop("garden", 30)
+    members = tuple(
+        Member(name, name, group, counts[: 156 + 8])
+        for name, group, counts in zip(
+            shop.masters["article"], shop.groups, shop.counts
+        )
+    )
+    moving = Moving("garden", members, 156, 4, 156)
+    known = season_real.SeasonSet(moving, "week", by_commands.START)
+    seasons = [Seasons.of("week", known.items(periods)) for periods in known.plans]
+    assert len(seasons) == 2 and "plants" in seasons[0].classes
+    levels = season_real.levels_of(known, seasons, 0)
+    flat = season_real.levels_of(known, [None] * 2, 0)
+    assert levels.shape == flat.shape == (8, len(NOMINAL), 2)
+    assert (levels[0] < flat[0]).any() and known.part(2).moving.members == members[:2]
+    table = stored(top, "season_real").query("way == 'monthly'")
+    assert (table["more"].dropna() < 0).all()
+    assert {*table["set"]} == {"homes", "rides", "counts"}
 
 
 def test_stored_figures_of_dependence(top: Path) -> None:

@@ -9,7 +9,15 @@ from tests.runs import TOP
 
 PAGES = [
     it.relative_to(TOP).as_posix()
-    for folder in ("", "docs", "crates/uses", "examples", "examples/case", "tests")
+    for folder in (
+        "",
+        "docs",
+        "crates/uses",
+        "examples",
+        "examples/case",
+        "planner",
+        "tests",
+    )
     for it in sorted((TOP / folder).glob("*.md"))
 ]
 FENCE = re.compile(r"^```(\w*)\n(.*?)^```$", re.MULTILINE | re.DOTALL)

@@ -54,6 +54,7 @@ NOT_PRINTED = {
 # Blocks of other kinds, and what is done with them.
 OTHER_KINDS = {
     "toml": "they are compared with the examples",
+    "py": "test_python.py runs it",
     "cpp": "not run, as it needs the headers of Random123",
     "text": "what the prover prints, and an edit",
     "rust": "code of a change",

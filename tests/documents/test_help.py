@@ -9,6 +9,7 @@ import click
 import pytest
 from click.testing import CliRunner
 from crnplan.cli import COMMANDS, group
+from crnplan.store.caches import cache_folders
 
 from tests.runs import TOP
 
@@ -55,6 +56,14 @@ def test_help_of_all_commands() -> None:
     shown = CliRunner().invoke(group, ["--help"], prog_name="crnplan").output
     assert re.findall(r"^  ([a-z]+)  +[A-Z]", shown, re.MULTILINE) == list(COMMANDS)
     assert words_of(example_of(shown))[1] in COMMANDS
+
+
+def test_help_names_the_folder_that_stays(monkeypatch: pytest.MonkeyPatch) -> None:
+    """It is the user's folder for caches, which no removal of the package touches."""
+    monkeypatch.delenv("XDG_CACHE_HOME", raising=False)
+    shown = CliRunner().invoke(group, ["--help"], prog_name="crnplan").output
+    (folder,) = re.findall(r"^  Files:\n    (\S+)  ", shown, re.MULTILINE)
+    assert Path(folder).expanduser() == cache_folders()[0]
 
 
 def test_modules_are_commands() -> None:

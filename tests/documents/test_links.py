@@ -74,7 +74,12 @@ def test_words() -> None:
 
 def test_no_page_is_left_out() -> None:
     """Each page of the folders of the core is counted, but for those in which one looks things up."""
-    looked_up = {"CHANGELOG.md", "docs/TABLES.md", "examples/case/README.md"}
+    looked_up = {
+        "CHANGELOG.md",
+        "docs/TABLES.md",
+        "examples/case/README.md",
+        "planner/README.md",
+    }
     assert sorted({*PAGES, "crates/uses/README.md"} - looked_up) == sorted(READ)
 
 
@@ -106,3 +111,23 @@ def test_words_of_the_guide() -> None:
         )
         assert len(section.split()) <= 400
     assert words_of("docs/GUIDE.md") <= 4_850
+
+
+def packed() -> tuple[str, ...]:
+    """Returns the pages and folders that `tools/packing.py` packs, as they stand here and where they are installed."""
+    text = text_of("tools/packing.py")
+    (names,) = re.findall(r"^DOCUMENTS = \[(.*)\]$", text, re.MULTILINE)
+    return tuple(re.findall(r'"([^"]+)"', names))
+
+
+@pytest.mark.parametrize("page", [it for it in PAGES if it.startswith(packed())])
+def test_links_of_packed_pages(page: str, check_all: Any) -> None:
+    """A page that is packed leads to what else is, so that its links work where it is installed."""
+    assert {"docs/GUIDE.md", "examples"} <= {*packed()}
+    folder = os.path.dirname(page)
+
+    def is_packed(link: str) -> bool:
+        path = link.partition("#")[0]
+        return not path or os.path.normpath(f"{folder}/{path}").startswith(packed())
+
+    check_all([("itself", True), *((it, is_packed(it)) for it in links_of(page))])

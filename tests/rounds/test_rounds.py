@@ -571,7 +571,7 @@ def test_edits_that_a_test_must_see(tested: Path, check_all: CheckAll) -> None:
     """Each edit is seen, or fails as it must; so do the last line and the status."""
     wanted = {edit: part for edit, (_, part) in TESTED.items()}
     status, lines = run_tool(
-        tested, "--tested", "--builder", tested / "builder", "--limit", "3"
+        tested, "--tested", "--builder", tested / "builder", "--limit", "20"
     )
 
     def cases() -> Iterator[Case]:

@@ -27,6 +27,8 @@ tail -n +2 "$HOME/$part"
 exit "$status"
 """
 PART = 'part={}; echo "$part: $*" >>"$LOG"' + SAYS
+# Waits until another part has begun, but not for ever.
+BEHIND = 'for _ in $(seq 400); do grep -q "^{}:" "$LOG" && break; sleep 0.05; done'
 # What each part says if all is well, and how it counts.
 WELL = {
     "setup": "tools/setup: all is there",
@@ -90,12 +92,10 @@ def test_output_and_times_of_each_part_are_shown(machine: Machine) -> None:
 def test_types_run_beside_the_proofs_and_the_suites_beside_the_rounds(
     machine: Machine,
 ) -> None:
-    changed(
-        machine.top / ".venv" / "bin" / "python", "part=types", "part=types; sleep 0.5"
-    )
-    write_script(
-        machine.top / "tools" / "rounds.py", "sleep 0.5\n" + PART.format("rounds")
-    )
+    python = machine.top / ".venv" / "bin" / "python"
+    changed(python, "part=types", "part=types; " + BEHIND.format("proofs"))
+    rounds = BEHIND.format("lines") + "\n" + PART.format("rounds")
+    write_script(machine.top / "tools" / "rounds.py", rounds)
     gate(machine)
     began = [it.split(":")[0] for it in machine.logged()]
     assert began == [

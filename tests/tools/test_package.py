@@ -5,8 +5,10 @@ import gzip
 import hashlib
 import re
 import shutil
+import signal
 import subprocess
 import sys
+import zipfile
 from pathlib import Path
 
 import pytest
@@ -19,6 +21,7 @@ AUTHOR = "A Planner <a.planner@example.org>"
 MOMENT, VERSION = "2000000000 +0900", "0.1.0+20330518033320"
 COPIED = [
     "tools/package",
+    "tools/packing.py",
     "tools/installing.py",
     "tools/manual.py",
     "tools/environment.py",
@@ -93,86 +96,213 @@ def made(machine: Machine, end: str, out: str = "dist") -> Path:
     return path
 
 
-def where(machine: Machine, folder: Path) -> list[str]:
-    """Returns what `crnplan where` prints of a package in a folder, on a machine with another crnsim on PATH."""
-    machine.fake("crnsim", "exit 9")
-    ran = machine.run(
-        sys.executable,
-        "-m",
-        "crnplan",
-        "where",
-        PYTHONPATH=str(folder),
-        PYTHONDONTWRITEBYTECODE="1",
-    )
-    assert (ran.returncode, ran.stderr) == (0, "")
-    return ran.stdout.splitlines()
-
-
-def told(machine: Machine, program: Path, inside: Path) -> list[str]:
-    """Returns what `crnplan where` has to print of a package whose program is at a path."""
+def told(machine: Machine, inside: Path, pages: Path) -> list[str]:
+    """Returns what `crnplan where` has to print of a package with the program at one path, and its pages at another."""
     return [
-        f"crnplan 0.1.0, built from commit {git(machine, 'rev-parse', 'HEAD').strip()}",
+        f"crnplan {VERSION}, built from commit {git(machine, 'rev-parse', 'HEAD').strip()}",
+        f"pages and examples: {pages}",
         f"{inside} (the one inside crnplan)",
-        f"sha256 {hashlib.sha256(program.read_bytes()).hexdigest()} (built with this crnplan)",
+        f"sha256 {hashlib.sha256(inside.read_bytes()).hexdigest()} (built with this crnplan)",
         "its report on a small scenario is right",
     ]
 
 
-def test_wheel_brings_the_program(
-    packed: Machine, program: Path, tmp_path: Path
+def check_commands(
+    machine: Machine, commands: Path, inside: Path, pages: Path, room: Path, **more: str
 ) -> None:
-    """pip takes the wheel, whose platform is that of the program, and crnplan finds the program in it."""
+    """Both commands of an installed package run: `where` finds all that came with it, though another crnsim is on PATH,
+    and an item of the examples is planned."""
+    machine.fake("crnsim", "exit 9")
+
+    def printed(command: str, *words: str | Path, text: str = "") -> str:
+        ran = machine.run(commands / command, *words, text=text, **more)
+        assert (ran.returncode, ran.stderr) == (0, ""), ran.stderr
+        return ran.stdout
+
+    assert printed("crnplan", "--version") == f"crnplan {VERSION}\n"
+    assert printed("crnplan", "where").splitlines() == told(machine, inside, pages)
+    examples = pages / "examples"
+    assert printed(
+        "crnsim", text=(examples / "two_policies.toml").read_text("utf-8")
+    ) == (examples / "two_policies.csv").read_text("utf-8")
+    case = examples / "case/history.csv", examples / "case/settings.toml"
+    assert printed("crnplan", "item", *case, "--out", room / "plan").startswith(
+        "Below 12, order up to 31: cheaper than today's policy (15, 30)\n"
+    )
+    assert "Below 12" in (room / "plan/summary.html").read_text("utf-8")
+
+
+def files_below(folder: Path) -> set[str]:
+    """Returns the paths of all files and folders below a folder."""
+    return {str(it.relative_to(folder)) for it in folder.rglob("*")}
+
+
+def test_wheel_in_a_bare_environment(packed: Machine, tmp_path: Path) -> None:
+    """pip takes the wheel with the libraries of the system, both commands run, and pip removes all of it."""
+    home = tmp_path / "home"
+    assert (
+        packed.run(
+            sys.executable,
+            *("-I", "-m", "venv", "--system-site-packages", "--without-pip"),
+            home,
+        ).returncode
+        == 0
+    )
+    before, python = files_below(home), home / "bin/python"
+    pip = [str(python), "-I", "-m", "pip", "--isolated", "--disable-pip-version-check"]
+    ran = packed.run(*pip, "install", "-q", "--no-index", made(packed, ".whl"))
+    assert (ran.returncode, ran.stdout) == (0, "")
+    (package,) = home.glob("lib/python3*/site-packages/crnplan")
+    inside = package / "crnsim/bin/crnsim"
+    check_commands(packed, home / "bin", inside, package / "share/doc/crnsim", tmp_path)
+    assert packed.run(*pip, "uninstall", "-q", "-y", "crnplan").returncode == 0
+    assert files_below(home) == before
+
+
+def test_status_and_signals_of_the_command(packed: Machine, tmp_path: Path) -> None:
+    """The command crnsim of pip is the program: with its words, its status, and the signals that Python ignores."""
+    with zipfile.ZipFile(made(packed, ".whl")) as wheel:
+        wheel.extractall(tmp_path)
+    write_script(
+        tmp_path / "crnplan/crnsim/bin/crnsim",
+        """printf '%s|' "$@"; cat; grep SigIgn /proc/$$/status; exit 7""",
+    )
+    command = "import sys; from crnplan.crnsim.command import main; sys.exit(main())"
+    ran = packed.run(
+        *(sys.executable, "-c", command, "leg", "a_b"),
+        text="all\n",
+        PYTHONPATH=str(tmp_path),
+    )
+    assert (ran.returncode, ran.stderr) == (7, "")
+    line, _, ignored = ran.stdout.replace("\n", " ").split()
+    kept = {signal.SIGPIPE, signal.SIGXFSZ}
+    assert line == "leg|a_b|all"
+    assert not any(int(ignored, 16) >> number - 1 & 1 for number in kept)
+
+
+def test_wheel_is_of_its_platform(packed: Machine, program: Path) -> None:
+    """It names the platform of the program, which it has once and stripped, and its own page."""
     symbols = subprocess.run(
         ["objdump", "-T", program], capture_output=True, text=True, check=True
     ).stdout
     needed = max(
         tuple(map(int, it)) for it in re.findall(r"GLIBC_(\d+)\.(\d+)", symbols)
     )
-    wheel, home = made(packed, ".whl"), tmp_path / "home"
-    assert (
-        wheel.name
-        == f"crnplan-{VERSION}-py3-none-manylinux_{needed[0]}_{needed[1]}_x86_64.whl"
+    path, tag = (
+        made(packed, ".whl"),
+        f"py3-none-manylinux_{needed[0]}_{needed[1]}_x86_64",
     )
-    pip = [
-        sys.executable,
-        "-I",
-        "-m",
-        "pip",
-        "install",
-        "-q",
-        "--no-deps",
-        "--no-index",
-        "--no-compile",
-        "--target",
-    ]
-    assert packed.run(*pip, home, wheel).returncode == 0
-    assert where(packed, home) == told(
-        packed, program, home / "crnplan/crnsim/bin/crnsim"
-    )
-    assert (home / "bin/crnsim").read_bytes() == program.read_bytes()
+    assert path.name == f"crnplan-{VERSION}-{tag}.whl"
+    with zipfile.ZipFile(path) as wheel:
+        texts = {it: wheel.read(it) for it in wheel.namelist()}
+    about = f"crnplan-{VERSION}.dist-info"
+    assert f"Root-Is-Purelib: false\nTag: {tag}\n" in texts[f"{about}/WHEEL"].decode()
+    named, page = texts[f"{about}/METADATA"].decode().split("\n\n", 1)
+    for line in ("Requires-Python: >=3.11", "Description-Content-Type: text/markdown"):
+        assert f"\n{line}\n" in f"{named}\n"
+    assert page.strip() == (packed.top / "planner/README.md").read_text("utf-8").strip()
+    programs = [name for name, text in texts.items() if text.startswith(b"\x7fELF")]
+    assert programs == ["crnplan/crnsim/bin/crnsim"]
 
 
-def test_debian_package_brings_the_program(
-    packed: Machine, program: Path, tmp_path: Path
-) -> None:
-    """crnplan finds the command crnsim, to which a link leads."""
+def code_of(program: Path, room: Path) -> bytes:
+    """Returns the code and the constants of a program."""
+    words = ["objcopy", "-O", "binary", "-j", ".text", "-j", ".rodata"]
+    subprocess.run([*words, program, room / "code"], check=True)
+    return (room / "code").read_bytes()
+
+
+def test_program_is_stripped(packed: Machine, program: Path, tmp_path: Path) -> None:
+    """Both files have the same program: the code of the tested one, without its symbols."""
+    with zipfile.ZipFile(made(packed, ".whl")) as wheel:
+        inside = Path(wheel.extract("crnplan/crnsim/bin/crnsim", tmp_path))
     assert packed.run("dpkg-deb", "-x", made(packed, ".deb"), tmp_path).returncode == 0
-    home = tmp_path / "usr/lib/python3/dist-packages"
-    inside = home / "crnplan/crnsim/bin/crnsim"
-    assert where(packed, home) == told(packed, program, inside)
+    assert (tmp_path / "usr/bin/crnsim").read_bytes() == inside.read_bytes()
+    assert packed.run("nm", program).stdout != "" == packed.run("nm", inside).stdout
+    assert code_of(inside, tmp_path) == code_of(program, tmp_path)
+
+
+@pytest.fixture
+def root(tmp_path: Path, packed: Machine) -> Path:
+    """Returns a bare root of Debian: of the packages that the made one depends on, it knows but the versions of this
+    machine. What py3compile and py3clean do, fakes do below the root."""
+    folder = tmp_path / "root"
+    for name in ("info", "updates", "triggers"):
+        (folder / "var/lib/dpkg" / name).mkdir(parents=True)
+    fields = packed.run("dpkg-deb", "-f", made(packed, ".deb"), "Depends").stdout
+    stanza = "Package: ${Package}\nStatus: install ok installed\nVersion: ${Version}\n"
+    stanza += "Architecture: ${Architecture}\nMaintainer: x\nDescription: x\n\n"
+    status = packed.run(
+        "dpkg-query", "-W", "-f", stanza, *re.findall(r"(?:^|, )([\w-]+)", fields)
+    )
+    (folder / "var/lib/dpkg/status").write_text(status.stdout, "utf-8")
+    for name in re.findall(r"Package: (.*)", status.stdout):
+        (folder / f"var/lib/dpkg/info/{name}.list").touch()
+    below = '"$DPKG_ROOT/usr/lib/python3/dist-packages"'
+    written = 'echo "$(basename "$0") $*" >> "$LOG"'
+    packed.fake("py3compile", f"{written}; {sys.executable} -m compileall -q {below}")
+    packed.fake("py3clean", f"{written}; /usr/bin/py3clean {below}")
+    return folder
+
+
+def dpkg(machine: Machine, root: Path, *words: str | Path) -> str:
+    """Runs dpkg on a root, as any user, and returns what it prints."""
+    how = ["not-root", "script-chrootless", "unsafe-io", "bad-path"]
+    ran = machine.run("dpkg", f"--root={root}", f"--force-{','.join(how)}", *words)
+    assert (ran.returncode, ran.stderr) == (0, "")
+    return ran.stdout
+
+
+def test_debian_package_in_a_bare_root(
+    packed: Machine, root: Path, tmp_path: Path
+) -> None:
+    """dpkg takes the package, both commands run, and a purge leaves nothing."""
+    before = files_below(root)
+    dpkg(packed, root, "--install", made(packed, ".deb"))
+    assert dpkg(packed, root, "--verify", "crnsim") == ""
+    home = root / "usr/lib/python3/dist-packages"
+    assert (home / "crnplan/__pycache__").is_dir()
+    inside, pages = home / "crnplan/crnsim/bin/crnsim", root / "usr/share/doc/crnsim"
+    assert inside.resolve() == root / "usr/bin/crnsim"
+    check_commands(
+        packed, root / "usr/bin", inside, pages, tmp_path, PYTHONPATH=str(home)
+    )
+    dpkg(packed, root, "--purge", "crnsim")
+    assert {it for it in files_below(root) - before if "lib/dpkg" not in it} == set()
+    assert packed.logged() == ["py3compile -p crnsim", "py3clean -p crnsim"]
+
+
+# What lintian says of the package, each with the reason for which it stays.
+KNOWN = {
+    "I: crnsim: hardening-no-fortify-functions [usr/bin/crnsim]": "no function of C is compiled into the program",
+}
+
+
+def test_lintian_has_nothing_to_say(packed: Machine) -> None:
+    words = ["--allow-root", "--display-info", "--pedantic", "--tag-display-limit", "0"]
+    ran = packed.run("lintian", *words, made(packed, ".deb"))
+    assert (ran.returncode, ran.stderr) == (0, "")
+    assert set(ran.stdout.splitlines()) == set(KNOWN)
+
+
+def test_pages_of_the_debian_package(packed: Machine, tmp_path: Path) -> None:
+    """It says that no licence is given, of which commit it is and when that was made."""
+    assert packed.run("dpkg-deb", "-x", made(packed, ".deb"), tmp_path).returncode == 0
+    about = tmp_path / "usr/share/doc/crnsim"
+    licence = (about / "copyright").read_text("utf-8")
+    assert f"Copyright 2033 {AUTHOR}\n" in licence
+    assert "No licence is given yet" in licence
     assert (
-        inside.resolve() == tmp_path / "usr/bin/crnsim"
-        and inside.resolve().read_bytes() == program.read_bytes()
+        gzip.decompress((about / "changelog.gz").read_bytes()).decode()
+        == f"""crnsim ({VERSION}) unstable; urgency=medium
+
+  * Pack commit {git(packed, 'rev-parse', 'HEAD').strip()}.
+
+ -- {AUTHOR}  Wed, 18 May 2033 03:33:20 +0000
+"""
     )
-    assert (
-        packed.run(
-            tmp_path / "usr/bin/crnplan", "--version", PYTHONPATH=str(home)
-        ).stdout
-        == "crnplan 0.1.0\n"
-    )
-    assert b".TH CRNSIM 1 2033-05-18 " in gzip.decompress(
-        (tmp_path / "usr/share/man/man1/crnsim.1.gz").read_bytes()
-    )
+    page = tmp_path / "usr/share/man/man1/crnsim.1.gz"
+    assert b".TH CRNSIM 1 2033-05-18 " in gzip.decompress(page.read_bytes())
 
 
 def test_files_of_the_debian_package(packed: Machine) -> None:
@@ -193,14 +323,16 @@ def test_files_of_the_debian_package(packed: Machine) -> None:
     }
     infos = {
         f"{home}/crnplan-{VERSION}.dist-info/{it}"
-        for it in ("METADATA", "entry_points.txt", "top_level.txt")
+        for it in ("METADATA", "entry_points.txt")
     }
-    built = {f"{home}/crnplan/crnsim/{it}" for it in ("built.toml", "bin/crnsim")}
-    assert set(modes) == wanted | infos | built | BESIDE
-    assert {name for name, mode in modes.items() if mode != "-rw-r--r--"} == {
-        "bin/crnsim",
-        "bin/crnplan",
-        f"{home}/crnplan/crnsim/bin/crnsim",
+    links = {f"{home}/crnplan/{it}" for it in ("crnsim/bin/crnsim", "share/doc/crnsim")}
+    built = {f"{home}/crnplan/crnsim/built.toml", *links}
+    about = {f"share/doc/crnsim/{it}" for it in ("changelog.gz", "copyright")}
+    assert set(modes) == wanted | infos | built | about | BESIDE
+    assert {name: mode for name, mode in modes.items() if mode != "-rw-r--r--"} == {
+        "bin/crnsim": "-rwxr-xr-x",
+        "bin/crnplan": "-rwxr-xr-x",
+        **dict.fromkeys(links, "lrwxrwxrwx"),
     }
     assert {row and row[2] for row in rows} == {"root/root"}
 
@@ -220,6 +352,22 @@ def test_debian_package_depends_on_the_libraries(packed: Machine, top: Path) -> 
         f"Maintainer: {AUTHOR}",
     ):
         assert f"{line}\n" in fields
+
+
+@pytest.mark.parametrize("status", [0, 1])
+def test_fresh_machine_gets_python_first(
+    machine: Machine, top: Path, status: int
+) -> None:
+    """Without Python the machine is set up first. If that fails, its status is that of tools/package."""
+    machine.copy(top, "tools/package")
+    for name in ("bash", "dirname", "readlink"):
+        machine.fake(name, f'exec /bin/{name} "$@"')
+    write_script(machine.folder / "python3", 'echo "$@"')
+    bring = f'/bin/cp "{machine.folder}/python3" "{machine.folder}/bin/"'
+    write_script(machine.top / "tools/setup", f"{bring}; exit {status}")
+    ran = machine.run("tools/package", "--out", "x y", PATH=f"{machine.folder}/bin")
+    said = f"{machine.top}/tools/packing.py --out x y\n" if status == 0 else ""
+    assert (ran.returncode, ran.stdout, ran.stderr) == (status, said, "")
 
 
 def test_same_commit_makes_the_same_bytes(packed: Machine, program: Path) -> None:

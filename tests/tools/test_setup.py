@@ -13,7 +13,7 @@ import pytest
 from .machine import Machine, Ran, changed, write_script
 
 COPIED = ["tools/setup", "tools/environment.py", "tools/debian-packages.txt", "planner"]
-PROJECT = "planner/pyproject.toml"
+PROJECT, VERSION = "planner/pyproject.toml", "planner/src/crnplan/__init__.py"
 ALL_THERE = "tools/setup: all is there\n"
 DONE = "tools/setup: done\n"
 MAKING = "tools/setup: making .venv from /usr/bin/python3 and its libraries, since {}\n"
@@ -38,6 +38,7 @@ COMMANDS = [
     "mandoc",
     "git",
     "dpkg-deb",
+    "lintian",
 ]
 BASICS = [
     "awk",
@@ -224,7 +225,7 @@ def test_without_debian_missing_commands_are_named(machine: Machine) -> None:
     assert ran.stderr == (
         "tools/setup: these commands are missing (with Debian's packages that bring them): "
         "chromium (chromium), chromedriver (chromium-driver), pdftotext (poppler-utils), nm "
-        "(binutils), valgrind (valgrind), git (git), dpkg-deb (dpkg)\n"
+        "(binutils), valgrind (valgrind), git (git), dpkg-deb (dpkg), lintian (lintian)\n"
         f"tools/setup: .venv has to be made, since there is none: {PIP}\n"
     )
     assert not (machine.top / ".venv").exists()
@@ -249,7 +250,7 @@ def of_another_folder(top: Path) -> None:
 
 # What makes .venv stale: a change of the copy, and what tools/environment.py says of it.
 NO_COMMAND = "install .venv/bin/crnplan is missing or of another place"
-HAS_CHANGED = f"install {PROJECT} has changed"
+HAS_CHANGED = f"install what {PROJECT} declares has changed"
 STALE: dict[str, tuple[Callable[[Path], object], str]] = {
     "no command": (lambda it: (it / ".venv/bin/crnplan").unlink(), NO_COMMAND),
     "a command of elsewhere": (
@@ -257,7 +258,7 @@ STALE: dict[str, tuple[Callable[[Path], object], str]] = {
         NO_COMMAND,
     ),
     "another version": (
-        lambda it: changed(it / PROJECT, 'version = "0', 'version = "9'),
+        lambda it: changed(it / VERSION, '__version__ = "0', '__version__ = "9'),
         HAS_CHANGED,
     ),
     "another requirement": (

@@ -20,7 +20,8 @@ if TYPE_CHECKING:
         Refused as Refused,
         ScenarioError as ScenarioError,
     )
-    from .scenario import Costs as Costs, Policy as Policy, Scenario as Scenario
+    from .policies import Policy as Policy
+    from .scenario import Costs as Costs, Scenario as Scenario
     from .law import Law as Law
     from .crnsim.report import Report as Report
     from .crnsim.program import find_program as find_program
@@ -39,9 +40,9 @@ if TYPE_CHECKING:
     from .decide.sensitivity import sensitivity as sensitivity
     from .crnsim.sweep import sweep as sweep
     from .crnsim.trajectory import trajectories as trajectories
+    from .planned import Plan as Plan, PlannedItem as PlannedItem
+    from .given import Reading as Reading, Settings as Settings
     from .api import (
-        Plan as Plan,
-        PlannedItem as PlannedItem,
         open_plan as open_plan,
         plan as plan,
         plan_item as plan_item,
@@ -62,7 +63,8 @@ _NAMES = {
         "Refused",
         "ScenarioError",
     ),
-    "scenario": ("Costs", "Policy", "Scenario"),
+    "policies": ("Policy",),
+    "scenario": ("Costs", "Scenario"),
     "law": ("Law",),
     "crnsim.report": ("Report",),
     "crnsim.program": ("find_program",),
@@ -77,7 +79,9 @@ _NAMES = {
     "decide.sensitivity": ("sensitivity",),
     "crnsim.sweep": ("sweep",),
     "crnsim.trajectory": ("trajectories",),
-    "api": ("Plan", "PlannedItem", "open_plan", "plan", "plan_item"),
+    "planned": ("Plan", "PlannedItem"),
+    "given": ("Reading", "Settings"),
+    "api": ("open_plan", "plan", "plan_item"),
     "backtesting": ("Backtests", "backtest"),
     "catalogues": ("Catalogue", "read_catalogue"),
     "curve.exchange_curve": ("exchange_curve",),

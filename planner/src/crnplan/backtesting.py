@@ -6,15 +6,18 @@ import tempfile
 from collections.abc import Sequence
 from dataclasses import dataclass, field
 from pathlib import Path
-from typing import TYPE_CHECKING, TypedDict, Unpack
+from typing import TYPE_CHECKING, ClassVar, TypedDict, Unpack
 
 from .api import Roles, check_masters, take_tables
+from .arguments import judged
 from .catalogues import Catalogue
+from .given import Reading, Settings, joined
+from .errors import Refused
 from .options import with_words
 from .store.files import Folder, own_folder
 from .store.clusters import Scheduler
 from .store.means import Means
-from .show.backtest_page import backtest_page
+from .show.backtest_page import backtest_page, named_curves
 from .show.backtest_tables import (
     BACKTEST,
     PAGE,
@@ -28,22 +31,37 @@ from .show.backtest_tables import (
 from .show.verdicts import gains_said, past_said
 from .plan.backtest.catalogue import Tested, backtest_into
 from .plan.backtest.methods import Walk
-from .plan.how import Settings
+from .plan import how
 from .read.catalogue_reading import CATALOGUE
 from .read.items import Words
+from .read.opening import Table
 from .read.told import made_from, words_of
-from .table import DataTable, TextResult
+from .table import DataTable, Json, Result
 
 if TYPE_CHECKING:
     import pandas as pd
+    from matplotlib.axes import Axes
 
 
-@dataclass(frozen=True)
-class Backtests(TextResult):
+@dataclass(frozen=True, eq=False, repr=False)
+class Backtests(Result):
     """What the plans of a catalogue promised on its own past, and what came. `frame` has a row for each item, `sums`
     one for all items and for each class; `text` says what it comes to."""
 
     tested: Tested = field(repr=False)
+    brief: ClassVar = (
+        "item class periods promised_fill_kept fill_kept stock_kept cost_kept left_out"
+    ).split()
+
+    @property
+    def headline(self) -> str:
+        """Returns how many items were tested, and by what."""
+        return first_line(self.tested.whole)
+
+    @property
+    def content(self) -> list[list[dict[str, Json]]]:
+        """Returns the rows of the tests, and of their sums, as plain data."""
+        return [self.table.records, sums_table(self.tested).records]
 
     @property
     def table(self) -> DataTable:
@@ -72,6 +90,25 @@ class Backtests(TextResult):
         """Returns what was promised, what came, and the verdicts."""
         return f"{first_line(self.tested.whole)}\n{backtest_summary(self.tested)}"
 
+    def plot(self, ax: Axes | None = None) -> Axes:
+        """Draws what each method met at once by its stock, and returns the axes.
+
+        Parameters
+        ----------
+        ax : matplotlib.axes.Axes, optional
+            Where to draw; by default on a new figure.
+
+        Raises
+        ------
+        Refused
+            If no item was tested.
+        """
+        from .show.plots import plot_methods
+
+        if self.tested.whole is None:
+            raise Refused(first_line(None), "test longer records")
+        return plot_methods(named_curves(self.tested), self.tested.whole.promised, ax)
+
     @property
     def page(self) -> str:
         """Returns the page of the tests as HTML, which asks for no other file."""
@@ -79,7 +116,7 @@ class Backtests(TextResult):
 
 
 def write_backtest(
-    folder: Folder, settings: Settings, walk: Walk, means: Means
+    folder: Folder, settings: how.Settings, walk: Walk, means: Means
 ) -> Backtests:
     """Tests the catalogue that was read into a folder, and writes its tables and its summary there."""
     tests = Backtests(backtest_into(folder, settings, walk, means))
@@ -104,19 +141,22 @@ class BacktestWords(TypedDict, total=False):
     seed: str | int
 
 
-@with_words(BacktestWords, Words, Settings)
+@judged("backtest", "call", "plan", "catalogue", "common")
+@with_words(BacktestWords, Words, how.Settings)
 def backtest(
-    sales: str | Path | pd.DataFrame | Catalogue,
-    masters: str | Path | pd.DataFrame | None = None,
-    orders: str | Path | pd.DataFrame | None = None,
+    sales: Table | Catalogue,
+    masters: Table | None = None,
+    orders: Table | None = None,
     *,
     record: int = 52,
     every: int = 13,
-    window: int = 52,
+    window: int | None = None,
     least_gain: float | None = None,
-    out_of_stock: str | Path | pd.DataFrame | None = None,
+    reading: Reading | None = None,
+    settings: Settings | None = None,
+    out_of_stock: Table | None = None,
     out: str | Path | None = None,
-    period: str = "week",
+    period: str | None = None,
     jobs: int | None = None,
     cluster: Scheduler | None = None,
     progress: bool = False,
@@ -124,36 +164,82 @@ def backtest(
 ) -> Backtests:
     """Tests plans on a catalogue's own past: what they would have promised, and what came.
 
-        tests = crn.backtest(sales, masters)
-        tests.verdict                          # what breaks the promises, if anything does
-        tests.gains                            # which methods gained, if any did
-        tests.sums                             # all items and each class, with errors
-        tests.frame                            # a row for each item
+    Each item is planned from its first `record` periods, as `plan` does it, and the plan is run on the periods that came. No
+    crnsim is needed. These methods are run:
 
-    Each item is planned from its first `record` periods, as `plan` does it. The plan is run on the periods that came:
-    kept, and refitted after each `every` periods on the last `window`: with a `least_gain` also as `plan` does it after
-    an earlier plan. Beside it are run today's policy, the plan that aims as `correct` makes it from the records alone,
-    and a rule of thumb: exponential smoothing with a normal safety stock. Each is run at aims above and below its own
-    too, so that stocks are compared where as much is met at once. The kept plan is also run with all periods of the item
-    in a random order, which takes time out of them. Lead times of the past are drawn from the item's own law. Random
-    numbers follow from the `seed` and the item's name. An item with fewer than `record` and `every` periods is left out.
-    No season is planned.
+    - the plan as it was (kept), and refitted after each `every` periods on the last `window`; with a `least_gain` also as
+      `plan` does it after an earlier plan
+    - today's policy
+    - the plan that aims as `correct` makes it from the records alone
+    - that by one price of what is not met for each class of 10 items, as `together`. A class meets together what its items
+      want in the mean. Items weigh alike, unless a plan in the folder says by what they weigh: then its gain is still that of
+      items that weigh alike
+    - that by months, if the records show a season (a record of two years or more)
+    - refitted plans at the level of the last periods, if classes follow it by their records, as `follow`
+    - a rule of thumb: exponential smoothing with a normal safety stock
 
-    Tables are as in `plan`, and so are `out_of_stock`, `columns`, `units`, `start`, `end`, `date_formats`, `fit`, `borrow`,
-    `confidence`, `jobs` and `cluster`; a `period` is a day, week or month. Or `sales` is a Catalogue that
-    `read_catalogue` has read. With `out` the folder keeps tables and all tests: tested again, only what has changed is
-    tested. No crnsim is needed.
+    Each is run at aims above and below its own too, so that stocks are compared where as much is met at once. The kept plan
+    is also run with all periods of the item in a random order, which takes time out of them. Lead times of the past are drawn
+    from the item's own law. Random numbers follow from the `seed` and the item's name.
 
-    Raises Refused (a ValueError) for what can't be read or meant.
+    Parameters
+    ----------
+    sales : path, DataFrame or Catalogue
+        As in `plan`: movements, or a Catalogue that `read_catalogue` has read.
+    masters : path or DataFrame, optional
+        A row for each item. It is left out if `sales` is a Catalogue.
+    orders : path or DataFrame, optional
+        Dates of orders: item, ordered, received.
+    record : int, at least 1, default 52
+        The periods from which the first plan is made. An item with fewer than `record` and `every` periods is left out.
+    every : int, at least 1, default 13
+        The periods from one refitted plan to the next.
+    window : int, at least 1, optional
+        The last periods on which refitted plans are fitted; by default as in `settings`, else 52.
+    least_gain : float, above 0 and below 1, optional
+        A share of the cost: refitted levels stay if a change gains less; by default as in `settings`.
+    reading : Reading, optional
+        Words of reading that several calls share. A word is said there or by itself.
+    settings : Settings, optional
+        Words of planning that several calls share.
+    out_of_stock : path or DataFrame, optional
+        The times in which there was none of an item: item, from, to.
+    out : str or Path, optional
+        A folder that keeps tables and all tests: tested again, only what has changed is tested.
+    period : {"day", "week", "month"}, optional
+        The period, which is `every` of `plan` and of `reading`; by default "week".
+    jobs : int, at least 1, optional
+        How many processes work; by default one for each processor. The result is the same.
+    cluster : str or distributed.Client, optional
+        The address of a Dask scheduler, or a client, whose workers work in place of processes.
+    progress : bool, default False
+        Shows on standard error how many items are tested.
+
+    Returns
+    -------
+    Backtests
+        `verdict` says what breaks the promises, `gains` which methods gained, `sums` has all items and each class with
+        standard errors, and `frame` a row for each item.
+
+    Raises
+    ------
+    Refused
+        For what can't be read or meant.
+
+    Examples
+    --------
+    >>> tests = crn.backtest(sales, masters, jobs=1)
+    >>> list(tests.frame["item"])
+    ['bolt', 'nut', 'washer']
     """
-    seed = str(words.get("seed", Settings.seed))
-    settings = made_from(Settings, {**words, "seed": seed})
-    reading = words_of({**words, "every": period})
+    own = {} if period is None else {"every": period}
+    known = joined({**words, **own}, reading=reading, settings=settings)
+    rules, ways = words_of(known), made_from(how.Settings, {**known, "every": None})
+    walk = Walk.of(ways, record, every, window, least_gain)
     means = Means(jobs, cluster, shown=progress)
-    walk = Walk(record, every, window, least_gain)
     check_masters(sales, masters)
     with tempfile.TemporaryDirectory(prefix="crnplan-") as room, own_folder(
         Path(out or room), CATALOGUE
     ) as folder:
-        take_tables(folder, sales, masters, orders, out_of_stock, reading, jobs)
-        return write_backtest(folder, settings, walk, means)
+        take_tables(folder, sales, masters, orders, out_of_stock, rules, jobs)
+        return write_backtest(folder, ways, walk, means)

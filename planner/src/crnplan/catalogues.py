@@ -5,12 +5,13 @@ import contextlib
 from collections.abc import Mapping, Sequence
 from dataclasses import dataclass, field
 from pathlib import Path
-from typing import TYPE_CHECKING, Any, TypedDict, Unpack, cast
+from typing import TYPE_CHECKING, Any, Unpack, cast
 
+from .arguments import judged
 from .errors import Failed, argument, worded
+from .given import COMMON, Reading, ReadingWords, joined
 from .store.files import Folder, Room
 from .store.means import Means
-from .money import Amount, Number
 from .options import with_words
 from .show.catalogue_page import FOUND, write_catalogue, write_tables
 from .show.catalogue_tables import REJECTS, rejects_of
@@ -27,13 +28,13 @@ from .read.catalogue_reading import (
     missing_of,
     read_alone,
 )
-from .read.choosing import Where
 from .read.defaults import Defaults
 from .read.items import Counts, Words
 from .read.lateness import receipt_remarks
-from .read.observed import Day
+from .read.law_forms import LAWS
 from .read.outages import OUT
 from .read.opening import Table
+from .read.stated import StatedTable, laws_frame
 from .read.told import merged, told_of, words_of
 from .remarks import Remark
 from .table import Json
@@ -49,7 +50,13 @@ class Lost(Failed):
 
 @dataclass(frozen=True)
 class Catalogue:
-    """A catalogue that was read: its items, what was left out, and the counts that say that nothing is lost."""
+    """A catalogue that was read: its items, what was left out, and the counts that say that nothing is lost.
+
+    Attributes
+    ----------
+    path : Path
+        The file that has it.
+    """
 
     path: Path
     # A folder for the time that the catalogue is used, if it was not read into a named one.
@@ -60,7 +67,13 @@ class Catalogue:
         return contextlib.closing(Catalogued(self.path))
 
     def fact(self, name: str) -> Json:
-        """Returns a fact: `counts`, `found`, `said`, `sources`, `every`, `currency`, `decimals` or `periods`."""
+        """Returns a fact of the catalogue.
+
+        Parameters
+        ----------
+        name : str
+            `counts`, `found`, `said`, `sources`, `every`, `currency`, `decimals` or `periods`.
+        """
         with self.opened() as read:
             return cast(Json, read.fact(name))
 
@@ -106,7 +119,7 @@ class Catalogue:
         """Returns what was left out or is suspicious: kind (row, item, suspicious), file, line, item, column, text,
         reason, advice, and rows (of demand that are left out)."""
         with self.opened() as read:
-            return rejects_of(read.rejects()).frame
+            return rejects_of(read.rejects(), read.fact("keys")).frame
 
 
 def stated_of(catalogue: Catalogue, more: Mapping[str, Any]) -> str:
@@ -129,86 +142,83 @@ def stated_of(catalogue: Catalogue, more: Mapping[str, Any]) -> str:
     )
 
 
-class FileWords(TypedDict, total=False):
-    """How tables are read: see `read_catalogue`."""
-
-    columns: Mapping[str, Mapping[str, str]] | None
-    units: Mapping[str, Mapping[str, str]] | None
-    where: Where | None
-    delimiter: str | None
-    encoding: str | None
-    decimal: str | None
-    date_formats: Sequence[str]
-
-
-class ReadingWords(FileWords, total=False):
-    """How the tables of a catalogue are read, and what masters need not say: see `read_catalogue`."""
-
-    every: str
-    names: Mapping[str, Mapping[str, Sequence[str]]] | None
-    start: Day | str | None
-    end: Day | str | None
-    today: Day | None
-    net: bool
-    negate: bool
-    empty: str | None
-    twice: str | None
-    far: str
-    least: int
-    lead_from: str
-    factors: Mapping[str, int] | None
-    statuses: Mapping[str, str] | None
-    stopped: str
-    setup: Amount | None
-    holding_rate: Amount | None
-    fill: Amount | None
-    lead: str | None
-    service: Mapping[str, Amount] | None
-    currency: str | None
-    abc: str | Sequence[Number] | None
-
-
-@with_words(ReadingWords, Words, Defaults)
+@judged("call", "plan", "catalogue", "common")
+@with_words(ReadingWords, Words, Defaults, shown=COMMON)
 def read_catalogue(
     demand: Table,
     items: Table,
     orders: Table | None = None,
     *,
     out_of_stock: Table | None = None,
+    laws: StatedTable | None = None,
+    reading: Reading | None = None,
     jobs: int | None = None,
     **words: Unpack[ReadingWords],
 ) -> Catalogue:
-    """Reads a catalogue from CSV files of any size, also gzipped, sheets of workbooks (FILE.xlsx!SHEET) or DataFrames. Of
-    demand and orders there may be several files with one heading, as "demand-2026-*.csv".
+    """Reads a catalogue from CSV files of any size, also gzipped, sheets of workbooks (FILE.xlsx!SHEET) or data frames.
 
-    `demand` has a row for each movement (item, date, quantity, perhaps returned), or for each item, with a column for
-    each period. An empty quantity is a period whose demand is "unknown", or "none", as `empty` says; by default it is
-    unknown in the row of a date, and none in a table with a column for each period, unless others say 0. `items` has one for each item (item, setup, holding, backlog or
-    fill, lead, perhaps s, S, description, stock, price, class, and bounds), `orders` the dates of orders (item, ordered,
-    received), `out_of_stock` the times in which there was none of an item (item, from, to, both days included; without an
-    end it lasts): the demand of such a period is not known. `columns` names columns by file and role, as {"demand": {"quantity":
-    "Menge"}}; others are found by usual names, to which `names` adds. `units` states what a column counts, as {"items":
-    {"lead": "day"}}; else its heading does. Periods are `every` day, week (ISO) or month. The record is that of the
-    whole file, or from `start` to `end`; rows after `today` are rejected. With `net` quantities below 0 are taken off
-    their period, and with `negate` too, by which all have the other sign. A file whose rows are all in another file of its
-    table is refused, unless `twice` is said. Rows that stand `twice` (by default they are kept) and items with
-    amounts `far` above all others are kept or left out ("keep", "leave-out"). An item needs a history of `least`
-    periods. Its lead times are those of its receipts if it has at least 5, else that of its master (`lead_from`
-    "orders"); or as its master says, if it does ("masters"); or those of its receipts and the stated one, which counts as
-    one receipt more, rounded up to whole periods ("both"). `factors` says how many items one of a unit of measure is.
-    Masters may have a status: active, phase out, stopped, or successor of another item, whose demand is then taken;
-    `statuses` says what other texts mean, as {"Z3": "stopped"}. Items whose status says nothing are `stopped` "by-test"
-    of their record, or never: "as-stated". `setup` to `abc` are what masters need not say: see `plan`. Only rows with the
-    values of `where` are read, as "Location=Main", several, or {"Location": "Main"}, and for one table {"demand":
-    {"Location": "Main"}}; the others are counted. `delimiter`, `encoding`, `decimal` sign and `date_formats` are found if
-    they can be. `jobs` processes
-    read large files, by default one for each processor.
+    Nothing is lost: each row and item that is left out is in `rejects`, with its place, the reason and advice.
 
-    Raises Refused and RefusedFaults for files that can't be read. Rows and items with faults are in `rejects`.
+    Parameters
+    ----------
+    demand : path, DataFrame or Series
+        A row for each movement (item, date, quantity, perhaps returned and promotion), or for each item, with a column for
+        each period, or for each period, with a column for each item. A Series by date is the demand of the item of its name.
+        There may be several files with one heading, as `demand-2026-*.csv`. A file whose rows are all in another file is
+        refused, unless `twice` is said.
+    items : path or DataFrame
+        The masters, a row for each item: item, setup (money an order), holding and backlog (money an item and period) or fill
+        (the wanted share of demand met at once) or no_shortage (the wanted share of periods that end with nothing owed), lead
+        (with its unit, as "lead (days)"), and perhaps review, s and S (items), description, stock, price, class, status,
+        borrow, order_min, pack, s_min, coverage and shelf_life. A status is active, phase out, stopped, or successor of
+        another item, whose demand is then taken.
+    orders : path or DataFrame, optional
+        The dates of orders: item, ordered, received. There may be several files.
+    out_of_stock : path or DataFrame, optional
+        The times in which there was none of an item: item, from, to. Both days are included, and without an end it lasts. The
+        demand of such a period is not known.
+    laws : path, DataFrame, or dict or Series of Law by item, optional
+        Laws of the demand of a period. Items are then planned by these, with a history or without one. A table has for an
+        item:
+
+        - a row for each value with its chance (they add up to 1) or whole weight,
+        - one row with a mean and a variance (or deviation),
+        - a row for each of three or more quantiles, with its value,
+        - or a row for each period of a sample path (path, period, value), or for each path, with a column for each period.
+
+        What a law can't be, and an item with a row that can't be read, is left out.
+    reading : Reading, optional
+        Words of reading that several calls share. A word is said there or by itself.
+    jobs : int, at least 1, optional
+        How many processes read large files; by default one for each processor.
+    **words
+        Any other word of `Reading`.
+
+    Returns
+    -------
+    Catalogue
+        What was read, for `plan` and `backtest`.
+
+    Raises
+    ------
+    Refused
+        For words that can't be meant.
+    RefusedFaults
+        For files that can't be read.
+
+    Examples
+    --------
+    >>> read = crn.read_catalogue(sales, masters)
+    >>> read.counts["items"]["ready"]
+    3
+    >>> len(read.rejects)
+    0
     """
-    reading, room = words_of(words), Room()
+    rules = words_of(joined(words, reading=reading))
+    room = Room("pickle the tables, and read them where they are needed")
     tables = {"demand": demand, "items": items, "orders": orders, OUT: out_of_stock}
-    path = read_alone(room.path, tables, reading, jobs)
+    tables[LAWS] = laws_frame(laws)
+    path = read_alone(room.path, tables, rules, jobs)
     return Catalogue(path, room)
 
 
@@ -227,8 +237,8 @@ def settings_of(
     if test is None:
         return settings, []
     with contextlib.closing(Catalogued(folder.path / READ)) as read:
-        taken, remark = settings_as(test, read, settings)
-    return taken, [sentence(remark)]
+        taken, remarks = settings_as(test, read, settings)
+    return taken, [*map(sentence, remarks)]
 
 
 @dataclass(frozen=True)

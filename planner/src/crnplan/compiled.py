@@ -13,6 +13,7 @@ import hashlib
 import importlib
 import os
 import sys
+import warnings
 from collections.abc import Callable, Iterator, Mapping
 from pathlib import Path
 from types import CodeType, FunctionType
@@ -66,9 +67,11 @@ def compiled(loop: Loop) -> Loop:
 
 def load_compiler() -> None:
     """Loads numba, so that processes which are forked from this one have it. An interrupt would leave a part of it, with
-    which nothing goes on."""
+    which nothing goes on. So would a warning about its own code, if warnings are errors.
+    """
     if "numba" not in sys.modules:
-        with interrupted_later():
+        with interrupted_later(), warnings.catch_warnings():
+            warnings.simplefilter("ignore", DeprecationWarning)
             importlib.import_module("numba")
 
 

@@ -72,7 +72,15 @@ def worded(message: str) -> str:
 
 
 class CrnplanError(Exception):
-    """Any error that the package raises on purpose. Its text is meant for the user."""
+    """Any error that the package raises on purpose. Its text is meant for the user.
+
+    Attributes
+    ----------
+    what : str
+        What is wrong.
+    advice : str
+        What to do; empty if there is nothing to say.
+    """
 
     status: ClassVar[int] = 2
 
@@ -115,8 +123,17 @@ class ProgramFailed(ProgramError, Failed):
 
 @dataclass(frozen=True)
 class Fault:
-    """One thing that is wrong with an input: a remark, or what another reader says of it, and its place. `line` and
-    `column` count from 1, and are 0 if there is no such place."""
+    """One thing that is wrong with an input.
+
+    Attributes
+    ----------
+    said : str or Remark
+        A remark, or what another reader says of it.
+    file : str
+        The file, if it is known.
+    line, column : int
+        Its place, counted from 1; 0 if there is none.
+    """
 
     said: str | Remark
     file: str = ""
@@ -152,4 +169,10 @@ class RefusedFaults(Refused):
 
 
 class ScenarioError(RefusedFaults):
-    """A scenario that crnsim would refuse."""
+    """A scenario that crnsim would refuse, with all its faults.
+
+    Attributes
+    ----------
+    faults : tuple of Fault
+        What is wrong, in the order of the text.
+    """

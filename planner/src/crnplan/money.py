@@ -3,7 +3,7 @@ from __future__ import annotations
 
 import re
 import sys
-from collections.abc import Mapping
+from collections.abc import Iterable, Mapping
 from dataclasses import dataclass
 from fractions import Fraction
 from typing import Any, SupportsFloat
@@ -63,6 +63,28 @@ class Currency:
         return self.named(f"{amount:{sign}z,.{self.places}f}")
 
 
+@dataclass(frozen=True)
+class Costs:
+    """What orders and items cost, in whole numbers of a scenario's money.
+
+    Parameters
+    ----------
+    setup : int
+        The cost of an order.
+    unit : int
+        That of an item ordered.
+    holding : int
+        That of an item in stock at the end of a period.
+    backlog : int
+        That of an item owed at the end of a period.
+    """
+
+    setup: int
+    unit: int
+    holding: int
+    backlog: int
+
+
 def exact(value: Any) -> Fraction | None:
     """Returns a number exactly; a float is what its shortest spelling says. None if it is no finite number, or is beyond
     the range of floats, where an exact number may not be computed in any time."""
@@ -92,6 +114,22 @@ def whole(value: Any, name: str) -> int:
             f"{name}: {shown(value)} is not a whole number; round it, or count in a smaller unit"
         )
     return int(number)
+
+
+def whole_numbers(values: Any, name: str) -> list[int]:
+    """Returns several whole numbers of any types: those of an iterable, an array or a Series. Raises Refused for the
+    first that is none; `name` says what it is, before its place."""
+    # What an array or a Series has are numbers of Python then.
+    numbers = values.tolist() if hasattr(values, "tolist") else values
+    if isinstance(numbers, (bytes, Mapping)) or not isinstance(numbers, Iterable):
+        raise Refused(
+            f"{type(values).__name__} is no list of whole numbers",
+            "give observed whole numbers",
+        )
+    given: list[int] = [*numbers]
+    if {*map(type, given)} == {int}:
+        return given
+    return [whole(number, f"{name} {place}") for place, number in enumerate(given, 1)]
 
 
 def _beyond(amounts: Mapping[str, Fraction], scale: Fraction) -> str:

@@ -6,18 +6,23 @@ import functools
 import inspect
 import pkgutil
 import re
+import textwrap
 import tomllib
-from collections.abc import Callable, Iterable, Sequence
+from collections.abc import Callable, Collection, Iterable, Sequence
 from dataclasses import dataclass
 from pathlib import Path
-from typing import Any, TypeVar, cast
+from typing import Any, TypeVar
 
 from .errors import Refused, argument
 
 Call = TypeVar("Call", bound=Callable[..., Any])
 # The name of a constant or a function of the package.
 REFERENCE = re.compile(r"\{([\w.]+)\}")
+FLAG = re.compile(r"--[a-z]+(?:-[a-z]+)*")
+WIDTH = 110  # of the lines of a docstring
 PLAN = "plan"  # the table of words of reading and planning
+CALL = "call"  # that of those of calls alone
+SEEN = "__seen__"  # the attribute of a function with the signature that users see
 
 
 @dataclass(frozen=True)
@@ -34,8 +39,12 @@ class Option:
     - pairs: texts by name, of a `form`, as the `example`; shares: one, or several by class, which `read` takes
     - stated: what the function `read` takes; price and cost: money
     - path, folder, file, picture, file and column; form and style (of what is printed)
+    - arguments of calls alone: places (texts by file and role), names (several by these), name and items (of a table),
+      seed, keys (of streams), conditions, table, catalogue (or a table), laws, scheduler; class (a value of the class `read`); any (what the
+      call itself judges)
 
-    A key may be `needed` in its file, an option `required`. A `default` may be `shown`.
+    A key may be `needed` in its file, an option `required`. A `default` may be `shown`. `doc` says what the word means as an
+    argument, if `help` says it of an option alone.
     """
 
     name: str
@@ -43,6 +52,7 @@ class Option:
     key: str
     kind: str = "text"
     help: str = ""
+    doc: str = ""
     metavar: str | None = None
     example: str = ""
     form: str = ""
@@ -56,6 +66,24 @@ class Option:
     positional: bool = False
     nargs: int = 1
 
+    def entry(self, hint: str, default: Any) -> str:
+        """Returns the word as numpydoc has an argument: its type, range and default, and what it means."""
+        facts = [hint.removesuffix(" | None")]
+        if self.kind == "choice":
+            facts = ["{" + ", ".join(map(repr, self.choices)) + "}"]
+        if self.kind == "whole":
+            least, most = self.range
+            facts.append(f"from {least:,} to {most:,}")
+        if self.kind in ("share", "percent"):
+            facts.append("above 0 and below 1")
+        has_default = default not in (None, (), "")
+        facts.append(f"default {default!r}" if has_default else "optional")
+        meaning = FLAG.sub(lambda flag: f"`{name_of(flag[0])}`", self.doc or self.help)
+        lines = textwrap.fill(
+            meaning, WIDTH, initial_indent="    ", subsequent_indent="    "
+        )
+        return f"{self.name} : {', '.join(facts)}\n{lines}"
+
     def check(self, value: Any) -> None:
         """Raises Refused for a value that is none of the choices, no share, or out of the range."""
         if self.kind == "choice" and value not in self.choices:
@@ -67,12 +95,13 @@ class Option:
                 f"{argument(self.name, f'{value:g}')} is not between 0 and 1",
                 f"write {self.example}",
             )
-        if self.kind == "whole":
-            least, most = self.range
-            if not least <= value <= most:
-                raise Refused(
-                    f"{argument(self.name, str(value))} is not from {least} to {most:,}"
-                )
+        if self.kind in ("whole", "number") and self.range:
+            least, *most = self.range
+            told = argument(self.name, f"{value}")
+            if not most and value < least:
+                raise Refused(f"{told} is not at least {least}")
+            if most and not least <= value <= most[0]:
+                raise Refused(f"{told} is not from {least} to {most[0]:,}")
 
 
 @functools.cache
@@ -134,23 +163,42 @@ def key_of(name: str) -> str:
     return key
 
 
-def with_words(words: type, *homes: type) -> Callable[[Call], Call]:
-    """Returns a decorator that shows the words of a TypedDict as arguments of a function, each with its default in one of
-    some classes, for help and completion. A word that is none of them raises TypeError.
+def name_of(flag: str) -> str:
+    """Returns the argument that stands for an option of a command on catalogues, as `start` for --from."""
+    names = {word.flag: word.name for word in within(PLAN)}
+    return names.get(flag, flag.removeprefix("--").replace("-", "_"))
+
+
+def documented(
+    function: Callable[..., Any], words: Iterable[inspect.Parameter], heading: str
+) -> str:
+    """Returns the docstring of a function with words as parameters under a heading, before what it returns."""
+    entries = [heading, "-" * len(heading)]
+    for word in words:
+        table = PLAN if word.name in table_of(PLAN) else CALL
+        known = option(f"{table}.{word.name}")
+        entries.append(known.entry(word.annotation, word.default))
+    own = inspect.getdoc(function) or ""
+    text, returned, rest = own.partition("Returns\n-------")
+    return "\n".join([text, *entries, "", returned + rest]).strip()
+
+
+def with_words(
+    words: type, *homes: type, shown: Collection[str] | None = None
+) -> Callable[[Call], Call]:
+    """Returns a decorator that has the words of a TypedDict as arguments of a function, each with its default in one of
+    some classes, for `judged`. Its docstring and the signature that users see have those that are `shown`, by default all.
     """
 
     def made(function: Call) -> Call:
         signature = inspect.signature(function)
-        parameters = [
-            part
-            for part in signature.parameters.values()
-            if part.kind is not part.VAR_KEYWORD
-        ]
+        *own, rest = signature.parameters.values()
+        others = list[inspect.Parameter]()
         for name, hint in words.__annotations__.items():
             default = next(
                 (getattr(home, name) for home in homes if hasattr(home, name)), None
             )
-            parameters.append(
+            others.append(
                 inspect.Parameter(
                     name,
                     inspect.Parameter.KEYWORD_ONLY,
@@ -158,18 +206,16 @@ def with_words(words: type, *homes: type) -> Callable[[Call], Call]:
                     annotation=hint.__forward_arg__,
                 )
             )
-        signature = signature.replace(parameters=parameters)
-
-        @functools.wraps(function)
-        def called(*values: Any, **named: Any) -> Any:
-            try:
-                signature.bind(*values, **named)
-            except TypeError as why:
-                raise TypeError(f"{function.__name__}() {why}") from None
-            return function(*values, **named)
-
-        setattr(called, "__signature__", signature)
-        return cast(Call, called)
+        whole = signature.replace(parameters=[*own, *others])
+        seen, visible = others, whole
+        if shown is not None:
+            seen = [part for part in others if part.name in shown]
+            visible = signature.replace(parameters=[*own, *seen, rest])
+        setattr(function, "__signature__", whole)
+        setattr(function, SEEN, visible)
+        heading = "Other Parameters" if own[1:] else "Parameters"
+        function.__doc__ = documented(function, seen, heading)
+        return function
 
     return made
 

@@ -4,74 +4,57 @@ Numbers are the program's whole numbers. Whether it takes a scenario is proved o
 """
 from __future__ import annotations
 
-import csv
 import dataclasses
-import io
-import re
-from collections import Counter
-from collections.abc import Iterable, Iterator, Mapping, Sequence
+from collections.abc import Iterable, Mapping, Sequence
 from dataclasses import dataclass, field
 from fractions import Fraction
 from pathlib import Path
 from typing import TYPE_CHECKING, Any
 
+from .arguments import judged
 from . import formats
-from .store.digests import sha256
-from .toml.documents import check_size, read_bytes, shown, text_of_document
-from .toml.scenarios import checked_tree, error_of, plain_text, read_scenario, toml_text
+from .changing import change_tree, check_tree, key_words
+from .toml.documents import check_size, read_bytes, text_of_document
+from .toml.scenarios import error_of, plain_text, read_scenario, toml_text
 from .errors import Refused
-from .law import Law
-from .money import Amount, Number, scaled_costs, whole
-from .table import Json, Result
+from .law import Chances, Law, law_of
+from .money import Amount, Costs as Costs, scaled_costs, whole
+from .policies import Policies, Policy, levels_of, policies_of
+from .table import Json
 
 if TYPE_CHECKING:
     from .crnsim.report import Report
     from .decide.long_run import LongRunReport
-    from .theory.suggestions import Suggestions
+    from .theory.suggestions import ByTheory, Suggestions
 
 Tree = dict[str, Any]
-Levels = tuple[int, int]  # s and S of a policy
-# What stands for a law: a law, values with weights, or what was observed; and what stands for policies.
-Chances = Law | Mapping[int, int] | Iterable[Number]
-Policies = Iterable[object] | Mapping[str, tuple[int, int]] | Result
 # What is said of all figures of a scenario.
 BY_ITS_LAWS = "by this law of demand, and this law of lead times; crnplan doubt says what else a history allows"
-# The fields that `Scenario.changed` takes.
-CHANGEABLE = (*(name for name in formats.SINCE if name != "policy"), "policies")
-
-
-@dataclass(frozen=True)
-class Policy:
-    """An (s,S) policy: if the inventory position is below s, order up to S. Both in items."""
-
-    name: str
-    s: int
-    S: int
-
-    @classmethod
-    def of_levels(cls, s: int, S: int, name: str = "") -> Policy:
-        """Makes a policy. Its name is by default s1_S2, or s1S2 if that is too long."""
-        own = f"s{s}_S{S}"
-        return cls(
-            name or (own if len(own) <= formats.MOST_LETTERS else own.replace("_", "")),
-            s,
-            S,
-        )
-
-
-@dataclass(frozen=True)
-class Costs:
-    """What an order, an item ordered, an item held for a period and an item short for a period cost. Whole numbers."""
-
-    setup: int
-    unit: int
-    holding: int
-    backlog: int
 
 
 @dataclass(frozen=True)
 class Scenario:
-    """A scenario. `returns` is None if there are none; then `version` may be 1."""
+    """A scenario of crnsim: what is asked for, what it costs, and which policies are compared. Made by `of` or `read`.
+
+    Attributes
+    ----------
+    demand, lead, returns : Law
+        The demand of a period and what customers give back in it, in items, and lead times in periods. `returns` is None if
+        nothing comes back; then `version` may be 1.
+    costs : Costs
+        In whole numbers. `scale` says what one unit of the money counts that the scenario was made from.
+    policies : tuple of Policy
+        The first one is the base.
+    initial : int
+        The stock at the start, in items.
+    periods, replications : int
+        How long and how often it is run: 1 to 1,024, and 1 to 256.
+    key : tuple of str
+        The four words that random numbers follow from.
+    version, ring, source, scale, review
+        The version of the format, the size of the ring, the text that it was read from, the scale of its money, and one review
+        in so many periods, for theory alone.
+    """
 
     version: int
     key: tuple[str, ...]
@@ -88,6 +71,10 @@ class Scenario:
     source: str | None = field(default=None, compare=False, repr=False)
     # What one unit of the money that it was made from counts in `costs`: a power of ten.
     scale: Fraction = field(default=Fraction(1), compare=False)
+    # One review in so many periods, for theory alone: the program reviews in each period.
+    review: int = 1
+    # Whether the stock at the start is known. If not, it is halfway between s and S of the first policy that is run.
+    has_initial: bool = field(default=True, compare=False, repr=False)
 
     @classmethod
     def of_tree(cls, tree: Mapping[str, object], source: str | None = None) -> Scenario:
@@ -123,15 +110,38 @@ class Scenario:
 
     @classmethod
     def read(cls, path: str | Path) -> Scenario:
-        """Reads and checks a TOML file; `-` is standard input.
+        """Reads and checks a TOML file.
 
-        Raises Refused if it cannot be read, and ScenarioError with all faults and their places.
+        Parameters
+        ----------
+        path : str or Path
+            The file; `-` is standard input.
+
+        Raises
+        ------
+        Refused
+            If it cannot be read.
+        ScenarioError
+            With all faults and their places.
+
+        Examples
+        --------
+        >>> crn.Scenario.read("examples/two_policies.toml").policies[0]
+        Policy(name='A', s=20, S=40)
         """
         return cls.parse(read_bytes(path), "" if str(path) == "-" else str(path))
 
     @classmethod
     def parse(cls, data: bytes | str, name: str = "") -> Scenario:
-        """Reads and checks a text. `name` stands before each fault. Raises as `read` does."""
+        """Reads and checks a text. Raises as `read` does.
+
+        Parameters
+        ----------
+        data : bytes or str
+            The text, as TOML.
+        name : str, optional
+            What stands before each fault, as the name of a file.
+        """
         data = check_size(data.encode() if isinstance(data, str) else data, name)
         tree, faults = read_scenario(data)
         if faults:
@@ -149,7 +159,7 @@ class Scenario:
         backlog: Amount,
         unit: Amount = 0,
         returns: Chances | None = None,
-        today: tuple[int, int],
+        today: tuple[int, int] | None = None,
         initial: int | None = None,
         periods: int = 104,
         replications: int = 64,
@@ -157,29 +167,69 @@ class Scenario:
     ) -> Scenario:
         """Makes a scenario from laws, tables, mappings or observed whole numbers.
 
-        `demand`, `lead` and `returns` are each a `Law`, a mapping of values to weights, or observed whole numbers:
-        items in a period, periods until an order arrives. Costs are amounts of money, as 12.5, "12.50" or a Decimal;
-        `scale` of the result says what one unit of money counts in its `costs`. `today` is the pair (s, S), the policy
-        of that name. `initial` is in items, by default halfway between s and S. `key` has four words of 16 digits of
-        0-9a-f, or is any text from which they follow. Raises Refused, and ScenarioError with all faults.
+        Parameters
+        ----------
+        demand, lead : Law, mapping of int to int, or iterable of int
+            The demand of a period in items, and the periods until an order arrives: a law, values with weights, or what was
+            observed.
+        setup, holding, backlog : number or str
+            The cost of an order, and of an item in stock or owed at the end of a period: amounts of money, as 12.5, "12.50" or a
+            Decimal.
+        unit : number or str, default 0
+            The cost of an item ordered.
+        returns : Law, mapping of int to int, or iterable of int, optional
+            What customers give back in a period, in items.
+        today : tuple of int, optional
+            The levels (s, S) in items, from 0 to 1,000,000, of the policy `today`. Without it the scenario has no policy: `suggest`
+            and `theory` need none, and `run` takes the first one that it is given as the base.
+        initial : int, optional
+            The stock at the start, in items; by default halfway between s and S of the base.
+        periods : int, default 104
+            The periods of a replication, from 1 to 1,024.
+        replications : int, default 64
+            From 1 to 256.
+        key : str or sequence of str, default "crnsim"
+            Four words of 16 digits of 0-9a-f, or any text from which they follow.
+
+        Returns
+        -------
+        Scenario
+            `scale` says what one unit of money counts in its `costs`.
+
+        Raises
+        ------
+        Refused
+            For what can't be meant.
+        ScenarioError
+            With all faults.
+
+        Examples
+        --------
+        >>> made = crn.Scenario.of(
+        ...     {0: 3, 5: 2}, [2, 3, 2], setup=12.5, holding=0.1, backlog=2, today=(10, 40)
+        ... )
+        >>> made.costs
+        Costs(setup=125, unit=0, holding=1, backlog=20)
         """
         costs, scale = scaled_costs(
             {"setup": setup, "unit": unit, "holding": holding, "backlog": backlog}
         )
-        low, high = _levels(today, "today")
+        levels = None if today is None else levels_of(today, "today")
+        start = 0 if levels is None else sum(levels) // 2
         made = cls.of_laws(
-            _table(demand, "demand"),
-            _table(lead, "lead"),
-            None if returns is None else _table(returns, "returns"),
+            law_of(demand, "demand"),
+            law_of(lead, "lead"),
+            None if returns is None else law_of(returns, "returns"),
             Costs(**costs),
-            (low, high),
-            (low + high) // 2 if initial is None else whole(initial, "initial"),
+            levels,
+            start if initial is None else whole(initial, "initial"),
             whole(periods, "periods"),
             whole(replications, "replications"),
             key,
         )
-        checked_tree(made.tree)
-        return dataclasses.replace(made, scale=scale)
+        check_tree(made.tree, bool(levels))
+        is_known = levels is not None or initial is not None
+        return dataclasses.replace(made, scale=scale, has_initial=is_known)
 
     @classmethod
     def of_laws(
@@ -194,7 +244,7 @@ class Scenario:
         replications: int,
         key: str | Sequence[str],
     ) -> Scenario:
-        """Makes a scenario without a check. Without levels of today it has no policy."""
+        """Makes a scenario without a check: see `of`. Without levels of today it has no policy."""
         version = formats.version_with(["returns"] if returns else [])
         policies = (Policy("today", *today),) if today else ()
         return cls(
@@ -212,39 +262,47 @@ class Scenario:
         )
 
     def changed(self, **changes: object) -> Scenario:
-        """Returns the scenario with changed fields, checked. Raises Refused, and ScenarioError with all faults.
+        """Returns the scenario with changed fields, checked.
 
-        `costs` may be a mapping of some costs, as the program counts them. Laws are given as to `of`, policies as to
-        `run`. The version follows from `returns`, unless it is given.
+        Parameters
+        ----------
+        **changes
+            New values by the names of fields. `setup`, `unit`, `holding` and `backlog` are amounts of money, as `of` takes them;
+            `costs` may be a mapping of some of them in the program's whole numbers. Laws are given as to `of`, policies as to
+            `run`. The version follows from `returns`, unless it is given.
+
+        Raises
+        ------
+        Refused
+            For a field that there is not, or a value that can't be meant.
+        ScenarioError
+            With all faults.
+
+        Examples
+        --------
+        >>> scenario.changed(costs={"backlog": 19}, periods=52).costs.backlog
+        19
         """
         tree: Tree = {**self.tree}
-        given: Tree = changes
-        for name, value in given.items():
-            if name not in CHANGEABLE:
-                raise Refused(
-                    f"a scenario has no field {name!r}; it has {', '.join(CHANGEABLE)}"
-                )
-            if name == "policies":
-                tree["policy"] = [
-                    dataclasses.asdict(policy) for policy in policies_of(value)
-                ]
-            elif name == "costs":
-                costs = vars(value) if isinstance(value, Costs) else value
-                for cost, amount in costs.items():
-                    tree["costs"][cost] = whole(amount, f"costs: {cost}")
-            elif name in formats.DRAWS and value is None:
-                tree.pop(name, None)
-            elif name in formats.DRAWS:
-                tree[name] = _table(value, name).tree
-            elif name == "key":
-                tree[name] = key_words(value)
-            else:
-                tree[name] = whole(value, name)
+        amounts: Tree = {
+            name: changes.pop(name) for name in formats.COSTS if name in changes
+        }
+        if amounts and "costs" in changes:
+            raise Refused(
+                f"costs and {next(iter(amounts))} are both given",
+                "give amounts of money, or whole numbers as the program counts them",
+            )
+        change_tree(tree, changes)
+        scale = self.scale
+        if amounts:
+            known: Tree = {name: cost / scale for name, cost in tree["costs"].items()}
+            tree["costs"], scale = scaled_costs(known | amounts)
         if "returns" in changes and "version" not in changes:
             tree["version"] = formats.version_with(tree)
-        return dataclasses.replace(
-            Scenario.of_tree(checked_tree(tree), self.source), scale=self.scale
-        )
+        check_tree(tree, bool(self.policies) or "policies" in changes)
+        made = Scenario.of_tree(tree, self.source)
+        has_initial = self.has_initial or "initial" in changes
+        return dataclasses.replace(made, scale=scale, has_initial=has_initial).started()
 
     def with_policies(self, policies: Iterable[Policy]) -> Scenario:
         """Returns the scenario with these policies in place of its own, unchecked."""
@@ -268,22 +326,96 @@ class Scenario:
         return suggestions_of(self)
 
     def _with_base(self, policies: Policies) -> Scenario:
-        """Returns the scenario with its first policy and then these, each pair of levels once unless it is named."""
-        base = self.policies[0]
+        """Returns the scenario with its first policy, if it has one, and then these, each pair of levels once unless it is
+        named; and with the stock at the start."""
+        made = self.with_policies([*self.policies[:1], *policies_of(policies)])
+        base = made.base
         unnamed = Policy.of_levels(base.s, base.S)
         others = (
-            policy for policy in policies_of(policies) if policy not in (base, unnamed)
+            policy for policy in made.policies[1:] if policy not in (base, unnamed)
         )
-        return self.with_policies(dict.fromkeys([base, *others]))
+        return made.with_policies(dict.fromkeys([base, *others])).started()
 
+    def started(self) -> Scenario:
+        """Returns the scenario with a stock at the start: halfway between s and S of its base, if none is stated."""
+        if self.has_initial or not self.policies:
+            return self
+        initial = (self.base.s + self.base.S) // 2
+        return dataclasses.replace(self, initial=initial, has_initial=True)
+
+    @property
+    def base(self) -> Policy:
+        """Returns the first policy, with which others are compared. Raises Refused if there is none."""
+        if not self.policies:
+            raise Refused("the scenario has no policy", "give policies, or `today`")
+        return self.policies[0]
+
+    def theory(self, policies: Policies | None = None) -> ByTheory:
+        """Returns the figures of any number of policies in the long run, by theory. Nothing is run.
+
+        Parameters
+        ----------
+        policies : Policies, optional
+            As `run` takes them, of which a base is none; by default those of the scenario.
+
+        Returns
+        -------
+        ByTheory
+            `frame` has for each policy s, S (items), cost (money a period, without `unit`), fill (the share of demand met at
+            once), short (the share of periods that end with items owed), stock (items) and orders (a period).
+
+        Raises
+        ------
+        Refused
+            For what is no policy, or if there is none.
+        NoTheory
+            If there is no long run, or if the numbers of the scenario are too far apart.
+
+        Examples
+        --------
+        >>> scenario.theory([(6, 25), (8, 30)]).frame["cost"].round(2).to_list()
+        [22.22, 20.74]
+        """
+        from .theory.suggestions import by_theory
+
+        some = self.policies if policies is None else policies_of(policies)
+        chosen = self.with_policies(dict.fromkeys(some))
+        return by_theory(chosen, [chosen.base, *chosen.policies[1:]])
+
+    @judged("call", "common")
     def run(
         self, policies: Policies | None = None, *, program: str | Path | None = None
     ) -> Report:
-        """Runs crnsim on any number of policies and returns the exact report. The base is the scenario's first policy.
+        """Runs crnsim on any number of policies and returns the exact report.
 
-        `policies` are the others, by default the scenario's own: Policy objects, pairs (s, S), a mapping of names to
-        pairs, or a table with the columns s and S, and `policy` as a column or its index. More than 16 go in several
-        runs with the base in each. Raises Refused, ScenarioError with all faults, and ProgramError.
+        Parameters
+        ----------
+        policies : Policies, optional
+            Those that are compared with the base, the scenario's first policy; by default the scenario's own. They are Policy
+            objects, pairs (s, S), a mapping of names to pairs, or a table with the columns s and S, and `policy` as a column or
+            its index. More than 16 go in several runs with the base in each.
+        program : str or Path, optional
+            The path of crnsim: see `find_program`.
+
+        Returns
+        -------
+        Report
+            The base first.
+
+        Raises
+        ------
+        Refused
+            For what is no policy.
+        ScenarioError
+            With all faults.
+        ProgramError
+            If a run fails.
+
+        Examples
+        --------
+        >>> report = scenario.run({"lower": (6, 25)})
+        >>> report.frame[["s", "S", "total"]].loc["lower"].to_list()
+        [6, 25, 147032]
         """
         from .crnsim.report import report_of
 
@@ -291,6 +423,7 @@ class Scenario:
             self if policies is None else self._with_base(policies), program
         )
 
+    @judged("run", "call", "common")
     def long_run(
         self,
         policies: Policies | None = None,
@@ -300,131 +433,42 @@ class Scenario:
     ) -> LongRunReport:
         """Runs crnsim on any number of policies, and takes what the start adds to their costs out, by theory.
 
-        Each of the `keys`, 2 to 256, is a replication of 1,024 periods. All policies start with the mean position of
-        the base. `policies` are the others than the base, as in `run`. The stock, the periods and the replications of
-        the scenario play no part, and `unit` is left out. Raises what `run` raises, and NoTheory if there is no long
-        run, or if the numbers of the scenario are too far apart.
+        All policies start with the mean position of the base. The stock, the periods and the replications of the scenario play no
+        part, and `unit` is left out.
+
+        Parameters
+        ----------
+        policies : Policies, optional
+            Those that are compared with the base: see `run`.
+        keys : int, default 48
+            The replications of 1,024 periods, from 2 to 256.
+        program : str or Path, optional
+            The path of crnsim: see `find_program`.
+
+        Returns
+        -------
+        LongRunReport
+            The costs of a period in the long run.
+
+        Raises
+        ------
+        Refused
+            For what is no policy, or another number of keys.
+        ScenarioError
+            With all faults.
+        NoTheory
+            If there is no long run, or if the numbers of the scenario are too far apart.
+        ProgramError
+            If a run fails.
+
+        Examples
+        --------
+        >>> report = scenario.long_run({"lower": (6, 25)}, keys=8)
+        >>> list(report.frame.index)
+        ['today', 'lower']
         """
         from .decide.long_run import long_run_of
 
         return long_run_of(
             self if policies is None else self._with_base(policies), keys, program
         )
-
-
-def key_words(key: str | Sequence[str]) -> list[str]:
-    """Returns the four words of a key. They follow from a text by SHA-256."""
-    if not isinstance(key, str):
-        return list(key)
-    digits, length = sha256(key), formats.DIGITS_OF_WORD
-    return [
-        digits[place : place + length]
-        for place in range(0, formats.WORDS_OF_KEY * length, length)
-    ]
-
-
-def _table(law: Any, name: str) -> Law:
-    """Returns the table of a law, of a mapping of values to weights, or of observed whole numbers."""
-    if isinstance(law, Law):
-        return Law.of_tree(law.tree)
-    if not isinstance(law, Mapping):
-        # An array or a Series, as Python's numbers; or any iterable.
-        numbers = law.tolist() if hasattr(law, "tolist") else law
-        if not isinstance(numbers, Iterable):
-            raise Refused(
-                f"{name}: {type(law).__name__} is not a law; fit one, or give observed whole numbers"
-            )
-        law = Counter(
-            whole(number, f"{name}: entry {place}")
-            for place, number in enumerate(numbers, 1)
-        )
-    return Law.of(
-        {
-            whole(value, f"{name}: value"): whole(
-                law[value], f"{name}: weight of {value}"
-            )
-            for value in law
-        }
-    )
-
-
-def _levels(pair: Any, name: str) -> tuple[int, int]:
-    """Returns the levels of a pair (s, S). Raises Refused if it is none; `name` says what it is."""
-    try:
-        low, high = pair
-    except (TypeError, ValueError):
-        raise Refused(
-            f"{name}: {shown(pair)} is not a pair (s, S); give two levels in items"
-        ) from None
-    return whole(low, f"{name}: s"), whole(high, f"{name}: S")
-
-
-def policies_of(given: Policies) -> list[Policy]:
-    """Returns policies, from those, pairs (s, S), a mapping of names to pairs, or a table with the columns s and S."""
-    policies: Any = given.frame if isinstance(given, Result) else given
-    if hasattr(policies, "columns"):
-        return _policies_of_table(policies)
-    if isinstance(policies, Mapping):
-        return [
-            Policy.of_levels(*_levels(pair, f"policies: {name}"), name)
-            for name, pair in policies.items()
-        ]
-    return [
-        one if isinstance(one, Policy) else Policy.of_levels(*_levels(one, "policies"))
-        for one in policies
-    ]
-
-
-def _policies_of_table(policies: Any) -> list[Policy]:
-    """Returns the policies of a DataFrame. Their names are its column `policy`, or an index of that name or of texts."""
-    if not {"s", "S"} <= {*policies.columns}:
-        raise Refused(
-            "policies: the table lacks the column s or S; name them policy, s and S"
-        )
-    table = policies.set_index("policy") if "policy" in policies else policies
-    names = [""] * len(table)
-    if table.index.name == "policy" or table.index.dtype == object:
-        names = [str(name) for name in table.index]
-    pairs = zip(table["s"], table["S"])
-    return [
-        Policy.of_levels(*_levels(pair, "policies"), name)
-        for name, pair in zip(names, pairs)
-    ]
-
-
-def read_policies(word: str) -> list[Policy]:
-    """Returns the policies of a word: a pair such as 10,30, or a file, which is a scenario (.toml) or a CSV table.
-
-    The table has the columns s and S, and perhaps policy; `-` is standard input. Raises Refused, and ScenarioError.
-    """
-    pair = re.fullmatch(r"\s*([0-9]{1,9})\s*,\s*([0-9]{1,9})\s*", word)
-    if pair:
-        return [Policy.of_levels(int(pair[1]), int(pair[2]))]
-    if word.endswith(".toml"):
-        return list(Scenario.read(word).policies)
-    data = read_bytes(word)
-    try:
-        return [*_policies_of_rows(data.decode("utf-8-sig"), word)]
-    except (UnicodeDecodeError, csv.Error) as fault:
-        raise Refused(
-            f"{word}: this is no table of policies: {fault}; save it as CSV in UTF-8"
-        ) from fault
-
-
-def _policies_of_rows(text: str, place: str) -> Iterator[Policy]:
-    """Yields the policies of a CSV table."""
-    rows = csv.DictReader(io.StringIO(text, newline=""))
-    missing = [name for name in "sS" if name not in (rows.fieldnames or [])]
-    if missing:
-        raise Refused(
-            f"{place}:1: there is no column {' and no column '.join(missing)}; name them policy, s and S"
-        )
-    for row in rows:
-        for name in "sS":
-            level = row[name] or ""
-            if not re.fullmatch("[0-9]{1,9}", level):
-                raise Refused(
-                    f"{place}:{rows.line_num}: column {name}: {shown(level)} is not a whole number; write the "
-                    "level in items"
-                )
-        yield Policy.of_levels(int(row["s"]), int(row["S"]), row.get("policy") or "")

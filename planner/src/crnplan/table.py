@@ -14,7 +14,9 @@ from contextvars import ContextVar
 from dataclasses import dataclass, field, replace
 from fractions import Fraction
 from functools import partial
-from typing import TYPE_CHECKING, Any, Literal
+from typing import TYPE_CHECKING, Any, ClassVar, Literal
+
+from .words import counted
 
 if TYPE_CHECKING:
     import pandas as pd
@@ -25,6 +27,8 @@ Kind = Literal["text", "name", "whole", "number", "exact", "fraction"]
 # The spelling of money: with as many decimals as its smallest unit has.
 MONEY = "money"
 TYPES = {"whole": "Int64", "number": float}
+ITEM = "item"  # the column that names items
+WHOLE_NAME = re.compile("0|-?[1-9][0-9]*")
 # Units that name money or a period, with a currency and the name of a period in their place.
 NAMED_UNITS = {
     "money": "{money}",
@@ -32,6 +36,9 @@ NAMED_UNITS = {
     **{f"{what} a period": f"{what} a {{period}}" for what in ("items", "orders")},
     "money a period": "{money} a {period}",
 }
+# What a notebook shows at most: rows, columns, letters of a cell, and notes; and how it spells rounded numbers by unit.
+MOST_ROWS, MOST_COLUMNS, MOST_LETTERS, MOST_NOTES = 10, 8, 60, 20
+SHOWN = {"share": ".1%", "orders a period": ".4f"}
 # How a text begins that a spreadsheet would run, unless it is a number or a mark for no figure.
 RUN = re.compile(r"[=@\t\r]|[+-](?![0-9.,]*$)")
 
@@ -85,9 +92,25 @@ class Column:
             cell = float(fact)
         return cell
 
+    def __getstate__(self) -> dict[str, Any]:
+        """Returns what a pickle has: all but how cells are made, which a table with rows no longer needs."""
+        return {**vars(self), "fact": None}
+
     @property
     def is_text(self) -> bool:
         return self.kind in ("text", "name")
+
+    def for_notebook(self, currency: str) -> Column:
+        """Returns the column as a notebook shows it: money with cents, or the decimals of its currency, and shares in
+        percent."""
+        if self.kind != "number" or self.shown and self.shown != MONEY:
+            return self
+        from .money import Currency
+
+        shown = SHOWN.get(self.unit, ",.2f")
+        if MONEY in (self.written, self.shown):
+            shown = f",.{Currency(currency).places}f"
+        return replace(self, shown=shown)
 
     def unit_in(self, currency: str, every: str) -> str:
         """Returns the unit in a currency and for periods, each of which may be empty: EUR a week."""
@@ -153,6 +176,12 @@ def at(path: str) -> Callable[[Any], Any]:
     return fact
 
 
+def shortened(cell: Cell) -> Cell:
+    """Returns a cell, with the end of a long text left out."""
+    is_long = isinstance(cell, str) and len(cell) > MOST_LETTERS
+    return f"{str(cell)[:MOST_LETTERS]} .." if is_long else cell
+
+
 def is_missing(value: Cell) -> bool:
     """Returns whether a cell has no figure: None or nan."""
     return value is None or isinstance(value, float) and math.isnan(value)
@@ -170,6 +199,20 @@ def plain(cell: Cell) -> str | int | float | None:
     return None if is_missing(cell) else cell
 
 
+def keys_of(names: Sequence[Cell], kind: str) -> tuple[list[Cell], Any]:
+    """Returns names of items as whole numbers, None if there is none, with the type of their column: the stated one if
+    all are such, one that may lack some, or any if a name is a text, as `A7` or `0017`.
+    """
+    keys = list[Cell]()
+    for name in names:
+        is_whole = WHOLE_NAME.fullmatch(str(name))
+        keys.append(int(str(name)) if is_whole else name or None)
+    kinds = {*map(type, keys)}
+    if str in kinds:
+        return keys, object
+    return keys, kind if kinds == {int} else TYPES["whole"]
+
+
 def unrun(cell: str) -> str:
     """Returns a text that a spreadsheet does not run as a formula: behind an apostrophe, if it would.
 
@@ -181,7 +224,8 @@ def unrun(cell: str) -> str:
 @dataclass(frozen=True)
 class DataTable:
     """Rows under declared columns. Money has `decimals`, `missing` stands for no figure, and `index` names the column
-    by which a frame is indexed. Units are in a `currency` and for periods of `every`, if these are known.
+    by which a frame is indexed. Units are in a `currency` and for periods of `every`, if these are known. `keys` is
+    the type of the whole numbers that name items in a frame; it is empty if texts do.
     """
 
     columns: Sequence[Column]
@@ -191,6 +235,7 @@ class DataTable:
     index: str = ""
     currency: str = ""
     every: str = ""
+    keys: str = ""
 
     @classmethod
     def of(
@@ -299,6 +344,8 @@ class DataTable:
         rows, columns = list(self.rows), dict[str, pd.Series]()
         for place, column in enumerate(self.columns):
             cells, kind = [row[place] for row in rows], TYPES.get(column.kind, object)
+            if self.keys and column.name == ITEM:
+                cells, kind = keys_of(cells, self.keys)
             columns[column.name] = pd.Series(cells, dtype=kind)
         frame = pd.DataFrame(columns)
         frame.attrs["units"] = self.units
@@ -309,6 +356,27 @@ class DataTable:
         """Returns the table for a reader, with its columns in line."""
         texts = [place for place, column in enumerate(self.columns) if column.is_text]
         return aligned(list(self.spelt(True)), texts)
+
+    def __repr__(self) -> str:
+        rows = counted(len(self.rows), "row") if isinstance(self.rows, list) else "rows"
+        return f"DataTable({rows} of {names_of(self.names, MOST_COLUMNS)})"
+
+    def brief(self, names: Sequence[str]) -> tuple[DataTable, str]:
+        """Returns the first rows, or all if these are few, of the named columns, or of the first ones, as a notebook shows
+        them, and what is left out."""
+        known = [name for name in names if name in self.names]
+        some = self.with_columns((known or self.names)[:MOST_COLUMNS])
+        every, rows, left = [*some.rows], list[list[Cell]](), list[str]()
+        shown = every if len(every) <= 2 * MOST_ROWS else every[:MOST_ROWS]
+        for row in shown:
+            rows.append([shortened(cell) for cell in row])
+        columns = [column.for_notebook(self.currency) for column in some.columns]
+        if len(every) > len(rows):
+            left.append(counted(len(every) - len(rows), "more row"))
+        if len(some.names) < len(self.names):
+            left.append(counted(len(self.names) - len(some.names), "more column"))
+        said = f"and {' and '.join(left)}, in frame" if left else ""
+        return replace(some, columns=columns, rows=rows), said
 
     @property
     def html(self) -> str:
@@ -334,7 +402,11 @@ class DataTable:
 
 
 class Result(ABC):
-    """What every result shows in the same way: a table as a frame, as text for a terminal, and in a notebook."""
+    """What every result shows in the same way: a table as a frame, as text for a terminal, and in a notebook, with the
+    columns `brief`, or the first ones. Results of a kind with the same rows are equal.
+    """
+
+    brief: ClassVar[Sequence[str]] = ()
 
     @property
     @abstractmethod
@@ -361,21 +433,37 @@ class Result(ABC):
         """Returns all as plain data, without rounding."""
         return {"rows": self.table.records}
 
-    def _repr_html_(self) -> str:
-        """Shows the table and the notes in a notebook."""
-        parts = [self.table.html]
-        for line in self.notes.splitlines():
-            if line:
-                parts.append(f"<p>{html.escape(line)}</p>\n")
-        return "".join(parts)
-
-
-class TextResult(Result):
-    """A result whose text says all, which so stands below its table too."""
+    @property
+    def headline(self) -> str:
+        """Returns what it comes to in a line: how many rows it has."""
+        return counted(len([*self.table.rows]), "row")
 
     @property
-    def notes(self) -> str:
-        return self.text
+    def content(self) -> list[list[dict[str, Json]]]:
+        """Returns the rows of its tables as plain data: two results are equal if these are."""
+        return [self.table.records]
+
+    def __eq__(self, other: object) -> bool:
+        return (
+            isinstance(other, Result)
+            and type(self) is type(other)
+            and (self is other or self.content == other.content)
+        )
+
+    def __hash__(self) -> int:
+        return hash((type(self), *self.table.names))
+
+    def __repr__(self) -> str:
+        return f"{type(self).__name__}({self.headline})"
+
+    def _repr_html_(self) -> str:
+        """Shows in a notebook what it comes to, its first rows, how many more there are, and the notes."""
+        lines = [line for line in self.notes.splitlines() if line]
+        some, left = self.table.brief(self.brief)
+        said = [left, *lines[:MOST_NOTES]]
+        parts = [f"<p>{html.escape(self.headline)}</p>\n", some.html]
+        parts += [f"<p>{html.escape(line)}</p>\n" for line in said if line]
+        return "".join(parts)
 
 
 def aligned(rows: Sequence[Sequence[str]], left: Collection[int] = (0,)) -> str:

@@ -95,8 +95,17 @@ def _allowed_fill(facts: Facts) -> str:
     return f"; by 80% of the laws that this allows it meets {facts['low']:.1%} to {facts['high']:.1%} of demand at once"
 
 
-def _whose_record(facts: Facts) -> str:
-    return "its own" if facts["is_own"] else "its class"
+def _sums_of_paths(facts: Facts) -> str:
+    if facts["is_apart"]:
+        return f"of which each is taken by itself, as {facts['together']} in a row lack"
+    return f"that of sums of {facts['together']} in a row, over their number"
+
+
+def _but_promotions(facts: Facts) -> str:
+    promoted = facts.get("promoted")
+    if not promoted:
+        return ""
+    return f", but for {counted(promoted, 'promoted period')}"
 
 
 def _month(name: str) -> Derive:
@@ -114,12 +123,24 @@ def _no_interval(facts: Facts) -> str:
     return "the rarer policy places fewer than 2 orders in all replications"
 
 
+def _meets(facts: Facts) -> str:
+    return "has no shortage in" if facts.get("of_periods") else "meets"
+
+
+def _of_what(facts: Facts) -> str:
+    return "of periods" if facts.get("of_periods") else "of demand at once"
+
+
+def _wanted(facts: Facts) -> str:
+    if facts.get("of_periods"):
+        return "its share of periods without a shortage"
+    return "its fill rate"
+
+
 def _not_reached(facts: Facts) -> str:
-    return (
-        "is best"
-        if facts["fill"] is None
-        else f"meets {facts['fill']:g} of demand at once"
-    )
+    if facts["fill"] is None:
+        return "is best"
+    return f"{_meets(facts)} {facts['fill']:g} {_of_what(facts)}"
 
 
 # What follows from the facts of a catalogue (read/defaults.py, plan/catalogue.py).
@@ -138,10 +159,6 @@ def _sources(facts: Facts) -> str:
         if facts[source]
     ]
     return ", ".join(parts)
-
-
-def _reason(facts: Facts) -> str:
-    return f" ({facts['reason']})" if facts["reason"] else ""
 
 
 def _and_classes(facts: Facts) -> str:
@@ -189,15 +206,7 @@ STUDIED = {
     "steady": "Poisson, mean 10",
     "erratic": "negative binomial, mean 3, variance 9",
 }
-WEEKDAYS = (
-    "Monday",
-    "Tuesday",
-    "Wednesday",
-    "Thursday",
-    "Friday",
-    "Saturday",
-    "Sunday",
-)
+WEEKDAYS = "Monday Tuesday Wednesday Thursday Friday Saturday Sunday".split()
 QUARTERS = (
     "January to March",
     "April to June",
@@ -366,15 +375,9 @@ def _untested(facts: Facts) -> str:
 # What follows from the facts of suggestions (theory/suggestions.py).
 def _lacking_laws(facts: Facts) -> str:
     lacking = facts["lacking"]
-    return (
-        f"; {lacking} of the laws have no long run, and keep no promise"
-        if lacking
-        else ""
-    )
-
-
-def _side(facts: Facts) -> str:
-    return "above" if facts["today"] > facts["mean"] else "below"
+    if not lacking:
+        return ""
+    return f"; {lacking} of the laws have no long run, and keep no promise"
 
 
 # What follows from facts, by its name in the tables of words.
@@ -382,15 +385,20 @@ DERIVED: dict[str, Derive] = {
     "owner of the law": _owner,
     "allowed fill": _allowed_fill,
     "how it is known": _how_known,
-    "whose record": _whose_record,
+    "whose record": lambda facts: "its own" if facts["is_own"] else "its class",
+    "sums of paths": _sums_of_paths,
+    "but promotions": _but_promotions,
     "month of most": _month("most"),
     "month of least": _month("least"),
     "periods with demand": lambda facts: counted(facts["demands"], "period"),
     "reason of no interval": _no_interval,
+    "meets": _meets,
+    "of what": _of_what,
+    "what is wanted": _wanted,
     "what is not reached": _not_reached,
     "most items": lambda facts: f"{MOST_ITEMS:,}",
     "sources": _sources,
-    "for a reason": _reason,
+    "for a reason": lambda facts: f" ({facts['reason']})" if facts["reason"] else "",
     "and classes": _and_classes,
     "in rows": _in_rows,
     "and best": _and_best,
@@ -402,7 +410,7 @@ DERIVED: dict[str, Derive] = {
     "exactness": lambda facts: exactness(facts["step"]),
     "lacking laws": _lacking_laws,
     "far": lambda facts: abs(facts["today"] - facts["mean"]),
-    "side": _side,
+    "side": lambda facts: "above" if facts["today"] > facts["mean"] else "below",
     **{f"found {name}": found for name, (_, found, advice) in TESTS.items()},
 }
 

@@ -14,10 +14,12 @@ import pytest
 import crnplan as package
 from crnplan.errors import Refused
 from crnplan.plan.aims import Trial
-from crnplan.plan.backtest.catalogue import TESTED, TESTS, Past, past_of
+from crnplan.plan.backtest.catalogue import OLD, TESTED, TESTS, past_of
 from crnplan.plan.backtest.one import Backtest
 from crnplan.plan.catalogue import planned_folder
+from crnplan.remarks import Remark
 from crnplan.store.stored import Store
+from crnplan.words import sentence
 from planner.tests.conftest import Command
 from planner.tests.plan.items import SHORT, START
 
@@ -88,7 +90,7 @@ def room(made: Path, tmp_path: Path, monkeypatch: pytest.MonkeyPatch) -> Path:
     [
         ("moved", "refitted", ("--window", "13")),
         ("lumpy", "corrected", ("--correct",)),
-        ("steady", "kept (smoothed gained more, but no plan is made so)", ()),
+        ("steady", "kept", ()),
     ],
 )
 def test_plans_as_the_test_found_best(
@@ -111,6 +113,12 @@ def test_plans_as_the_test_found_best(
     ways: Any = WAYS | SHORT | {"program": program, "jobs": 1}
     python = package.plan(*tables, as_backtest=past, **ways)
     assert python.table.csv.encode() == (own / "as/decisions.csv").read_bytes()
+
+
+def test_a_better_method_without_a_plan_is_named() -> None:
+    """If a method gained more by which no plan is made, that is said."""
+    said = sentence(Remark("as backtest", {"method": "kept", "best": "smoothed"}))
+    assert said.endswith("best: kept (smoothed gained more, but no plan is made so)")
 
 
 def test_other_records_are_tried_anew(room: Path) -> None:
@@ -174,7 +182,7 @@ def test_tests_that_are_not_whole(room: Path) -> None:
     with contextlib.closing(Store(past / TESTS, Trial)) as older:
         older.keep_facts({TESTED: "[]"})
     with planned_folder(past) as planned:
-        assert past_of(planned) == Past(None, True, False, False)
+        assert past_of(planned) == OLD
     said = refusal(room, "steady", as_backtest=past)
     assert "is not finished by this version" in said
     (past / TESTS).unlink()

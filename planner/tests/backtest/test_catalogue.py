@@ -18,13 +18,14 @@ from crnplan.demand.learning import Prior
 from crnplan.store.files import own_folder
 from crnplan.show.backtest_tables import BACKTEST_COLUMNS, SUM_COLUMNS
 from crnplan.show.verdicts import PAST
-from crnplan.plan.backtest.catalogue import TESTS, Records
+from crnplan.plan.backtest.catalogue import TESTS
+from crnplan.plan.backtest.lessons import Records
 from crnplan.plan.backtest.methods import Walk
 from crnplan.plan.backtest.one import Backtest, backtest_one
 from crnplan.plan.backtest.sums import TIME
 from crnplan.plan.how import NONE, Settings
 from crnplan.read.catalogue_reading import CATALOGUE, READ
-from crnplan.read.item import PLANNED, Item
+from crnplan.read.item import Item
 from crnplan.store.stored import Store
 from planner.tests.conftest import Command, rows_of
 from planner.tests.show.page_reader import Page
@@ -127,7 +128,7 @@ def test_rows_are_those_of_each_item(made: Path, items: Mapping[str, Item]) -> N
 
 def test_items_as_they_were_at_the_end_of_their_records(made: Path) -> None:
     """What a test learns from, it sees up to that day, and of it the last periods that count."""
-    with contextlib.closing(Records(made / "out" / READ, 40, 30, PLANNED)) as records:
+    with contextlib.closing(Records(made / "out" / READ, 40, 30)) as records:
         pairs = [*zip(records.whole_items(), records.items(), strict=True)]
     assert len(pairs) == ITEMS
     for whole, known in pairs:
@@ -141,7 +142,7 @@ def test_values_of_a_notebook(room: Path) -> None:
     assert tests.tested.now == 0
     assert tests.tested.kept == ITEMS
     assert tests.table.csv.encode() == (room / "out/backtest.csv").read_bytes()
-    assert tests.text == tests.notes == (room / "out/backtest.txt").read_text("utf-8")
+    assert tests.text == (room / "out/backtest.txt").read_text("utf-8")
     assert tests.page == (room / "out/backtest.html").read_text("utf-8")
     assert [*tests.sums] == [column.name for column in SUM_COLUMNS]
     assert tests.sums["class"].tolist() == ["", "a", "b"]

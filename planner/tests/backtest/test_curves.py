@@ -126,7 +126,7 @@ def test_gains_of_planted_methods(
     """With 5% promised unmet, a method gains if its stock and orders cost less where both meet that, or if it meets more
     where 10% were unmet, and they do not cost more then. Meeting more by more stock alone gains nothing.
     """
-    sums = Sums.of("", catalogue(ratio, 7, own, kept))
+    sums = Sums.of("", catalogue(ratio, 7, own, kept, 160))
     assert sums.is_missed is (kept == 1)
     assert [gain.code for gain in sums.gains] == gains
     assert sums.best == (gains[0] if gains else None)
@@ -184,7 +184,7 @@ def test_better_gains_come_first() -> None:
         "corrected": (1, 2),
         "smoothed": (0.8, 2),
     }
-    for place in range(60):
+    for place in range(300):
         level = random.uniform(0.5, 2)
         ran = {name: traced(random, level, *own) for name, own in ratios.items()}
         plan = ran["kept"]

@@ -15,9 +15,11 @@ from crnplan.errors import Refused
 from crnplan.plan.answer import Answer
 from crnplan.plan.aims import Aims, Tried
 from crnplan.plan.backtest.methods import (
+    CORRECTED,
     Plan,
     Walk,
     Walked,
+    Way,
     aims_about,
     today_of,
 )
@@ -265,14 +267,15 @@ def test_corrected_plan_aims_as_the_catalogue(program: Path) -> None:
     met = (0.2, 0.15, 0.1, 0.05, 0.04, 0.03, 0.02, 0.01, 0.0)
     aims = Aims(1.0, (Tried(40, 2_000, met),) * 2)
     wanting = item_of(3, backlog=None, fill=Fraction(19, 20))
-    corrected = backtest_one(wanting, alone(), OWN, WALK, aims).corrected
     settings = dataclasses.replace(alone(), correct=True, aims=aims)
+    ways = {CORRECTED: Way({"correct": True}, settings, OWN)}
+    corrected = backtest_one(wanting, alone(), OWN, WALK, ways).corrected
     answer = plan_one(question_of(wanting.part(0, 40), settings, OWN), str(program))
     assert corrected
     assert (corrected.point, corrected.level) == answer.chosen.levels
     assert corrected.promised_fill == pytest.approx(answer.chosen.fill)
     assert answer.chosen.fill > 0.98 > (past_of(wanting).kept.promised_fill or 1)
-    test = backtest_one(item_of(3), alone(), OWN, WALK, aims)
+    test = backtest_one(item_of(3), alone(), OWN, WALK, ways)
     assert test.corrected == test.kept
     assert past_of(item_of(3)).corrected is None
 

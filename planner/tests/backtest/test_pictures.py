@@ -10,19 +10,21 @@ from crnplan.plan.backtest.sums import Sums
 from crnplan.show.backtest_page import curve_plot, spread_plot
 from crnplan.show.backtest_tables import class_rows, first_line, past_line
 from crnplan.show.page import Scale, bars
+from crnplan.show.verdicts import METHOD_WORDS
 from crnplan.plan.backtest.catalogue import Past
+from crnplan.plan.backtest.methods import CORRECTED
 from planner.tests.backtest.test_curves import catalogue
 from planner.tests.backtest.test_sums import PERIODS, made, outcome
 
 
 def test_items_by_what_came() -> None:
-    """Of a promised 95%, 0, 10 and 65 points are missed: bars of 5 points from -50 on, the last of them beyond the end."""
+    """Of a promised 95%, 0, 9.5 and 65 points are missed: bars of a point from -20 on, the last of them beyond the end."""
     tests = [made([0] * PERIODS, [0] * PERIODS, place) for place in range(3)]
-    for place, fill in enumerate((0.95, 0.85, 0.3)):
+    for place, fill in enumerate((0.95, 0.855, 0.3)):
         kept = outcome([0] * PERIODS, fill=fill)
         tests[place] = made([0] * PERIODS, [0] * PERIODS, place, kept=kept)
-    plot, counts = spread_plot(tests), [0] * 20
-    counts[10] = counts[8] = counts[0] = 1
+    plot, counts = spread_plot(tests), [0] * 30
+    counts[20] = counts[10] = counts[0] = 1
     assert plot.description == "3 items, of which 1 met at least what was promised."
     assert plot.bars == bars(counts, Scale.of(counts, is_whole=True))
 
@@ -54,7 +56,7 @@ def test_curves_by_hand() -> None:
 def test_line_of_the_first_screen(ratio: float, own: int, said: str) -> None:
     """The line says what was promised, what was kept, and by which method it would have been; of few items only what was
     kept."""
-    sums = Sums.of("", catalogue(ratio, 7, own))
+    sums = Sums.of("", catalogue(ratio, 7, own, items=160))
     line = first_line(sums)
     met = [100 - 100 * sums.unmet[code].value for code in ("kept", "smoothed")]
     assert line.startswith("On your own past a promised 95.0% was kept in ")
@@ -80,17 +82,20 @@ def test_move_of_a_class() -> None:
 def test_line_of_a_corrected_plan() -> None:
     """The line of a plan that is corrected says what such plans met, if it does not by itself; without such plans in the
     test, that it is not of them."""
-    tests, changed = catalogue(1.0, 7, 2), dataclasses.replace
+    tests, changed = catalogue(1.0, 7, 2, items=160), dataclasses.replace
     plain = [changed(it, smoothed=it.kept) for it in tests]
     same = [changed(it, corrected=it.kept) for it in plain]
     lifted = [changed(it, corrected=own.smoothed) for it, own in zip(plain, tests)]
     met = 1 - Sums.of("", plain).unmet["kept"].value
+    meaning = METHOD_WORDS[CORRECTED].meaning
     ends = {
-        " That is without the correction.": plain,
-        f" Plans that aim as this one met {met:.1%}.": same,
+        f" That is without {meaning}, which is not tested.": plain,
+        f" By {meaning}: {met:.1%}.": same,
         "": lifted,
     }
     for end, own in ends.items():
         sums = Sums.of("", own)
-        assert past_line(Past(sums, False, False, False)) == first_line(sums)
-        assert past_line(Past(sums, False, True, False)) == first_line(sums) + end
+        assert past_line(Past(sums, False)) == first_line(sums)
+        assert past_line(Past(sums, False, [CORRECTED])) == first_line(sums) + end
+    nothing = "No item has a test on its own past."
+    assert past_line(Past(None, False, [CORRECTED])) == nothing

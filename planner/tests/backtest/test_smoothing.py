@@ -1,4 +1,4 @@
-"""Tests the rule of thumb: smoothing by hand, the book's table of the loss, and a rule without spread."""
+"""Tests the rule of thumb: the book's table of the loss, and a rule without spread."""
 from __future__ import annotations
 
 import math
@@ -7,11 +7,9 @@ from fractions import Fraction
 import pytest
 
 from crnplan.plan.backtest.smoothing import (
-    FIRST,
     MOST_FACTOR,
     loss,
     safety_factor,
-    smoothed,
     smoothed_levels,
     wanted_share,
 )
@@ -43,13 +41,6 @@ def test_safety_factor_has_ends() -> None:
     """A share that no factor reaches gets the largest, or the least."""
     assert safety_factor(1.0, 1.0) == MOST_FACTOR
     assert safety_factor(0.0, 1.0) == -MOST_FACTOR
-
-
-def test_smoothing_by_hand() -> None:
-    """After periods of 10, a demand of 20 moves the mean by a tenth of 10, and the squared error by a tenth of 100."""
-    steps = [*smoothed([10] * FIRST + [20, 10])]
-    assert steps[: FIRST + 1] == [(10, 0)] * (FIRST + 1)
-    assert steps[FIRST + 1] == pytest.approx((11, 10))
 
 
 def test_level_without_spread() -> None:

@@ -13,7 +13,13 @@ import pytest
 
 from crnplan.demand.fitting import fit_demand
 from crnplan.plan.backtest.sums import HOLDS, TIME, UNSURE
-from planner.studies import broken, correction, real_series, walk_forward
+from planner.studies import (
+    broken,
+    correction,
+    correction_sets,
+    real_series,
+    walk_forward,
+)
 from planner.studies.level_spread_tail import (
     Ratios,
     on_lattice,
@@ -171,7 +177,7 @@ def test_small_part_of_corrections() -> None:
     stored = (
         pd.read_csv(correction.STORED).query("set == @correction.SMALL").set_index(keys)
     )
-    (catalogue,) = correction.catalogues(True)
+    (catalogue,) = correction_sets.catalogues(True)
     rows = pd.DataFrame(
         correction.rows_of(catalogue, correction.tests_of(catalogue))
     ).set_index(keys)

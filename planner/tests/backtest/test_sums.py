@@ -71,6 +71,9 @@ def made(
         "refitted": kept,
         "damped": None,
         "corrected": None,
+        "together": None,
+        "seasonal": None,
+        "followed": None,
         "smoothed": kept,
         "shuffled": outcome(by_chance),
         "shuffled_demands": demands,
@@ -165,7 +168,7 @@ def test_error_of_independent_items() -> None:
     """Without blocks the error of a mean is the textbook's, of a sample of items."""
     values = np.array([1.0, 4.0, 2.0, 9.0, 5.0])
     items, blocks = np.arange(5), np.full(5, -1)
-    error, _ = error_of((values - values.mean()) / 5, items, blocks)
+    error, *_ = error_of((values - values.mean()) / 5, items, blocks)
     assert error == pytest.approx(values.std(ddof=1) / math.sqrt(5))
 
 

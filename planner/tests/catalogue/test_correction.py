@@ -3,8 +3,10 @@ from __future__ import annotations
 
 import dataclasses
 import datetime
+import math
 import re
 import shutil
+from collections.abc import Sequence
 from fractions import Fraction
 from pathlib import Path
 from typing import Any
@@ -15,11 +17,13 @@ import pytest
 
 import crnplan as crn
 
-from crnplan.plan.aims import Aims
+from crnplan.demand.learning import Prior
+from crnplan.plan.aims import Aims, Overruns
 from crnplan.plan.answer import Answer
 from crnplan.plan.catalogue import PlannedFolder, planned_folder
 from crnplan.plan.one import plan_one
-from crnplan.plan.how import NONE
+from crnplan.plan.correction import cost_trial_of
+from crnplan.plan.how import NONE, Settings
 from crnplan.plan.question import question_of
 from crnplan.read.item import Item
 from planner.tests.conftest import Command, rows_of
@@ -29,6 +33,7 @@ from planner.tests.plan.items import SHORT
 COUNT, ITEMS, WEEKS, START = 45, 34, 26, datetime.date(2026, 1, 5)  # a Monday
 WANTED = {0: "0.95", 1: "0.95", 2: "0.9", 3: ""}
 SETTINGS: dict[str, Any] = {"fit": "empirical", "borrow": NONE, "jobs": 1, **SHORT}
+OWN = Settings(fit="empirical", borrow=NONE)
 WORDS = "--fit", "empirical", "--borrow", "none"
 FILES = "decisions.csv", "summary.txt", "report.html"
 
@@ -152,6 +157,23 @@ def test_what_is_said(room: Path) -> None:
     assert "Corrected fill rates" in Page(room / "plan/report.html").words
 
 
+def test_promised_is_what_was_met_on_the_past(room: Path) -> None:
+    """The aim of theory is none of the promise: the first screen of the page says both, and so does an item."""
+    rows = rows_of(room / "plan/decisions.csv").values()
+    corrected = [row for row in rows if row["fill_aimed"]]
+    page = Page(room / "plan/report.html").words
+    met = np.mean([float(row["fill_promised"]) for row in corrected])
+    fill = np.mean([float(row["fill_chosen"]) for row in corrected])
+    assert f"such plans met {met:.1%} of demand at once" in page
+    assert f"mean of items, and {fill:.1%} by theory" in page
+    with planned_folder(room / "plan") as plan:
+        item, answer = plan.item("I-00")
+    assert answer.correction
+    said_of_item = f"It promises {answer.correction.met:.1%}, which such plans met"
+    text = crn.open_plan(room / "plan").item("I-00").text
+    assert said_of_item in " ".join(text.split()) and len(text.splitlines()) <= 24
+
+
 def plan_again(room: Path, out: str) -> list[Any]:
     """Returns the words that plan the tables of a room as its settings say."""
     settings = "[catalogue]\nperiods = 64\nreplications = 4\ncorrect = true\n"
@@ -195,8 +217,73 @@ def aims_in(room: Path) -> Aims | None:
 
 
 def test_few_items_are_refused(tmp_path: Path, program: Path) -> None:
-    with pytest.raises(crn.Refused, match="and a correction needs 30"):
+    """It is if there are too few of both kinds; else the kind with too few is left as it is, and that is said."""
+    said = "27 items with a wanted fill rate and 9 with a backlog cost can be tried on their past, and a correction needs 30"
+    with pytest.raises(crn.Refused, match=said):
         crn.plan(*write(tmp_path, 36), correct=True, program=program, **SETTINGS)
+
+
+def test_a_kind_with_few_items_is_left_as_it_is(made: Path) -> None:
+    summary = (made / "plan/summary.txt").read_text("utf-8")
+    said = "costs are promised by theory alone: 11 items with a backlog cost can be tried on their past, and that needs 30"
+    assert said in summary and "costs promised by" not in summary
+    rows = rows_of(made / "plan/decisions.csv").values()
+    assert {row["cost_promised"] for row in rows} == {""}
+
+
+def check_said(
+    planned: crn.Plan, sums: Sequence[float], overruns: Overruns, costed: Item
+) -> None:
+    """Checks what the summary of a plan says of promised costs, and that of an item."""
+    summary = planned.text
+    said = re.search(r"past: 30 items .*, (.+) a week promised, (.+) by", summary)
+    assert said and [*map(float, said.groups())] == pytest.approx(sums, abs=0.01)
+    assert "fill rates are not corrected" not in summary
+    for name, own in zip(("slow", "fast"), overruns.classes):
+        line = [name, f"{own.times - 1:.2%}", f"{own.error:.2%}", str(own.items)]
+        line.append(str(own.periods))
+        assert line in [row.split() for row in summary.splitlines()]
+    text = planned.item(costed.name).text
+    times = overruns.of_item(costed.counts).times
+    assert f"such plans cost {times:.2f} times what theory" in " ".join(text.split())
+    assert len(text.splitlines()) <= 24
+
+
+@pytest.mark.parametrize("fills", [True, False])
+def test_costs_are_promised_by_the_past(
+    fills: bool, tmp_path: Path, program: Path, monkeypatch: pytest.MonkeyPatch
+) -> None:
+    """The promise is what theory says times the factor of the class of the item, and stands beside that: in the table,
+    the summary and on the page. Fill rates of other items are corrected too, if there are some.
+    """
+    for place, wanted in enumerate(("0.95", "", "0.9", "")):
+        monkeypatch.setitem(WANTED, place, wanted if fills else "")
+    tables = write(tmp_path, 60 if fills else 30)
+    words: Any = {**SETTINGS, "correct": True, "program": program}
+    planned = crn.plan(*tables, out=tmp_path / "plan", **words)
+    with planned_folder(tmp_path / "plan") as plan:
+        settings, answers = plan.settings, answered(plan)
+    costed = [item for item, _ in answers.values() if item.backlog is not None]
+    trials = [cost_trial_of(item, OWN, Prior(NONE)) for item in costed]
+    assert settings.overruns == Overruns.of(trials) and len(trials) == 30
+    assert (settings.aims is not None) is fills
+    rows, sums = planned.decisions.set_index("item"), [0.0, 0.0]
+    for item, answer in answers.values():
+        row = rows.loc[item.name]
+        if item.backlog is None:
+            assert settings.aims and math.isnan(row.cost_promised)
+            met = settings.aims.of_item(item.counts).met(row.fill_aimed)
+            assert row.fill_promised == pytest.approx(met, abs=1e-5)
+            continue
+        times = settings.overruns.of_item(item.counts).times
+        assert row.cost_promised == pytest.approx(answer.chosen.cost * times, abs=0.01)
+        assert row.cost_chosen == pytest.approx(answer.chosen.cost, abs=0.01)
+        assert math.isnan(row.fill_promised)
+        sums[0] += answer.chosen.cost * times
+        sums[1] += answer.chosen.cost
+    check_said(planned, sums, settings.overruns, costed[0])
+    page = Page(tmp_path / "plan/report.html").words
+    assert "Promised costs" in page and ("Corrected fill rates" in page) is fills
 
 
 def test_backtests_do_not_see_what_came(room: Path, crnplan: Command) -> None:
@@ -211,5 +298,5 @@ def test_backtests_do_not_see_what_came(room: Path, crnplan: Command) -> None:
     assert told.output == plain.text
     crnplan("report", room / "plan")
     line = told.output.splitlines()[0]
-    assert line.endswith("% by the plan that aims as by --correct.")
-    assert line in Page(room / "plan/report.html").words
+    said = f"{line} By the plan that aims as by --correct: "
+    assert said in Page(room / "plan/report.html").words

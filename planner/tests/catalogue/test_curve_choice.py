@@ -366,8 +366,10 @@ def test_stocks_far_from_theory_are_named(monkeypatch: pytest.MonkeyPatch) -> No
     folder = SimpleNamespace(
         settings=SimpleNamespace(seed="a"),
         currency=SimpleNamespace(text="{:.2f}".format),
+        item=lambda name: (SimpleNamespace(review=1), None),
     )
-    items = SimpleNamespace(drawn=lambda seed, count: range(count), count=9)
+    drawn = [(0, "one"), (1, "other")]
+    items = SimpleNamespace(drawn=lambda seed, count: drawn[:count], count=9)
     gathered = typing.cast(Any, SimpleNamespace(items=items, folder=folder))
     sums = {"near": (100.0, 101.0, 1.0), "far": (100.0, 120.0, 1.0)}
     monkeypatch.setattr(confirmed, "sampled_sums", lambda *_: sums)

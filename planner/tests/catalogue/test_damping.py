@@ -15,7 +15,7 @@ from crnplan.plan.one import plan_one
 from crnplan.plan.how import Settings
 from crnplan.plan.question import Levels, question_of
 from crnplan.read.item import Item
-from crnplan.scenario import Policy
+from crnplan.policies import Policy
 from crnplan.theory.many_laws import figures_of_laws
 from planner.tests.plan.items import alone, several
 from planner.tests.theory.chain import by_chain

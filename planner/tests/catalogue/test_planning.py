@@ -361,7 +361,7 @@ def test_confidence_and_its_price(begun: Path, plan: Plan) -> None:
         assert bool(row["cost_confidence"]) == bool(row["fill_wanted"]) and rise >= 0
         assert row["fill_chosen"] >= before[name]["fill_chosen"]
         price += rise
-    said = re.search("fill rates kept under 80% of the laws.*", told.output)
+    said = re.search("wanted shares kept under 80% of the laws.*", told.output)
     assert said
     items, cost = re.findall(r"\d[\d.]*", said[0])[1:]
     assert int(items) == sum(bool(row["fill_wanted"]) for row in after.values())

@@ -13,6 +13,7 @@ import pytest
 
 import crnplan as crn
 from crnplan.plan.catalogue import planned_folder
+from crnplan.plan import swings
 from crnplan.plan.learned import PRIOR_WINDOW, SEASONS
 from planner.tests.conftest import Command
 from planner.tests.plan.items import SHORT
@@ -84,6 +85,23 @@ def test_levels_by_month(room: Path) -> None:
     assert crn.open_plan(room / "flat").levels.empty
 
 
+def test_what_would_change_the_answer(
+    room: Path, monkeypatch: pytest.MonkeyPatch
+) -> None:
+    """Cases of other laws are of the whole year: if no law differs, each item costs and meets what it is planned for, but
+    for the rounding of rough theory."""
+    monkeypatch.setattr(swings, "CASES", ((swings.DEMAND, 10), (swings.LEADS, 10)))
+    with planned_folder(room / "plan") as folder:
+        item, answer = folder.item("warm-09")
+        swing = swings.swing_on(item, answer, folder.settings)
+    chosen, today = answer.chosen, answer.today
+    assert today is not None and len(answer.calendar) > 11
+    for row in swing.rows:
+        assert row[swings.KEPT] == pytest.approx(chosen.cost, rel=0.005)
+        assert row[swings.TODAY] == pytest.approx(today.cost, rel=0.005)
+        assert row[swings.KEPT_FILL] == pytest.approx(chosen.fill, abs=0.002)
+
+
 def test_what_is_said(room: Path) -> None:
     """A plan by a season says so in place of the warning of one, which a plan without it has."""
     plan, flat = decisions(room / "plan"), decisions(room / "flat")
@@ -134,6 +152,62 @@ def test_what_is_kept(room: Path, tmp_path: Path, program: Path) -> None:
     crn.plan(sales, room / "items.csv", learn_again=True, **words)
     with planned_folder(folder) as planned:
         assert planned.settings.seasons and not planned.settings.seasons.classes
+
+
+def test_promotions_of_rows(room: Path, tmp_path: Path, program: Path) -> None:
+    """A column that marks nothing changes no plan; one that marks high weeks of a class has its season learned without
+    them, which is off with them; and is stated in found.toml. Without the column they are found, and what was learned so
+    is learned again with it."""
+    demand = pd.read_csv(room / "demand.csv", parse_dates=["date"])
+    is_high = demand["date"].isin(["2022-09-05", "2022-12-05", "2023-11-06"])
+    high = is_high & demand["item"].str.startswith("warm")
+    words = {**WORDS, "program": program}
+    indices = []
+    for name, lift, marks in (
+        ("none", 1, "no"),
+        ("marked", 4, "yes"),
+        ("unknown", 4, "no"),
+    ):
+        frame = demand.assign(promo=np.where(high, marks, "no"))
+        frame["quantity"] *= np.where(high, lift, 1)
+        crn.plan(frame, room / "items.csv", out=tmp_path / name, **words)
+        with planned_folder(tmp_path / name) as planned:
+            assert planned.settings.seasons and not planned.settings.seasons.promoted
+            indices.append(planned.settings.seasons.classes.get("warm"))
+    for name in ("decisions.csv", "levels.csv"):
+        plain = (room / "plan" / name).read_bytes()
+        assert (tmp_path / "none" / name).read_bytes() == plain
+        assert (tmp_path / "marked" / name).read_bytes() != plain
+    assert 'promotion = "promo"' in (tmp_path / "marked/found.toml").read_text()
+    codes = decisions(tmp_path / "marked").codes
+    assert (
+        codes[codes.str.contains("promoted", na=False)]
+        .index.str.startswith("warm")
+        .all()
+    )
+    none, marked, unknown = indices
+    assert none and marked and unknown
+    assert marked.values == pytest.approx(none.values, abs=0.05)
+    assert unknown.values != pytest.approx(none.values, abs=0.15)
+    weeks = []
+    for table in (frame.drop(columns="promo"), frame):
+        crn.plan(table, room / "items.csv", out=tmp_path / "found", **words)
+        with planned_folder(tmp_path / "found") as planned:
+            assert planned.settings.seasons
+            weeks.append(len(planned.settings.seasons.promoted.get("warm", ())))
+    assert weeks == [3, 0]
+
+
+def test_another_whole_year(room: Path, tmp_path: Path, program: Path) -> None:
+    """Seasons that were learned before two years were whole are learned again then, also after an earlier plan."""
+    tables = [room / "demand.csv", room / "items.csv"]
+    words = {**WORDS, "program": program}
+    early = crn.plan(*tables, out=tmp_path / "early", **words | {"end": "2023-12-24"})
+    assert early.levels.empty
+    crn.plan(*tables, after=tmp_path / "early", out=tmp_path / "late", **words)
+    for name in FILES[:3]:
+        late, own = (folder / name for folder in (tmp_path / "late", room / "plan"))
+        assert late.exists() and len(pd.read_csv(late)) == len(pd.read_csv(own))
 
 
 def test_levels_of_a_planner(room: Path, tmp_path: Path, program: Path) -> None:
@@ -210,6 +284,7 @@ def test_page_of_an_item(room: Path, tmp_path: Path, program: Path) -> None:
     crn.report(folder, ["warm-21"], program=program)
     (page,) = [path.read_text() for path in (folder / "items").glob("*.html")]
     assert "Levels of the coming year, above the demand of the last one" in page
+    assert "In February below" in page and "If February lasted, the chosen" in page
     months = crn.open_plan(folder).levels.query("item == 'warm-21'")
     for s, S in months[["s", "S"]].to_numpy():
         assert f"s {s} and S {S}" in page

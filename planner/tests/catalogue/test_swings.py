@@ -36,7 +36,8 @@ from crnplan.plan.swings import (
     swings_of,
 )
 from crnplan.plan.totals import Totals
-from crnplan.scenario import Policy, Scenario
+from crnplan.policies import Policy
+from crnplan.scenario import Scenario
 from planner.tests.show.made_catalogue import Pair, made_pair
 from planner.tests.show.page_reader import Page
 from planner.tests.plan.items import alone, item_of

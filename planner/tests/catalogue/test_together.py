@@ -1,4 +1,4 @@
-"""Tests plans of items that meet a share of demand together: by brute force, and what is said, refused and kept."""
+"""Tests plans of items that meet a share of demand together: what they meet, what is said, refused and kept."""
 from __future__ import annotations
 
 import dataclasses
@@ -14,24 +14,18 @@ import pytest
 
 import crnplan as crn
 from crnplan.demand.learning import Prior
-from crnplan.formats import MOST_ITEMS
 from crnplan.plan.answer import Answer, Share
 from crnplan.plan.catalogue import planned_folder
-from crnplan.plan.choice import best_of
-from crnplan.plan.prices import REST, Price, Prices
-from crnplan.plan.how import NONE, Settings
-from crnplan.plan.question import NoPolicy, Question, question_of
-from crnplan.plan.together import Finding, fill_with
-from crnplan.plan.offers import Asked, ByPrice, offer_of, past_of
-from crnplan.read.bounds import Bounds
-from crnplan.read.item import Item
+from crnplan.plan.prices import REST, Price
+from crnplan.plan.how import NONE
+from crnplan.plan.together import Finding
+from crnplan.plan.offers import Asked, offer_of
 from planner.tests.catalogue.conftest import TABLES
 from planner.tests.conftest import Command, cases_beside
 from planner.tests.plan.items import SHORT, item_of, tables_of
 
 REFUSED = cases_beside(__file__)["refused"]
 SETTINGS: dict[str, Any] = {"fit": "empirical", "borrow": NONE, "jobs": 1, **SHORT}
-OWN = Settings(fit="empirical", borrow=NONE)
 COUNT, WANTED = 18, 0.9
 BACKLOG = 2  # items that have a backlog cost
 
@@ -81,82 +75,16 @@ def groups_of(plan: crn.Plan) -> dict[str, Price]:
         return dict(folder.settings.prices.groups)
 
 
-def small(place: int, demands: tuple[int, ...], price: int) -> Item:
-    """Returns an item with few policies that may be best."""
-    return item_of(
-        place,
-        counts=demands * 5,
-        setup=Fraction(4),
-        holding=Fraction(price, 50),
-        price=Fraction(price),
-        backlog=None,
-        fill=Fraction(1, 2),
-    )
-
-
-SMALL = (
-    small(0, (0, 1, 0, 2), 10),
-    small(1, (1, 2, 3, 2), 30),
-    small(2, (0, 0, 0, 5), 90),
-)
-
-
-def pairs_of(question: Question) -> np.ndarray[Any, Any]:
-    """Returns s, S, what orders and stock cost, and the demand that is not met at once, of all policies of a small item."""
-    rows, mean = list[tuple[float, ...]](), float(question.demand.mean)
-    for s in range(1, 30):
-        for S in range(s, 45):
-            figures = question.figures((s, S))
-            rows.append((s, S, figures.cost, mean * (1 - figures.fill)))
-    return np.array(rows)
-
-
-def priced(price: float, **words: Any) -> Settings:
-    """Returns settings by which all items have a price of a unit of value."""
-    groups = {REST: Price(0.99, price, 0.99, 0.99, len(SMALL))}
-    known = {"together": {REST: 0.99}, "prices": Prices(groups), **words}
-    return dataclasses.replace(OWN, **known)
-
-
-@pytest.mark.parametrize("least", [None, 0.3, 0.8, 0.95])
-@pytest.mark.parametrize("price", [0.2, 1.0, 7.0])
-@pytest.mark.parametrize("item", SMALL, ids=lambda item: item.name)
-def test_best_policy_by_brute_force(
-    item: Item, price: float, least: float | None
-) -> None:
-    """No pair costs less with what it does not meet at once, by the price. If that pair has less than the least fill
-    rate, none that has it costs less in orders and stock."""
-    question = question_of(item, priced(price, at_least=least))
-    pairs = pairs_of(question)
-    costs = pairs[:, 2] + price * float(item.price or 0) * pairs[:, 3]
-    fills = 1 - pairs[:, 3] / float(question.demand.mean)
-    if fills[costs.argmin()] < (least or 0):
-        costs = np.where(fills >= (least or 0), pairs[:, 2], np.inf)
-    (best, *_) = best_of(question)
-    own = (pairs[:, :2] == best.levels).all(axis=1)
-    assert costs[own] == pytest.approx(costs.min(), rel=1e-9)
-    tried = question_of(item, priced(price, at_least=least, prices=None))
-    assert ByPrice(tried, [price]).pairs == [best.levels]
-
-
-def test_offers_by_brute_force() -> None:
-    """An offer has what the best of all pairs leave unmet, by value, and what their stock costs to hold."""
-    settings = dataclasses.replace(OWN, together={REST: WANTED})
-    prices, fill = (0.1, 0.5, 3.0, 40.0), 0.93
-    for item in SMALL:
-        value = float(item.price or 0)
-        asked = {REST: Asked(prices, (fill,))}
-        offer = offer_of(item, settings, Prior(NONE), asked)
-        question = question_of(item, settings)
-        pairs, mean = pairs_of(question), float(question.demand.mean)
-        enough = pairs[pairs[:, 3] <= (1 - fill) * mean]
-        s, S, *_ = enough[enough[:, 2].argmin()].astype(int).tolist()
-        stock = question.figures((s, S)).stock
-        assert offer.alone == pytest.approx([float(item.holding) * stock])
-        for price, unmet in zip(prices, offer.unmet):
-            whole = pairs[:, 2] + price * value * pairs[:, 3]
-            assert unmet == pytest.approx(value * pairs[whole.argmin(), 3], abs=1e-9)
-        assert offer.asked == pytest.approx(value * np.mean(item.counts))
+def test_items_that_are_hardly_met(program: Path, together: crn.Plan) -> None:
+    """The summary and the page count the items that meet less than half of what is wanted of all together."""
+    wanted, words = 0.6, "Less than half of the share that is wanted of all together"
+    plan = planned(program, together=wanted)
+    fills = plan.decisions[lambda row: row.fill_together.notna()].fill_chosen
+    few = int((fills < wanted / 2).sum())
+    assert few
+    for name in ("summary.txt", "report.html"):
+        assert f"{words} is met of {few} item" in (plan.path / name).read_text()
+        assert words not in (together.path / name).read_text()
 
 
 def test_wanted_share_is_met(together: crn.Plan, alone: pd.DataFrame) -> None:
@@ -330,12 +258,14 @@ def test_page_of_an_item(together: crn.Plan) -> None:
     assert not cases.str.contains("fill rate").any() and cases.size > 4
     with planned_folder(together.path) as folder:
         item, answer = folder.item("I-003")
-    assert answer.share == Share("", WANTED, float(item.price or 0), False)
+    price = groups_of(together)[""].price
+    weight = float(item.price or 0)
+    assert answer.share == Share("", WANTED, weight, False, price * weight)
 
 
 def test_a_change_is_judged_by_the_price(tmp_path: Path, program: Path) -> None:
     """Levels of an earlier plan stay if what they cost, with what is not met at once by the price, is hardly more; and
-    their gain is told so."""
+    their gain is said so, also in the table of changes."""
     files = write(tmp_path)
     words: dict[str, Any] = {"together": WANTED, "program": program, **SETTINGS}
     first = crn.plan(*files, out=tmp_path / "plan", **words)
@@ -347,7 +277,7 @@ def test_a_change_is_judged_by_the_price(tmp_path: Path, program: Path) -> None:
             item.name: (folder.question(item), answer)
             for item, answer in folder.answers()
         }
-    stays = 0
+    stays, gains = 0, dict[str, float]()
     for question, answer in questions.values():
         if not isinstance(answer, Answer) or answer.share is None or not answer.before:
             continue
@@ -362,51 +292,11 @@ def test_a_change_is_judged_by_the_price(tmp_path: Path, program: Path) -> None:
         stays += answer.undamped is not None
         told = [it.facts["share"] for it in answer.remarks if it.code == "damped"]
         assert told == pytest.approx([gain] * (answer.undamped is not None))
+        gains[question.item.name] = before - after
     assert stays > 3
-
-
-def test_bounds_that_leave_few_policies() -> None:
-    """If no policy has the least fill rate, the item has the one that meets most, by its plan and by its offer; there is
-    no plan if no pair is within the bounds."""
-    item = dataclasses.replace(SMALL[1], bounds=Bounds(s_min=1, coverage=Fraction(3)))
-    question = question_of(item, priced(0.01, at_least=0.98))
-    best, is_bounded = best_of(question)
-    fullest = question.theory.fullest()
-    assert is_bounded and best.levels == fullest.levels
-    settings = dataclasses.replace(question.settings, prices=None)
-    asked = {REST: Asked((0.01,), (0.1, 0.98))}
-    offer = offer_of(item, settings, Prior(NONE), asked)
-    figures = question.figures(fullest.levels)
-    held = float(item.holding) * figures.stock
-    asked_for = float(question.demand.mean) * float(item.price or 0)
-    assert offer.unmet == pytest.approx([(1 - figures.fill) * asked_for])
-    assert offer.held == pytest.approx([held]) and offer.alone[1] == offer.held[0]
-    assert offer.alone[0] < offer.alone[1]
-    none = dataclasses.replace(item, bounds=Bounds(s_min=MOST_ITEMS, order_min=9))
-    with pytest.raises(NoPolicy):
-        best_of(question_of(none, priced(1.0)))
-
-
-def test_demand_in_boxes() -> None:
-    """Large demands are counted in boxes of two: as half as many items of twice the price and holding cost."""
-    counts = tuple(6_000 * count for count in (0, 1, 0, 2) * 5)
-    item = dataclasses.replace(SMALL[0], counts=counts, setup=Fraction(9_000))
-    half = dataclasses.replace(
-        item,
-        counts=tuple(count // 2 for count in counts),
-        holding=2 * item.holding,
-        price=2 * (item.price or 0),
-    )
-    assert (item.box, half.box) == (2, 1)
-    levels = [best_of(question_of(it, priced(0.8)))[0].levels for it in (item, half)]
-    assert levels[0] == levels[1]
-    settings = dataclasses.replace(OWN, together={REST: WANTED})
-    asked = {REST: Asked((0.1, 0.8), (0.9,))}
-    offers = [offer_of(it, settings, Prior(NONE), asked) for it in (item, half)]
-    for one, other in zip(*map(dataclasses.astuple, offers)):
-        assert one == pytest.approx(other)
-    past = [past_of(it, settings, Prior(NONE), asked) for it in (item, half)]
-    assert past[0].unmet == pytest.approx(past[1].unmet, rel=1e-3)
+    told = damped.changes.set_index("item").gain
+    assert told[[*gains]].to_numpy() == pytest.approx([*gains.values()], abs=0.006)
+    assert max(gains.values()) > 0.05
 
 
 def test_verdicts(program: Path) -> None:
@@ -419,15 +309,6 @@ def test_verdicts(program: Path) -> None:
     assert dearer.any() and (own[dearer].fill_chosen > own[dearer].fill_today).all()
     assert {*own[dearer].verdict} == {"more service"}
     assert {*own[~dearer].verdict} <= {"cheaper"}
-
-
-def test_fill_rate_of_each_by_hand() -> None:
-    """Half way between 10 and 20, it leaves unmet the geometric mean of 10% and 1%."""
-    fills, held = (0.9, 0.99), np.array([10.0, 20.0])
-    assert fill_with(15.0, fills, held) == pytest.approx(1 - math.sqrt(0.1 * 0.01))
-    assert [fill_with(some, fills, held) for some in (9.0, 20.0)] == pytest.approx(
-        fills
-    )
 
 
 def test_learned_again_in_its_folder(
@@ -445,31 +326,6 @@ def test_learned_again_in_its_folder(
     again = crn.plan(*files, out=tmp_path / "plan", learn_again=True, **words)
     other = crn.plan(*files, out=tmp_path / "other", **words)
     assert groups_of(again) == groups_of(other) != first
-
-
-KINDS: tuple[dict[str, Any], ...] = (
-    {},
-    {"leads": (1, 3, 2)},
-    {"leads": (1, 3), "returns": (1, 0, 0) * 20},
-    {"bounds": Bounds(pack=6, order_min=20, coverage=Fraction(12))},
-    {"counts": tuple(item_of(1).counts[place] * 991 for place in range(60))},
-)
-
-
-@pytest.mark.parametrize("place", range(len(KINDS)))
-def test_offers_are_those_of_plans(place: int) -> None:
-    """By each price an item is planned with the policy that its offer has, and with its figures."""
-    facts = {"price": Fraction(30), "backlog": None, "fill": Fraction(19, 20)}
-    item = item_of(place, **facts | KINDS[place])
-    prices = [0.02, 0.3, 4.0]
-    offered = ByPrice(question_of(item, priced(1.0, prices=None)), prices)
-    for each, price in enumerate(prices):
-        question = question_of(item, priced(price))
-        levels = best_of(question)[0].levels
-        figures, mean = question.figures(levels), float(question.demand.mean)
-        assert offered.pairs[each] == levels
-        assert offered.unmet[each] == pytest.approx((1 - figures.fill) * mean)
-        assert offered.stock[each] * item.box == pytest.approx(figures.stock)
 
 
 def test_offers_are_kept(

@@ -7,6 +7,7 @@ from pathlib import Path
 from typing import Any
 
 import numpy as np
+import pandas as pd
 import pytest
 
 import crnplan as crn
@@ -29,6 +30,7 @@ from crnplan.show.backtest_tables import past_line
 from crnplan.store.files import own_folder
 from crnplan.store.means import Means
 from planner.tests.catalogue.test_together import SETTINGS, made
+from planner.tests.show.page_reader import Page
 
 COUNT, WANTED = 36, 0.9
 ALONE: dict[str, Any] = {"fit": "empirical", "borrow": NONE, "jobs": 1}
@@ -124,6 +126,9 @@ def test_price_meets_the_share_on_the_past(corrected: crn.Plan, program: Path) -
     assert said[2:5] == ["90.00%", f"{price.promised:.2%}", f"{price.past:.2%}"]
     own = corrected.decisions[lambda row: row.fill_together.notna()]
     assert own.fill_aimed.isna().all()
+    corrected.report()
+    said = f"such plans met {price.past:.2%} of demand at once, and {price.promised:.2%} by"
+    assert said in Page(Path(corrected.path) / "report.html").words
 
 
 def test_few_items_are_refused(program: Path) -> None:
@@ -186,7 +191,8 @@ def test_many_items_are_drawn(
 
 
 def test_backtests_plan_item_by_item(program: Path, tmp_path: Path) -> None:
-    """What was found is from all periods, so a folder is tested with the fill rates of its items, and that is said."""
+    """What was found is from all periods, so a folder is tested with the fill rates of its items, and beside with prices
+    that were found on records. What these met is said."""
     words = {**SETTINGS, "together": WANTED, "program": program}
     plan = crn.plan(*made(), out=tmp_path / "plan", **words)
     with planned_folder(plan.path) as folder:
@@ -194,10 +200,14 @@ def test_backtests_plan_item_by_item(program: Path, tmp_path: Path) -> None:
     with own_folder(plan.path, CATALOGUE) as own:
         tests = write_backtest(own, settings, Walk(26, 13, 26), Means(1))
     plain = crn.backtest(*made(), record=26, every=13, window=26, **ALONE)
-    assert tests.text == plain.text
+    columns = [name for name in plain.frame if "together" not in name]
+    pd.testing.assert_frame_equal(tests.frame[columns], plain.frame[columns])
     with planned_folder(plan.path) as folder:
         line = past_line(past_of_folder(folder))
-    said = " That is with a fill rate for each item, not together."
+    met = tests.sums.fill_together[0]
+    said = (
+        f" By the plan by one price for what is not met, as by --together: {met:.1%}."
+    )
     assert line == tests.text.splitlines()[0] + said
 
 

@@ -38,7 +38,7 @@ FILES = "demand.csv", "items.csv", "--orders", "orders.csv"
 # What names inputs and outputs, or how the work is done: it is no word of reading or planning.
 OTHERS = {
     *("demand", "items", "orders", "out_of_stock", "overrides", "after", "config"),
-    "as_backtest",
+    *("as_backtest", "laws"),
     *("out", "only_read", "rejects", "csv_style"),
     *("anyway", "again", "jobs", "cluster", "program", "help"),
 }
@@ -193,6 +193,8 @@ def test_words_of_a_command_replace_found_ones() -> None:
     assert dates.day_first == {}
     with pytest.raises(crn.Refused, match="is not one of . and ,"):
         words_from({"written": {"demand": {"decimal": {"quantity": "x"}}}})
+    with pytest.raises(crn.Refused, match="is not one of , and ;"):
+        words_from({"written": {"demand": {"delimiter": "x"}}})
 
 
 def test_stated_order_of_dates() -> None:

@@ -7,7 +7,8 @@ from dataclasses import dataclass, field
 from hypothesis import strategies as st
 
 from crnplan.law import Law
-from crnplan.scenario import Costs, Policy, Scenario
+from crnplan.policies import Policy
+from crnplan.scenario import Costs, Scenario
 from tests.program import oracle
 
 Draw = tuple[int, int, int]  # demand, lead time, returns

@@ -15,7 +15,8 @@ from crnplan.crnsim.report import report_of
 from crnplan.decide.long_run import long_run_of
 from crnplan.errors import ProgramError, Refused
 from crnplan.law import Law
-from crnplan.scenario import Costs, Policy, Scenario
+from crnplan.policies import Policy
+from crnplan.scenario import Costs, Scenario
 from planner.studies import own_starts
 from planner.studies.own_starts import (
     KEYS,

@@ -5,6 +5,8 @@ import hashlib
 import multiprocessing
 import os
 import re
+import signal
+import sys
 from concurrent.futures import ProcessPoolExecutor
 from fractions import Fraction
 from pathlib import Path
@@ -13,7 +15,8 @@ import pytest
 from hypothesis import given, strategies as st
 
 from crnplan import __version__
-from crnplan.crnsim import program as module
+from crnplan.crnsim import INSIDE, program as module
+from crnplan.crnsim.command import main as become_program
 from crnplan.crnsim.program import (
     find_program,
     program_and_reason,
@@ -36,6 +39,7 @@ def places(tmp_path: Path, monkeypatch: pytest.MonkeyPatch) -> dict[str, Path]:
         tmp_path / "top/planner/src/crnplan/crnsim",
     )
     monkeypatch.setattr(module, "__file__", str(package / "program.py"))
+    monkeypatch.setattr(module, "INSIDE", package / "bin/crnsim")
     monkeypatch.setenv("PATH", str(tmp_path / "path"))
     monkeypatch.setenv("CRNSIM", str(tmp_path / "variable"))
     found = {
@@ -157,6 +161,8 @@ def test_where_in_a_package(
         tmp_path / "bin/crnsim", 'cat "$(dirname "$0")/../example.csv"'
     ), script(tmp_path / "x", "cat")
     monkeypatch.setattr(module, "__file__", str(tmp_path / "program.py"))
+    monkeypatch.setattr(module, "INSIDE", inside)
+    monkeypatch.setattr(module, "BUILT", tmp_path / "built.toml")
     monkeypatch.delenv("CRNSIM", raising=False)
     digests = [
         hashlib.sha256(path.read_bytes()).hexdigest() for path in (inside, other)
@@ -164,10 +170,11 @@ def test_where_in_a_package(
     for name, text in {"toml": "", "csv": TEXT}.items():
         (tmp_path / f"example.{name}").write_text(text, "utf-8")
     (tmp_path / "built.toml").write_text(
-        f'commit = "1f0c"\nprogram = "{digests[0]}"\n', "utf-8"
+        f'commit = "1f0c"\nprogram = "{digests[0]}"\npages = "doc"\n', "utf-8"
     )
-    assert crnplan("where").output.splitlines()[:3] == [
+    assert crnplan("where").output.splitlines()[:4] == [
         f"crnplan {__version__}, built from commit 1f0c",
+        f"pages and examples: {tmp_path.parent}/doc",
         f"{inside} (the one inside crnplan)",
         f"sha256 {digests[0]} (built with this crnplan)",
     ]
@@ -175,6 +182,21 @@ def test_where_in_a_package(
         f"\nsha256 {digests[1]} (not built with this crnplan)\n"
         in crnplan("where", "--program", other).output
     )
+
+
+def test_command_becomes_the_program(monkeypatch: pytest.MonkeyPatch) -> None:
+    """It hands on its words, and the signals that Python ignores are not ignored."""
+    begun, ignored = list[object](), (signal.SIGPIPE, signal.SIGXFSZ)
+    before = {number: signal.getsignal(number) for number in ignored}
+    monkeypatch.setattr(os, "execv", lambda *words: begun.extend(words))
+    monkeypatch.setattr(sys, "argv", ["/bin/crnsim", "leg", "4"])
+    try:
+        become_program()
+        assert {*map(signal.getsignal, ignored)} == {signal.SIG_DFL}
+    finally:
+        for number, handler in before.items():
+            signal.signal(number, handler)
+    assert begun == [INSIDE, ["/bin/crnsim", "leg", "4"]]
 
 
 HEADER = "policy,s,S,total,per_period,diff_total,diff_mean,diff_var,cov"

@@ -90,8 +90,9 @@ def test_an_earlier_check_is_replaced(
     part: Path, program: Path, crnplan: Command, tmp_path: Path
 ) -> None:
     """Nothing of an earlier check with more keys stays beside a new one; a file of the user does."""
-    for count in (2, 1):
-        words = f"--keys {count} --replications 2 --out {tmp_path}/check --program {program}"
+    for keys in (KEYS, KEYS[:1]):
+        given = " ".join(f"--key {key}" for key in keys)
+        words = f"{given} --replications 2 --out {tmp_path}/check --program {program}"
         assert crnplan("check", part, "both", *words.split()).status == 0
         (tmp_path / "check/mine.txt").touch()
     names = {path.name for path in (tmp_path / "check").iterdir()}

@@ -19,7 +19,8 @@ from crnplan.decide.verdicts import Compared, Decision
 from crnplan.errors import Refused
 from crnplan.law import Law
 from crnplan.remarks import Remark
-from crnplan.scenario import Costs, Policy, Scenario
+from crnplan.policies import Policy
+from crnplan.scenario import Costs, Scenario
 from crnplan.theory.lattice import NoTheory
 from crnplan.words import sentence
 from planner.studies.long_run import (

@@ -17,7 +17,8 @@ from hypothesis import given, settings, strategies as st
 from scipy import stats
 
 import crnplan as crn
-from crnplan.demand.checks import Check, Checks, check_history, remarks_of
+from crnplan.demand.checks import Checks, check_history, remarks_of
+from crnplan.demand.order_tests import Check
 from crnplan.demand.losses import STUDIED, Loss, loss_of, losses
 from crnplan.demand.seasons import Season, seasons_of
 from crnplan.demand.permutation import drawn_orders

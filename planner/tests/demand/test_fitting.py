@@ -53,7 +53,7 @@ def cases(name: str) -> list[dict[str, Any]]:
 @given(chances=st.lists(st.floats(0, 1), min_size=1, max_size=300).filter(sum))
 def test_weights(chances: list[float]) -> None:
     """Weights add up to 65,536, and no share of the tail is off by more than half a unit."""
-    law = Law.of_chances(np.array(chances))
+    law = Law.of_chances(np.array(chances) / sum(chances))
     check_law(law)
     found = np.cumsum(chances_of(law, len(chances))[::-1])
     wanted = np.cumsum(chances[::-1]) / sum(chances)

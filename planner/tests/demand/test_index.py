@@ -20,6 +20,12 @@ FIRST = date(2021, 2, 3)
 LENGTHS = {"day": 800, "week": 130, "month": 30}  # two years and some periods
 
 
+@pytest.fixture(autouse=True)
+def seeded() -> None:
+    """Has each test draw the same numbers, whatever ran before."""
+    RANDOM.bit_generator.state = np.random.default_rng(20261129).bit_generator.state
+
+
 def counts_of(length: int) -> list[int]:
     return RANDOM.poisson(5, length).tolist()
 
@@ -75,22 +81,20 @@ def test_pooled() -> None:
 
 
 def test_chance() -> None:
-    """The p value is that of Fisher's method over F laws of two frequencies, whatever line each year has."""
+    """The p value is that of the F law of two frequencies together, whatever line each year has."""
     far = RANDOM.normal(0, 1, (3, MONTHS))
     time = np.arange(MONTHS) / MONTHS
-    columns, chances = [np.ones(MONTHS), time], []
+    columns, alike, within = [np.ones(MONTHS), time], 0.0, 0.0
     for frequency in (1, 2):
-        angle, pair = 2 * math.pi * frequency * (time + 1 / 24), []
+        angle = 2 * math.pi * frequency * (time + 1 / 24)
         for wave in (np.cos(angle), np.sin(angle)):
             fit = np.linalg.lstsq(np.transpose(columns), wave, rcond=None)[0]
             rest = wave - np.transpose(columns) @ fit
-            pair.append(far @ rest / np.linalg.norm(rest))
+            part = far @ rest / np.linalg.norm(rest)
             columns.append(wave)
-        means = np.mean(pair, axis=1)
-        within = sum(((one - mean) ** 2).sum() for one, mean in zip(pair, means))
-        ratio = (3 * means @ means / 2) / (within / 4)
-        chances.append(stats.f.sf(ratio, 2, 4))
-    expected = stats.combine_pvalues(chances, "fisher")[1]
+            alike += 3 * part.mean() ** 2
+            within += ((part - part.mean()) ** 2).sum()
+    expected = stats.f.sf((alike / 4) / (within / 8), 4, 8)
     assert index.chance_of(far) == pytest.approx(expected)
     lines = far + np.outer([1, -3, 8], time) + 2
     assert index.chance_of(lines) == pytest.approx(expected)

@@ -14,8 +14,8 @@ import pytest
 from crnplan.curve.candidates import PRICES, candidates_of
 from crnplan.law import Law
 from crnplan.plan.aims import FILLS, Aims, Tried
-from crnplan.plan import choice, one
-from crnplan.plan.answer import BOUNDED, CHEAPER, RUN, SAME, Answer
+from crnplan.plan import checked_run, choice
+from crnplan.plan.answer import BOUNDED, CHEAPER, RUN, SAME, Answer, Run
 from crnplan.plan.bounds import MOST_COVERAGE, feasible_of
 from crnplan.plan.catalogue import planned_folder
 from crnplan.plan.changes import masters_of
@@ -26,7 +26,7 @@ from crnplan.plan.question import Question, question_of
 from crnplan.read.bounds import Bounds
 from crnplan.read.item import Item
 from crnplan.remarks import Value
-from crnplan.scenario import Policy
+from crnplan.policies import Policy
 from crnplan.theory.feasible import Feasible
 from crnplan.theory.many_laws import Promises
 from crnplan.words import sentence
@@ -302,14 +302,13 @@ def test_today_stays_beside_what_a_run_shows_as_worse(
     assert plain.verdict == CHEAPER
     assert plain.today
     assert plain.chosen.fill < plain.today.fill
-    known = one.run_of
-    monkeypatch.setattr(
-        one,
-        "run_of",
-        lambda *its: replace(run, saving=-min(run.saving or 0, 7))
-        if (run := known(*its))
-        else run,
-    )
+    known = checked_run.run_of
+
+    def dearer(*asked: Any) -> Run:
+        run = known(*asked)
+        return replace(run, saving=-min(run.saving or 0, 7))
+
+    monkeypatch.setattr(checked_run, "run_of", dearer)
     answer, remarks = answer_of(question, program)
     assert answer.chosen.levels == (40_000, 90_000)
     assert answer.verdict == SAME

@@ -396,7 +396,7 @@ def test_an_item_without_a_policy(
         lambda *_: Candidate(math.inf, 0, 0),
     )
     fault = plan_asked((item_of(), None), alone(), NONE, str(program))
-    assert fault == Remark("no policy", {"fill": None})
+    assert fault == Remark("no policy", {"fill": None, "of_periods": False})
     monkeypatch.setattr(one, "choice_of", lambda *_: 1 // 0)
     fault = plan_asked((item_of(), None), alone(), NONE, str(program))
     assert isinstance(fault, Remark)

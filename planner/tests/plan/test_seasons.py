@@ -3,6 +3,7 @@ from __future__ import annotations
 
 import dataclasses
 import datetime
+import json
 import math
 from collections.abc import Sequence
 from fractions import Fraction
@@ -16,16 +17,24 @@ import pytest
 from crnplan.demand.index import MONTHS, Index
 from crnplan.law import Law
 from crnplan.plan.aims import FILLS, Aims, Trial
-from crnplan.plan.answer import BOUNDED, CHEAPER, SAME, Answer, Month
+from crnplan.plan.answer import BOUNDED, CHEAPER, RUN, SAME, UNDECIDED, Answer, Month
 from crnplan.plan.choice import allowed_by, choice_of
 from crnplan.plan.correction import trial_of
 from crnplan.demand.learning import Prior
-from crnplan.plan.one import of_month, plan_asked, plan_one
+from crnplan.plan.one import of_month, plan_asked, plan_one, verdict_of
+from crnplan.plan.yearly import Planned, Year
 from crnplan.plan.how import NONE, without_season
 from crnplan.plan.question import Question, question_of
-from crnplan.plan.seasons import Seasons, Stretch, coming_year, is_long
+from crnplan.plan.seasons import (
+    Seasons,
+    Stretch,
+    coming_year,
+    whole_years,
+    years_without,
+)
 from crnplan.read.dates import period_of
 from crnplan.read.item import NEW, Item
+from crnplan.words import sentence
 from planner.tests.plan.items import alone, item_of
 
 RANDOM = np.random.default_rng(5)
@@ -68,7 +77,7 @@ def test_coming_year() -> None:
     months = coming_year("month", 2026 * 12 + 4)
     assert [*months] == [Stretch(it, it + 1) for it in range(24316, 24328)]
     assert len(coming_year("day", period_of(datetime.date(2026, 1, 1), "day"))) == 12
-    assert is_long("month", 24) and not is_long("week", 103)
+    assert whole_years("month", 24) == 2 and whole_years("week", 103) == 1
 
 
 @pytest.mark.parametrize("factor", [0.4, 1.0, 1.75])
@@ -101,6 +110,21 @@ def test_counts_without_season() -> None:
     for same in (large, seasonal(group="")):
         assert without_season(same, settings) == (same, None)
     assert without_season(item, alone(every="week")) == (item, None)
+
+
+def test_amounts_that_are_too_large(program: Path) -> None:
+    """An item is planned by its season as far as its amounts without it, in another month, are within the range of a law;
+    else that is said."""
+    for mean, is_beyond in ((4000, False), (8000, True)):
+        item = seasonal(counts=tuple((mean * FACTORS[:104]).astype(int).tolist()))
+        assert SEASONS.is_beyond(item) is is_beyond
+        assert (SEASONS.of_item(item) is None) is is_beyond
+    settings = alone(every="week", seasons=SEASONS)
+    for said, planned in ((item, settings), (item, alone(every="week"))):
+        answer = plan_asked((said, None), planned, Prior(NONE), str(program))
+        assert isinstance(answer, Answer) and not answer.calendar
+        codes = [remark.code for remark in answer.remarks]
+        assert ("season not planned" in codes) is (planned is settings)
 
 
 def test_law_of_a_month() -> None:
@@ -140,6 +164,99 @@ def test_own_season() -> None:
     facts = question.season.remark.facts
     assert (facts["is_own"], facts["years"], facts["month_most"]) == (True, 3, 10)
     assert facts["most"] == max(index.values) and facts["least"] == min(index.values)
+
+
+def stepped(marked: Sequence[int], lift: int = 1, **changed: Any) -> list[Item]:
+    """Returns a class of items with the same demand in all weeks of a month, but for a lift in some weeks."""
+    items = list[Item]()
+    for place in range(12):
+        counts = np.rint((20 + place) * FACTORS[:104]).astype(int)
+        counts[[*marked]] *= lift
+        facts = {"counts": tuple(counts.tolist()), "name": f"I-{place}"}
+        items.append(seasonal(**facts | changed))
+    return items
+
+
+def test_no_season_is_learned_from_promotions() -> None:
+    """Marked weeks count as the others of their month: the season is that of the same years without a promotion. So do
+    those that are not known, and those that are found. What is not marked changes it, where rows mark others.
+    """
+    weeks = [11, 31, 32, 88]
+    clean = Seasons.of("week", stepped([]))
+    assert [*clean.classes] == ["warm"] and clean.promoted == {}
+    marked = stepped(weeks, 3, promoted=tuple(weeks[1:]), unknown=(11,))
+    assert Seasons.of("week", marked, True) == clean
+    assert Seasons.of("week", stepped(weeks, 3), True).classes != clean.classes
+    found = Seasons.of("week", stepped(weeks, 3))
+    assert found.classes == clean.classes
+    assert found.promoted == {"warm": tuple(FIRST + week for week in weeks)}
+    assert Seasons.parse(json.loads(json.dumps(dataclasses.asdict(found)))) == found
+
+
+def test_promotions_in_the_same_week_are_no_season() -> None:
+    """Of a class without a season, with promotions that happen to be in one week of both years beside others, none is
+    seen; one whose only high weeks are in both years has that as its season, and one with a season has it.
+    """
+    flat = {"counts": (20,) * 104}
+    chance, feast = [11, 63, 30, 95], [50, 102]
+
+    def seasons(weeks: Sequence[int], **facts: Any) -> Seasons:
+        items = []
+        for item in stepped([], **facts):
+            counts = np.array(item.counts)
+            counts[[*weeks]] *= 3
+            items.append(dataclasses.replace(item, counts=tuple(counts.tolist())))
+        return Seasons.of("week", items)
+
+    assert seasons(chance, **flat).classes == {}
+    assert len(seasons(chance, **flat).promoted["warm"]) == 2
+    only = seasons(feast, **flat)
+    assert only.classes["warm"].values[11] > 1.3 and not only.promoted
+    assert seasons(chance).classes["warm"].values[3] > 1.2
+
+
+def test_where_weeks_are_looked_for() -> None:
+    """Weeks are found by class. Months and days may be marked, but none are found: a month is as long as a season."""
+    weeks = [11, 31]
+    plain = [dataclasses.replace(item, group="") for item in stepped([], 1)]
+    seasons = Seasons.of("week", [*plain, *stepped(weeks, 3)])
+    assert [*seasons.promoted] == ["warm"] and seasons.classes[""]
+    month = {"first": 2022 * 12, "counts": (9, 30) + (9,) * 22}
+    for every in ("month", "day"):
+        assert Seasons.of(every, stepped([], **month)).promoted == {}
+
+
+def test_promotions_of_an_item() -> None:
+    """They are those that are marked, and those of its class within its record. It keeps its demand, which its law is
+    fitted to, and its plan says how many they are."""
+    seasons = dataclasses.replace(SEASONS, promoted={"warm": (FIRST - 1, FIRST + 7)})
+    item = seasonal(promoted=(2, 7))
+    assert seasons.promotions(item) == {2, 7}
+    assert seasons.promotions(seasonal(first=FIRST - 1)) == {0, 8}
+    assert seasons.promotions(seasonal(group="")) == set()
+    question = question_of(item, alone(every="week", seasons=seasons))
+    assert question.counts == asked().counts and question.season
+    remark = question.season.remark
+    assert remark.facts["promoted"] == 2
+    assert "its class, but for 2 promoted periods: 1.5 times the mean" in sentence(
+        remark
+    )
+    (plain,) = [it for it in (asked().season,) if it]
+    assert "its class: 1.5 times" in sentence(plain.remark)
+
+
+def test_own_season_without_promotions() -> None:
+    """By hand: three years of ratios, in one of which a marked month counts as the mean of the others of its year."""
+    ratios = np.tile(WAVE, (3, 1))
+    counts = np.rint(1000 * ratios).astype(int)
+    counts[1, 4] *= 5
+    item = seasonal(counts=tuple(counts.ravel().tolist()), first=2022 * 12)
+    item = dataclasses.replace(item, promoted=(16,))
+    years = years_without("month", item, ())
+    rest = np.delete(counts[1], 4)
+    wanted = np.insert(rest / rest.mean(), 4, 1.0)
+    assert years.ratios[1] == pytest.approx(wanted)
+    assert years.ratios[0] == pytest.approx(counts[2] / counts[2].mean())
 
 
 def year_by_hand(question: Question, levels: Sequence[tuple[int, int]]) -> np.ndarray:
@@ -240,6 +357,16 @@ def test_verdicts_of_a_year(program: Path) -> None:
     bounded = answered(program, bounds, fill=Fraction(99, 100), levels=(1, 3))
     assert bounded.verdict == BOUNDED
     assert answered(program, levels=None).saving is None
+
+
+def test_verdict_of_a_year_by_runs(program: Path) -> None:
+    """If theory is rounded, the ends of the run's interval decide."""
+    answer, question = answered(program), asked()
+    by_run = dataclasses.replace(answer, source=RUN)
+    for low, verdict in ((0.1, CHEAPER), (-0.1, UNDECIDED)):
+        run = dataclasses.replace(answer.run, low=low, high=9.0)
+        year = Year([Planned(question, dataclasses.replace(by_run, run=run))])
+        assert year.verdict(year.answers[0], verdict_of) == verdict
 
 
 def test_month_of_a_day(program: Path) -> None:

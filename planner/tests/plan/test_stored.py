@@ -16,6 +16,7 @@ from crnplan import formats
 from crnplan.chances import Floats
 from crnplan.errors import Refused
 from crnplan.money import rounded_costs
+from crnplan.law import Law
 from crnplan.plan.answer import Answer
 from crnplan.plan.totals import Totals
 from crnplan.plan.question import finest
@@ -35,6 +36,7 @@ for kind, values in (
     (int, WHOLE),
     (Fraction, some.fractions()),
     (Remark, REMARKS),
+    (Law, some.lists(some.integers(0, 9), min_size=1).map(Law.of_numbers)),
 ):
     some.register_type_strategy(kind, values)
 

@@ -214,7 +214,6 @@ def test_additions_are_shown(offered: dict[str, Standing]) -> None:
     assert suppliers.values.tolist() == [["ABB", 14, 0], ["Bosch", 0, 38]]
     said = "Bosch: 45.00 is 38.00 short of 83.00; add 10 near, 6 fast\n"
     assert said in today.text
-    assert today.text in today.notes
     assert list(today.dead.periods) == [60]
     assert "1 item, with stock worth 14.00" in today.text
     more = OrdersToday(replace(today.today, minimums={"Bosch": Fraction(999)}))

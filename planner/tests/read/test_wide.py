@@ -215,7 +215,7 @@ def test_found_toml_of_a_wide_table_reads_it_again(tmp_path: Path) -> None:
     with pytest.raises(crn.Refused, match=r"no column '\(headings\)'"):
         read(tmp_path, long_of(demand()), columns=columns)
     columns = {"demand": {"returned": "2025-01"}}
-    said = "a table with a column for each period has none of what was returned"
+    said = "a table with a column for each period has no column of the role returned"
     with pytest.raises(RefusedFaults, match=said):
         read(tmp_path, path, columns=columns)
 

@@ -129,8 +129,8 @@ def write_read(
     writer.add_rows(ADD_ITEM, (ITEM.cells(item) for item, _ in pairs))
     writer.add_rows(ADD_REJECT, map(REJECT.cells, rejects))
     facts: dict[str, Any] = {"every": "week", "decimals": DECIMALS, "abc": [80, 95]}
-    facts |= {"periods": [1000, 1003], "currency": currency, "sources": {}}
-    facts |= {"remarks": [], "told": {}, "controls": []}
+    facts |= {"periods": [1000, 1003], "currency": currency, "keys": ""}
+    facts |= {"sources": {}, "remarks": [], "told": {}, "controls": []}
     writer.finish(facts | {"counts": made_counts(len(pairs), rejects)})
 
 

@@ -330,7 +330,9 @@ def test_lost_items_and_other_rows(folder: Path) -> None:
                 )
             ],
         )
-        writer.finish({"counts": {}, "every": "week", "decimals": 2, "currency": ""})
+        writer.finish(
+            {"counts": {}, "every": "week", "decimals": 2, "currency": "", "keys": ""}
+        )
     with pytest.raises(
         crn.Refused,
         match="its plan is not as the rows that were read last; run crnplan catalogue",

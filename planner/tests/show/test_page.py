@@ -27,7 +27,7 @@ from crnplan.show.item_plots import history_plot
 from crnplan.show.law_words import source_words
 from crnplan.show import page
 from crnplan.show.page import UNITS, Money, Scale, rendered, round_numbers, templates
-from crnplan.scenario import Policy
+from crnplan.policies import Policy
 from planner.tests.conftest import Command, cases_beside
 from planner.tests.show.page_reader import Page
 

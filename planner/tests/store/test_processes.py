@@ -49,7 +49,7 @@ try:
 except KeyboardInterrupt:
     print(len(sweep(None).frame))
 """
-WITH_A_ROOM = "from crnplan.store.files import Room; room = Room(); print(room.path, flush=True); input()"
+WITH_A_ROOM = "from crnplan.store.files import Room; room = Room('keep it'); print(room.path, flush=True); input()"
 
 
 def wait_until(happened: Callable[[], object]) -> None:

@@ -214,7 +214,7 @@ def test_programs_are_refused(
     [
         ([-1], [9], "key s: -1 is not from 0 to 1,000,000"),
         ([1], [10**7], "10000000 is not from"),
-        ([1.5], [9], "s: 1.5 is not a whole number"),
+        ([1.5], [9], "s: entry 1: 1.5 is not a whole number"),
         ([1, 1], [9], "s1_S9"),
     ],
 )

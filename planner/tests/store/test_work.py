@@ -40,11 +40,13 @@ class Asking:
             yield name, digest_of(name, self.added)
 
     def ask(self, name: str) -> int | Known:
-        return Known(Correction(-1.0, self.added)) if name == KNOWN else int(name[:2])
+        return (
+            Known(Correction(-1.0, self.added, 0.0)) if name == KNOWN else int(name[:2])
+        )
 
     def wanted(self) -> dict[str, Correction | Remark]:
         return {
-            name: Correction(-1.0, self.added)
+            name: Correction(-1.0, self.added, 0.0)
             if name == KNOWN
             else square(int(name[:2]), self.added)
             for name in self.names
@@ -55,7 +57,7 @@ def square(number: int, added: int) -> Correction | Remark:
     return (
         Remark("odd", {"number": number})
         if number % 9 == 5
-        else Correction(float(number**2), added)
+        else Correction(float(number**2), added, 0.0)
     )
 
 
@@ -260,7 +262,7 @@ def test_answers_come_in_order(store: Squares) -> None:
         first = next(answered)
         assert first[:2] == next(Asking().questions())
         assert first.asked == 0
-        assert store.found(*first[:2]) == Correction(0.0, 0)
+        assert store.found(*first[:2]) == Correction(0.0, 0, 0.0)
         assert [*store.answers()] == []
     answered = work_of(store).answered(workers, shown=False)
     assert [(name, digest) for name, digest, _ in answered] == [*Asking().questions()]

@@ -11,20 +11,27 @@ from crnplan.scenario import Scenario
 from crnplan.theory.feasible import Feasible
 from crnplan.theory.lattice import lattice_of, shape_of, theory_on
 from crnplan.theory.long_run import Candidate, LongRun
-from planner.tests.theory.long_run_costs import costs_of, fills_of, shortfall_of
+from planner.tests.theory.long_run_costs import (
+    costs_of,
+    fills_of,
+    held_of,
+    shortfall_of,
+)
 
 
 def all_pairs(scenario: Scenario, most: int) -> np.recarray:
-    """Returns a row with cost, share of demand met, s and S for each pair up to a level.
+    """Returns a row with cost, share of demand met, share of periods without a shortage, s and S for each pair up to a
+    level.
 
     Holding costs at least s + (S - s) / 2 less the mean demand of a lead time and a period: a wider pair costs more.
     """
     columns = []
     for gap in range(most + 1):
         short, levels = shortfall_of(scenario, gap), np.arange(gap, most + 1)
-        fills = fills_of(scenario, short, levels)
-        columns.append([costs_of(scenario, short, levels), fills, levels - gap, levels])
-    return np.rec.fromarrays(np.hstack(columns), names="cost, share, s, S")
+        shares = fills_of(scenario, short, levels), held_of(short, levels)
+        costs = costs_of(scenario, short, levels)
+        columns.append([costs, *shares, levels - gap, levels])
+    return np.rec.fromarrays(np.hstack(columns), names="cost, met, held, s, S")
 
 
 def theory_within(scenario: Scenario, feasible: Feasible) -> LongRun:
@@ -44,9 +51,11 @@ def kept_of(pairs: np.recarray, feasible: Feasible) -> np.recarray:
     return pairs[is_kept]
 
 
-def check(found: Candidate, pairs: np.recarray, share: float = 0.0) -> None:
-    """Compares a policy with the cheapest of the pairs that meet a share of demand."""
-    allowed = pairs[pairs.share >= share - 1e-9]
+def check(
+    found: Candidate, pairs: np.recarray, share: float = 0.0, of: str = "met"
+) -> None:
+    """Compares a policy with the cheapest of the pairs that meet a share of demand, or of periods."""
+    allowed = pairs[pairs[of] >= share - 1e-9]
     assert (found.cost == math.inf) == (not len(allowed))
     if len(allowed):
         own = allowed[(allowed.s == found.point) & (allowed.S == found.level)]

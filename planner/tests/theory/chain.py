@@ -12,7 +12,8 @@ import numpy as np
 import scipy.sparse
 
 from crnplan.law import Law
-from crnplan.scenario import Policy, Scenario
+from crnplan.policies import Policy
+from crnplan.scenario import Scenario
 
 State = tuple[int, ...]  # the stock, and what arrives in the next periods
 ROUNDS = 20_000
@@ -41,12 +42,17 @@ class Counted(NamedTuple):
 
 
 def period(
-    state: State, policy: Policy, demand: int, lead: int, back: int
+    state: State,
+    policy: Policy,
+    demand: int,
+    lead: int,
+    back: int,
+    has_review: bool = True,
 ) -> tuple[State, Counted]:
     """Returns the state after a period, and what is counted in it."""
     stock, due = state[0] + state[1], [*state[2:], 0]
     position = stock + sum(due)
-    order = policy.S - position if position < policy.s else 0
+    order = policy.S - position if has_review and position < policy.s else 0
     due[lead - 1] += order
     stock += back
     met = min(max(stock, 0), demand)
@@ -61,7 +67,8 @@ def steps_of(
 ) -> tuple[scipy.sparse.csr_matrix, np.ndarray]:
     """Returns the chances to move from each reachable state (column) to each (row), and what each counts on average.
 
-    The first state has this stock, and nothing is under way."""
+    The first state has this stock and a review, and nothing is under way. A state has its place between two reviews.
+    """
     policy, laws = scenario.policies[0], (scenario.demand, scenario.lead)
     draws, chances = [], []
     for drawn in itertools.product(
@@ -71,17 +78,19 @@ def steps_of(
         draws.append(values)
         chances.append(np.prod(its))
     start = (initial, *[0] * scenario.lead.values[-1])
-    numbers, states, to, counts = {start: 0}, [start], [], []
-    for state in states:
+    first = (0, start)
+    numbers, states, to, counts = {first: 0}, [first], [], []
+    for place, state in states:
         for values in draws:
-            after, counted = period(state, policy, *values)
+            after, counted = period(state, policy, *values, place == 0)
             counts.append(counted)
             if sum(after) > max(policy.S, initial) + MOST_HEIGHT:
                 after = state
-            if after not in numbers:
-                numbers[after] = len(numbers)
-                states.append(after)
-            to.append(numbers[after])
+            placed = ((place + 1) % scenario.review, after)
+            if placed not in numbers:
+                numbers[placed] = len(numbers)
+                states.append(placed)
+            to.append(numbers[placed])
     size = len(states)
     places = to, np.repeat(np.arange(size), len(draws))
     steps = scipy.sparse.csr_matrix((np.tile(chances, size), places), (size, size))

@@ -127,6 +127,12 @@ def fills_of(scenario: Scenario, short: Shortfall, levels: np.ndarray) -> np.nda
     return met / float(scenario.demand.mean)
 
 
+def held_of(short: Shortfall, levels: np.ndarray) -> np.ndarray:
+    """Returns the share of periods that end with nothing owed with each order-up-to level S."""
+    below = short.least + np.arange(len(short.chances)) <= levels[:, None]
+    return below @ short.chances
+
+
 def costs_of(scenario: Scenario, short: Shortfall, levels: np.ndarray) -> np.ndarray:
     stock, costs = (
         levels[:, None] - short.least - np.arange(len(short.chances)),

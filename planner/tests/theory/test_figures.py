@@ -9,7 +9,8 @@ import pytest
 from hypothesis import given, settings, strategies as st
 from scipy import stats
 
-from crnplan.scenario import Costs, Policy, Scenario
+from crnplan.policies import Policy
+from crnplan.scenario import Costs, Scenario
 from crnplan.theory.grid import gap_grid
 from crnplan.theory.lattice import NoTheory, shape_of, theories_of, theory_on
 from crnplan.theory.long_run import FEW, LongRun

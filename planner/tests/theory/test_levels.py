@@ -89,12 +89,24 @@ def test_each_gap_beside_all_its_levels(
 def test_levels_that_no_multiple_allows() -> None:
     """No level is chosen above the cut, nor if the greatest level lies below the least that is allowed."""
     cheaper_of = levels.cheaper_of.__wrapped__
+    none = -1, math.inf
     lows = levels.Lows(np.zeros((3, 4)), np.zeros((3, 4)), False, np.ones(1))
     for bounds, level, least in (
         (levels.Bounds(0, 1, 1, 60, cut=5), 10, 0),
         (levels.Bounds(0, 1, 4, 3, cut=60), 3, 10),
     ):
-        assert cheaper_of(lows, bounds, level, least, math.inf) == (-1, math.inf)
+        assert cheaper_of(lows, bounds, level, least, math.inf, 0.0) == none
+
+
+@pytest.mark.usefixtures("each_way")
+def test_a_level_below_the_best_must_hold_too() -> None:
+    """Below the level that is best, the greatest one is only chosen if the chance of its cell is enough."""
+    chances = np.array([0.2, 0.5, 0.7, 0.9])
+    table = np.array([np.arange(4.0), np.zeros(4), chances])
+    lows = levels.Lows(table, np.zeros((6, 4)), False, np.ones(1))
+    bounds = levels.Bounds(0, 10, 1, 25, cut=60)
+    for held, chosen in ((0.7, 25), (0.71, -1)):
+        assert levels.cheaper_of(lows, bounds, 30, 0, math.inf, held)[0] == chosen
 
 
 @pytest.mark.usefixtures("each_way")

@@ -10,7 +10,8 @@ import numpy as np
 import pytest
 from hypothesis import example, given, settings, strategies as st
 
-from crnplan.scenario import Costs, Policy, Scenario
+from crnplan.policies import Policy
+from crnplan.scenario import Costs, Scenario
 from crnplan.theory import reviews, run_effects
 from crnplan.theory.lattice import NoTheory, theories_of
 from crnplan.theory.run_effects import Runs, end_effects, start_bias, theory_of

@@ -7,7 +7,8 @@ import random
 import numpy as np
 import pytest
 
-from crnplan.scenario import Costs, Policy, Scenario
+from crnplan.policies import Policy
+from crnplan.scenario import Costs, Scenario
 from crnplan.theory import feasible as bounds
 from crnplan.theory.feasible import ALL, Feasible
 from crnplan.theory.grid import search
@@ -33,24 +34,28 @@ EACH_SEED = pytest.mark.parametrize("seed", range(4))
 
 
 def check_searches(scenario: Scenario, *feasible: Feasible) -> None:
-    """Checks that no feasible pair costs less: with a share of demand, with s, and with S. The fullest meets most."""
+    """Checks that no feasible pair costs less: with a share of demand or of periods, with s, and with S. The fullest
+    meets most."""
     free = theory_of(scenario)
-    most = max(free.best(SHARES[-1]).level, free.best_with_point(NUMBERS[-1]).level)
+    tops = [free.counting(periods).best(SHARES[-1]).level for periods in (True, False)]
+    most = max(*tops, free.best_with_point(NUMBERS[-1]).level)
     pairs = all_pairs(scenario, max(most, 30) + 20)
-    for cost, _, point, level in pairs.tolist():
+    for cost, _, _, point, level in pairs.tolist():
         assert free.widest(cost, point) >= free.gap_of(point, level)
     for its in (ALL, *feasible):
         theory, kept = theory_within(scenario, its), kept_of(pairs, its)
         assert len(kept) == sum(map(its.allows, pairs.s, pairs.S))
         for share in SHARES:
             check(theory.best(share), kept, share)
+            check(theory.counting(True).best(share), kept, share, "held")
         for number in NUMBERS:
             check(theory.best_with_point(number), kept[kept.s == number])
             check(theory.best_with_level(number), kept[kept.S == number])
         if its.most_level <= 24 and len(kept):
             fullest = theory.fullest()
             own = kept[(kept.s == fullest.point) & (kept.S == fullest.level)]
-            assert own.share[0] == pytest.approx(kept.share.max(), abs=1e-9)
+            assert own.met[0] == pytest.approx(kept.met.max(), abs=1e-9)
+            assert own.held[0] == pytest.approx(kept.held.max(), abs=1e-9)
 
 
 @pytest.mark.parametrize(
@@ -192,22 +197,23 @@ def test_promises_within_bounds(feasible: Feasible, lead: Weights) -> None:
     ids=["s above 0", "s of 0"],
 )
 @pytest.mark.parametrize("step, share", [(3, 0), (10, 0), (3, 0.95), (10, 0.995)])
+@pytest.mark.parametrize("periods", [False, True], ids=["demand", "periods"])
 def test_the_best_of_a_lattice(
-    step: int, share: float, lead: Weights, costs: Costs, widest: int
+    periods: bool, step: int, share: float, lead: Weights, costs: Costs, widest: int
 ) -> None:
-    """No policy with as much fill costs less: with each gap, the cheapest and levels near the best are tried."""
+    """No policy that meets as much costs less: with each gap, the cheapest and levels near the best are tried."""
     scenario = scenario_of(MANY, lead, costs=costs)
-    theory = theory_on(scenario, shape_of(scenario), step, False)
+    theory = theory_on(scenario, shape_of(scenario), step, False).counting(periods)
     found, gaps = theory.best(share), range(widest // step)
     level, gap = found.level, theory.gap_of(found.point, found.level)
     assert share or (found.point < step) == (costs.backlog == 2)
-    assert theory.figures_of_gap(gap, level).fill >= share - 1e-9
+    assert theory.met(theory.figures_of_gap(gap, level)) >= share - 1e-9
     theory.rows_of(np.array(gaps))
     least = math.inf
     for gap in gaps:
         own = theory.cheapest_of_gaps([gap], share).level
         for top in (level - 1, level, level + 1, theory.items(gap), own):
-            if theory.figures_of_gap(gap, top).fill >= share - 1e-9:
+            if theory.met(theory.figures_of_gap(gap, top)) >= share - 1e-9:
                 least = min(least, theory.policy(gap, top).cost)
     off = MOST_EXCESS / 100 if theory.is_searched else 1e-9
     assert found.cost == pytest.approx(least, rel=off)

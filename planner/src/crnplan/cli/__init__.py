@@ -122,6 +122,12 @@ def group() -> None:
     """Lead from a history of demand to a stock decision.
 
     What the program crnsim computes is exact and proved for its stream; what theory computes is rounded and unproved.
+
+    \b
+    Files:
+      ~/.cache/crnplan  Compiled loops and templates of pages. They stay if crnplan
+                        is removed, and you may remove them: what is missing is
+                        compiled again.
     """
 
 

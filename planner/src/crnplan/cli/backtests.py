@@ -45,12 +45,7 @@ def backtest(
         words, settings = words_of({}, read_config(config))
     else:
         raise Refused("name a folder of crnplan catalogue, or two tables and --out")
-    walk = Walk(
-        record,
-        every,
-        window or settings.window or Walk.window,
-        least_gain or settings.least_gain,
-    )
+    walk = Walk.of(settings, record, every, window, least_gain)
     with own_folder(out or tables[0], CATALOGUE) as folder:
         if words is not None:
             files = {"demand": tables[0], "items": tables[1], "orders": orders}

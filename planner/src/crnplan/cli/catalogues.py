@@ -22,6 +22,7 @@ from ..plan.how import Settings
 from ..plan.settings import CONFIG, read_config
 from ..read.catalogue_reading import CATALOGUE, read_into
 from ..read.items import Words
+from ..read.law_forms import LAWS
 from ..read.outages import OUT
 from ..read.overriding import set_overrides
 from ..read.told import by_kind, made_from, merged, words_from
@@ -84,7 +85,7 @@ def read_files(
 ) -> tuple[Catalogue, Settings]:
     """Reads the files of a catalogue into a folder, and says what is to be said of them: also what was found in them, if
     their columns are guessed. Returns it with the settings by which it is planned."""
-    tables = {kind: asked[kind] for kind in ("demand", "items", "orders", OUT)}
+    tables = {kind: asked[kind] for kind in ("demand", "items", "orders", OUT, LAWS)}
     read = Catalogue(read_into(folder, tables, words, asked["jobs"]))
     set_overrides(folder, asked["overrides"], words, asked["after"])
     settings, said = settings_of(folder, settings, asked["as_backtest"])

@@ -31,7 +31,6 @@ def curve(folder: Path, plot: Path | None, is_csv: bool, **options: Any) -> None
         from ..show.page import Money
         from ..show.pictures import exchange_picture, save
 
-        currency = drawn.gathered.folder.currency
-        money = Money(currency.code, currency.decimals)
+        money = Money(drawn.currency.code, drawn.currency.decimals)
         save(exchange_picture(drawn.curve, drawn.named, money), plot)
     print(drawn.table.csv if is_csv else drawn.text, end="")

@@ -13,7 +13,7 @@ from .. import formats
 from ..crnsim.program import build_of_package, program_and_reason, writes_known_report
 from ..crnsim.trajectory import chosen, shown_periods, table_of
 from ..store.digests import sha256
-from ..scenario import read_policies
+from ..named_policies import read_policies
 from ..toml.documents import read_bytes
 from ..toml.scenarios import read_scenario
 from .words import command, read_for, show, show_rows
@@ -178,11 +178,11 @@ def trajectory(
     count = shown_periods(base, periods, out is not None)
     drawn = crn.trajectories(base.with_policies(policies), count, program=program)
     if out:
-        from ..show.pictures import save, trajectories_picture
+        from ..show.pictures import save
 
-        save(trajectories_picture(policies, drawn, base.initial), out)
+        save(drawn.plot(), out)
     if form or not out:
-        show_rows(table_of([policy.name for policy in policies], drawn), form)
+        show_rows(drawn.table, form)
 
 
 @command()
@@ -206,7 +206,7 @@ def where(program: str | None) -> int:
     digest, build = sha256(path.read_bytes()), build_of_package()
     origin, match = "in a checkout", ""
     if build:
-        origin = f"built from commit {build.commit}"
+        origin = f"built from commit {build.commit}\npages and examples: {build.folder}"
         built = "built" if build.program == digest else "not built"
         match = f" ({built} with this crnplan)"
     print(

@@ -11,17 +11,20 @@ from dataclasses import dataclass
 from fractions import Fraction
 from typing import NamedTuple
 
-from ..scenario import Levels
+from ..policies import Levels
 
 
 @dataclass(frozen=True)
 class Past:
     """What happened in each period: the demand, what customers gave back, and the lead time that an order would have
-    had that was placed then, in periods."""
+    had that was placed then, in periods. One in `review` periods has a review, and that of the number `first` has one:
+    crnsim reviews in each period."""
 
     demands: Sequence[int]
     returns: Sequence[int]
     leads: Sequence[int]
+    review: int = 1
+    first: int = 0
 
 
 class Rates(NamedTuple):
@@ -75,7 +78,7 @@ def periods_of(
     for number, (demand, returned, lead, (s, S)) in enumerate(happened):
         offered = stock + due.pop(number, 0) + returned
         ordered = 0
-        if position < s:
+        if position < s and (number - past.first) % past.review == 0:
             ordered = -(-(S - position) // pack) * pack
             due[number + lead] += ordered
         unmet = demand - min(demand, max(offered, 0))

@@ -17,6 +17,7 @@ from typing import IO
 from ..errors import ProgramError, ProgramFailed, argument
 from ..formats import STATUSES, status_of
 from ..store.interrupts import interrupted_later
+from . import BUILT, INSIDE
 
 VARIABLE = "CRNSIM"
 STREAMS = "input", "output", "errors"
@@ -52,9 +53,8 @@ def program_and_reason(named: str | Path | None = None) -> tuple[Path, str]:
         return _named(named, argument("program")), "named"
     if os.environ.get(VARIABLE):
         return _named(os.environ[VARIABLE], VARIABLE), f"the variable {VARIABLE}"
-    inside = Path(__file__).with_name("bin") / "crnsim"
-    if inside.exists():
-        return _named(inside, "crnplan"), "the one inside crnplan"
+    if INSIDE.exists():
+        return _named(INSIDE, "crnplan"), "the one inside crnplan"
     for folder in Path(__file__).resolve().parents:
         build = folder / "crates/crnsim/out/crnsim"
         if os.access(build, os.X_OK):
@@ -70,22 +70,52 @@ def program_and_reason(named: str | Path | None = None) -> tuple[Path, str]:
 @dataclass(frozen=True)
 class Build:
     """What an installed package is built of: the commit of the repository, and the digest of the program inside, by
-    SHA-256."""
+    SHA-256. Its pages and examples are in a folder, which is named from that of crnplan.
+    """
 
     commit: str
     program: str
+    pages: str
+
+    @property
+    def folder(self) -> Path:
+        """Returns the folder of the pages and examples."""
+        return (BUILT.parents[1] / self.pages).resolve()
 
 
 def build_of_package() -> Build | None:
     """Returns what the package is built of; None in a checkout of the repository."""
-    path = Path(__file__).with_name("built.toml")
-    if not path.exists():
+    if not BUILT.exists():
         return None
-    return Build(**tomllib.loads(path.read_text("utf-8")))
+    return Build(**tomllib.loads(BUILT.read_text("utf-8")))
 
 
 def find_program(named: str | Path | None = None) -> Path:
-    """Returns the absolute path of the program: `program_and_reason` says which."""
+    """Returns the absolute path of the program crnsim.
+
+    It is the first of these that there is: the named one; that of the variable CRNSIM; the one inside an installed package;
+    the repository's build, if the package stands in the repository; crnsim on PATH.
+
+    Parameters
+    ----------
+    named : str or Path, optional
+        A path, or a plain name that is searched on PATH.
+
+    Returns
+    -------
+    Path
+        The absolute path.
+
+    Raises
+    ------
+    ProgramError
+        If there is none, or it can't be run.
+
+    Examples
+    --------
+    >>> crn.find_program().name
+    'crnsim'
+    """
     return program_and_reason(named)[0]
 
 

@@ -30,7 +30,8 @@ from ..columns import columns_of
 from ..toml.documents import shown
 from ..toml.scenarios import checked_tree, name_faults, plain_text
 from ..errors import Fault, ProgramError, Refused, argument
-from ..scenario import Costs, Policy, Scenario
+from ..policies import Policy
+from ..scenario import Costs, Scenario
 from ..table import DataTable, Json, Result
 from .program import find_program, run_all
 
@@ -204,7 +205,7 @@ def joined(reports: Sequence[Sequence[Row]], program: str | Path) -> list[Row]:
     return [base, *(row for rows in reports for row in rows[1:])]
 
 
-@dataclass(frozen=True)
+@dataclass(frozen=True, eq=False, repr=False)
 class Report(Result):
     """What crnsim reports of a scenario: exact rows, the base first."""
 
@@ -231,8 +232,23 @@ class Report(Result):
         return self.frame.astype({name: float for name in formats.FRACTIONS})
 
     def decide(self, level: float = 0.95) -> Decision:
-        """Returns all policies by rank, the cheapest first, with paired-t intervals and verdicts. `level` is above 0,
-        below 1."""
+        """Returns all policies by rank, the cheapest first, with paired-t intervals and verdicts.
+
+        Parameters
+        ----------
+        level : float, above 0 and below 1, default 0.95
+            The joint level of the intervals.
+
+        Returns
+        -------
+        Decision
+            `frame` has a row for each policy.
+
+        Examples
+        --------
+        >>> scenario.run([(4, 25)]).decide().frame["verdict"].to_list()
+        ['base', 'worse']
+        """
         from ..decide.verdicts import decided
 
         return decided(self.rows, self.scenario.replications, level)
@@ -241,9 +257,11 @@ class Report(Result):
 def report_of(scenario: Scenario, program: str | Path | None = None) -> Report:
     """Runs a scenario, whose first policy is the base, on any number of policies.
 
-    Raises ScenarioError with all faults, and ProgramError.
+    Raises ScenarioError with all faults, Refused without a review in each period, and ProgramError.
     """
     checked_tree(scenario.tree, any_number=True)
+    if scenario.review > 1:
+        raise Refused("crnsim reviews in each period, and this scenario does not")
     found, parts = find_program(program), parts_of(scenario)
     texts = run_all(found, [(plain_text(part.tree),) for part in parts])
     rows = joined(

@@ -6,15 +6,18 @@ from collections.abc import Iterable, Sequence
 from dataclasses import dataclass
 from operator import attrgetter
 from pathlib import Path
+from typing import Any
 
+from ..arguments import judged
 from .. import formats
 from ..store.digests import digest_of
 from ..errors import Refused
 from ..store.files import own_folder
 from ..store.clusters import Scheduler
 from ..store.means import Means
-from ..money import Number, whole
-from ..scenario import Policy, Scenario
+from ..money import Number
+from ..policies import Policy
+from ..scenario import Scenario
 from ..store.stored import Store
 from ..toml.scenarios import checked_tree, plain_text
 from ..store.work import Work
@@ -41,15 +44,13 @@ def numbers_of(name: str, first: int, last: int, step: int) -> range:
 
 
 def grid_of(
-    scenario: Scenario, points: Iterable[Number], levels: Iterable[Number]
+    scenario: Scenario, points: Iterable[Any], levels: Iterable[Any]
 ) -> list[Policy]:
-    """Returns the pairs of the grid with s <= S, without the base's own. Raises Refused, also as a ScenarioError."""
-    base = scenario.policies[0]
-    rising = [whole(level, "S") for level in levels]
+    """Returns the pairs of the grid of whole numbers with s <= S, without the base's own. Raises Refused, also as a ScenarioError."""
+    base = scenario.base
     grid = list[Policy]()
-    for point in points:
-        s = whole(point, "s")
-        for S in rising:
+    for s in points:
+        for S in levels:
             if s <= S and (s, S) != (base.s, base.S):
                 grid.append(Policy.of_levels(s, S))
     if not grid:
@@ -69,6 +70,7 @@ def run_part(part: Scenario, program: str) -> Kept:
     return Kept(report)
 
 
+@judged("sweep", "call", "common")
 def sweep(
     scenario: Scenario,
     s: Iterable[Number],
@@ -80,18 +82,54 @@ def sweep(
     program: str | Path | None = None,
     progress: bool = False,
 ) -> Report:
-    """Compares all pairs of reorder points `s` and levels `S` (items) with the scenario's first policy, the base.
+    """Compares all pairs of reorder points `s` and levels `S` with the scenario's first policy, the base.
 
-    Pairs with s above S are left out. All policies meet the same demands, under the scenario's key. The report has the
-    base first, and then the grid by `diff_total`, the cheapest first: the same bytes whatever the number of runs at a
-    time, `jobs` (by default one for each core). With `out`, a folder, each report is kept, and the same sweep begun
-    again runs only what is not there. With `cluster`, the address of a Dask scheduler or a Client, its
-    workers run the program at its path. `progress` shows on standard error how many scenarios are done. Raises Refused,
-    ScenarioError if a level is out of range, ProgramError if a run fails, and Failed.
+    All policies meet the same demands, under the scenario's key.
+
+    Parameters
+    ----------
+    scenario : Scenario
+        Its first policy is the base.
+    s : iterable of int
+        Reorder points, in items, from 0 to 1,000,000.
+    S : iterable of int
+        Order-up-to levels, in items, from 0 to 1,000,000. Pairs with s above S are left out.
+    jobs : int, at least 1, optional
+        Runs at a time; by default one for each core. The report is the same.
+    out : str or Path, optional
+        A folder that keeps each report. The same sweep begun again runs only what is not there.
+    cluster : str or distributed.Client, optional
+        The address of a Dask scheduler, or a client. Its workers run the program at its path.
+    program : str or Path, optional
+        The path of crnsim: see `find_program`.
+    progress : bool, default False
+        Shows on standard error how many scenarios are done.
+
+    Returns
+    -------
+    Report
+        The base first, and then the grid by `diff_total`, the cheapest first.
+
+    Raises
+    ------
+    Refused
+        If the grid has no pair beside the base, or the base has the name of a pair.
+    ScenarioError
+        If a level is out of range.
+    ProgramError
+        If a run fails.
+    Failed
+        If a worker, the cluster or the disk fails.
+
+    Examples
+    --------
+    >>> found = crn.sweep(scenario, s=[8, 12], S=[20, 30])
+    >>> found.rows[0].policy, len(found.rows)
+    ('today', 5)
     """
     means = Means(jobs, cluster, shown=progress)
     path = program_for(program, cluster)
-    asked = scenario.with_policies([scenario.policies[0], *grid_of(scenario, s, S)])
+    asked = scenario.with_policies([scenario.base, *grid_of(scenario, s, S)])
     with contextlib.ExitStack() as stack:
         place = Path(":memory:")
         if out is not None:

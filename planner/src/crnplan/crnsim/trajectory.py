@@ -9,19 +9,24 @@ import itertools
 import re
 from bisect import bisect_right
 from collections.abc import Iterable, Sequence
-from dataclasses import astuple, replace
+from dataclasses import astuple, dataclass, replace
 from pathlib import Path
-from typing import NamedTuple
+from typing import TYPE_CHECKING, NamedTuple, overload
 
+from ..arguments import judged
 from .. import formats
 from ..columns import columns_of
 from ..errors import ProgramError, Refused, argument
 from ..law import Law
-from ..scenario import Policy, Scenario
-from ..table import DataTable
+from ..policies import Policy
+from ..scenario import Scenario
+from ..table import DataTable, Result
 from .periods import Past, Period, Rates, periods_of
 from .program import find_program, run_all
 from .report import report_of
+
+if TYPE_CHECKING:
+    from matplotlib.figure import Figure
 
 JOBS = 8  # runs at a time: each is short, so that starting it takes most of its time
 MOST_DRAWN = 208
@@ -45,6 +50,49 @@ class PeriodOf(NamedTuple):
 
 
 COLUMNS = columns_of("crnsim", "trajectory")
+
+
+@dataclass(frozen=True, eq=False, repr=False)
+class Trajectories(Result, Sequence[list[Period]]):
+    """The first periods of policies in replication 0. `frame` has a row for each period of each policy; as a sequence it
+    has for each policy a list of its periods.
+
+    Attributes
+    ----------
+    scenario : Scenario
+        What was run.
+    runs : list of list of Period
+        For each of its policies its periods.
+    """
+
+    scenario: Scenario
+    runs: list[list[Period]]
+
+    @overload
+    def __getitem__(self, place: int) -> list[Period]:
+        ...
+
+    @overload
+    def __getitem__(self, place: slice) -> list[list[Period]]:
+        ...
+
+    def __getitem__(self, place: int | slice) -> list[Period] | list[list[Period]]:
+        return self.runs[place]
+
+    def __len__(self) -> int:
+        return len(self.runs)
+
+    @property
+    def table(self) -> DataTable:
+        """Returns the periods: policy, period, ordered, net_demand, stock, position, in items."""
+        return table_of([policy.name for policy in self.scenario.policies], self.runs)
+
+    def plot(self) -> Figure:
+        """Returns a picture of stock, position and orders, one policy below another."""
+        from ..show.pictures import trajectories_picture
+
+        scenario = self.scenario
+        return trajectories_picture(scenario.policies, self.runs, scenario.initial)
 
 
 def table_of(names: Iterable[str], shown: Iterable[Sequence[Period]]) -> DataTable:
@@ -118,13 +166,44 @@ def draws_of(scenario: Scenario, periods: int, program: Path) -> Past:
     )
 
 
+@judged("call", "trajectory", "common")
 def trajectories(
     scenario: Scenario, periods: int, *, program: str | Path | None = None
-) -> list[list[Period]]:
+) -> Trajectories:
     """Returns the first periods of each policy of a scenario in replication 0.
 
-    That replication alone keeps its random numbers if the number of periods changes. Raises Refused if the scenario has
-    fewer periods, and ProgramError, also if a total is not that of the program.
+    That replication alone keeps its random numbers if the number of periods changes.
+
+    Parameters
+    ----------
+    scenario : Scenario
+        Its policies are run, each from its stock at the start.
+    periods : int
+        How many periods, from 1 to those of the scenario.
+    program : str or Path, optional
+        The path of crnsim: see `find_program`.
+
+    Returns
+    -------
+    Trajectories
+        `frame` has the columns policy and period (from 0), and what was `ordered`, the `net_demand`, and the `stock` and the
+        `position` at the end, in items. As a sequence it has for each policy a list of its periods, which have also the
+        demand that was `unmet` at once.
+
+    Raises
+    ------
+    Refused
+        If the scenario has fewer periods.
+    ProgramError
+        If a run fails, or a total is not that of the program.
+
+    Examples
+    --------
+    >>> (today,) = crn.trajectories(scenario, periods=3)
+    >>> [period.stock for period in today]
+    [17, 17, 13]
+    >>> crn.trajectories(scenario, periods=3).frame["stock"].to_list()
+    [17, 17, 13]
     """
     path = find_program(program)
     periods = shown_periods(scenario, periods, False)
@@ -142,4 +221,4 @@ def trajectories(
                 f"{argument('program')}"
             )
         shown.append(run)
-    return shown
+    return Trajectories(scenario, shown)

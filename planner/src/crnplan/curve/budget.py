@@ -52,11 +52,6 @@ class Budget:
         for name, number in (("stock_value", self.value), ("orders", self.orders)):
             if number is not None and not 0 < number < math.inf:
                 raise Refused(f"{argument(name, f'{number:g}')} is not above 0")
-        if self.fill is not None and not 0 < self.fill < 1:
-            raise Refused(
-                f"{argument('fill', f'{self.fill:g}')} is not between 0 and 1",
-                "write 0.95 for 95 of 100 " "units of value",
-            )
         if self.value is not None and self.fill is not None:
             raise Refused(
                 f"{argument('stock_value')} and {argument('fill')}: each alone names a point of the curve",

@@ -12,7 +12,7 @@ from ..crnsim.report import counting
 from ..decide.long_run import long_run_of
 from ..plan.answer import CHOSEN, TODAY
 from ..plan.question import Levels, Question
-from ..scenario import Policy
+from ..policies import Policy
 from .gathered import Gathered
 from .parts import Choice
 
@@ -92,7 +92,9 @@ def confirmed(
     """Returns a line on each named point, of which `said` says what it is for a reader: the value of the mean stock of
     a sample of items by theory, and by crnsim with its standard error. Raises Refused and ProgramError.
     """
-    sample = gathered.items.drawn(gathered.folder.settings.seed, count)
+    drawn = gathered.items.drawn(gathered.folder.settings.seed, count)
+    # crnsim can't run an item that is not reviewed in each period.
+    sample = [pair for pair in drawn if gathered.folder.item(pair[1])[0].review == 1]
     sums = sampled_sums(gathered, choices, sample, program)
     money = gathered.folder.currency.text
     wide = max(map(len, said.values()))
@@ -109,6 +111,9 @@ def confirmed(
         )
         if abs(share) > CLOSE:
             far.append(words)
+    if len(sample) < len(drawn):
+        left = len(drawn) - len(sample)
+        lines.append(f"{left:,} more are not reviewed in each period, and have no run.")
     if far:
         lines.append(
             f"More than {CLOSE:.0%} apart, so look at these items: {', '.join(far)}."

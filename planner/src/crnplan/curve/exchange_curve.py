@@ -10,19 +10,22 @@ import json
 import math
 from collections.abc import Iterable, Iterator, Mapping
 from dataclasses import dataclass, replace
+from functools import cached_property, partial
 from pathlib import Path
-from typing import TYPE_CHECKING, NamedTuple
+from typing import TYPE_CHECKING, Any, NamedTuple
 
+from ..arguments import judged
 from ..columns import columns_of
 from ..store.files import own_folder
 from ..store.clusters import Scheduler
 from ..store.means import Means
+from ..money import Currency
 from ..plan.answer import CHOSEN, TODAY, Answer
 from ..plan.catalogue import planned_folder
 from ..plan.how import Settings
 from ..read.catalogue_reading import CATALOGUE, Catalogued
 from ..store.stored import Store
-from ..table import DataTable, Result, aligned
+from ..table import DataTable, Json, Result, aligned
 from ..theory.levels import NEAR
 from ..words import PREMISE, advice, sentence
 from .budget import Budget, OffCurve, chosen_by, gap_of, with_more_orders
@@ -30,9 +33,11 @@ from .confirmed import confirmed
 from .exchange import Items
 from .gathered import Gathered, gather
 from .parts import Choice, Point
+from .past import CurvePast
 
 if TYPE_CHECKING:
     import pandas as pd
+    from matplotlib.axes import Axes
 
 CURVE, POLICIES, LEFT_OUT = "curve.csv", "curve_policies.csv", "curve_left_out.csv"
 
@@ -44,6 +49,7 @@ class CurvePoint(NamedTuple):
     point: Point
     gap: float = 0.0
     price: float | None = None
+    past: float | None = None
 
 
 COLUMNS = columns_of("curve", "curve")
@@ -64,22 +70,38 @@ SAID = {
     BUDGET: "your budget",
 }
 TOGETHER = "chosen together"  # the point of a plan with one price
+KEPT = (
+    "currency",
+    "table",
+    "text",
+    "policy_table",
+    "left_out",
+)  # of a curve by its folder
 DRAWN = "curve"  # the fact with the points, beside the answers of a plan
+MET = "Met at once: the share of demand by value."
+BY_THEORY = (
+    "figures are by theory, rounded and unproved, of the long run under the laws fitted to the histories, "
+    f"{PREMISE}."
+)
 NOTES = (
-    "Met at once: the share of demand by value. All figures are by theory, rounded and unproved, of the long run under "
-    f"the laws fitted to the histories, {PREMISE}.",
     "One price for a unit of value that is not met at once chooses the policy of each item, with setup and holding as "
     "in the masters. Points with more orders or fewer lie beside the curve.",
     "Above the best: setup and holding are at most so much above the least of all policies that were looked at with "
     "the same service (and no more orders or stock, where these are bounded too).",
 )
+TRIED_SO = (
+    "Met on the past: on quarters of the records, each planned from the others, with the price of the point; today's "
+    "levels as they are."
+)
 
 
-@dataclass(frozen=True)
+@dataclass(frozen=True, eq=False, repr=False)
 class Drawn(Result):
     """The curve: its points by price, the points that have a name with their gaps, what each is for a reader, and why
     others are missing. `written` names the point whose policies are written: those of the `choice`. `confirmed` has
-    lines on what crnsim counts."""
+    lines on what crnsim counts. If the points were tried on the past of so many items, `tried`, `past` has what they met
+    there. Tables are read from the folder when they are first asked for; a pickle has them all.
+    """
 
     gathered: Gathered
     curve: list[tuple[float, Point]]
@@ -89,23 +111,54 @@ class Drawn(Result):
     written: str
     choice: Choice
     confirmed: list[str]
+    past: Mapping[str, float]
+    tried: int
+
+    @property
+    def content(self) -> list[list[dict[str, Json]]]:
+        """Returns the points, and the policy of each item, as plain data."""
+        return [self.table.records, self.policy_table.records]
 
     @property
     def named(self) -> dict[str, Point]:
-        return {self.said[name]: point for name, (point, _) in self.points.items()}
+        """Returns the points that have a name by what they are, with what they met on the past."""
+        named = dict[str, Point]()
+        for name, (point, _) in self.points.items():
+            met = f", {self.past[name]:.1%} on the past" if self.past else ""
+            named[self.said[name] + met] = point
+        return named
 
-    @property
+    def keep(self) -> Drawn:
+        """Reads all tables, and returns the curve, which no longer needs the folder."""
+        for name in KEPT:
+            getattr(self, name)
+        return self
+
+    def __getstate__(self) -> dict[str, Any]:
+        """Returns what a pickle has: all but what is in the folder."""
+        return {
+            name: its for name, its in vars(self.keep()).items() if name != "gathered"
+        }
+
+    @cached_property
+    def currency(self) -> Currency:
+        """Returns the currency of values and costs."""
+        return self.gathered.folder.currency
+
+    @cached_property
     def table(self) -> DataTable:
         """Returns the points: named ones first, then the curve by rising price."""
         rows = [
-            CurvePoint(name, point, gap) for name, (point, gap) in self.points.items()
+            CurvePoint(name, point, gap, past=self.past.get(name))
+            for name, (point, gap) in self.points.items()
         ]
         rows += [
             CurvePoint(ON_CURVE, point, price=price) for price, point in self.curve
         ]
-        return self.gathered.folder.table(COLUMNS, rows)
+        columns = [it for it in COLUMNS if self.past or it.name != "past"]
+        return self.gathered.folder.table(columns, rows)
 
-    @property
+    @cached_property
     def text(self) -> str:
         """Returns the named points as a table, and what they mean."""
         folder, parts = self.gathered.folder, self.gathered.parts
@@ -121,7 +174,7 @@ class Drawn(Result):
             lines.append(f"{SAID[name]}: there is no such point: {why}")
         policies = SAID.get(self.written, "the least stock")
         lines += [
-            *NOTES,
+            self.notes,
             f'{CURVE} has the curve; {POLICIES} has the policies of "{policies}", in {folder.path}.',
         ]
         if self.confirmed:
@@ -143,6 +196,8 @@ class Drawn(Result):
                 "above the best",
             ]
         ]
+        if self.past:
+            rows[0].insert(3, "met on the past")
         for name, (point, gap) in self.points.items():
             rows.append(
                 [
@@ -154,11 +209,32 @@ class Drawn(Result):
                     gap_text(gap),
                 ]
             )
+            if self.past:
+                rows[-1].insert(3, f"{self.past[name]:.2%}")
         return rows
 
     @property
     def notes(self) -> str:
-        return "\n".join(NOTES)
+        """Returns what the figures mean."""
+        if not self.past:
+            return "\n".join((f"{MET} All {BY_THEORY}", *NOTES))
+        tried = f"{TRIED_SO} Tried: {self.tried:,} items."
+        return "\n".join((tried, f"{MET} All other {BY_THEORY}", *NOTES))
+
+    def plot(self, ax: Axes | None = None) -> Axes:
+        """Draws the curve with its named points, and returns the axes.
+
+        Parameters
+        ----------
+        ax : matplotlib.axes.Axes, optional
+            Where to draw; by default on a new figure.
+        """
+        from ..show.page import Money
+        from ..show.pictures import draw_exchange, exchange_size, on_axes
+
+        money = Money(self.currency.code, self.currency.decimals)
+        words = {"curve": self.curve, "named": self.named, "money": money}
+        return on_axes(partial(draw_exchange, **words), exchange_size(self.named), ax)
 
     @property
     def policies(self) -> pd.DataFrame:
@@ -166,19 +242,25 @@ class Drawn(Result):
         return self.policy_table.frame
 
     @property
-    def policy_table(self) -> DataTable:
-        return self.gathered.folder.table(
-            POLICY_COLUMNS, policy_rows(self.gathered, self.choice)
-        )
+    def policy_lines(self) -> Iterator[str]:
+        """Yields the policies as lines of a file. They may be many: they are not kept."""
+        rows = policy_rows(self.gathered, self.choice)
+        return self.gathered.folder.table(POLICY_COLUMNS, rows).lines
 
-    @property
+    @cached_property
+    def policy_table(self) -> DataTable:
+        """Returns the policy of each item, as `policies`."""
+        rows = [*policy_rows(self.gathered, self.choice)]
+        return self.gathered.folder.table(POLICY_COLUMNS, rows)
+
+    @cached_property
     def left_out(self) -> DataTable:
         """Returns the items that are not on the curve, with the reason and what to do."""
         rows = []
         for name, remark in self.gathered.parts.left_out():
             why = {"reason": sentence(remark), "advice": advice(remark)}
             rows.append({"item": name, **why})
-        return DataTable.of(LEFT_OUT_COLUMNS, rows, missing="")
+        return self.gathered.folder.table(LEFT_OUT_COLUMNS, rows)
 
 
 def policy_rows(gathered: Gathered, choice: Choice) -> Iterator[Mapping[str, object]]:
@@ -261,9 +343,13 @@ def said_of(name: str, settings: Settings) -> str:
 
 
 def draw(
-    gathered: Gathered, budget: Budget, confirm: int, program: str | Path | None
+    gathered: Gathered,
+    budget: Budget,
+    confirm: int,
+    program: str | Path | None,
+    on_past: CurvePast | None = None,
 ) -> Drawn:
-    """Returns the curve with its points, and perhaps what crnsim counts."""
+    """Returns the curve with its points, and perhaps what crnsim counts, and what was met on the past."""
     choices, missing = points_of(gathered, budget)
     items = gathered.items
     points = dict[str, tuple[Point, float]]()
@@ -283,8 +369,12 @@ def draw(
     written, *_ = *named, ON_CURVE
     choice = choices[written] if choices else items.ladder().with_price(0)
     sample = confirmed(gathered, choices, said, confirm, program) if confirm else []
-    curve = curve_points(items)
-    return Drawn(gathered, curve, points, said, missing, written, choice, sample)
+    curve, past, tried = curve_points(items), dict[str, float](), 0
+    if on_past:
+        past, tried = on_past.met(choices)
+    return Drawn(
+        gathered, curve, points, said, missing, written, choice, sample, past, tried
+    )
 
 
 def gap_text(gap: float) -> str:
@@ -314,50 +404,91 @@ def kept_curve(answers: Store[Answer]) -> list[tuple[str, Point]] | None:
     return [(row.pop("name"), Point(**row)) for row in rows]
 
 
+@judged("curve", "call", "common")
 def exchange_curve(
     folder: str | Path,
     *,
     stock_value: float | None = None,
     fill: float | None = None,
     orders: float | None = None,
+    correct: bool = False,
     jobs: int | None = None,
     cluster: Scheduler | None = None,
     program: str | Path | None = None,
     confirm: int = 0,
     progress: bool = False,
 ) -> Drawn:
-    """Returns the exchange curve of a planned folder: how much service a stock of some value can give. `frame` has its
-    points, `policies` the policy of each item.
+    """Returns the exchange curve of a planned folder: how much service a stock of some value can give.
 
-    Columns (of a period in the long run, by theory): point, price, value (of the mean stock, in money), fill (the share
-    of demand by value that is met at once), orders, cost (setup and holding, in money), and gap (the share by which the
-    cost is at most above the least with this service). Points: `today`, `chosen` (item by item, by the plan), `same
-    stock` and `same service` (as today's, on the curve), `budget`, and `curve` by rising price of a unit of value that
-    is not met at once.
+    Points are `today`, `chosen` (item by item, by the plan), `same stock` and `same service` (as today's, on the curve),
+    `budget`, and `curve` by rising price of a unit of value that is not met at once. Source: Silver, Pyke and Thomas,
+    Inventory and Production Management in Supply Chains, 2017, exchange curves.
 
-    A budget is a `stock_value` at most or a `fill` at least, above 0 (a fill below 1), and `orders` a period at most;
-    with orders alone the service is today's. `curve.csv` in the folder has the table, `curve_policies.csv` the policies
-    of the budget (without one, of today's service with the least stock), `curve_left_out.csv` the items that are left
-    out: those without a price or a plan. Candidates are kept in the folder, and are computed by `jobs` processes or a
-    Dask `cluster`; the bytes are the same. Of `confirm` items crnsim, found as `program` says,
-    counts the stock at each named point.
+    Parameters
+    ----------
+    folder : str or Path
+        The folder of a plan. It gets curve.csv with the points, curve_policies.csv with the policies of the budget (without
+        one, of today's service with the least stock), and curve_left_out.csv with the items without a price or a plan.
+        Candidates are kept there.
+    stock_value : float, above 0, optional
+        A budget: the value of the mean stock at most, in money.
+    fill : float, above 0 and below 1, optional
+        A budget: the share of demand by value that is met at once, at least.
+    orders : float, optional
+        The orders of a period at most, above 0. With it alone the service is today's.
+    correct : bool, default False
+        Has beside each named point what it met on the past: on quarters of the records of up to 1,000 items, each planned
+        from the others. A `fill` is then met there, by the price that `plan` finds for items that are planned together.
+    jobs : int, at least 1, optional
+        How many processes work; by default one for each processor. The bytes are the same.
+    cluster : str or distributed.Client, optional
+        The address of a Dask scheduler, or a client, whose workers work in place of processes.
+    program : str or Path, optional
+        The path of crnsim: see `find_program`.
+    confirm : int, at least 0, default 0
+        Of so many items crnsim counts the stock at each named point.
+    progress : bool, default False
+        Shows on standard error how many items are done.
 
-    Raises Refused for a folder without a plan and a budget that no policies keep, and ProgramError.
-    Source: Silver, Pyke and Thomas, Inventory and Production Management in Supply Chains, 2017, exchange curves.
+    Returns
+    -------
+    Drawn
+        `frame` has the points and `policies` the policy of each item. Columns, of a period in the long run and by theory: point,
+        price, value (of the mean stock, in money), fill (the share of demand by value that is met at once), orders, cost
+        (setup and holding, in money), and gap (the share by which the cost is at most above the least with this service).
+
+    Raises
+    ------
+    Refused
+        For a folder without a plan, a budget that no policies keep, and fewer than 30 items that can be tested on their past.
+    ProgramError
+        If a run by crnsim fails.
+
+    Examples
+    --------
+    >>> curve = crn.exchange_curve(plan.path, fill=0.95, jobs=1)
+    >>> list(curve.frame["point"][:3])
+    ['today', 'chosen', 'same stock']
+    >>> list(curve.policies["item"])
+    ['bolt', 'nut', 'washer']
     """
     budget, path = Budget(stock_value, fill, orders), Path(folder)
+    means, on_past = Means(jobs, cluster, shown=progress), None
     with (
         planned_folder(path) as planned,
         own_folder(path, CATALOGUE, (CURVE, POLICIES, LEFT_OUT)) as own,
-        gather(own, planned, Means(jobs, cluster, shown=progress)) as gathered,
+        gather(own, planned, means) as gathered,
     ):
-        drawn = draw(gathered, budget, confirm, program)
-        for name, table in (
-            (CURVE, drawn.table),
-            (POLICIES, drawn.policy_table),
-            (LEFT_OUT, drawn.left_out),
+        if correct:
+            on_past = CurvePast(own, gathered, means)
+            budget = on_past.aimed(budget)
+        drawn = draw(gathered, budget, confirm, program, on_past)
+        for name, lines in (
+            (CURVE, drawn.table.lines),
+            (POLICIES, drawn.policy_lines),
+            (LEFT_OUT, drawn.left_out.lines),
         ):
-            own.write(name, table.lines)
+            own.write(name, lines)
         keep_curve(
             planned.store,
             [*drawn.named.items(), *(("", point) for _, point in drawn.curve)],

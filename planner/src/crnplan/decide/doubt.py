@@ -8,26 +8,29 @@ statements hold was measured: planner/studies/README.md, "Doubt". Theory's figur
 from __future__ import annotations
 
 import dataclasses
-import math
 from collections.abc import Iterable, Iterator, Mapping
 from dataclasses import dataclass, field
-from functools import cached_property
+from functools import cached_property, partial
 from pathlib import Path
 from typing import TYPE_CHECKING, Any
 
+from ..arguments import judged
 from ..columns import columns_of
 from ..toml.scenarios import checked_tree
 from ..crnsim.report import report_of
-from ..errors import Refused, argument
+from ..errors import Refused
 from ..read.observed import Observed
 from ..law import Law
 from ..money import Number
-from ..scenario import Policies, policies_of, Policy, Scenario
+from ..policies import Policies, policies_of, Policy
+from ..scenario import Scenario
 from ..table import DataTable, Json, Result
 from ..words import PREMISE, sentence
 from .verdicts import POLICY, horizon_of, own_variance
 
 if TYPE_CHECKING:
+    from matplotlib.axes import Axes
+
     from ..demand.posterior import AllowedLaws
     from ..chances import Floats
     from ..theory.many_laws import LawFigures
@@ -42,7 +45,7 @@ HELD = {"regret": (89, 96), "fill": (79, 90)}
 COLUMNS = columns_of("decide", "doubt")
 
 
-@dataclass(frozen=True, eq=False)
+@dataclass(frozen=True, eq=False, repr=False)
 class Doubt(Result):
     """The figures of policies under the laws that a history allows. `lead` is None if lead times are the scenario's.
 
@@ -109,6 +112,18 @@ class Doubt(Result):
             for name, figures in self.columns.items():
                 rows[-1][name] = float(figures[place])
         return rows
+
+    def plot(self, ax: Axes | None = None) -> Axes:
+        """Draws how much more than the best each policy costs under each law, and returns the axes.
+
+        Parameters
+        ----------
+        ax : matplotlib.axes.Axes, optional
+            Where to draw; by default on a new figure.
+        """
+        from ..show.pictures import doubt_size, draw_doubt, on_axes
+
+        return on_axes(partial(draw_doubt, doubt=self), doubt_size(self), ax)
 
     @property
     def table(self) -> DataTable:
@@ -253,17 +268,6 @@ def _spreads_of(
     }
 
 
-def _check_words(times: int, within: float) -> None:
-    """Raises Refused for a number of laws, or a share, that is out of range."""
-    least, most = TIMES
-    if not least <= times <= most:
-        asked = argument("times", str(times))
-        raise Refused(f"{asked}: there can be {least:,} to {most:,} laws")
-    if not 0 <= within < math.inf:
-        asked = argument("within", f"{within:g}")
-        raise Refused(f"{asked}: it is a share of at least 0, as 0.03 for 3%")
-
-
 def _candidates(scenario: Scenario, policies: Policies | None) -> tuple[Policy, ...]:
     """Returns the policies that are looked at: the scenario's own, or others. Raises Refused, and ScenarioError."""
     if policies is None:
@@ -275,6 +279,7 @@ def _candidates(scenario: Scenario, policies: Policies | None) -> tuple[Policy, 
     return candidates
 
 
+@judged("doubt", "call", "history", "common")
 def doubt(
     scenario: Scenario,
     history: Observed | Iterable[Number],
@@ -290,20 +295,57 @@ def doubt(
 ) -> Doubt:
     """Returns what each policy costs, and how well it fills, under the laws that a history allows.
 
-    `history` is the demand of the scenario by period, `leads` are observed lead times (without them those of the
-    scenario hold); both are what `fit_demand` and `fit_lead` take, `box` too. `policies` are in any form of
-    `Scenario.run`, by default the scenario's own. `times` laws are drawn, 10 to 2,000; the same `seed` gives the same.
-    `within` is a share, as 0.03: under how many laws is a policy as near as that to the best? With `runs`, crnsim runs
-    the scenario under each law. `print(doubt(...).text)` shows all; `frame` is the table.
-
     How often the stated 90% bounds of regret and fill rate hold, and how near the mean cost is to the true one, was
-    measured for laws that are known: planner/studies/README.md, "Doubt". Raises Refused, ScenarioError for a policy out
-    of range, NoTheory if there is no long run, and ProgramError.
+    measured for laws that are known: planner/studies/README.md, "Doubt".
+
+    Parameters
+    ----------
+    scenario : Scenario
+        Its costs count, and its law of lead times unless `leads` is given.
+    history : History or iterable of int
+        The demand of each period, in items, as `fit_demand` takes it.
+    leads : LeadTimes or iterable of int, optional
+        Observed lead times, in periods from 1 to 32, as `fit_lead` takes them.
+    policies : Policies, optional
+        Policies in any form of `Scenario.run`; by default those of the scenario.
+    times : int, default 100
+        How many laws are drawn, from 10 to 2,000.
+    within : float, default 0.03
+        A share, at least 0: under how many laws is a policy as near as that to the best one?
+    seed : int, default 1
+        The same seed draws the same laws.
+    box : int, default 1
+        The items of a box, in which demand is counted.
+    runs : bool, default False
+        Has crnsim run the scenario under each law too.
+    program : str or Path, optional
+        The path of crnsim: see `find_program`.
+
+    Returns
+    -------
+    Doubt
+        `frame` has a row for each policy, the cheapest first, and `text` says it in words.
+
+    Raises
+    ------
+    Refused
+        If an argument is out of range, or the history can't be read.
+    ScenarioError
+        If a policy is out of range.
+    NoTheory
+        If there is no long run.
+    ProgramError
+        If a run fails.
+
+    Examples
+    --------
+    >>> sure = crn.doubt(scenario, [3, 0, 5, 4, 7, 2, 6, 3, 4, 5, 1, 6], times=10)
+    >>> list(sure.frame.index)
+    ['today']
     """
     from ..demand.posterior import allowed_laws, allowed_leads
     from ..theory.many_laws import figures_of_laws
 
-    _check_words(times, within)
     candidates = _candidates(scenario, policies)
     demand = allowed_laws(history, times=times, box=box, seed=seed)
     lead, lead_laws = None, [scenario.lead] * len(demand.laws)

@@ -13,6 +13,7 @@ from collections.abc import Sequence
 from dataclasses import dataclass
 from pathlib import Path
 
+from ..arguments import judged
 from .. import formats
 from ..crnsim.report import Row, pooled, table_of
 from ..errors import Refused, argument
@@ -85,7 +86,7 @@ def keys_of(given: Sequence[Sequence[str]], count: int | None, own: Key) -> list
     return keys
 
 
-@dataclass(frozen=True)
+@dataclass(frozen=True, eq=False, repr=False)
 class Check(Result):
     """What comes of a check: the policies compared with the best one, by rank, over all replications of all keys."""
 
@@ -177,6 +178,7 @@ def _pooled_run(
     return rows
 
 
+@judged("call", "check", "common")
 def check_keys(
     scenario: Scenario,
     best: str,
@@ -190,12 +192,51 @@ def check_keys(
 ) -> Check:
     """Runs a scenario again under new keys, and compares each other policy with the policy named `best`.
 
-    `keys` are given ones, each of four words, or of one that replaces the first word of the scenario's key; a word has
-    16 digits of 0-9a-f. If they are fewer than `count`, 1 to 64, the others are drawn. Each is run with so many
-    `replications`, 2 to 256. The joint `level` is between 0 and 1. `out` is a folder, new, empty or of an earlier
-    check, which gets the scenario and the report of each key, key_1.toml and key_1.csv for the first one, and
-    pooled.csv if there are several: the report of all replications. Raises Refused, also for the scenario's own key,
-    and ProgramError if a run fails.
+    The best policy was chosen since it did well under the scenario's own key, so it is judged on others. The replications
+    of all keys are pooled.
+
+    Parameters
+    ----------
+    scenario : Scenario
+        It has at least two policies.
+    best : str
+        The name of the policy that is judged.
+    keys : sequence of sequence of str, optional
+        Keys, each of four words, or of one that replaces the first word of the scenario's key. A word has 16 digits of
+        0-9a-f.
+    count : int, optional
+        How many keys, from 1 to 64; those that are not given are drawn. By default as many as are given, or one.
+    replications : int, default 256
+        The replications of each key, from 2 to 256.
+    level : float, above 0 and below 1, default 0.95
+        The joint level of the intervals.
+    program : str or Path, optional
+        The path of crnsim: see `find_program`.
+    out : str or Path, optional
+        A folder, new, empty or of an earlier check. It gets the scenario and the report of each key, as key_1.toml and
+        key_1.csv, and with several keys pooled.csv, the report of all replications.
+
+    Returns
+    -------
+    Check
+        `holds` says whether no policy is better, `sentence` says it in words, and `frame` has the policies by rank.
+
+    Raises
+    ------
+    Refused
+        If an argument is out of range, if there is no such policy, or for the scenario's own key.
+    ProgramError
+        If a run fails.
+
+    Examples
+    --------
+    >>> two = scenario.changed(policies={"today": (10, 25), "lower": (2, 25)})
+    >>> check = crn.check_keys(two, "today", keys=[["00000000000000aa"]], replications=16)
+    >>> check.holds
+    True
+    >>> print(check.sentence)
+    On these new histories today holds: no policy is better; lower is worse.
+    <BLANKLINE>
     """
     if not LEAST_REPLICATIONS <= replications <= formats.MOST_REPLICATIONS:
         raise Refused(

@@ -20,7 +20,8 @@ from ..columns import columns_of
 from ..crnsim.report import Row, report_of
 from ..errors import Refused, argument
 from ..remarks import Remark, Value
-from ..scenario import Policy, Scenario
+from ..policies import Policy
+from ..scenario import Scenario
 from ..table import DataTable, Result, names_of
 from ..theory.lattice import NoTheory
 from ..theory.long_run import LongRun
@@ -48,7 +49,7 @@ LEAST_KEYS, MOST_KEYS = 2, formats.MOST_REPLICATIONS
 COLUMNS = columns_of("decide", "long_run_report")
 
 
-@dataclass(frozen=True)
+@dataclass(frozen=True, eq=False, repr=False)
 class LongRunReport(Result):
     """A run of a scenario, whose first policy is the base, and what its start adds by theory.
 
@@ -68,7 +69,24 @@ class LongRunReport(Result):
         replications: int,
         known: LongRun | None = None,
     ) -> LongRunReport:
-        """Makes the report of rows on a scenario, perhaps with other policies. Its theory may be known. Raises NoTheory."""
+        """Makes the report of rows on a scenario, perhaps with other policies.
+
+        Parameters
+        ----------
+        rows : sequence of Row
+            Exact rows of a run, the base first.
+        scenario : Scenario
+            What was run.
+        replications : int
+            Those of all rows together.
+        known : LongRun, optional
+            Its theory, if it is known.
+
+        Raises
+        ------
+        NoTheory
+            If there is no long run.
+        """
         asked = scenario.with_policies(Policy(row.policy, row.s, row.S) for row in rows)
         return cls(asked, tuple(rows), replications, start_bias(asked, known))
 
@@ -123,8 +141,18 @@ class LongRunReport(Result):
         return DataTable.of(COLUMNS, rows, index="policy")
 
     def decide(self, level: float = 0.95) -> Decision:
-        """Returns all policies, the cheapest first, with paired-t intervals of a period at a level above 0 and below 1,
-        verdicts, and the figures of theory beside."""
+        """Returns all policies, the cheapest first, with paired-t intervals of a period, verdicts, and theory's figures beside.
+
+        Parameters
+        ----------
+        level : float, above 0 and below 1, default 0.95
+            The joint level of the intervals.
+
+        Returns
+        -------
+        Decision
+            `frame` has a row for each policy.
+        """
         base, costs = self.estimates[0].cost, self.bias.costs
         percents, theory = list[float | None](), []
         for own, cost, effect in zip(self.estimates, costs, self.effects):
@@ -195,7 +223,7 @@ def long_scenario(scenario: Scenario, keys: int) -> Scenario:
             f"{argument('keys', str(keys))}: the long run takes {LEAST_KEYS} to {MOST_KEYS} keys"
         )
     checked_tree(scenario.tree, any_number=True)
-    base = scenario.policies[0]
+    base = scenario.base
     position = theory_of(scenario.with_policies([base])).mean_position(base.s, base.S)
     initial = min(max(round(position), 0), formats.MOST_ITEMS)
     return replace(

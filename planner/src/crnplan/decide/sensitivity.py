@@ -16,12 +16,14 @@ from functools import cached_property
 from pathlib import Path
 from typing import NamedTuple
 
+from ..arguments import judged
 from .. import formats
 from ..columns import columns_of
 from ..crnsim.report import counting
 from ..law import Law
 from ..remarks import Remark, Value
-from ..scenario import Policy, Scenario
+from ..policies import Policy
+from ..scenario import Scenario
 from ..table import Column, DataTable, Json, Result, aligned
 from ..words import sentence
 from .verdicts import horizon_of
@@ -71,7 +73,7 @@ class Loss(NamedTuple):
     worst: str
 
 
-@dataclass(frozen=True)
+@dataclass(frozen=True, eq=False, repr=False)
 class Sensitivity(Result):
     """What each policy may cost too much: the exact cost a period of each policy by case, and remarks on cases."""
 
@@ -210,14 +212,42 @@ def _costs_of(
     return [row.per_period for row in case.run(program=program).rows]
 
 
+@judged("call", "common")
 def sensitivity(
     scenario: Scenario, *, long_run: bool = False, program: str | Path | None = None
 ) -> Sensitivity:
     """Runs a scenario as it is and changed, and returns what each policy costs too much in each case.
 
-    The regrets are means of one sample, without intervals, and contain the end effect of the cost `unit`. With
-    `long_run` they are those of `Scenario.long_run`, without `unit`. A case whose numbers are out of range, a demand
-    over 10,000 or a lead time over 32, is left out. Raises ProgramError if a run fails, and NoTheory.
+    Each case changes one thing: demand is 10% up or down, lead times are a period longer, or the cost of an item owed is
+    halved or doubled. The regrets are means of one sample, without intervals, and contain the end effect of the cost
+    `unit`. A case whose numbers are out of range, a demand over 10,000 or a lead time over 32, is left out.
+
+    Parameters
+    ----------
+    scenario : Scenario
+        Its policies are compared.
+    long_run : bool, default False
+        Takes the regrets of `Scenario.long_run`, without `unit`.
+    program : str or Path, optional
+        The path of crnsim: see `find_program`.
+
+    Returns
+    -------
+    Sensitivity
+        `frame` has the regret of each policy in each case, in money a period, the least greatest regret first.
+
+    Raises
+    ------
+    ProgramError
+        If a run fails.
+    NoTheory
+        With `long_run`, if there is no long run.
+
+    Examples
+    --------
+    >>> two = scenario.changed(policies={"today": (10, 25), "lower": (2, 25)})
+    >>> list(crn.sensitivity(two).frame.index)
+    ['today', 'lower']
     """
     notes: list[Remark] = []
     cases = {"base": scenario}

@@ -23,7 +23,8 @@ from ..columns import columns_of
 from ..crnsim.report import Row, read_rows
 from ..errors import Refused, argument
 from ..remarks import Remark
-from ..scenario import BY_ITS_LAWS, Policy, Scenario
+from ..policies import Policy
+from ..scenario import BY_ITS_LAWS, Scenario
 from ..table import DataTable, Json, Result, names_of
 from ..words import sentence
 
@@ -345,7 +346,7 @@ def horizon_of(scenario: Scenario) -> Remark:
     )
 
 
-@dataclass(frozen=True)
+@dataclass(frozen=True, eq=False, repr=False)
 class Decision(Result):
     """Policies compared with the base, the cheapest first, at a joint level.
 

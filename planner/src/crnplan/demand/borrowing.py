@@ -20,7 +20,7 @@ from ..formats import MOST_DEMAND
 from ..law import Law
 from ..read.observed import Observed
 from ..remarks import Remark
-from .fitted import Borrowed, Diagnostics, FittedLaw
+from .fitted import Borrowed, Diagnostics, FittedLaw, seen_law
 from .fitting import boxes_of, cap_of, family_law, share_of
 from .grid import (
     FLAT,
@@ -245,7 +245,7 @@ def law_of(
     return FittedLaw.made(
         Law.of_chances(law),
         FAMILY,
-        Diagnostics(Law.of_numbers(boxes), FAMILY, borrowed=known),
+        Diagnostics(seen_law(boxes), FAMILY, borrowed=known),
     )
 
 

@@ -1,7 +1,7 @@
 """Defines fitted laws: what is known of the fit and of what was observed, and what is to be said of it."""
 from __future__ import annotations
 
-from collections.abc import Callable, Iterable, Iterator, Mapping
+from collections.abc import Callable, Iterable, Iterator, Mapping, Sequence
 from dataclasses import dataclass, field, replace
 from functools import cached_property
 from typing import Any, cast
@@ -14,6 +14,7 @@ from ..law import Law
 from ..money import whole
 from ..read.faults import RefusedFiles
 from ..read.frames import is_missing
+from ..read.item import STATED
 from ..read.observed import Observed
 from ..remarks import Remark
 from ..words import advised, counted, sentence
@@ -131,7 +132,19 @@ class Diagnostics:
 
 @dataclass(frozen=True)
 class FittedLaw(Law):
-    """A law of demand, in boxes of `box` items, or of lead times, in periods. `family` says how it was fitted."""
+    """A law of demand or of lead times that was fitted.
+
+    Attributes
+    ----------
+    values, weights : tuple of int
+        Those of the law: demand in boxes, or lead times in periods.
+    family : str
+        How it was fitted: the name of a family, `empirical`, `blurred`, `borrowed` or `stated`.
+    diagnostics : Diagnostics
+        What is known of the fit and of what was observed.
+    box : int
+        The items of a box.
+    """
 
     family: str
     diagnostics: Diagnostics = field(compare=False, repr=False)
@@ -141,7 +154,30 @@ class FittedLaw(Law):
     def made(
         cls, law: Law, family: str, diagnostics: Diagnostics, box: int = 1
     ) -> FittedLaw:
+        """Makes a law that was fitted from a law.
+
+        Parameters
+        ----------
+        law : Law
+            Its values and weights are taken.
+        family : str
+            How it was fitted.
+        diagnostics : Diagnostics
+            What is known of the fit.
+        box : int, default 1
+            The items of a box.
+        """
         return cls(law.values, law.weights, family, diagnostics, box)
+
+    def like(self, law: Law) -> FittedLaw:
+        """Returns another law as one that was fitted as this one.
+
+        Parameters
+        ----------
+        law : Law
+            Its values and weights are taken.
+        """
+        return self.made(law, self.family, self.diagnostics, self.box)
 
     @cached_property
     def figures(self) -> Figures:
@@ -181,6 +217,11 @@ class FittedLaw(Law):
                 "seen_variance": seen.variance * self.box**2,
             },
         )
+
+
+def seen_law(numbers: Sequence[int]) -> Law:
+    """Returns the law of what was seen, perhaps of nothing."""
+    return Law.of_numbers(numbers) if numbers else Law((), ())
 
 
 def numbers_of(
@@ -247,6 +288,11 @@ def placed_numbers(
 def _dense(observed: Any, what: str) -> Iterable[Any]:
     index: Any = getattr(observed, "index", None)
     kind = type(index).__name__
+    if isinstance(observed, Mapping) or not hasattr(observed, "__iter__"):
+        raise Refused(
+            f"{what}: {type(observed).__name__} is no list of whole numbers",
+            "give one number for each",
+        )
     if kind not in ("PeriodIndex", "DatetimeIndex"):
         is_whole = isinstance(observed, np.ndarray) and observed.dtype.kind in "iu"
         return cast(
@@ -276,10 +322,10 @@ def _dense(observed: Any, what: str) -> Iterable[Any]:
 
 
 def fit_words(law: FittedLaw) -> Iterator[str]:
-    """Yields how a law was fitted; nothing of one that was asked for as it was seen."""
+    """Yields how a law was fitted; nothing of one that was asked for as it was seen, or that is stated."""
     fit = law.diagnostics
     borrowed = law.diagnostics.borrowed
-    if fit.method == EMPIRICAL:
+    if fit.method in (EMPIRICAL, STATED):
         return
     if fit.side:
         yield (

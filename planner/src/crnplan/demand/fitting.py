@@ -6,6 +6,7 @@ demand may be the posterior predictive law of a family, if drawn histories of th
 from __future__ import annotations
 
 import math
+from collections import Counter
 from collections.abc import Iterable, Sequence
 from dataclasses import replace
 from typing import TYPE_CHECKING
@@ -13,11 +14,13 @@ from typing import TYPE_CHECKING
 import numpy as np
 from scipy import special
 
+from ..arguments import judged
 from ..chances import DEMANDS, Floats, Whole, blurred, in_items, mixture, scaled
 from ..errors import Refused, argument
 from ..formats import MOST_DEMAND, MOST_LEAD
 from ..law import Law
 from ..money import Number
+from ..read.item import STATED
 from ..read.observed import Observed
 from . import EMPIRICAL, LEAD_METHODS
 from .families import (
@@ -29,7 +32,14 @@ from .families import (
     parts_of,
     predictive_of,
 )
-from .fitted import LEAST_MEAN, LEAST_VARIANCE, Diagnostics, FittedLaw, numbers_of
+from .fitted import (
+    LEAST_MEAN,
+    LEAST_VARIANCE,
+    Diagnostics,
+    FittedLaw,
+    numbers_of,
+    seen_law,
+)
 from .sample import Sample, Shares, shares_of
 
 if TYPE_CHECKING:
@@ -188,6 +198,7 @@ def mixed_law(
     return known, mixture([(share, law), (1 - share, sample.law)])
 
 
+@judged("fit", "history")
 def fit_demand(
     observed: Observed | Iterable[Number],
     *,
@@ -196,26 +207,55 @@ def fit_demand(
     borrow: Prior | None = None,
     item_class: str | None = None,
 ) -> FittedLaw:
-    """Fits the law of demand to a history, or to any whole numbers from 0, one for each period. One that is None or NaN
-    is not known, and left out, as are the unknown periods of a history.
+    """Fits the law of demand to a history, or to any whole numbers from 0, one for each period.
 
-    `method` is one of these:
+    Parameters
+    ----------
+    observed : History or iterable of int
+        The demand of each period, in items. One that is None or NaN is not known, and left out, as are the unknown periods
+        of a history.
+    method : str, default "auto"
+        How the law is fitted:
 
-    - `empirical`: each value counts as often as it was seen.
-    - `predictive`: the posterior predictive law of the family with the least BIC of those whose drawn histories look
-      like this one; what was seen, if there is none. Its promised costs are nearest to the true ones. But after few
-      periods it orders too much if sizes are bounded or those of a price list (`rare-bulk` and `prices` in the study
-      planner/studies/laws.py).
-    - `auto`: the mixture of such laws by the likelihood of their families, without demands above two to three times
-      the largest one seen. It is mixed with what was seen too, if that speaks against it, or if the mean would be
-      below 0.97 or the variance below 0.8 of what was seen. It costs more than what was seen most where a law ends
-      abruptly (`cut-NB` in the study).
-    - the name of a family (`FAMILIES`): its posterior predictive law, whether it fits or not. In `bulk`, ordinary
-      demand is Poisson or negative binomial, and in some periods a much larger bulk comes in its place.
+        - `empirical`: each value counts as often as it was seen.
+        - `predictive`: the posterior predictive law of the family with the least BIC of those whose drawn histories look
+          like this one; what was seen, if there is none. Its promised costs are nearest to the true ones. But after few
+          periods it orders too much if sizes are bounded or those of a price list (`rare-bulk` and `prices` in the study
+          planner/studies/laws.py).
+        - `auto`: the mixture of such laws by the likelihood of their families, without demands above two to three times
+          the largest one seen. It is mixed with what was seen too, if that speaks against it, or if the mean would be
+          below 0.97 or the variance below 0.8 of what was seen. It costs more than what was seen most where a law ends
+          abruptly (`cut-NB` in the study).
+        - the name of a family (`poisson`, `negative-binomial`, `hurdle-geometric`, `hurdle-poisson`,
+          `hurdle-negative-binomial`, `hurdle-lognormal` or `bulk`): its posterior predictive law, whether it fits or not.
+          In `bulk`, ordinary demand is Poisson or negative binomial, and in some periods a much larger bulk comes in its
+          place.
+    box : int, default 1
+        The items of a box, at least 1. Numbers are counted in boxes, rounded up.
+    borrow : Prior, optional
+        What a catalogue has learned (`learn`). The law is then learned from it, in place of a method.
+    item_class : str, optional
+        The class of the item in what was learned.
 
-    Numbers are counted in boxes of `box` items, rounded up. With `borrow`, what a catalogue has learned (`learn`), the
-    law is that of `borrowing.law_of` for an item of the class `item_class`, in place of a method. Raises RefusedFaults
-    with the place of each number that is too large for a scenario, and Refused if a named family does not fit at all.
+    Returns
+    -------
+    FittedLaw
+        The law, which says how it was fitted.
+
+    Raises
+    ------
+    RefusedFaults
+        With the place of each number that is too large for a scenario.
+    Refused
+        If there is no such method, or a named family does not fit at all.
+
+    Examples
+    --------
+    >>> law = crn.fit_demand([3, 0, 5, 4, 0, 2, 6, 3], method="empirical")
+    >>> law.values, law.weights
+    ((0, 2, 3, 4, 5, 6), (2, 1, 2, 1, 1, 1))
+    >>> crn.fit_demand([3, 0, 5, 4, 0, 2, 6, 3]).values[-1]
+    18
     """
     if borrow is not None:
         from .borrowing import law_of
@@ -234,6 +274,15 @@ def fit_demand(
         return family_law(boxes, method, box)
     seen = Law.of_numbers(boxes)
     return FittedLaw.made(seen, EMPIRICAL, Diagnostics(seen, method), box)
+
+
+def stated_law(law: Law, counts: Sequence[int], box: int) -> FittedLaw:
+    """Returns a law that is stated for an item, in boxes of `box` items, rounded up, beside what was seen of it."""
+    weights = Counter[int]()
+    for value, weight in zip(law.values, law.weights):
+        weights[-(-value // box)] += weight
+    seen = seen_law([-(-count // box) for count in counts])
+    return FittedLaw.made(Law.of(weights), STATED, Diagnostics(seen, STATED), box)
 
 
 def leads_of(observed: Observed | Iterable[Number]) -> list[int]:
@@ -268,10 +317,33 @@ def sides_of(counts: Floats) -> Floats:
 def fit_lead(
     observed: Observed | Iterable[Number], *, method: str = "auto"
 ) -> FittedLaw:
-    """Fits the law of lead times to observed ones: whole numbers of periods, at least 1.
+    """Fits the law of lead times to observed ones.
 
-    `empirical` has each lead time as often as it was seen. `auto` moves a part of 2 to 19 observed ones to the periods
-    beside them, since a short record has not seen all. Raises RefusedFaults.
+    Parameters
+    ----------
+    observed : LeadTimes or iterable of int
+        Whole numbers of periods, from 1 to 32.
+    method : {"auto", "empirical"}, default "auto"
+        With `empirical` each lead time counts as often as it was seen. `auto` moves a part of 2 to 19 observed ones to the
+        periods beside them, since a short record has not seen all.
+
+    Returns
+    -------
+    FittedLaw
+        The law, in periods.
+
+    Raises
+    ------
+    RefusedFaults
+        With the place of each lead time that is out of range.
+    Refused
+        If there is no such method.
+
+    Examples
+    --------
+    >>> law = crn.fit_lead([2, 2, 3, 2], method="empirical")
+    >>> law.values, law.weights
+    ((2, 3), (3, 1))
     """
     if method not in LEAD_METHODS:
         raise Refused(

@@ -8,10 +8,11 @@ of time series seasonal factors and their effect on forecasting accuracy, 2003).
 error is the one between years, not between items.
 
 The test asks whether years are alike. What differs from one year to the next has independent Fourier coefficients, each
-about normal, whatever its spectrum (Brillinger, Time Series: Data Analysis and Theory, 1981, section 4.4). So of each
-frequency the mean over years, beside the scatter between them, has an F law. Fisher's method joins two frequencies
-(Statistical Methods for Research Workers, fourth edition, 1932, section 21.1). A line through the year is taken out
-first, as growth gives one to each year. The study planner/studies/seasons.py measures how often it errs.
+about normal, whatever its spectrum (Brillinger, Time Series: Data Analysis and Theory, 1981, section 4.4). So the mean
+over years, beside the scatter between them, has an F law (Scheffé, The Analysis of Variance, 1959, section 3.1): of two
+frequencies together, as if both scattered alike. That sees far more seasons in two years than a test of each. If they do
+not, as of long waves, there are a few more false alarms. A line through the year is taken out first, as growth gives one
+to each year. The study planner/studies/seasons.py measures how often it errs.
 """
 from __future__ import annotations
 
@@ -131,16 +132,15 @@ WAVES = waves()
 def chance_of(far: Floats) -> float:
     """Returns the p value of distances from what is expected, a row for each of two or more years: the chance that years
     which have nothing in common are as much alike."""
-    years = len(far)
-    parts = (far @ WAVES).reshape(years, FREQUENCIES, 2)
+    parts = far @ WAVES
+    years, columns = parts.shape
     mean = parts.mean(axis=0)
-    alike = years * (mean**2).sum(axis=1)
-    scatter = ((parts - mean) ** 2).sum(axis=(0, 2))
-    if not scatter.all():  # years that are the same, as those without demand
-        return float(not alike.any())
-    # The upper tail of F with 2 and 2 (years - 1) degrees of freedom.
-    logs = -(years - 1) * np.log1p(alike / scatter)
-    return float(special.chdtrc(2 * FREQUENCIES, -2 * logs.sum()))
+    alike = years * float((mean**2).sum())
+    scatter = float(((parts - mean) ** 2).sum())
+    if not scatter:  # years that are the same, as those without demand
+        return float(not alike)
+    degrees = columns * (years - 1)
+    return float(special.fdtrc(columns, degrees, (years - 1) * alike / scatter))
 
 
 def index_of(ratios: Floats, expected: Floats = FLAT) -> Index:

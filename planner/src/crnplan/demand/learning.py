@@ -82,10 +82,22 @@ class Learned:
 class Prior:
     """What a catalogue says of the laws of demand of its items. Processes may share it: as a text, or pickled.
 
-    Each item learns from the whole catalogue, from its class, or from nothing (`borrow`: "all", "class" or "none").
-    `outside` counts the items that were left out, since their sizes are larger than those of the grid. `whole` is the
-    prior of the catalogue (None with "none"), `classes` has those of classes in the order of their names, and `packs`
-    is that of all items in packs, counted in packs (None if there are too few of them).
+    Attributes
+    ----------
+    borrow : {"all", "class", "none"}
+        From what each item learns: the whole catalogue, its class, or nothing.
+    seed : int
+        What draws the items of a large catalogue.
+    items : int
+        How many items there were.
+    outside : int
+        How many items were left out, since their sizes are larger than those of the grid.
+    whole : Learned or None
+        The prior of the catalogue; None with "none".
+    classes : mapping of str to Learned
+        Those of classes, in the order of their names.
+    packs : Learned or None
+        That of all items in packs, counted in packs; None if there are too few of them.
     """
 
     borrow: str
@@ -99,8 +111,15 @@ class Prior:
     def of_item(
         self, item_class: str | None, pack: int = 1
     ) -> tuple[str, Learned | None]:
-        """Returns the prior of an item of a class, with its name. An item without a class that was learned has that of
-        the catalogue, and an item in packs that of all items in packs."""
+        """Returns the prior of an item, with its name.
+
+        Parameters
+        ----------
+        item_class : str or None
+            The class of the item. If it has none that was learned, the prior is that of the catalogue.
+        pack : int, default 1
+            The items of a pack. An item in packs has the prior of all items in packs.
+        """
         if pack > 1:
             return ALL, self.packs
         own = self.classes.get(item_class or "")
@@ -122,7 +141,15 @@ class Prior:
 
     @classmethod
     def parse(cls, text: str | bytes, name: str) -> Prior:
-        """Returns what `text` gave. Raises Refused if it is no such text; `name` says where it stands."""
+        """Returns what `text` gave.
+
+        Parameters
+        ----------
+        text : str or bytes
+            A text that `Prior.text` gave. Raises Refused for any other.
+        name : str
+            Where the text stands, for the error.
+        """
         try:
             tree = json.loads(text)
             kind = tree.pop("kind")
@@ -232,23 +259,52 @@ def learn(
     *,
     least: int = LEAST_ITEMS,
 ) -> Prior:
-    """Learns from the histories of a catalogue which laws of demand there are, for `law_of`.
+    """Learns from the histories of a catalogue which laws of demand there are.
 
-    `histories` are by item or in any order, each as in `fit_demand`, without boxes. The prior is that under which they
-    are most likely, smoothed; of more than 3,000 so many are drawn at random. `borrow` is one of these:
+    The prior is that under which the histories are most likely, smoothed; of more than 3,000 so many are drawn at random. It
+    depends on neither the order nor the names of the items. Items with a mean size above 101 are outside the grid and left
+    out. Items whose demands are packs learn from all others in packs, as one class counted in packs, if there are 30. The
+    study planner/studies/borrowing.py says what is gained, and which items pay.
 
-    - `all`: each item learns from the whole catalogue.
-    - `class`: each learns from its class. `classes` has the class of each item, by item or in the order of the
-      histories; an item without one learns from the whole catalogue. A class with up to 300 items is pulled to the
-      catalogue, which counts for 30 items; a larger one has a prior of its own.
-    - `none`: each item has the law of its own history alone.
+    Parameters
+    ----------
+    histories : mapping or iterable of histories
+        A history for each item, by item or in any order, each as in `fit_demand`, without boxes.
+    classes : mapping or iterable of str, optional
+        The class of each item, by item or in the order of the histories. An item without one learns from the whole
+        catalogue.
+    borrow : {"all", "class", "none"}, default "all"
+        From what each item learns:
 
-    Items whose demands are packs learn from all others in packs, as one class counted in packs, if there are 30.
+        - `all`: from the whole catalogue.
+        - `class`: from its class. A class with up to 300 items is pulled to the catalogue, which counts for 30 items; a
+          larger one has a prior of its own.
+        - `none`: from its own history alone.
+    seed : int, default 1
+        Draws the items of a catalogue with more than 3,000.
+    least : int, default 100
+        The fewest items to learn from, at least 30.
 
-    The prior depends on neither the order nor the names of the items. Items with a mean size above 101 are outside the
-    grid and left out. Raises Refused if there are fewer than `least` others: 100, or on request as few as 30. Raises
-    RefusedFaults with the faults of all histories. The study planner/studies/borrowing.py says what is gained, and
-    which items pay.
+    Returns
+    -------
+    Prior
+        What was learned, for the argument `borrow` of `fit_demand`.
+
+    Raises
+    ------
+    Refused
+        If there are fewer than `least` items, or no classes to borrow from.
+    RefusedFaults
+        With the faults of all histories.
+
+    Examples
+    --------
+    >>> random = np.random.default_rng(1)
+    >>> prior = crn.learn(random.poisson(3, (40, 20)).tolist(), least=30)
+    >>> prior.items, prior.outside
+    (40, 0)
+    >>> crn.fit_demand([0, 0, 4], borrow=prior).family
+    'borrowed'
     """
     if borrow not in BORROW:
         raise Refused(

@@ -1,11 +1,12 @@
-"""The fill rates at which plans aim: what the past of a catalogue makes of the wanted ones."""
+"""What the past of a catalogue says of its plans: at which fill rates they aim to meet the wanted ones, and what those with
+a backlog cost cost beside what theory promises."""
 from __future__ import annotations
 
 import itertools
 import math
 from collections.abc import Mapping, Sequence
 from dataclasses import dataclass
-from typing import Any
+from typing import Any, Protocol, TypeVar
 
 import numpy as np
 
@@ -16,7 +17,34 @@ FILLS = 0.9, 0.95, 0.97, 0.98, 0.9875, 0.9925, 0.9965, 0.9985, 0.9995
 LOGS = np.log1p(-np.array(FILLS))
 MOST = 0.999  # An aim is no higher: what is unmet there, more stock hardly meets.
 CLASSES = ("slow", "fast")
-LEAST_CLASS = 15  # Smaller classes aim as all items do.
+LEAST_CLASS = 15  # Smaller classes have what all items have.
+
+
+class Meant(Protocol):
+    """What has the mean demand of an item."""
+
+    @property
+    def mean(self) -> float:
+        ...
+
+
+Tries = TypeVar("Tries", bound=Meant)
+
+
+def classed(trials: Sequence[Tries]) -> tuple[float, list[Sequence[Tries]]]:
+    """Returns the median of the mean demand of items, and the trials of slow ones, which have up to that, and of fast
+    ones: those of all for a class of fewer than 15 items."""
+    means = np.array([trial.mean for trial in trials])
+    speed, classes = float(np.median(means)), list[Sequence[Tries]]()
+    for is_in in (means <= speed, means > speed):
+        own = [*itertools.compress(trials, is_in)]
+        classes.append(own if len(own) >= LEAST_CLASS else trials)
+    return speed, classes
+
+
+def is_fast(counts: Sequence[float], speed: float) -> bool:
+    """Returns whether the mean of the demands of an item is above the median of all."""
+    return float(np.mean(counts)) > speed
 
 
 @dataclass(frozen=True)
@@ -28,6 +56,18 @@ class Trial:
     mean: float
     periods: int
     unmet: tuple[float, ...]
+
+
+@dataclass(frozen=True)
+class CostTrial:
+    """What an item's policies cost in periods that their laws had not seen, and what they had `promised` by theory for
+    these, in units of what it costs to hold a period's mean demand. Beside it are that mean in items, and how many
+    periods they were."""
+
+    mean: float
+    periods: int
+    promised: float
+    cost: float
 
 
 @dataclass(frozen=True)
@@ -77,12 +117,8 @@ class Aims:
     @classmethod
     def of(cls, trials: Sequence[Trial]) -> Aims:
         """Learns from trials. A class of fewer than 15 items has those of all."""
-        means = np.array([trial.mean for trial in trials])
-        speed, classes = float(np.median(means)), list[Tried]()
-        for is_in in (means <= speed, means > speed):
-            own = [*itertools.compress(trials, is_in)]
-            classes.append(Tried.of(own if len(own) >= LEAST_CLASS else trials))
-        return cls(speed, tuple(classes))
+        speed, classes = classed(trials)
+        return cls(speed, tuple(map(Tried.of, classes)))
 
     @classmethod
     def parse(cls, tree: Mapping[str, Any]) -> Aims:
@@ -93,8 +129,57 @@ class Aims:
             classes.append(Tried(tried["items"], tried["periods"], unmet))
         return cls(tree["speed"], tuple(classes))
 
+    def of_item(self, counts: Sequence[float]) -> Tried:
+        """Returns what is known of the class of an item."""
+        return self.classes[is_fast(counts, self.speed)]
+
     def aim(self, counts: Sequence[float], wanted: float) -> float:
         """Returns the fill rate at which an item aims that wants one."""
-        slow, fast = self.classes
-        is_fast = float(np.mean(counts)) > self.speed
-        return (fast if is_fast else slow).aim(wanted)
+        return self.of_item(counts).aim(wanted)
+
+
+@dataclass(frozen=True)
+class Overrun:
+    """What the plans of a class of items cost in periods that their laws had not seen, as so many `times` what they had
+    promised, with the standard error of that over items; and how many items and periods of items there were.
+    """
+
+    items: int
+    periods: int
+    times: float
+    error: float
+
+    @classmethod
+    def of(cls, trials: Sequence[CostTrial]) -> Overrun:
+        """Adds up trials, of which there are at least two. All items weigh alike. The error is that of a ratio of two
+        sums (Cochran, Sampling Techniques, 1977, section 6.4)."""
+        costs = np.array([trial.cost for trial in trials])
+        promised = np.array([trial.promised for trial in trials])
+        times = math.fsum(costs) / math.fsum(promised)
+        spread = float(np.std(costs - times * promised, ddof=1))
+        error = spread * math.sqrt(len(trials)) / math.fsum(promised)
+        return cls(len(trials), sum(one.periods for one in trials), times, error)
+
+
+@dataclass(frozen=True)
+class Overruns:
+    """What the past of a catalogue says of the costs of each class: items whose mean demand is up to `speed`, the median,
+    are slow."""
+
+    speed: float
+    classes: tuple[Overrun, ...]
+
+    @classmethod
+    def of(cls, trials: Sequence[CostTrial]) -> Overruns:
+        """Learns from trials. A class of fewer than 15 items has those of all."""
+        speed, classes = classed(trials)
+        return cls(speed, tuple(map(Overrun.of, classes)))
+
+    @classmethod
+    def parse(cls, tree: Mapping[str, Any]) -> Overruns:
+        """Returns that of which `dataclasses.asdict` has made a tree. Raises LookupError or TypeError for another one."""
+        return cls(tree["speed"], tuple(Overrun(**own) for own in tree["classes"]))
+
+    def of_item(self, counts: Sequence[float]) -> Overrun:
+        """Returns what is known of the class of an item."""
+        return self.classes[is_fast(counts, self.speed)]

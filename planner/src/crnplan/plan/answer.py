@@ -37,6 +37,7 @@ THEORY, RUN = "theory", "run"
 OURS = "disagrees", "failed"  # codes of faults of ours
 IDLE = "no demand in record"  # the code of an item that nobody has asked for
 BY_ITSELF = "planned by itself"  # the code of an item that has no price, by which it would weigh with others
+NO_RUN = "no run"  # the code of an item whose policies crnsim can't run
 DAMPED = "damped"  # the code of an item whose policy of an earlier plan stays
 
 
@@ -58,26 +59,35 @@ class Figures:
     def levels(self) -> tuple[int, int]:
         return self.point, self.level
 
+    @property
+    def no_shortage(self) -> float:
+        """Returns the share of periods that end with nothing owed."""
+        return 1 - self.short
+
 
 @dataclass(frozen=True)
 class Correction:
-    """The fill rate at which a plan aims by the past of its catalogue, and the mean stock in items, by theory, of the
-    policy that aims at the wanted one."""
+    """The fill rate at which a plan aims by the past of its catalogue, the mean stock in items, by theory, of the policy
+    that aims at the wanted one, and the share of demand that plans of the class with this aim met on the past, which is
+    what the plan promises."""
 
     aim: float
     plain_stock: float
+    met: float
 
 
 @dataclass(frozen=True)
 class Share:
     """What an item that is planned together with others adds to the share of demand that these meet: the name of its
-    group, the share that is `wanted` of that, what an item of stock weighs, and whether its policy has the fill rate
-    that each has at least."""
+    group, the share that is `wanted` of that, what an item of stock weighs, whether its policy has the fill rate that
+    each has at least, and by the price of the group what an item costs that is not met at once, in money.
+    """
 
     group: str
     wanted: float
     weight: float
     is_least: bool
+    price: float
 
 
 @dataclass(frozen=True)
@@ -157,7 +167,8 @@ class Answer:
     earlier plan, and `undamped`, which would be chosen if that one did not stay because a change gains too little.
     Theory counts in steps of `step` boxes. `confidence_cost` is what the confidence in a wanted fill costs a period,
     None without one; `coverage_cost` is what it costs that S, or S - s, covers no more periods of demand, None if that
-    does not bind. `correction` is None if the wanted fill is not corrected, `allowed` unless the item is new. `override`
+    does not bind. `cost_promised` is what the chosen policy is promised to cost by the past of the catalogue, None if
+    that was not tried. `correction` is None if the wanted fill is not corrected, `allowed` unless the item is new. `override`
     is the policy that the planner has set, None if there is none. `share` is None if the item is planned by itself.
 
     Of an item that is planned by its season, `calendar` has the levels of the coming year, month by month. Its costs,
@@ -181,12 +192,13 @@ class Answer:
     correction: Correction | None
     law: LawFacts
     laws: Laws
-    run: Run
+    run: Run | None
     remarks: tuple[Remark, ...]
     allowed: Allowed | None = None
     override: Figures | None = None
     share: Share | None = None
     calendar: tuple[Month, ...] = ()
+    cost_promised: float | None = None
 
     @property
     def months(self) -> list[Month]:

@@ -34,8 +34,8 @@ class Bound(NamedTuple):
 
 
 def bounds_of(question: Question, choice: Choice) -> Iterator[Bound]:
-    """Yields the bounds that bind: those that the best policy would leave if it could. If no policy within them has the
-    wanted fill rate, none is looked for, and a least s that nobody has stated is none.
+    """Yields the bounds that bind: those that the best policy would leave if it could. If no policy within them meets the
+    wanted share, none is looked for, and a least s that nobody has stated is none.
 
     Nothing binds if the best of all policies is feasible. S, or S - s, that a bound lets cover more may do so without it
     too: else a policy without that bound could be dearer.
@@ -79,8 +79,9 @@ def remarks_of_today(question: Question, choice: Choice) -> Iterator[Remark]:
         more = choice.more_by_run
         facts = {
             "cost": worse.cost - today.cost if more is None else more,
-            "fill": worse.fill,
-            "today": today.fill,
+            "fill": question.met(worse),
+            "today": question.met(today),
+            "of_periods": question.counts_periods,
         }
         yield Remark("today stays", question.items(choice.worse) | facts)
 
@@ -95,7 +96,8 @@ def remarks_of_bounds(
         facts = {
             "cost": question.figures(free).cost,
             "wanted": question.aim or 0.0,
-            "fill": question.figures(plain).fill,
+            "fill": question.met(question.figures(plain)),
+            "of_periods": question.counts_periods,
         }
         known = facts | shortest(question.bounds)
         yield Remark(BOUNDED, question.items(free) | known)

@@ -35,12 +35,14 @@ from .after import (
 )
 from .answer import Answer
 from .changes import Change
-from .correction import AIMS, aims_of
+from .correction import AIMS, corrections_of
 from .learned import (
     PRIOR,
+    FOLLOWING,
     PRIOR_WINDOW,
     SEASONS,
     Learned,
+    following_of,
     learned_of,
     seasons_of,
 )
@@ -121,6 +123,7 @@ class PlannedFolder:
         self.path, self.read, self.store, self.planned = path, read, answers, planned
         self.settings = planned.settings
         self.every, self.counts = read.fact("every"), read.fact("counts")
+        self.keys: str = read.fact("keys")
         self.currency = Currency(read.fact("currency"), read.fact("decimals"))
 
     def check(self) -> None:
@@ -154,6 +157,7 @@ class PlannedFolder:
             "",
             currency=self.currency.code,
             every=self.every,
+            keys=self.keys,
         )
 
     def changes(self) -> Iterator[Change]:
@@ -322,7 +326,7 @@ def take_prior(answers: Store[Answer], earlier: PlannedFolder, again: bool) -> N
     """Keeps what the items of an earlier plan have learned, and where they aim, unless it is to be learned again."""
     if again:
         return
-    for name in (PRIOR, PRIOR_WINDOW, SEASONS, AIMS, PRICES):
+    for name in (PRIOR, PRIOR_WINDOW, SEASONS, FOLLOWING, AIMS, PRICES):
         fact = earlier.store.fact(name)
         if fact is not None:
             answers.keep_facts({name: fact})
@@ -371,6 +375,27 @@ def answered(
     work.store.finish(work.questions(), planned.planned.facts | {TOTALS: totals.json})
 
 
+def corrected(
+    folder: Folder,
+    answers: Store[Answer],
+    read: Catalogued,
+    settings: Settings,
+    learned: Learned,
+    means: Means,
+    again: bool,
+) -> tuple[Settings, Learned]:
+    """Returns settings with what the past of a catalogue corrects, if it is to, and remarks on what it does not beside
+    others on what was learned. Raises Refused if nothing is corrected."""
+    if not settings.correct:
+        return settings, learned
+    has_aims, prior = wants_aims(read, settings), learned.prior
+    found = corrections_of(
+        folder, answers, read, settings, prior, means, again, has_aims
+    )
+    settings, remarks = found.settled(settings)
+    return settings, learned._replace(remarks=(*learned.remarks, *remarks))
+
+
 @contextlib.contextmanager
 def planning(
     folder: Folder, settings: Settings, means: Means, after: Path | None, again: bool
@@ -391,12 +416,14 @@ def planning(
             take_prior(answers, earlier, again)
         seasons = seasons_of(answers, read, settings, again)
         settings = dataclasses.replace(settings, seasons=seasons)
+        following = following_of(answers, read, settings, again)
+        settings = dataclasses.replace(settings, following=following)
         learned = learned_of(answers, read, settings, again)
         prior, every = learned.prior, read.fact("every")
         settings = dataclasses.replace(settings, borrow=learned.usual, every=every)
-        if settings.correct and wants_aims(read, settings):
-            aims = aims_of(folder, answers, read, settings, prior, means, again)
-            settings = dataclasses.replace(settings, aims=aims)
+        settings, learned = corrected(
+            folder, answers, read, settings, learned, means, again
+        )
         if settings.together:
             prices = prices_of(folder, answers, read, settings, prior, means, again)
             settings = dataclasses.replace(settings, prices=prices)

@@ -25,7 +25,13 @@ from .how import Settings
 KINDS = SAME, MOVED, DAMPED, NEW, GONE = ("same", "moved", "damped", "new", "gone")
 # The facts of a master, but for lead times and levels, by the names of their columns.
 COLUMNS = (
-    {name: name for name in ("setup", "holding", "backlog", "fill", "borrow")}
+    {
+        name: name
+        for name in (
+            *("setup", "holding", "backlog", "fill", "no_shortage"),
+            *("review", "borrow"),
+        )
+    }
     | {"class": "group"}
     | {bound.name: f"bounds.{bound.name}" for bound in dataclasses.fields(Bounds)}
 )
@@ -48,7 +54,8 @@ class Since:
 class Change:
     """What has changed of an item. `earlier` is the policy of the earlier plan as that saw it, `before` the same by the
     law that the item has now, `after` the policy that it has now, and `undamped` what it would have if the earlier one
-    did not stay. `reasons` say why."""
+    did not stay. `reasons` say why. `price` is what an item costs that is not met at once, of one that is planned
+    together with others: in money."""
 
     name: str
     description: str
@@ -62,12 +69,17 @@ class Change:
     law_after: LawFacts | None = None
     reasons: tuple[Remark, ...] = ()
     since: Since | None = None
+    price: float = 0.0
 
     @property
     def gain(self) -> float | None:
-        """Returns what the change gains, or would gain, in money of a period by the law that the item has now."""
-        best = self.undamped or self.after
-        return self.before.cost - best.cost if self.before and best else None
+        """Returns what the change gains, or would gain, in money of a period by the law that the item has now: of its
+        cost, and of what is not met at once by its price."""
+        best, law = self.undamped or self.after, self.law_after
+        if self.before is None or best is None or law is None:
+            return None
+        met = law.mean * (best.fill - self.before.fill)
+        return self.before.cost - best.cost + self.price * met
 
 
 class Pair(NamedTuple):
@@ -164,7 +176,7 @@ def since_of(old: Planned, now: Item, settings: Settings, stop: int) -> Since | 
     if not demands:
         return None
     happened_to = {"counts": now.counts, "returns": now.returns}
-    past = dataclasses.replace(item, **happened_to, unknown=(), cut=())
+    past = dataclasses.replace(item, **happened_to, unknown=(), cut=(), promoted=())
     lead = fit_lead(item.leads, method=settings.lead_fit)
     happened = Happened(past, lead, settings.seed_of("since", item.name), record)
     later = [now.first + place for place in places[record:]]
@@ -204,6 +216,7 @@ def change_of(
         undamped=answer.undamped,
         reasons=tuple(reasons_of(old, new, stop, common)),
         since=since_of(old, item, settings, stop),
+        price=answer.share.price if answer.share else 0.0,
     )
 
 

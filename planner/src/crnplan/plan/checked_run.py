@@ -9,6 +9,7 @@ from __future__ import annotations
 import dataclasses
 import math
 from collections.abc import Mapping
+from typing import NamedTuple
 
 import numpy as np
 
@@ -18,7 +19,9 @@ from ..decide.verdicts import Estimate, ends_of, far_from, t_quantile
 from ..errors import Failed
 from ..formats import MOST_ITEMS, MOST_REPLICATIONS
 from ..remarks import Remark
-from ..scenario import Policy, Scenario, key_words
+from ..policies import Policy
+from ..changing import key_words
+from ..scenario import Scenario
 from .answer import CHOSEN, Figures, Run
 from .question import Levels, Question, Unplanned
 
@@ -131,6 +134,29 @@ def check_run(
     fault = again.disagreement(figures, most, spare)
     if fault:
         raise Disagreement(fault)
+
+
+class Checked(NamedTuple):
+    """A run that agrees with theory, and its estimates."""
+
+    run: Run
+    sample: Sample
+
+
+def checked_run(
+    question: Question,
+    levels: Levels,
+    figures: Mapping[str, Figures],
+    program: str,
+) -> Checked | None:
+    """Returns the run of today's policy and of the chosen one with some levels; None if crnsim can't run them. Raises
+    Refused if the bias of the start is not known, Disagreement and ProgramError."""
+    if not question.has_run:
+        return None
+    report = report_of(scenario_of(question, levels), program)
+    sample = Sample(question, report)
+    check_run(question, report, sample, figures, program)
+    return Checked(run_of(question, report, sample), sample)
 
 
 def run_of(question: Question, report: Report, sample: Sample) -> Run:

@@ -30,10 +30,10 @@ Policies = tuple[Whole, Floats]
 
 @dataclass(frozen=True)
 class Choice:
-    """The policy of an item in boxes, and the one without a confidence in its fill rate, which is mostly the same.
+    """The policy of an item in boxes, and the one without a confidence in its wanted share, which is mostly the same.
 
     `is_promised` says whether that confidence is kept, if there is one. `undamped` would be chosen if that of an
-    earlier plan did not stay. `is_bounded` says that no policy within the bounds of the item has the wanted fill rate:
+    earlier plan did not stay. `is_bounded` says that no policy within the bounds of the item meets the wanted share:
     the plain one comes nearest. `worse` would be chosen if it did not cost more than today's and serve less: by a
     run so much a period, if that is not None, else by theory.
     """
@@ -79,23 +79,28 @@ def allowed_by(
             is_new=question.is_new,
             **named,
         )
-    demands = drawn.laws
-    if question.season:
-        demands = tuple(map(question.season.of, demands))
+    demands = tuple(map(question.coming, drawn.laws))
     if len(item.leads) < 2:
         return demands, ()
     return demands, allowed_leads(item.leads, times=laws, seed=seed).laws
 
 
-def by_prices(terms: Terms, theory: LongRun, prices: Sequence[float]) -> Policies:
-    """Returns the best policies of a theory of an item for prices of a box that is not met at once, in money: their
-    gaps; and their levels, stock, unmet demand and orders, in boxes. There is none if no policy is feasible.
+def by_prices(
+    terms: Terms,
+    theory: LongRun,
+    prices: Sequence[float],
+    orders: Sequence[float] | float = 0.0,
+    stock: Sequence[float] | float = 0.0,
+) -> Policies:
+    """Returns the best policies of a theory of an item for prices of a box that is not met at once, in money, if each
+    order and each box of stock perhaps costs more than its setup and holding: their gaps; and their levels, stock, unmet
+    demand and orders, in boxes. There is none if no policy is feasible.
     """
     if not len(theory.every_gap(0, theory.most)):
         return np.empty(0, int), np.empty((4, 0))
-    rates = [terms.money(terms.rates[name]) for name in ("setup", "holding")]
+    setup, holding = (terms.money(terms.rates[name]) for name in ("setup", "holding"))
     costs = np.empty((3, len(prices)))
-    costs[:2] = np.reshape(rates, (2, 1))
+    costs[0], costs[1] = setup + np.array(orders), holding + np.array(stock)
     costs[2] = prices
     return best_policies(theory, costs)
 
@@ -129,7 +134,8 @@ def best_of(terms: Terms) -> tuple[Candidate, bool]:
     if is_bounded:
         best = theory.fullest()
     if best.cost == math.inf:
-        raise NoPolicy(Remark("no policy", {"fill": terms.aim}))
+        facts = {"fill": terms.aim, "of_periods": terms.counts_periods}
+        raise NoPolicy(Remark("no policy", facts))
     return best, is_bounded
 
 
@@ -145,15 +151,17 @@ def choice_of(question: Question, beside_today: bool = False) -> Choice:
 
 def promised(question: Question) -> tuple[Choice, Promises | None]:
     """Returns the policy of a question as if there were no other, and what it promises, if it does. Raises NoPolicy."""
-    confidence, fill = question.settings.confidence, question.aim
+    confidence, share = question.settings.confidence, question.aim
     best, is_bounded = best_of(question)
     plain = best.levels
-    if is_bounded or fill is None or confidence is None:
+    is_free = share is None or confidence is None or question.is_stated
+    if is_bounded or is_free:
         return Choice(plain, plain, is_bounded=is_bounded), None
+    assert share is not None and confidence is not None
     theory, allowed = question.theory, allowed_by(question)
     gap = theory.gap_of(*plain)
-    promises = Promises(question.scenario(), theory, gap, *allowed, [fill], confidence)
-    sure = promises.cheapest(best, fill)
+    promises = Promises(question.scenario(), theory, gap, *allowed, [share], confidence)
+    sure = promises.cheapest(best, share)
     if sure.cost == math.inf:
         return Choice(plain, plain, False), None
     return Choice(sure.levels, plain), promises
@@ -167,30 +175,30 @@ def breaks(promises: Promises | None, levels: Levels) -> bool:
 def unless_worse(
     choice: Choice, question: Question, promises: Promises | None
 ) -> Choice:
-    """Returns the choice; or today's policy if that costs less and meets more at once by the law of the item, and keeps
+    """Returns the choice; or today's policy if that costs less and meets more by the law of the item, and keeps
     what is promised, if anything is. Its levels may be out of bounds, or finer than a lattice that is not exact.
     """
     levels = question.levels
     if levels is None or levels == choice.levels:
         return choice
     today, new = question.figures(levels), question.figures(choice.levels)
-    is_worse = new.cost > today.cost * (1 + CLOSE) and new.fill < today.fill
-    if not is_worse or breaks(promises, levels):
+    is_worse = question.met(new) < question.met(today)
+    if not is_worse or new.cost <= today.cost * (1 + CLOSE) or breaks(promises, levels):
         return choice
     return choice.beside(levels)
 
 
 def damped(choice: Choice, question: Question, promises: Promises | None) -> Choice:
     """Returns the choice; or the policy of an earlier plan, if a change gains less than the least share of its cost,
-    and it is within the bounds and still keeps the fill rate at which plans aim: by the law of the item, and under
-    enough laws if that is promised."""
+    and it is within the bounds and still keeps the share at which plans aim: by the law of the item, and under enough laws if that is promised.
+    """
     before, least = question.before, question.settings.least_gain
     if before is None or least is None or before == choice.levels:
         return choice
     if not question.theory.feasible.allows(*before):
         return choice
     earlier, new = question.figures(before), question.figures(choice.levels)
-    if earlier.fill < (question.aim or 0.0) or breaks(promises, before):
+    if question.met(earlier) < (question.aim or 0.0) or breaks(promises, before):
         return choice
     cost = question.whole_cost(earlier)
     if cost - question.whole_cost(new) >= least * cost:
@@ -200,7 +208,7 @@ def damped(choice: Choice, question: Question, promises: Promises | None) -> Cho
 
 def levels_of(question: Question, choice: Choice) -> dict[str, Levels]:
     """Returns s and S of each policy that there is, in boxes. There is none of the item alone if its own law has no
-    best policy, or if it is new."""
+    best policy, if it is new, or if its law is stated."""
     known = {
         CHOSEN: choice.levels,
         ALONE: alone_of(question, choice),
@@ -214,7 +222,7 @@ def levels_of(question: Question, choice: Choice) -> dict[str, Levels]:
 
 def alone_of(question: Question, choice: Choice) -> Levels | None:
     """Returns the policy that the item would have by its own history alone."""
-    if question.is_new:
+    if question.is_new or question.is_stated:
         return None
     if not question.learned:
         return choice.best

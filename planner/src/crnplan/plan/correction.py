@@ -13,14 +13,15 @@ import dataclasses
 import itertools
 import json
 import math
-from collections.abc import Callable, Iterator, Sequence
-from typing import Any
+from collections.abc import Callable, Iterator, Mapping, Sequence
+from dataclasses import dataclass
+from typing import Any, NamedTuple
 
 import numpy as np
 
 from ..chances import Floats
 from ..compiled import load_compiler
-from ..crnsim.periods import Past, periods_of
+from ..crnsim.periods import Past, Period, Rates, periods_of
 from ..demand.learning import Prior
 from ..errors import Refused, argument
 from ..store.files import IN_KEPT, Folder
@@ -31,19 +32,19 @@ from ..remarks import Remark
 from ..store.stored import Store
 from ..theory.long_run import LongRun
 from ..store.work import Work
-from .aims import FILLS, Aims, Trial
+from .aims import FILLS, Aims, CostTrial, Overruns, Trial
+from .choice import best_of
 from .learned import drawn_of_groups
 from .one import or_fault
 from .how import Settings, flat_of
 from .question import Levels, Question, question_of
 
-TRIALS, AIMS = (
-    f"{IN_KEPT}trials.sqlite",
-    "aims",
-)  # a store, and a fact of that of answers
+TRIALS, COST_TRIALS = f"{IN_KEPT}trials.sqlite", f"{IN_KEPT}cost_trials.sqlite"
+AIMS = "aims"  # a fact of the store of answers
 LEAST_ITEMS, MOST_ITEMS = 30, 1_000  # that are tried
 BLOCKS = 4  # of a record
 WIDE = 10  # Policies whose gap has so many cells keep it at all fill rates.
+Figure = Callable[[Period], float]
 
 
 def levels_of(theory: LongRun) -> list[Levels]:
@@ -60,15 +61,17 @@ def levels_of(theory: LongRun) -> list[Levels]:
     return [policy.levels for policy in policies]
 
 
-def unmet_by(policies: Sequence[Levels], past: Past, start: float) -> Floats:
-    """Returns the demand that policies do not meet at once, a row for each policy and a column for each period. They
-    begin with nothing on order, and with a stock that is a share of the way from s to S.
+def counted_by(
+    policies: Sequence[Levels], past: Past, start: float, figure: Figure
+) -> Floats:
+    """Returns a figure of each period under policies: a row for each policy and a column for each period. They begin
+    with nothing on order, and with a stock that is a share of the way from s to S.
     """
-    rows = dict[Levels, list[int]]()
+    rows = dict[Levels, list[float]]()
     for s, S in {*policies}:
         levels, stock = [(s, S)] * len(past.demands), s + round(start * (S - s))
-        rows[s, S] = [period.unmet for period in periods_of(past, levels, stock)]
-    return np.array([rows[levels] for levels in policies], float)
+        rows[s, S] = [figure(period) for period in periods_of(past, levels, stock)]
+    return np.array([rows[levels] for levels in policies])
 
 
 def blocks_of(periods: int) -> Iterator[tuple[int, int]]:
@@ -78,31 +81,36 @@ def blocks_of(periods: int) -> Iterator[tuple[int, int]]:
     )
 
 
-def unmet_in_blocks(
+def unmet_of(period: Period) -> float:
+    """Returns the demand that was not met at once in a period."""
+    return float(period.unmet)
+
+
+def in_blocks(
     item: Item,
     settings: Settings,
     prior: Prior,
     planned: Callable[[Question], Sequence[Levels]],
+    figure: Figure = unmet_of,
 ) -> Floats:
-    """Returns what each policy of a plan, whose levels are in boxes, leaves unmet in all blocks of an item's record, of
-    which each is planned from the others. The record comes twice, and its second time counts, so that a stock and orders
-    are there as in the long run. Raises Refused if the item can't be planned.
+    """Returns the sum of a figure, by default of unmet demand, under each policy of a plan, whose levels are in boxes,
+    over all blocks of an item's record, of which each is planned from the others. The record comes twice, and its second
+    time counts, so that a stock and orders are there as in the long run. Raises Refused if the item can't be planned.
     """
     periods = len(item.counts)
     if not any(item.counts):
         raise Refused("it has no demand")
     returns = item.returns or (0,) * periods
-    unmet = np.zeros(1)
+    sums = np.zeros(1)
     for first, end in blocks_of(periods):
         question = question_of(item.without(range(first, end)), settings, prior)
         box, random = question.item.box, np.random.default_rng(question.seed("trial"))
-        past = Past(
-            2 * item.counts, 2 * returns, question.lead.draws(random, 2 * periods)
-        )
+        leads = question.lead.draws(random, 2 * periods)
+        past = Past(2 * item.counts, 2 * returns, leads, item.review, periods)
         policies = [(s * box, S * box) for s, S in planned(question)]
-        by_period = unmet_by(policies, past, float(random.random()))
-        unmet = unmet + by_period[:, periods + first : periods + end].sum(axis=1)
-    return unmet
+        by_period = counted_by(policies, past, float(random.random()), figure)
+        sums = sums + by_period[:, periods + first : periods + end].sum(axis=1)
+    return sums
 
 
 def trial_of(item: Item, settings: Settings, prior: Prior) -> Trial:
@@ -112,9 +120,33 @@ def trial_of(item: Item, settings: Settings, prior: Prior) -> Trial:
         return levels_of(question.theory.free)
 
     item, on = flat_of(item, settings)
-    unmet = unmet_in_blocks(item, on, prior, planned)
+    unmet = in_blocks(item, on, prior, planned)
     mean = float(np.mean(item.counts))
     return Trial(mean, len(item.counts), tuple((unmet / mean).tolist()))
+
+
+def cost_trial_of(item: Item, settings: Settings, prior: Prior) -> CostTrial:
+    """Returns what policies of an item with a backlog cost cost in periods of its record that they had not seen, and what
+    they had promised by theory. Raises Refused if it can't be planned."""
+    promised = list[float]()
+
+    def planned(question: Question) -> list[Levels]:
+        best, _ = best_of(question)
+        promised.append(question.figures(best.levels).cost)
+        return [best.levels]
+
+    item, on = flat_of(item, settings)
+    periods, mean = len(item.counts), float(np.mean(item.counts))
+    rates = Rates(item.setup, 0, item.holding, item.backlog or 0)
+    (cost,) = in_blocks(
+        item, on, prior, planned, lambda period: float(period.cost(rates))
+    )
+    lengths, unit = [end - first for first, end in blocks_of(periods)], mean * float(
+        item.holding
+    )
+    return CostTrial(
+        mean, periods, float(np.dot(promised, lengths)) / unit, cost / unit
+    )
 
 
 def trial_asked(item: Item, settings: Settings, prior: Prior) -> Trial | Remark:
@@ -122,12 +154,32 @@ def trial_asked(item: Item, settings: Settings, prior: Prior) -> Trial | Remark:
     return or_fault(item, trial_of, settings, prior)
 
 
-def tried_names(read: Catalogued) -> list[str]:
-    """Returns in order the names of the items with a past and a wanted fill rate, of at most 1,000 with the least
-    digests, which is as good as at random."""
+def cost_trial_asked(
+    item: Item, settings: Settings, prior: Prior
+) -> CostTrial | Remark:
+    """Returns the trial of an item with a backlog cost, or why it has none."""
+    return or_fault(item, cost_trial_of, settings, prior)
+
+
+class Kind(NamedTuple):
+    """What is tried on the past: of items with a fact, by a function, whose answers are kept in a store."""
+
+    fact: str
+    asked: Callable[[Item, Settings, Prior], Any]
+    answer: type[Any]
+    store: str
+
+
+OF_FILLS = Kind("fill", trial_asked, Trial, TRIALS)
+OF_COSTS = Kind("backlog", cost_trial_asked, CostTrial, COST_TRIALS)
+
+
+def tried_names(read: Catalogued, kind: Kind = OF_FILLS) -> list[str]:
+    """Returns in order the names of the items with a past and a fact, of at most 1,000 with the least digests, which is
+    as good as at random."""
     wanted = list[tuple[str, str]]()
-    for name, fill, past in read.cells("name", "fill", "past"):
-        if fill is not None and past in TEACHING:
+    for name, fact, past in read.cells("name", kind.fact, "past"):
+        if fact is not None and past in TEACHING:
             wanted.append((name, ""))
     return drawn_of_groups(wanted, MOST_ITEMS)
 
@@ -139,24 +191,24 @@ def tried_on(
     prior: Prior,
     common: str,
     means: Means,
-    store: str = TRIALS,
-) -> list[Trial]:
+    kind: Kind = OF_FILLS,
+) -> list[Any]:
     """Returns the trials of items, of which those that are kept in a store of the folder are not made again."""
-    questions = [(name, read.digest(name, common)) for name in tried_names(read)]
-    words, tried = (settings, prior), list[Trial]()
-    with contextlib.closing(Store(folder.store(store), Trial)) as trials:
+    questions = [(name, read.digest(name, common)) for name in tried_names(read, kind)]
+    words, tried = (settings, prior), list[Any]()
+    with contextlib.closing(Store(folder.store(kind.store), kind.answer)) as trials:
         work = Work(
             trials,
             questions.copy,
             read.item,
-            trial_asked,
+            kind.asked,
             words,
             unit="trials",
             load=load_compiler,
         )
         work.finish(means.workers(), shown=means.shown)
         for _, _, trial in trials.answers():
-            if isinstance(trial, Trial):
+            if isinstance(trial, kind.answer):
                 tried.append(trial)
     return tried
 
@@ -173,7 +225,64 @@ def ways_of(settings: Settings) -> Settings:
     )
 
 
-def aims_of(
+def cost_ways_of(settings: Settings, aims: Aims | None) -> Settings:
+    """Returns those of some settings by which the costs of items are tried: their policies are those of the plan, within
+    its bounds."""
+    return dataclasses.replace(
+        ways_of(settings),
+        every=settings.every,
+        order_min=settings.order_min,
+        max_coverage=settings.max_coverage,
+        s_min=settings.s_min,
+        aims=aims,
+    )
+
+
+@dataclass(frozen=True)
+class Corrections:
+    """What the past of a catalogue corrects: where items aim, and what those with a backlog cost cost beside what theory
+    promises; None of a kind of which too few items can be tried. So many were, `fills` and `costs`: None if there is none
+    of the kind."""
+
+    aims: Aims | None
+    overruns: Overruns | None
+    fills: int | None
+    costs: int | None
+
+    @classmethod
+    def parse(cls, tree: Mapping[str, Any]) -> Corrections:
+        """Returns that of which `dataclasses.asdict` has made a tree. Raises LookupError or TypeError for another one."""
+        aims, overruns = tree["aims"], tree["overruns"]
+        return cls(
+            aims and Aims.parse(aims),
+            overruns and Overruns.parse(overruns),
+            tree["fills"],
+            tree["costs"],
+        )
+
+    def settled(self, settings: Settings) -> tuple[Settings, list[Remark]]:
+        """Returns settings with what is corrected, and remarks on a kind of items that is left as it is. Raises Refused
+        if nothing is corrected, not even what items meet together."""
+        remarks = list[Remark]()
+        for code, tried, found in (
+            ("few fills", self.fills, self.aims),
+            ("few costs", self.costs, self.overruns),
+        ):
+            if tried is not None and found is None:
+                remarks.append(Remark(code, {"items": tried, "least": LEAST_ITEMS}))
+        if not (self.aims or self.overruns or settings.together):
+            said = f"{self.fills or 0} items with a wanted fill rate"
+            if self.costs:
+                said += f" and {self.costs} with a backlog cost"
+            raise Refused(
+                f"{said} can be tried on their past, and a correction needs {LEAST_ITEMS}",
+                f"plan without {argument('correct')}",
+            )
+        on = dataclasses.replace(settings, aims=self.aims, overruns=self.overruns)
+        return on, remarks
+
+
+def corrections_of(
     folder: Folder,
     answers: Store[Any],
     read: Catalogued,
@@ -181,22 +290,27 @@ def aims_of(
     prior: Prior,
     means: Means,
     again: bool,
-) -> Aims:
-    """Returns at which fill rates the items of a catalogue aim. What was learned before is used again as it is, also if
-    items change, unless it is to be learned `again`, or items are planned in another way. Trials are kept in the
-    folder. Raises Refused for fewer than 30 items with a trial."""
-    on = ways_of(settings)
-    common, kept = on.common("", prior), json.loads(answers.fact(AIMS) or "null")
+    has_aims: bool,
+) -> Corrections:
+    """Returns what the past of a catalogue corrects: fill rates if some item `has_aims`. What was learned before is used
+    again as it is, also if items change, unless it is to be learned `again`, or items are planned in another way. Trials
+    are kept in the folder."""
+    common = [has_aims, cost_ways_of(settings, None).common("", prior)]
+    kept = json.loads(answers.fact(AIMS) or "null")
     if kept and kept["common"] == common and not again:
-        return Aims.parse(kept["aims"])
-    tried = tried_on(folder, read, on, prior, common, means)
-    if len(tried) < LEAST_ITEMS:
-        raise Refused(
-            f"{len(tried)} items with a wanted fill rate can be tried on their past, and a correction needs "
-            f"{LEAST_ITEMS}",
-            f"plan without {argument('correct')}",
-        )
-    aims = Aims.of(tried)
-    fact = {"common": common, "aims": dataclasses.asdict(aims)}
+        return Corrections.parse(kept["corrections"])
+    tried: list[Any] | None = None
+    costs: list[Any] | None = None
+    if has_aims and tried_names(read):
+        on = ways_of(settings)
+        tried = tried_on(folder, read, on, prior, on.common("", prior), means)
+    aims = Aims.of(tried) if tried and len(tried) >= LEAST_ITEMS else None
+    if tried_names(read, OF_COSTS):
+        on = cost_ways_of(settings, aims)
+        costs = tried_on(folder, read, on, prior, on.common("", prior), means, OF_COSTS)
+    overruns = Overruns.of(costs) if costs and len(costs) >= LEAST_ITEMS else None
+    counts = (None if some is None else len(some) for some in (tried, costs))
+    found = Corrections(aims, overruns, *counts)
+    fact = {"common": common, "corrections": dataclasses.asdict(found)}
     answers.keep_facts({AIMS: json.dumps(fact)})
-    return aims
+    return found

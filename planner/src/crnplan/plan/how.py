@@ -8,7 +8,6 @@ from dataclasses import dataclass, field
 from fractions import Fraction
 from typing import Any
 
-from .. import __version__
 from ..demand import AUTO
 from ..demand.index import Index
 from ..demand.learning import Prior
@@ -18,15 +17,22 @@ from ..options import check_words, option
 from ..read.bounds import Bounds
 from ..read.item import BORROW, PLANNED, WEIGHED, Item
 from ..store.digests import number_of, sha256
-from .aims import Aims
+from .aims import Aims, Overruns
 from .bounds import MOST_COVERAGE
-from .prices import REST, UNITS, VALUE, Prices
+from .following import Following
+from .prices import REST, VALUE, Prices, weight_of
 from .seasons import Seasons
 
 SEED_BITS = 32
 # The settings that are learned of a catalogue, by name.
-LEARNED: Mapping[str, Any] = {"aims": Aims, "prices": Prices, "seasons": Seasons}
-VERSION = 10  # Answers of others are not used again.
+LEARNED: Mapping[str, Any] = {
+    "aims": Aims,
+    "overruns": Overruns,
+    "prices": Prices,
+    "seasons": Seasons,
+    "following": Following,
+}
+VERSION = 11  # Answers of others are not used again.
 NONE, CLASS, ALL = BORROW
 
 
@@ -38,17 +44,19 @@ class Settings:
     With a `confidence`, wanted fill rates are kept under that share of the laws that a history allows. A period is a
     day, week or month (`every`), or has no dates; `cycle` is the number of periods of a season that is looked for.
     Where a class or an item has a season of months, by its `seasons`, each month is planned by it, unless `season` is
-    "none".
+    "none". With `follow` "auto" items are planned at the level of their last periods, as far as the past of their class
+    says that what comes follows it, by the weights of `following`.
     Laws are fitted, learned and checked on the last `window` periods of each history alone, or on all. The levels of an
     earlier plan stay if a change gains less than the share `least_gain` of their cost. `correct` has wanted fill rates
-    corrected by the catalogue's past, by which items then have their `aims`. `order_min`, `max_coverage` and `s_min`
+    corrected by the catalogue's past, by which items then have their `aims`, and costs of items with a backlog cost
+    promised by their `overruns` in it. `order_min`, `max_coverage` and `s_min`
     are bounds of items whose masters state none: the smallest order, the most periods of demand that S covers (without
-    one S - s covers at most two years), and the smallest s (by default 1 if a fill rate is wanted, so that no order
-    waits for a customer).
+    one S - s covers at most two years), and the smallest s (by default 1 if a share is wanted, so that no order waits
+    for a customer).
 
-    What is wanted `together` by class, or of all others under an empty name, items without a backlog cost meet all
-    together, by the `prices` of what is not met at once: in place of a fill rate of each, but `at_least` that one. They
-    `weigh` by value or by units.
+    What is wanted `together` by class, or of all others under an empty name, items without a backlog cost or a wanted
+    share of periods meet all together, by the `prices` of what is not met at once: in place of a fill rate of each, but `at_least` that one. They
+    `weigh` by value, by units, or as items that are alike.
     """
 
     seed: str = "crnplan"
@@ -61,6 +69,7 @@ class Settings:
     lead_fit: str = "auto"
     every: str | None = None
     season: str = AUTO
+    follow: str = NONE
     cycle: int | None = None
     window: int | None = None
     least_gain: float | None = None
@@ -72,8 +81,10 @@ class Settings:
     weigh: str = VALUE
     at_least: float | None = None
     aims: Aims | None = field(default=None, repr=False)
+    overruns: Overruns | None = field(default=None, repr=False)
     prices: Prices | None = field(default=None, repr=False)
     seasons: Seasons | None = field(default=None, repr=False)
+    following: Following | None = field(default=None, repr=False)
 
     def __post_init__(self) -> None:
         check_words(self)
@@ -115,7 +126,7 @@ class Settings:
     def named_group(self, item: Item) -> str | None:
         """Returns the group for which a share is wanted that would have an item, whether it has a weight or not: the one
         of its class, or that of the rest; None if there is none."""
-        if item.backlog is not None:
+        if item.backlog is not None or item.no_shortage is not None:
             return None
         group = item.category if item.category in self.together else REST
         return group if group in self.together else None
@@ -125,8 +136,8 @@ class Settings:
         return self.named_group(item) if self.weight_of(item) else None
 
     def weight_of(self, item: Item) -> float:
-        """Returns what an item weighs; 0 if it has no price, and items weigh by value."""
-        return 1.0 if self.weigh == UNITS else float(item.price or 0)
+        """Returns what a unit of an item weighs; 0 if that is not known."""
+        return weight_of(item, self.weigh)
 
     def common(self, program: str, prior: Prior) -> str:
         """Returns what all answers depend on, with the digest of the program and what was learned, as a text. The least
@@ -134,7 +145,7 @@ class Settings:
         learned = sha256(prior.text)
         settings = dataclasses.asdict(self)
         del settings["least_gain"]
-        return json.dumps([__version__, VERSION, program, learned, settings])
+        return json.dumps([VERSION, program, learned, settings])
 
     def bounds_of(self, item: Item) -> Bounds:
         """Returns the bounds of an item: those of its masters, else those of the settings."""
@@ -143,7 +154,7 @@ class Settings:
         if s_min is None:
             s_min = self.s_min
         if s_min is None:
-            s_min = int(item.fill is not None)
+            s_min = int(item.wanted is not None)
         if coverage is None and self.max_coverage is not None:
             coverage = Fraction(self.max_coverage)
         if coverage is None:
@@ -164,15 +175,17 @@ class Settings:
 def without_season(item: Item, settings: Settings) -> tuple[Item, Index | None]:
     """Returns an item with the counts that it would have had without its season, and its index; as it is, and None, if it
     is not planned by a season."""
-    seasons = settings.seasons
+    seasons = None if item.law else settings.seasons
     index = seasons.of_item(item) if seasons else None
     if not seasons or not index:
-        return item, None
+        return item, None  # A law that is stated is as it is.
     return seasons.flat(item, index, settings.seed_of("season", item.name)), index
 
 
 def flat_of(item: Item, settings: Settings) -> tuple[Item, Settings]:
     """Returns an item by its known periods alone, with the counts that it would have had without its season; and settings
-    that know of none."""
+    that know of no season, and follow no level. A part of a record that is planned from the rest is not later than that:
+    the level of the last periods says nothing of it, so the law of the rest is as it was.
+    """
     item, _ = without_season(item, settings)
-    return item.known, dataclasses.replace(settings, seasons=None)
+    return item.known, dataclasses.replace(settings, seasons=None, following=None)

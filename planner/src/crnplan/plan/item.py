@@ -33,9 +33,10 @@ from ..law import Law
 from ..read import History, LeadTimes, read_history, read_lead_times
 from ..read.bounds import Bounds
 from ..read.item import Item
-from ..scenario import Policy, Scenario
+from ..policies import Policy
+from ..scenario import Scenario
 from ..theory.lattice import NoTheory
-from ..theory.long_run import Candidate
+from ..theory.long_run import Candidate, LongRun
 from ..theory.many_laws import CONFIDENCE, Promises, figures_of_laws
 from ..theory.suggestions import FILLS, Chosen, add_fills, chosen_policies
 from ..words import sentence
@@ -102,7 +103,12 @@ class Depth:
         laws: int = LAWS,
         confidence: float | None = None,
     ) -> None:
-        self.question, self.answer = question, answer
+        if answer.run is None:
+            raise Refused(
+                f"item {question.item.name!r} is reviewed once in {question.item.review} periods, which crnsim can't run",
+                "its figures by theory are in decisions.csv, and it has no page",
+            )
+        self.question, self.answer, self.run = question, answer, answer.run
         self.program, self.laws = program, laws
         self.confidence = confidence or question.settings.confidence or CONFIDENCE
 
@@ -145,12 +151,21 @@ class Depth:
         return allowed_by(self.question, self.laws)
 
     @cached_property
-    def promises(self) -> Promises:
+    def theory(self) -> LongRun:
+        """Returns the theory of the item, with shares of demand."""
+        return self.question.theory.counting(False)
+
+    @cached_property
+    def promises(self) -> Promises | None:
+        """Returns what policies promise under the laws that the history allows; None if the law is stated, of which
+        nothing says how sure it is."""
+        if self.question.is_stated:
+            return None
         question, fills = self.question, [*FILLS.values()]
-        gap = question.theory.gap_of(*self.levels[CHOSEN])
+        gap = self.theory.gap_of(*self.levels[CHOSEN])
         return Promises(
             question.scenario(),
-            question.theory,
+            self.theory,
             gap,
             *self.allowed,
             fills,
@@ -163,8 +178,8 @@ class Depth:
         under most of the allowed ones, and with a backlog cost the neighbours of the best.
         """
         question, levels = self.question, self.levels[CHOSEN]
-        scenario, theory = question.scenario(), question.theory
-        if question.has_backlog and question.item.fill is None:
+        scenario, theory = question.scenario(), self.theory
+        if question.has_backlog and question.item.wanted is None:
             best = Candidate(theory.figures(*levels).cost, *levels)
             return chosen_policies(scenario, theory, best, self.promises)
         chosen = Chosen(scenario)
@@ -190,7 +205,7 @@ class Depth:
     @cached_property
     def sample(self) -> Sample:
         """Runs all policies as the answer's run did. Raises Refused if a total is not that of the answer."""
-        run = self.answer.run
+        run = self.run
         report = report_of(self.scenario, self.program)
         totals = {row.policy: row.total for row in report.rows}
         own = totals.get(TODAY), totals[self.chosen]
@@ -204,14 +219,14 @@ class Depth:
     @property
     def scenario(self) -> Scenario:
         backlog = self.question.rates.get("backlog", 0)
-        return self.question.scenario(backlog, self.answer.run.initial).with_policies(
+        return self.question.scenario(backlog, self.run.initial).with_policies(
             self.policies
         )
 
     def _sampled(self, sampled: Estimate) -> Estimate:
         """Returns a policy of the run. The answer's own policies are as there: theory counts the start on a coarser
         lattice if another policy has a wide gap."""
-        run = self.answer.run
+        run = self.run
         if sampled.policy == TODAY and run.cost_today is not None:
             return sampled._replace(cost=run.cost_today)
         if sampled.policy == CHOSEN:
@@ -257,8 +272,11 @@ class Depth:
     @cached_property
     def doubt(self) -> Doubt | None:
         """Returns what the policies cost, and how well they fill, under the laws that the item's history allows, and
-        what it has learned. None if no such law has a long run. Without a backlog cost only fill rates mean something.
+        what it has learned. None if no such law has a long run, or if the law is stated. Without a backlog cost only fill
+        rates mean something.
         """
+        if self.promises is None:
+            return None
         (demands, leads), policies = self.allowed, tuple(self.policies)
         # Without a backlog cost it is that by which a newsvendor would meet the wanted share.
         scenario = replace(self.scenario, costs=self.question.for_theory().costs)
@@ -274,17 +292,17 @@ class Depth:
     @cached_property
     def without(self) -> Without | None:
         """Returns the decision without the periods that `largest_periods` names. None if it names none, or if there is
-        no plan without them."""
+        no plan without them, or if the law is stated."""
         question, item = self.question, self.question.item
         as_read = question.as_read
         known, places = as_read.known, as_read.known_places
-        if not largest_periods(known.counts):
+        if question.is_stated or not largest_periods(known.counts):
             return None
         left = item.without([places[rank] for rank in largest_places(known.counts)])
         try:
-            settings = replace(question.settings, seasons=None)
-            flat = question_of(left, settings, question.prior)
-            asked = flat.with_season(question.season)
+            settings = replace(question.settings, seasons=None, following=None)
+            plain = question_of(left, settings, question.prior)
+            asked = plain.moved(question.level, question.season)
             rare = asked.figures(choice_of(asked).levels)
         except Refused:
             return None
@@ -303,7 +321,7 @@ class Depth:
         """Returns today's stock in boxes; the initial stock of the run if that is not known."""
         item = self.question.item
         if item.stock is None:
-            return self.answer.run.initial
+            return self.run.initial
         return min(max(round(item.stock / item.box), 0), MOST_ITEMS)
 
     @cached_property
@@ -391,6 +409,7 @@ def read_item(history: str | Path, settings: str | Path) -> Facts:
         bounds=Bounds(**tables["bounds"]),
         stock=today["stock"],
         unknown=demand.unknown,
+        no_shortage=run["no_shortage"],
         first=demand.first,
         rows=len(demand.counts),
     )
@@ -414,7 +433,7 @@ def planned(facts: Facts, program: str | Path | None = None) -> Depth:
         borrow=NONE,
         every=facts.history.every,
         cycle=history["season"],
-        confidence=None if run["fill"] is None else run["confidence"],
+        confidence=None if facts.item.wanted is None else run["confidence"],
     )
     question = question_of(facts.item, settings)
     answer = plan_one(question, path)

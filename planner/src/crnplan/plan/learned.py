@@ -5,27 +5,31 @@ import dataclasses
 import heapq
 import json
 from collections import Counter, defaultdict
-from collections.abc import Iterable, Iterator
-from typing import Any, NamedTuple
+from collections.abc import Callable, Iterable, Iterator, Mapping, Sequence
+from typing import Any, NamedTuple, TypeVar
 
 import numpy as np
 
 from ..demand import AUTO
+from ..demand.seasons import YEARS
 from ..demand.learning import LEAST_ITEMS, LEAST_ON_REQUEST, MOST_PULLED, Prior, learn
 from ..store.digests import sha256
 from ..errors import Refused
 from ..read.catalogue_reading import Catalogued
-from ..read.item import NO_DEMAND, TEACHING, Item
+from ..read.item import NO_DEMAND, STATED, TEACHING, Item
 from ..remarks import Remark
 from ..store.stored import Store
+from .following import Following
 from .how import ALL, CLASS, NONE, Settings, without_season
-from .seasons import Seasons, is_long
+from .seasons import Seasons, whole_years
 
 # Facts beside answers: what was learned, and by which window and without which seasons laws were.
 PRIOR, PRIOR_WINDOW, SEASONS = "prior", "window of prior", "seasons"
+FOLLOWING = "following"
 # Items whose histories are looked at for the law of a whole catalogue (it is estimated on 3,000 of them), and for those
 # of all classes together, unless these are so many that few items of each are left.
 MOST_READ, MOST_OF_CLASSES = 10_000, 30_000
+Thing = TypeVar("Thing", Seasons, Following)  # that is learned
 
 
 class Learned(NamedTuple):
@@ -91,7 +95,7 @@ def learned_of(
         return own_laws(f"fit = {settings.fit}")
     said = Counter[str]()
     for borrow, past in read.cells("borrow", "past"):
-        if past != NO_DEMAND:
+        if past not in (NO_DEMAND, STATED):
             said[borrow] += 1
     asked = {settings.borrow, *said} & {ALL, CLASS}
     if settings.borrow == NONE and not asked:
@@ -128,25 +132,66 @@ def remarks_of(prior: Prior, usual: str, said: Counter[str]) -> Iterator[Remark]
         yield Remark("masters say otherwise", {"items": others})
 
 
+def has_marks(read: Catalogued) -> bool:
+    """Returns whether rows of demand say which of them are of a promotion."""
+    tables = read.fact("found")["tables"]
+    return any(table["columns"].get("promotion") for table in tables)
+
+
 def seasons_of(
     answers: Store[Any], read: Catalogued, settings: Settings, again: bool
 ) -> Seasons | None:
     """Returns the seasons of the classes of a catalogue; None if none are to be planned. What was learned before is used
-    again as it is, also if items change, unless it is to be learned `again` or by another window.
+    again as it is, also if items change, unless it is to be learned `again`, by another window, of another number of whole
+    years, or first with marks of promotions or without.
     """
     if settings.season != AUTO:
         return None
-    kept = json.loads(answers.fact(SEASONS) or "null")
-    every, (start, stop) = read.fact("every"), read.fact("periods")
-    if kept and kept["basis"] == [every, read.window] and not again:
-        return Seasons.parse(kept["seasons"])
-    periods = min(stop - start, read.window or stop - start)
-    items = learners(read, True) if is_long(every, periods) else ()
-    seasons = Seasons.of(every, items)
-    basis = [every, read.window]
-    fact = {"basis": basis, "seasons": dataclasses.asdict(seasons)}
-    answers.keep_facts({SEASONS: json.dumps(fact)})
-    return seasons
+    every, is_marked = read.fact("every"), has_marks(read)
+    years = whole_years(every, read.length)
+
+    def learned() -> Seasons:
+        items = learners(read, True) if years >= YEARS else ()
+        return Seasons.of(every, items, is_marked)
+
+    basis = [every, read.window, years, is_marked]
+    return learned_once(answers, SEASONS, Seasons.parse, basis, again, learned)
+
+
+def following_of(
+    answers: Store[Any], read: Catalogued, settings: Settings, again: bool
+) -> Following | None:
+    """Returns how far the classes of a catalogue follow their level, without their seasons; None if none is to be
+    followed. What was learned before is used again as seasons are, unless these are others.
+    """
+    if settings.follow != AUTO:
+        return None
+
+    def learned() -> Following:
+        items = learners(read, True)
+        return Following.of(without_season(item, settings)[0] for item in items)
+
+    basis = [basis_of(read, settings)]
+    return learned_once(answers, FOLLOWING, Following.parse, basis, again, learned)
+
+
+def learned_once(
+    answers: Store[Any],
+    name: str,
+    parse: Callable[[Mapping[str, Any]], Thing],
+    basis: Sequence[Any],
+    again: bool,
+    learned: Callable[[], Thing],
+) -> Thing:
+    """Returns what was learned of a catalogue in an earlier run, if that is kept under a name, was learned on the same
+    basis, and is not to be learned `again`; else what is learned now, and keeps it."""
+    kept = json.loads(answers.fact(name) or "null")
+    if kept and kept["basis"] == basis and not again:
+        return parse(kept[name])
+    thing = learned()
+    fact = {"basis": basis, name: dataclasses.asdict(thing)}
+    answers.keep_facts({name: json.dumps(fact)})
+    return thing
 
 
 def basis_of(read: Catalogued, settings: Settings) -> str:

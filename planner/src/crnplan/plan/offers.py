@@ -14,7 +14,7 @@ from ..demand.learning import Prior
 from ..read.item import Item
 from ..remarks import Remark
 from .choice import by_prices
-from .correction import unmet_in_blocks
+from .correction import in_blocks
 from .drawn import Draws, Drawn, estimated
 from .one import or_fault
 from .how import Settings, flat_of
@@ -128,7 +128,7 @@ def offer_of(
     question = question_of(item, settings, prior).flat
     own = asked[question.together or ""]
     policies = ByPrice(question, own.prices)
-    weight = item.box * settings.weight_of(item)
+    weight = item.box * settings.weight_of(question.item)
     offer = Offer(
         weight * float(question.demand.mean), tuple((weight * policies.unmet).tolist())
     )
@@ -153,7 +153,7 @@ def past_of(
         return ByPrice(question, prices).pairs
 
     item, on = flat_of(item, settings)
-    unmet = unmet_in_blocks(item, on, prior, planned)
+    unmet = in_blocks(item, on, prior, planned)
     weight = settings.weight_of(item) / len(item.counts)
     return Offer(weight * sum(item.counts), tuple((weight * unmet).tolist()))
 

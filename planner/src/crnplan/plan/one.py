@@ -14,15 +14,15 @@ from typing import Any, TypeVar
 
 import numpy as np
 
-from ..crnsim.report import report_of
 from ..demand import EMPIRICAL
 from ..demand.checks import remarks_of as checked
 from ..demand.fitted import FittedLaw
 from ..demand.learning import Prior
 from ..errors import Refused, worded
+from ..formats import MOST_DEMAND
 from ..read.item import ENDED, NEW, NO_DEMAND, Item
 from ..remarks import Remark, Value
-from ..scenario import Policy
+from ..policies import Policy
 from ..theory.lattice import NoTheory
 from ..theory.many_laws import figures_of_laws
 from .answer import (
@@ -35,6 +35,7 @@ from .answer import (
     DAMPED,
     DEARER,
     IDLE,
+    NO_RUN,
     OVERRIDE,
     RUN,
     SAME,
@@ -54,7 +55,7 @@ from .answer import (
 )
 from .binding import Bound, bounds_of, remarks_of_bounds, remarks_of_today
 from .bounds import COVERAGES
-from .checked_run import Sample, check_run, run_of, scenario_of
+from .checked_run import Sample, checked_run
 from .choice import CLOSE, Choice, allowed_by, best_by_price, choice_of, levels_of
 from .packs import remarks_of_packs
 from .how import Settings
@@ -75,31 +76,40 @@ def verdict_of(
     high: float | None,
 ) -> str:
     """Returns the verdict on a policy that is not today's, by its saving, which is between both ends."""
-    fill = question.aim
-    has_goal = fill is not None or question.together is not None
+    share = question.aim
+    has_goal = share is not None or question.together is not None
     if low is not None and low > 0:
         return CHEAPER
     if (
         has_goal
         and not question.has_backlog
-        and (today.fill < (fill or 0.0) or saving < 0)
+        and (question.met(today) < (share or 0.0) or saving < 0)
     ):
         return SERVICE
     return DEARER if high is not None and high < 0 else UNDECIDED
 
 
+Compared = tuple[float | None, float | None, float | None, float | None]
+
+
+def by_theory(today: Figures, chosen: Figures) -> Compared:
+    """Returns what today's policy costs, and what the chosen one saves, with both ends between which that is."""
+    saving, near = today.cost - chosen.cost, CLOSE * today.cost
+    return today.cost, saving, saving - near, saving + near
+
+
 def beside_today(
-    question: Question, figures: Mapping[str, Figures], run: Run
+    question: Question, figures: Mapping[str, Figures], run: Run | None
 ) -> tuple[str, float | None, float | None]:
-    """Compares the chosen policy with today's: by theory if that is exact, else by the run. Returns the verdict, what
+    """Compares the chosen policy with today's: by the run if there is one and theory is not exact. Returns the verdict, what
     today's costs, and the saving; both are None without a policy today."""
     today, chosen = figures.get(TODAY), figures[CHOSEN]
     if today is None:
         return NEW if question.is_new else UNCOMPARED, None, None
-    cost, saving, low, high = run.cost_today, run.saving, run.low, run.high
-    if question.theory.exact:
-        cost, saving = today.cost, today.cost - chosen.cost
-        low, high = saving - CLOSE * cost, saving + CLOSE * cost
+    compared = by_theory(today, chosen)
+    if run and not question.theory.exact:
+        compared = run.cost_today, run.saving, run.low, run.high
+    cost, saving, low, high = compared
     if question.is_new:
         verdict = NEW
     elif chosen.levels == today.levels:
@@ -142,12 +152,20 @@ def allowed_of(question: Question, levels: Levels) -> Allowed | None:
 
 def correction_of(question: Question) -> Correction | None:
     """Returns where the plan of an item aims by the past of its catalogue; None if nothing is corrected."""
-    aim, wanted, theory = question.aim, question.item.fill, question.theory
-    is_free = question.settings.aims is None or question.together is not None
-    if aim is None or wanted is None or is_free:
+    aim, wanted, aims = question.aim, question.item.fill, question.settings.aims
+    if aim is None or wanted is None or aims is None or question.together is not None:
         return None
-    plain = theory.nearest(float(wanted))
-    return Correction(aim, question.figures(plain.levels).stock)
+    plain = question.theory.nearest(float(wanted))
+    met = aims.of_item(question.usual).met(aim)
+    return Correction(aim, question.figures(plain.levels).stock, met)
+
+
+def promised_by(question: Question, cost: float) -> float | None:
+    """Returns what a cost by theory comes to by the past of the catalogue; None if that was not tried."""
+    overruns = question.settings.overruns
+    if overruns is None or not question.has_backlog:
+        return None
+    return cost * overruns.of_item(question.usual).times
 
 
 def share_of(question: Question) -> Share | None:
@@ -162,7 +180,8 @@ def share_of(question: Question) -> Share | None:
         is_least = theory.figures(*best.levels).fill < least
     settings = question.settings
     weight = settings.weight_of(question.item)
-    return Share(group, settings.together[group], weight, is_least)
+    price /= question.item.box
+    return Share(group, settings.together[group], weight, is_least, price)
 
 
 def remarks_of_cut(question: Question) -> Iterator[Remark]:
@@ -175,11 +194,28 @@ def remarks_of_cut(question: Question) -> Iterator[Remark]:
     yield Remark("cut periods" if expected else "cut periods left out", facts)
 
 
+def remarks_of_stated(question: Question) -> Iterator[Remark]:
+    """Yields what must be said of an item whose law is stated: how sure that is nobody knows, and it has no season."""
+    settings, item = question.settings, question.item
+    yield Remark("stated law")
+    if settings.confidence is not None and item.fill is not None:
+        yield Remark("stated without confidence", {"confidence": settings.confidence})
+    if settings.seasons and item.group in settings.seasons.classes:
+        yield Remark("stated without season")
+
+
 def remarks_of_past(question: Question, allowed: Allowed | None) -> Iterator[Remark]:
     """Yields what must be said of the history of an item."""
     item, settings, learned = question.item, question.settings, question.learned
+    if question.is_stated:
+        yield from remarks_of_stated(question)
+        return
     if question.season:
         yield question.season.remark
+    elif settings.seasons and settings.seasons.is_beyond(item):
+        yield Remark("season not planned", {"most": MOST_DEMAND})
+    if question.level:
+        yield question.level.remark
     yield from remarks_of_cut(question)
     if question.is_new:
         facts: dict[str, Value] = {
@@ -197,14 +233,16 @@ def remarks_of_past(question: Question, allowed: Allowed | None) -> Iterator[Rem
         settings.cycle,
         item.known_places,
     )
-    if question.all_year.lower:
-        yield question.all_year.lower
+    if question.of_record.lower:
+        yield question.of_record.lower
     if item.demands < LEAST_DEMANDS:
         has_learned = bool(learned and learned.few)
         yield Remark("few demands", {"demands": item.demands, "learned": has_learned})
 
 
-def remarks_of(question: Question, sample: Sample, choice: Choice) -> Iterator[Remark]:
+def remarks_of(
+    question: Question, sample: Sample | None, choice: Choice
+) -> Iterator[Remark]:
     """Yields what must be said of the law and of the figures of an item."""
     theory, settings = question.theory, question.settings
     borrowed, learned = question.demand.diagnostics.borrowed, question.learned
@@ -212,6 +250,8 @@ def remarks_of(question: Question, sample: Sample, choice: Choice) -> Iterator[R
         yield borrowed.alone
     elif learned and learned.unlike and not question.is_new:
         yield Remark("unlike the catalogue")
+    if sample is None:
+        yield Remark(NO_RUN, {"periods": question.item.review})
     if not theory.exact:
         yield Remark("steps", {"items": theory.step * question.item.box})
     if question.rate_error > ROUGH_RATES:
@@ -219,9 +259,10 @@ def remarks_of(question: Question, sample: Sample, choice: Choice) -> Iterator[R
     if question.together is None and settings.named_group(question.item) is not None:
         yield Remark(BY_ITSELF)
     if not choice.is_promised:
-        yield Remark("no promise", {"confidence": settings.confidence})
+        facts = {"of_periods": question.counts_periods}
+        yield Remark("no promise", {"confidence": settings.confidence, **facts})
     is_compared = question.levels not in (None, choice.levels)
-    if is_compared and sample.policies[-1].error is None:
+    if sample and is_compared and sample.policies[-1].error is None:
         orders = min(estimate.orders for estimate in sample.policies)
         yield Remark("no interval", {"orders": orders})
 
@@ -240,7 +281,7 @@ def remarks_of_damping(
 
 
 def plan_one(question: Question, program: str) -> Answer:
-    """Returns the answer to a question, with a run of the program at a path.
+    """Returns the answer to a question, with a run of the program at a path, if that can run its policies.
 
     Raises Refused if the item can't be planned, Disagreement if the run is further from theory than chance allows, and
     ProgramError.
@@ -260,15 +301,16 @@ def plan_one(question: Question, program: str) -> Answer:
         today
         and levels
         and more > CLOSE * today.cost
-        and answer.chosen.fill < today.fill
+        and question.met(answer.chosen) < question.met(today)
     ):
         return answer_of(question, choice.beside(levels, more), program)
     return answer
 
 
 def confidence_cost_of(question: Question, choice: Choice) -> float | None:
-    """Returns what a confidence in a wanted fill rate costs a period; None without one."""
-    if question.settings.confidence is None or question.item.fill is None:
+    """Returns what a confidence in a wanted share costs a period; None without one."""
+    is_free = question.settings.confidence is None or question.is_stated
+    if is_free or question.item.wanted is None:
         return None
     best, plain = question.figures(choice.best), question.figures(choice.plain)
     return best.cost - plain.cost
@@ -296,29 +338,23 @@ def remarks_of_choice(
 
 
 def answer_of(question: Question, choice: Choice, program: str) -> Answer:
-    """Returns the answer with a choice, beside which stands a run. Raises as `plan_one` does."""
+    """Returns the answer with a choice, beside which stands a run, if there can be one. Raises as `plan_one` does."""
     theory, figures = question.theory, figures_by_policy(question, choice)
-    report = report_of(scenario_of(question, choice.levels), program)
-    sample = Sample(question, report)
-    check_run(question, report, sample, figures, program)
-    run, chosen = run_of(question, report, sample), figures[CHOSEN]
+    run, sample = checked_run(question, choice.levels, figures, program) or (None, None)
+    chosen, cost, source = figures[CHOSEN], figures[CHOSEN].cost, THEORY
+    if run and not theory.exact:
+        cost, source = run.cost_chosen, RUN
     verdict, cost_today, saving = beside_today(question, figures, run)
     if choice.is_bounded and verdict not in (UNCOMPARED, NEW) and not choice.worse:
         verdict = BOUNDED
     bounds = [*bounds_of(question, choice)]
     coverage = next((cost for name, _, cost in bounds if name in COVERAGES), None)
     allowed = allowed_of(question, choice.levels)
-    remarks = (
-        *remarks_of_past(question, allowed),
-        *remarks_of(question, sample, choice),
-        *remarks_of_choice(question, choice, bounds),
-        *remarks_of_damping(question, figures),
-    )
     return Answer(
         verdict,
-        THEORY if theory.exact else RUN,
+        source,
         cost_today,
-        chosen.cost if theory.exact else run.cost_chosen,
+        cost,
         saving,
         figures.get(TODAY),
         chosen,
@@ -332,10 +368,16 @@ def answer_of(question: Question, choice: Choice, program: str) -> Answer:
         law_facts(question.all_year, question.item.box),
         question.laws,
         run,
-        remarks,
+        (
+            *remarks_of_past(question, allowed),
+            *remarks_of(question, sample, choice),
+            *remarks_of_choice(question, choice, bounds),
+            *remarks_of_damping(question, figures),
+        ),
         allowed,
         figures.get(OVERRIDE),
         share_of(question),
+        cost_promised=promised_by(question, cost),
     )
 
 

@@ -24,7 +24,8 @@ def remarks_of_packs(question: Question, levels: Levels) -> Iterator[Remark]:
         return
     random = np.random.default_rng(question.seed("packs"))
     laws = question.demand, returns, question.lead
-    past = Past(*(law.draws(random, PERIODS) for law in laws))
+    demands, back, leads = (law.draws(random, PERIODS) for law in laws)
+    past = Past(demands, back, leads, question.item.review)
     charged = Rates(rates["setup"], 0, rates["holding"], rates.get("backlog", 0))
     start = max(0, round(theory.mean_position(*levels)))
     costs = list[float]()

@@ -2,14 +2,14 @@
 from __future__ import annotations
 
 import dataclasses
-from collections.abc import Mapping
+from collections.abc import Mapping, Sequence
 from dataclasses import dataclass, field
 from fractions import Fraction
 from functools import cached_property
 
 from ..demand.cut_sales import expected_demands
 from ..demand.fitted import Borrowed, FittedLaw
-from ..demand.fitting import fit_demand, fit_lead
+from ..demand.fitting import fit_demand, fit_lead, stated_law
 from ..demand.borrowing import law_of
 from ..demand.learning import Prior
 from ..errors import CrnplanError, Refused
@@ -19,12 +19,14 @@ from ..money import rounded_costs
 from ..read.bounds import Bounds
 from ..read.item import NEW, Item
 from ..remarks import Remark, Value
-from ..scenario import Costs, Levels as Levels, Scenario
+from ..policies import Levels as Levels
+from ..scenario import Costs, Scenario
 from ..theory.lattice import lattice_of, rough_lattice, shape_of, theory_on
 from ..theory.long_run import LongRun
 from ..words import advice, sentence
 from .answer import Figures, Laws
 from .bounds import feasible_of
+from .following import AtLevel
 from .how import CLASS, NONE, Settings, without_season
 from .seasons import InSeason, Stretch
 
@@ -87,6 +89,16 @@ class Terms:
         return self.item.past == NEW
 
     @property
+    def has_run(self) -> bool:
+        """Returns whether crnsim can run the item's policies: it reviews in each period."""
+        return self.item.review == 1
+
+    @property
+    def is_stated(self) -> bool:
+        """Returns whether the law of demand is stated, whatever the history says."""
+        return self.item.law is not None
+
+    @property
     def bounds(self) -> Bounds:
         """Returns the bounds of the item's policies, in items."""
         return self.settings.bounds_of(self.item)
@@ -113,31 +125,47 @@ class Terms:
 
     @property
     def wanted(self) -> Fraction | float | None:
-        """Returns the share of demand that is wanted at once, of an item that is planned together with others the least
-        one; None if none is wanted."""
+        """Returns the share that is wanted, of demand at once or of periods without a shortage; of an item that is planned
+        together with others the least one. None if none is wanted."""
         if self.together is None:
-            return self.item.fill
+            return self.item.wanted
         return self.settings.at_least
 
     @property
+    def usual(self) -> Sequence[float]:
+        """Returns demands of the item, by whose mean it is slow or fast: the law has that of a new one, or of one whose
+        law is stated."""
+        if self.is_new or self.is_stated:
+            return [float(self.demand.mean) * self.item.box]
+        return self.item.known.counts
+
+    @property
     def aim(self) -> float | None:
-        """Returns the fill rate at which the plan aims by the law: the wanted one, or what the past of the catalogue
-        makes of it. None if none is wanted."""
+        """Returns the share at which the plan aims by the law: the wanted one, or what the past of the catalogue makes of a
+        wanted fill rate. None if none is wanted."""
         wanted, aims = self.wanted, self.settings.aims
         if wanted is None:
             return None
-        if aims is None:
+        if aims is None or self.counts_periods:
             return float(wanted)
-        counts = [float(self.demand.mean)] if self.is_new else self.item.known.counts
-        return aims.aim(counts, float(wanted))
+        return aims.aim(self.usual, float(wanted))
+
+    @property
+    def counts_periods(self) -> bool:
+        """Returns whether a share of periods without a shortage is wanted."""
+        return self.item.no_shortage is not None
+
+    def met(self, figures: Figures) -> float:
+        """Returns what a policy meets of that of which a share is wanted: of demand at once, or of periods."""
+        return figures.no_shortage if self.counts_periods else figures.fill
 
     @property
     def implied_backlog(self) -> int:
         """Returns the backlog rate; without one, that by which the wanted share would be best for a newsvendor."""
-        fill = self.item.fill
-        if fill is None or self.has_backlog:
+        share = self.item.wanted
+        if share is None or self.has_backlog:
             return self.rates["backlog"]
-        return max(1, round(self.rates["holding"] * fill / (1 - fill)))
+        return max(1, round(self.rates["holding"] * share / (1 - share)))
 
     @property
     def laws(self) -> Laws:
@@ -169,6 +197,7 @@ class Terms:
             settings.replications,
             f"{settings.seed}\n{self.item.name}",
         )
+        made = dataclasses.replace(made, review=self.item.review)
         fits = (
             self.demand.values[-1] <= MOST_DEMAND
             and self.lead.values[-1] <= MOST_LEAD
@@ -209,7 +238,8 @@ class Terms:
             lattice = self.known.step, self.known.exact
         else:
             lattice = rough_lattice(shape, self.cells)
-        return theory_on(scenario, shape, *lattice, feasible, self.known)
+        theory = theory_on(scenario, shape, *lattice, feasible, self.known)
+        return theory.counting(self.counts_periods)
 
     def figures(self, levels: Levels) -> Figures:
         """Returns theory's figures of a policy, whose levels are in boxes. Without a backlog cost only orders and stock
@@ -235,6 +265,7 @@ class Question(Terms):
     `borrow` says from whom its law is learned, and `prior` what was learned. `rate_error` is by which share a rate is
     rounded. `before` is the policy of an earlier plan in boxes; None if there is none, or not in whole boxes. An item
     that is planned by its season has the counts that it would have had without, and the law of a month; None for others.
+    One whose `level` is followed has the law of its record at that; None for others.
     """
 
     demand: FittedLaw
@@ -245,6 +276,7 @@ class Question(Terms):
     rate_error: float
     before: Levels | None = None
     season: InSeason | None = field(default=None, repr=False)
+    level: AtLevel | None = field(default=None, repr=False)
     expected: tuple[int, ...] = ()
 
     @property
@@ -283,9 +315,21 @@ class Question(Terms):
         """Returns the question as if there were no season, by the counts and the law without it."""
         return dataclasses.replace(self, demand=self.all_year, season=None)
 
+    @property
+    def of_record(self) -> FittedLaw:
+        """Returns the law of the item's record, without a season, and whatever its level is now."""
+        return self.level.law if self.level else self.all_year
+
+    def coming(self, law: Law) -> Law:
+        """Returns a law of the record as it is at the level and in the month of the question."""
+        for moved in (self.level, self.season):
+            law = moved.of(law) if moved else law
+        return law
+
     def at(self, season: InSeason) -> Question:
         """Returns the question of a month, by the season as it is in that."""
-        return dataclasses.replace(self, demand=season.fitted, season=season)
+        demand = season.law.like(season.of(season.law))
+        return dataclasses.replace(self, demand=demand, season=season)
 
     def month(self, stretch: Stretch, before: Levels | None = None) -> Question:
         """Returns the question of another month, which perhaps has the s and S of an earlier plan."""
@@ -293,17 +337,22 @@ class Question(Terms):
         asked = self.at(self.season.at(stretch))
         return dataclasses.replace(asked, before=in_boxes(before, self.item.box))
 
-    def with_season(self, season: InSeason | None) -> Question:
-        """Returns a question whose law of demand is without a season with that of another one, if that has any."""
-        if season is None:
-            return self
-        return self.at(dataclasses.replace(season, law=self.demand))
+    def moved(self, level: AtLevel | None, season: InSeason | None) -> Question:
+        """Returns a question whose law of demand is that of the record with the level and the season of another one, if
+        that has any."""
+        question, law = self, self.demand
+        if level:
+            level, law = dataclasses.replace(level, law=law), law.like(level.of(law))
+            question = dataclasses.replace(self, demand=law, level=level)
+        if season:
+            question = question.at(dataclasses.replace(season, law=law))
+        return question
 
     def alone(self) -> Question:
         """Returns the question of an item that learns its law from no other."""
         law = fit_demand(self.counts, box=self.item.box)
         asked = dataclasses.replace(self, borrow=NONE, demand=law)
-        return asked.with_season(self.season)
+        return asked.moved(self.level, self.season)
 
 
 def finest(
@@ -349,7 +398,7 @@ def terms_of(item: Item, laws: Laws, settings: Settings) -> Terms:
 def expected_of(item: Item, fit: str) -> tuple[int, ...]:
     """Returns what was asked for in the cut periods of an item by its likeliest law, in whole boxes; nothing for periods
     without sales, and if no law of the method says it."""
-    if not any(item.least):
+    if item.law or not any(item.least):
         return ()
     box = item.box
     known = [-(-count // box) for count in item.known.counts]
@@ -375,14 +424,17 @@ def question_of(
     """
     as_read, prior = item, prior or Prior(NONE)
     item, index = without_season(item, settings)
-    box = item.box
-    borrow = NONE if settings.fit != "auto" else item.borrow or settings.borrow or NONE
+    borrow = item.borrow or settings.borrow or NONE
+    if settings.fit != "auto" or item.law:
+        borrow = NONE
     if item.past == NEW and (why := why_unknown(item, prior, borrow)):
         raise NoPolicy(Remark(why, {"periods": len(item.known.counts)}))
-    known, expected = item.known, expected_of(item, settings.fit)
+    known, box, expected = item.known, item.box, expected_of(item, settings.fit)
     counts = known.counts + expected
     rates, scale, error = rates_of(item)
-    if borrow == NONE:
+    if item.law:
+        demand = stated_law(item.law, counts, box)
+    elif borrow == NONE:
         demand = fit_demand(counts, method=settings.fit, box=box)
     else:
         group = item.group if borrow == CLASS else None
@@ -405,7 +457,8 @@ def question_of(
         in_boxes(before, box),
         expected=expected,
     )
+    level = settings.following and settings.following.at_level(item, demand)
+    season = None
     if settings.seasons and index:
         season = settings.seasons.in_season(as_read, index, demand, lead)
-        return question.at(season)
-    return question
+    return question.moved(level or None, season)

@@ -4,15 +4,17 @@ from __future__ import annotations
 import datetime
 import itertools
 from collections import defaultdict
-from collections.abc import Iterable, Mapping
-from dataclasses import dataclass, replace
+from collections.abc import Iterable, Mapping, Sequence
+from dataclasses import dataclass, field, replace
 from typing import Any, NamedTuple
 
 import numpy as np
 
+from ..chances import Floats
 from ..demand.fitted import FittedLaw
 from ..demand.index import Index, Years, class_index, flattened, own_index
-from ..demand.seasons import CALENDAR, YEARS, months_of
+from ..demand.seasons import CALENDAR, months_of
+from ..demand.standing_out import Amounts, HighWeeks, standing_out
 from ..formats import MOST_DEMAND
 from ..law import Law
 from ..read.dates import first_day
@@ -46,7 +48,8 @@ def coming_year(every: str, first: int) -> list[Stretch]:
 @dataclass(frozen=True)
 class InSeason:
     """How an item is planned by its season: the item as it was read, the index, whether that is its own, the law of
-    demand without it, the mean lead time in periods, the months of the coming year, and the one for which the plan is.
+    demand without it, the mean lead time in periods, the months of the coming year, the one for which the plan is, and of
+    how many promoted periods the index knows nothing.
     """
 
     item: Item
@@ -57,6 +60,7 @@ class InSeason:
     lead: int
     year: tuple[Stretch, ...]
     stretch: Stretch
+    promoted: int = 0
 
     @property
     def factor(self) -> float:
@@ -70,12 +74,6 @@ class InSeason:
         """Returns a law of demand without the season as it is in the month."""
         return law.times(self.factor)
 
-    @property
-    def fitted(self) -> FittedLaw:
-        """Returns the law of demand in the month."""
-        flat = self.law
-        return FittedLaw.made(self.of(flat), flat.family, flat.diagnostics, flat.box)
-
     def at(self, stretch: Stretch) -> InSeason:
         """Returns the same for another month."""
         return replace(self, stretch=stretch)
@@ -87,6 +85,7 @@ class InSeason:
         facts: dict[str, Value] = {
             "is_own": self.is_own,
             "years": self.index.years,
+            "promoted": self.promoted,
             "most": max(values),
             "month_most": values.index(max(values)) + 1,
             "least": min(values),
@@ -98,20 +97,36 @@ class InSeason:
 @dataclass(frozen=True)
 class Seasons:
     """The seasons of a catalogue whose periods are `every`, by class: of those that have one. Items without a class are
-    one, whose name is empty."""
+    one, whose name is empty. `promoted` has by class the numbers of the weeks that stand out, as promotions do: no season
+    is learned from these.
+    """
 
     every: str
     classes: Mapping[str, Index]
+    promoted: Mapping[str, tuple[int, ...]] = field(default_factory=dict)
 
     @classmethod
-    def of(cls, every: str, items: Iterable[Item]) -> Seasons:
-        """Learns the seasons of the classes of items."""
-        groups = defaultdict[str, list[Years]](list)
+    def of(cls, every: str, items: Iterable[Item], is_marked: bool = False) -> Seasons:
+        """Learns the seasons of the classes of items. If rows do not mark promotions, the weeks that stand out in a class
+        are taken for promoted."""
+        groups = defaultdict[str, list[Item]](list)
         for item in items:
-            years = Years.of(item.counts, every, item.first, item.unknown)
-            groups[item.group].append(years)
-        indices = {name: class_index(groups[name]) for name in sorted(groups)}
-        return cls(every, {name: index for name, index in indices.items() if index})
+            groups[item.group].append(item)
+        promoted, classes = dict[str, tuple[int, ...]](), dict[str, Index]()
+        for name in sorted(groups):
+            high, own = HighWeeks(), groups[name]
+            if every == "week" and not is_marked:
+                high = standing_out([*map(amounts_of, own)])
+            index = index_without(every, own, high)
+            if high.promoted:
+                promoted[name] = high.promoted
+            if index:
+                classes[name] = index
+        return cls(every, classes, promoted)
+
+    def promotions(self, item: Item) -> set[int]:
+        """Returns the places of the promoted periods of an item."""
+        return promotions_of(item, self.promoted.get(item.group, ()))
 
     @classmethod
     def parse(cls, tree: Mapping[str, Any]) -> Seasons:
@@ -119,18 +134,36 @@ class Seasons:
         classes = dict[str, Index]()
         for name, (values, *facts) in tree["classes"].items():
             classes[name] = Index(tuple(values), *facts)
-        return cls(tree["every"], classes)
+        promoted = {
+            name: tuple(weeks) for name, weeks in tree.get("promoted", {}).items()
+        }
+        return cls(tree["every"], classes, promoted)
+
+    def seen_in(self, item: Item) -> Index | None:
+        """Returns the index of an item: its own if that is clear, else that of its class; None without a season."""
+        weeks = self.promoted.get(item.group, ())
+        years = years_without(self.every, item, weeks)
+        return own_index(years, self.classes.get(item.group))
 
     def of_item(self, item: Item) -> Index | None:
-        """Returns the index of an item: its own if that is clear, else that of its class; None without a season, or if
-        amounts without it, or with another month's, would be beyond the range of a law.
-        """
-        years = Years.of(item.counts, self.every, item.first, item.unknown)
-        index = own_index(years, self.classes.get(item.group))
+        """Returns the index by which an item is planned; None without a season, or if amounts without it, or with another
+        month's, would be beyond the range of a law."""
+        index = self.seen_in(item)
         if index is None:
             return None
-        swing = max(index.values) / min(index.values)
-        return index if max(item.counts, default=0) * swing < MOST_DEMAND else None
+        by_period = self.by_period(item, index)
+        most = float((np.array(item.counts) / by_period).max(initial=0))
+        return index if most * max(index.values) < MOST_DEMAND else None
+
+    def is_beyond(self, item: Item) -> bool:
+        """Returns whether an item has a season, but amounts that are too large for it."""
+        return self.of_item(item) is None and self.seen_in(item) is not None
+
+    def by_period(self, item: Item, index: Index) -> Floats:
+        """Returns an index by period of the record of an item."""
+        months = months_of(self.every, item.first, len(item.counts))
+        values: Floats = np.array(index.values)[months]
+        return values
 
     def is_own(self, item: Item, index: Index) -> bool:
         """Returns whether the index of an item is not that of its class."""
@@ -138,10 +171,9 @@ class Seasons:
 
     def flat(self, item: Item, index: Index, seed: int) -> Item:
         """Returns an item with the counts that it would have had without its season, rounded at random."""
-        months = months_of(self.every, item.first, len(item.counts))
         random = np.random.default_rng(seed)
-        by_period = np.array(index.values)[months]
-        return replace(item, counts=flattened(item.counts, by_period, random))
+        counts = flattened(item.counts, self.by_period(item, index), random)
+        return replace(item, counts=counts)
 
     def in_season(
         self, item: Item, index: Index, law: FittedLaw, lead: Law
@@ -149,12 +181,50 @@ class Seasons:
         """Returns how an item is planned for the first month after its record, by the law of its demand without the
         season, and by that of its lead time."""
         year = coming_year(self.every, item.first + len(item.counts))
-        is_own, periods = self.is_own(item, index), round(float(lead.mean))
+        is_own = self.is_own(item, index)
+        # A review less often than in each period has half of the time between two more to cover, in the mean.
+        periods = round(float(lead.mean) + (item.review - 1) / 2)
+        promoted = len(self.promotions(item))
+        months = tuple(year), year[0]
         return InSeason(
-            item, index, is_own, self.every, law, periods, tuple(year), year[0]
+            item, index, is_own, self.every, law, periods, *months, promoted
         )
 
 
-def is_long(every: str, periods: int) -> bool:
-    """Returns whether a record is long enough to have a season."""
-    return periods >= YEARS * CALENDAR[every]["season"]
+def amounts_of(item: Item) -> Amounts:
+    """Returns the demand of an item by week, NaN where it is not known."""
+    amounts = np.array(item.counts, float)
+    amounts[[*item.unknown]] = np.nan
+    return Amounts(item.first, amounts)
+
+
+def promotions_of(item: Item, weeks: Sequence[int]) -> set[int]:
+    """Returns the places of the promoted periods of an item: those of its rows, and weeks by their numbers."""
+    places = {week - item.first for week in weeks} & {*range(len(item.counts))}
+    return places.union(item.promoted)
+
+
+def years_without(every: str, item: Item, weeks: Sequence[int]) -> Years:
+    """Returns the years of an item, in which its promoted periods, and weeks by their numbers, count as unknown."""
+    places = promotions_of(item, weeks).union(item.unknown)
+    return Years.of(item.counts, every, item.first, sorted(places))
+
+
+def index_without(every: str, items: Sequence[Item], high: HighWeeks) -> Index | None:
+    """Returns the season of a class without its promoted weeks; None if it has none. Promotions that happen to be in one
+    week of each year are no season, so without the others it must be seen with them out too, or with all weeks in.
+    """
+
+    def without(weeks: Sequence[int]) -> Index | None:
+        return class_index([years_without(every, item, weeks) for item in items])
+
+    index = without(high.promoted)
+    if index and high.promoted and high.recurring:
+        is_sure = without(high.promoted + high.recurring) or without(())
+        return index if is_sure else None
+    return index
+
+
+def whole_years(every: str, periods: int) -> int:
+    """Returns how many whole years so many periods have."""
+    return periods // CALENDAR[every]["season"]

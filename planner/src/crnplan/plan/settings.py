@@ -44,7 +44,13 @@ LEADS = {"file": ("column",), "orders": ("ordered", "received"), "times": ()}
 # The numbers of an item's settings that are taken exactly.
 EXACT = (
     *("costs.setup", "costs.holding", "costs.backlog", "costs.unit"),
-    *("run.fill", "today.stock", "bounds.coverage", "bounds.shelf_life"),
+    *(
+        "run.fill",
+        "run.no_shortage",
+        "today.stock",
+        "bounds.coverage",
+        "bounds.shelf_life",
+    ),
 )
 # The tables of an item's settings that must be there.
 NEEDED = ("history", "lead", "costs", "today")
@@ -305,6 +311,27 @@ def _history_faults(
         )
 
 
+def _goal_faults(
+    costs: Mapping[str, Any] | None, run: Mapping[str, Any]
+) -> Iterator[TreeFault]:
+    """Yields that nothing is wanted, or two shares."""
+    goals = {"fill", "no_shortage"} & run.keys()
+    if costs is not None and "backlog" not in costs and not goals:
+        yield TreeFault(
+            MISSING,
+            ("costs",),
+            "there is neither a backlog cost nor a wanted share",
+            "write backlog, or [run] fill or no_shortage",
+        )
+    if len(goals) > 1:
+        yield TreeFault(
+            RANGE,
+            ("run", "no_shortage"),
+            "a fill rate is wanted, and a share of periods without a shortage",
+            "leave one out",
+        )
+
+
 def _joint_faults(
     folder: Path, path: Place, tree: Mapping[str, Any], good: Container[str]
 ) -> list[TreeFault]:
@@ -314,16 +341,8 @@ def _joint_faults(
     faults = [*_history_faults(tables.get("history", {}), lead)]
     if "lead" in tables:
         faults += _lead_faults(lead, folder)
-    has_fill = "fill" in tables["run"] if "run" in tables else "run" in tree
-    if "costs" in tables and "backlog" not in tables["costs"] and not has_fill:
-        faults.append(
-            TreeFault(
-                MISSING,
-                ("costs",),
-                "there is neither a backlog cost nor a wanted fill rate",
-                "write backlog, or [run] fill",
-            )
-        )
+    if "run" in tables or "run" not in tree:
+        faults += _goal_faults(tables.get("costs"), tables.get("run", {}))
     if today and today["s"] > today["S"]:
         faults.append(
             TreeFault(

@@ -39,7 +39,7 @@ from .totals import Totals, asked_value
 from .what_ifs import Case, figures_in
 
 SWINGS = f"{IN_KEPT}swings.sqlite"
-VERSION = 2  # Answers of others are not used again.
+VERSION = 3  # Answers of others are not used again.
 # What differs, and how many tenths of it there are.
 HOLDING, BACKLOG, DEMAND, LEADS, NOTHING = "holding", "backlog", "demand", "lead", ""
 LAWS = DEMAND, LEADS
@@ -102,12 +102,32 @@ def swing_of(terms: Terms, chosen: Levels) -> Swing:
     return Swing(tuple(rows))
 
 
+def swing_in(item: Item, answer: Answer, settings: Settings, period: int) -> Swing:
+    """Returns the figures of an item with its answer as it is in a coming period."""
+    chosen = answer.chosen_in(period)
+    terms = terms_of(item, answer.laws_in(period), settings)
+    levels = chosen.point // item.box, chosen.level // item.box
+    return swing_of(replace(terms, cells=CELLS), levels)
+
+
 def swing_on(item: Item, answer: Answer, settings: Settings) -> Swing:
-    """Returns the figures of an item with its answer: of the first month if it is planned by its season."""
-    chosen = answer.chosen.point // item.box, answer.chosen.level // item.box
-    laws = answer.laws_in(item.first + len(item.counts))
-    terms = terms_of(item, laws, settings)
-    return swing_of(replace(terms, cells=CELLS), chosen)
+    """Returns the figures of an item with its answer: of one that is planned by its season their means over the year, of
+    the share that is met at once by demand. A case that a month lacks has none."""
+    months = answer.months
+    if not months:
+        return swing_in(item, answer, settings, item.first + len(item.counts))
+    swings = [swing_in(item, answer, settings, month.first) for month in months]
+    periods = np.array([month.end - month.first for month in months])
+    asked = periods * [month.factor for month in months]
+    rows = list[tuple[float, ...]]()
+    for by_month in zip(*(swing.rows for swing in swings)):
+        means = list[float]()
+        if all(by_month):
+            *costs, fills = np.transpose(by_month)
+            means += [float(np.average(cost, weights=periods)) for cost in costs]
+            means.append(float(np.average(fills, weights=asked)))
+        rows.append(tuple(means))
+    return Swing(tuple(rows))
 
 
 def swing_asked(asked: tuple[Item, Answer], settings: Settings) -> Swing | Remark:

@@ -32,7 +32,7 @@ from ..store.stored import Store
 from ..store.work import Work
 from .correction import LEAST_ITEMS
 from .offers import Asked, Offer, Sums, met_on_past, offer_asked, past_asked
-from .prices import UNITS, Price, Prices
+from .prices import ITEMS, UNITS, VALUE, Price, Prices
 from .how import Settings
 
 PRICES = "prices"  # a fact of the store of answers
@@ -74,26 +74,32 @@ class OnPast(NamedTuple):
         return 1 - float(np.interp(math.log(price), np.log(self.prices), self.unmet))
 
 
+def weighed(read: Catalogued, settings: Settings) -> Iterator[Item]:
+    """Yields the items in order by what decides what they weigh: without their demand, unless they weigh by that."""
+    if settings.weigh == ITEMS:
+        yield from read.items()
+        return
+    fields = "name", "holding", "backlog", "price", "category", "past"
+    for cells in read.values(*fields):
+        facts = dict(zip(fields, cells))
+        yield Item(counts=(), leads=(), levels=None, setup=Fraction(0), **facts)
+
+
 def members_of(
     read: Catalogued, settings: Settings
-) -> Iterator[tuple[str, str, Fraction]]:
+) -> Iterator[tuple[str, str, float]]:
     """Yields in order the name of each item that is planned together with others, with its group and what a unit of its
     weight costs to hold. Raises Refused if most of those for which a share is wanted have no price, by which they would
     weigh."""
     counts = Counter[bool]()
-    fields = "name", "holding", "backlog", "price", "category", "past"
-    for name, holding, backlog, price, category, past in read.values(*fields):
-        facts: dict[str, Any] = {"backlog": backlog, "price": price}
-        item = Item(
-            name, (), (), None, Fraction(0), holding, category=category, **facts
-        )
-        if past in UNORDERED or settings.named_group(item) is None:
+    for item in weighed(read, settings):
+        if item.past in UNORDERED or settings.named_group(item) is None:
             continue
         group = settings.group_of(item)
         counts[group is not None] += 1
         if group is not None:
-            yield name, group, holding if settings.weigh == UNITS else holding / price
-    if counts[False] > counts[True]:
+            yield item.name, group, float(item.holding) / settings.weight_of(item)
+    if settings.weigh == VALUE and counts[False] > counts[True]:
         raise Refused(
             f"{counts[False]:,} of {counts.total():,} items that are to be planned together have no price, by which "
             "they would weigh",
@@ -118,7 +124,11 @@ def rounded(prices: Floats) -> tuple[float, ...]:
 
 
 class Finding:
-    """Finds the prices of all groups of a catalogue. Offers are kept in the folder."""
+    """Finds the prices of all groups of a catalogue. Offers are kept in the folder, in three stores; `part` says of which
+    part of the record they are, if not of all."""
+
+    stores = COARSE, FINER, ON_PAST
+    part = ""
 
     def __init__(
         self,
@@ -132,21 +142,29 @@ class Finding:
         self.folder, self.read, self.settings = folder, read, settings
         self.prior, self.means = prior, means
         self.groups = dict[str, str]()
-        units = dict[str, list[Fraction]]()
-        for name, group, unit in members_of(read, settings):
+        units = dict[str, list[float]]()
+        for name, group, unit in self.members():
             self.groups[name] = group
             units.setdefault(group, []).append(unit)
         for group in sorted(settings.together.keys() - units.keys()):
             raise Refused(
-                f"{self._stated(group)}: no item is planned by it: none is of such a class, or each has a backlog cost or "
+                f"{self.stated(group)}: no item is planned by it: none is of such a class, or each has a backlog cost or "
                 "no price",
                 "leave it out",
             )
         self.units = {
-            group: float(statistics.median_low(units[group])) for group in sorted(units)
+            group: statistics.median_low(units[group]) for group in sorted(units)
         }
 
-    def _stated(self, group: str) -> str:
+    def members(self) -> Iterator[tuple[str, str, float]]:
+        """Yields in order the name of each item with its group and what a unit of its weight costs to hold."""
+        return members_of(self.read, self.settings)
+
+    def item(self, name: str) -> Item | None:
+        """Returns an item as it is asked."""
+        return self.read.item(name)
+
+    def stated(self, group: str) -> str:
         """Returns the word that wants a share of a group."""
         share = f"{self.settings.together[group]:g}"
         return argument("together", f"{group}={share}" if group else share)
@@ -160,12 +178,12 @@ class Finding:
     ) -> Iterator[tuple[str, Offer]]:
         """Yields in order the offers of items by name, which are kept in a store; `names` has their groups."""
         text = repr([(group, dataclasses.astuple(asked[group])) for group in asked])
-        common = json.dumps([self.settings.common("", self.prior), text])
+        common = json.dumps([self.settings.common(self.part, self.prior), text])
         with contextlib.closing(Store(self.folder.store(kept), Offer)) as offers:
             work = Work(
                 offers,
                 lambda: ((name, self.read.digest(name, common)) for name in names),
-                self.read.item,
+                self.item,
                 function,
                 (self.settings, self.prior, asked),
                 unit="offers",
@@ -183,15 +201,14 @@ class Finding:
             sums[self.groups[name]].add(name, offer)
         for group, some in sums.items():
             if not some.asked:
-                raise Refused(
-                    f"{self._stated(group)}: none of its items can be planned"
-                )
+                raise Refused(f"{self.stated(group)}: none of its items can be planned")
         return sums
 
     def prices(self) -> Prices:
         """Returns the prices of all groups. Raises Refused if a share is not met at any price."""
         grids = {group: rounded(GRID * unit) for group, unit in self.units.items()}
-        coarse = self.sums({group: Asked(grids[group]) for group in grids}, COARSE)
+        in_coarse, in_finer, _ = self.stores
+        coarse = self.sums({group: Asked(grids[group]) for group in grids}, in_coarse)
         places = {group: self.place_of(group, coarse[group]) for group in coarse}
         past = dict[str, OnPast]()
         if self.settings.correct:
@@ -205,7 +222,7 @@ class Finding:
             if group in past:
                 prices.add(past[group].price(self.settings.together[group]))
             asked[group] = Asked(tuple(sorted(prices)), fills)
-        finer = self.sums(asked, FINER)
+        finer = self.sums(asked, in_finer)
         return Prices(
             {
                 group: self.price_of(group, finer[group], asked[group], past.get(group))
@@ -218,7 +235,7 @@ class Finding:
         places = np.flatnonzero(sums.met >= self.settings.together[group])
         if not len(places):
             raise Refused(
-                f"{self._stated(group)}: within their bounds its items meet {sums.met.max():.4%} together at most",
+                f"{self.stated(group)}: within their bounds its items meet {sums.met.max():.4%} together at most",
                 "write a lower share",
             )
         return int(places[0])
@@ -238,14 +255,14 @@ class Finding:
             for group, place in places.items()
         }
         ordered = {name: names[name] for name in sorted(names)}
-        tried = dict(self.offers(asked, ON_PAST, past_asked, ordered))
+        tried = dict(self.offers(asked, self.stores[-1], past_asked, ordered))
         sizes = self.sizes_of(ordered)
         shares = dict[str, OnPast]()
         for group, some in drawn.items():
             own = {name: tried[name] for name in some.names if name in tried}
             if len(own) < LEAST_ITEMS:
                 raise Refused(
-                    f"{self._stated(group)}: {len(own)} items can be tried on their past, and a correction needs "
+                    f"{self.stated(group)}: {len(own)} items can be tried on their past, and a correction needs "
                     f"{LEAST_ITEMS}",
                     f"plan without {argument('correct')}",
                 )
@@ -255,7 +272,9 @@ class Finding:
 
     def sizes_of(self, names: Mapping[str, str]) -> dict[str, float]:
         """Returns what items ask for by theory, of which it is kept."""
-        with contextlib.closing(Store(self.folder.store(COARSE), Offer)) as offers:
+        with contextlib.closing(
+            Store(self.folder.store(self.stores[0]), Offer)
+        ) as offers:
             answers = {name: offers.answer(name) for name in names}
         return {
             name: offer.asked
@@ -289,6 +308,19 @@ def fill_with(held: float, fills: tuple[float, ...], by_fill: Floats) -> float:
     return -math.expm1(float(np.interp(held, rising, np.log1p(-np.array(fills)))))
 
 
+def settled(settings: Settings, **words: Any) -> Settings:
+    """Returns settings, perhaps with other words, without those on which no price depends."""
+    usual: dict[str, Any] = {
+        "level": Settings.level,
+        "periods": Settings.periods,
+        "replications": Settings.replications,
+        "least_gain": None,
+        "cycle": None,
+        "overruns": None,
+    }
+    return dataclasses.replace(settings, **usual | words)
+
+
 def prices_of(
     folder: Folder,
     answers: Store[Any],
@@ -301,14 +333,7 @@ def prices_of(
     """Returns the prices by which items are planned together. Those that were found before are used again as they are,
     also if items change, unless they are to be learned `again`, or items are planned in another way. Raises Refused.
     """
-    on = dataclasses.replace(
-        settings,
-        level=Settings.level,
-        periods=Settings.periods,
-        replications=Settings.replications,
-        least_gain=None,
-        cycle=None,
-    )
+    on = settled(settings)
     common = on.common("", prior)
     kept = json.loads(answers.fact(PRICES) or "null")
     if kept and kept["common"] == common and not again:

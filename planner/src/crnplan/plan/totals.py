@@ -8,6 +8,7 @@ from collections.abc import Iterable
 from dataclasses import dataclass, field
 from fractions import Fraction
 from statistics import NormalDist
+from typing import TYPE_CHECKING
 
 from ..read.classes import xyz_of
 from ..read.item import ENDED, NO_DEMAND, UNORDERED, Item
@@ -23,6 +24,9 @@ from .answer import (
     Figures,
     Share,
 )
+
+if TYPE_CHECKING:
+    import pandas as pd
 
 # The name of sums over chosen policies that are compared with none.
 UNCOMPARED = "uncompared"
@@ -65,16 +69,20 @@ class Totals:
     those that have stopped or are phased out. Of all planned ones `confidence_cost` and `coverage_cost` of a period, `override_cost`,
     by which the policies of planners cost more than the chosen ones, and
     of items whose wanted fill is corrected, what it costs a period to hold the mean stock, `held`, and that of the
-    policies that aim at the wanted fill, `held_plain`. Of each group of items that are planned together the weight of
+    policies that aim at the wanted fill, `held_plain`, the shares of demand that they meet by theory, `aimed`, and that
+    such plans met on the past, `met_past`. Of items whose cost is promised by the past that promise, `cost_past`, and
+    what theory says, `cost_theory`. Of each group of items that are planned together the weight of
     the demand of a period, `together GROUP`, and of what is met at once of it, `met together GROUP`.
 
     Counts of items: by verdict, those that are `compared`, those that are not planned (`faults`), those of them by a
     fault of ours (`broken`), with a confidence in their fill rate (`promised`), whose S, or S - s, may cover no more
-    periods (`covered`), by the wanted fill, if that is `corrected`, and by the `letters` A, B, C and X, Y, Z of their
+    periods (`covered`), by the wanted fill, if that is `corrected`, whose cost is promised by the past (`costed`), and by the `letters` A, B, C and X, Y, Z of their
     classes, and those with levels of the planner (`overridden`); of those that are compared, those with the run's figures (`by_run`), without an interval of the run, and
     with a price. `shared` has by group how many are planned together, `least` how many of these have the fill rate that
-    each has at least, and `fills` the least fill rate and the greatest one; and so many that should be planned together
-    are planned by themselves (`by_itself`).
+    each has at least, `fills` the least fill rate and the greatest one, and `half` how many meet less than half of what is
+    wanted of all together; and so many that should be planned together are planned by themselves (`by_itself`). Of
+    `by_periods` a share of periods without a shortage is wanted: sums are `no_shortage_wanted`, and `no_shortage_chosen`
+    by theory. So many are planned by theory alone, `without_run`, which save `saving_without_run`.
     """
 
     parts: dict[str, Fraction] = field(default_factory=dict)
@@ -90,10 +98,14 @@ class Totals:
     overridden: int = 0
     letters: Counter[str] = field(default_factory=Counter)
     corrected: Counter[float] = field(default_factory=Counter)
+    costed: int = 0
     shared: Counter[str] = field(default_factory=Counter)
     least: Counter[str] = field(default_factory=Counter)
+    half: Counter[str] = field(default_factory=Counter)
     fills: dict[str, list[float]] = field(default_factory=dict)
     by_itself: int = 0
+    by_periods: int = 0
+    without_run: int = 0
 
     @classmethod
     def of(cls, answers: Iterable[tuple[Item, Answer | Remark]]) -> Totals:
@@ -125,7 +137,7 @@ class Totals:
         tree = json.loads(text)
         totals = cls(**tree)
         totals.parts = {name: Fraction(part) for name, part in tree["parts"].items()}
-        for name in ("verdicts", "letters", "shared", "least"):
+        for name in ("verdicts", "letters", "shared", "least", "half"):
             setattr(totals, name, Counter(getattr(totals, name)))
         totals.corrected = Counter(dict(tree["corrected"]))
         return totals
@@ -156,6 +168,17 @@ class Totals:
         """Returns how many planned items are not compared with a policy of today."""
         return self.planned - self.compared
 
+    @property
+    def frame(self) -> pd.DataFrame:
+        """Returns a row for each sum: figure, and value (money, items, or shares added up)."""
+        import pandas as pd
+
+        import pandas as pd
+
+        figures = sorted(self.parts)
+        values = [self[figure] for figure in figures]
+        return pd.DataFrame({"figure": figures, "value": values})
+
     def __getitem__(self, name: str) -> float:
         """Returns a sum, rounded once; 0 if nothing was added."""
         return float(self.parts.get(name, 0))
@@ -166,6 +189,7 @@ class Totals:
         self.promised += answer.confidence_cost is not None
         self.covered += answer.coverage_cost is not None
         self.overridden += answer.override is not None
+        self.without_run += answer.run is None
         values = {
             "confidence_cost": answer.confidence_cost or 0.0,
             "coverage_cost": answer.coverage_cost or 0.0,
@@ -176,6 +200,16 @@ class Totals:
             self.corrected[float(item.fill)] += 1
             values["held"] = holding * answer.chosen.stock
             values["held_plain"] = holding * answer.correction.plain_stock
+            values["aimed"] = answer.chosen.fill
+            values["met_past"] = answer.correction.met
+        if answer.cost_promised is not None:
+            self.costed += 1
+            values["cost_theory"] = answer.cost_chosen
+            values["cost_past"] = answer.cost_promised
+        if item.no_shortage is not None:
+            self.by_periods += 1
+            values["no_shortage_wanted"] = float(item.no_shortage)
+            values["no_shortage_chosen"] = answer.chosen.no_shortage
         self.by_itself += any(remark.code == BY_ITSELF for remark in answer.remarks)
         if answer.share:
             values |= self._shared(answer, answer.share)
@@ -196,6 +230,7 @@ class Totals:
         self.fills[share.group] = [min(low, fill), max(high, fill)]
         self.shared[share.group] += 1
         self.least[share.group] += share.is_least
+        self.half[share.group] += 2 * fill < share.wanted
         return {
             f"together {share.group}": asked,
             f"met together {share.group}": asked * fill,
@@ -206,18 +241,25 @@ class Totals:
         run, saving = answer.run, answer.saving or 0.0
         self.compared += 1
         self.by_run += answer.source == RUN
-        self.without_interval += run.error is None
+        self.without_interval += bool(run and run.error is None)
         self.priced += bool(item.price)
         assert answer.today is not None
         return {
             "saving": saving,
             f"saving {answer.verdict}": saving,
-            "run_saving": run.saving or 0.0,
-            "run_variance": (run.error or 0.0) ** 2,
+            "run_saving": (run and run.saving) or 0.0,
+            "run_variance": ((run and run.error) or 0.0) ** 2,
+            "saving_without_run": saving * (run is None),
             "demand": asked_value(item, answer),
             **policy_sums(TODAY, item, answer, answer.today, answer.cost_today or 0.0),
             **policy_sums(CHOSEN, item, answer, answer.chosen, answer.cost_chosen),
         }
+
+    @property
+    def unserved(self) -> Remark | None:
+        """Returns that some items that are planned together meet less than half of what is wanted; None if none does."""
+        items = self.half.total()
+        return Remark("met by less than half", {"items": items}) if items else None
 
     def fill(self, policy: str) -> float | None:
         """Returns the share of demand by value that policies meet at once, which are `today`, `chosen` or `uncompared`;

@@ -12,7 +12,7 @@ from ..decide.sensitivity import law_cases
 from ..errors import Refused
 from ..law import Law
 from ..remarks import Remark
-from ..scenario import Levels
+from ..policies import Levels
 from ..columns import columns_of
 from ..table import DataTable, Result
 from ..words import sentence
@@ -67,7 +67,7 @@ class Move:
     kept_fill: float
 
 
-@dataclass(frozen=True)
+@dataclass(frozen=True, eq=False, repr=False)
 class Moves(Result):
     """The moves in all cases, the first one being the item as it is, and remarks on cases that are left out."""
 
@@ -99,6 +99,14 @@ class Moves(Result):
         return f"How the best policy moves, and what it costs to keep the chosen one\n\n{self.table.text}{self.notes}"
 
 
+def case_of_share(terms: Terms, share: float) -> Case:
+    """Returns the case in which another share is wanted."""
+    facts, words = "fill", f"fill rate of {100 * share:.4g}% wanted"
+    if terms.counts_periods:
+        facts, words = "no_shortage", f"no shortage in {100 * share:.4g}% of periods"
+    return Case(words, {facts: Fraction(share)})
+
+
 def cases_of(terms: Terms, notes: list[Remark]) -> Iterator[Case]:
     """Yields all cases: each cost that there is halved and doubled, half and twice as much demand that need not be met
     at once, and other laws. What cannot be changed exactly, or at all, goes to the notes.
@@ -109,13 +117,11 @@ def cases_of(terms: Terms, notes: list[Remark]) -> Iterator[Case]:
         if cost:
             for word, times in TIMES.items():
                 yield Case(f"{name} {word}", {name: cost * times})
-    if terms.item.fill is not None and terms.together is None:
+    if terms.item.wanted is not None and terms.together is None:
         for unmet_times in (0.5, 2.0):
-            fill = 1 - unmet_times * (1 - float(terms.item.fill))
-            if fill > 0:
-                yield Case(
-                    f"fill rate of {100 * fill:.4g}% wanted", {"fill": Fraction(fill)}
-                )
+            share = 1 - unmet_times * (1 - float(terms.item.wanted))
+            if share > 0:
+                yield case_of_share(terms, share)
     for change, laws in law_cases(terms.demand, terms.lead, notes):
         yield Case(LEADS_LONGER if change.key == "lead" else change.words, laws=laws)
 

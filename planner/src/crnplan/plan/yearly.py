@@ -73,11 +73,13 @@ class Year:
         return dataclasses.replace(figures[0], **means)
 
     @property
-    def run(self) -> Run:
-        """Returns the run of the first month with the mean costs and savings of the year. The runs of all months are on
+    def run(self) -> Run | None:
+        """Returns the run of the first month with the mean costs and savings of the year; None without runs. The runs of all months are on
         the same random numbers, so their errors and intervals are added as if they were one.
         """
-        runs = [answer.run for answer in self.answers]
+        runs = [answer.run for answer in self.answers if answer.run]
+        if not runs:
+            return None
         means = dict[str, float | None]()
         for name in ("cost_chosen", "cost_today", "saving", "error", "low", "high"):
             means[name] = self.mean(getattr(run, name) for run in runs)
@@ -93,12 +95,13 @@ class Year:
         if verdicts == {SAME}:
             return SAME
         assert answer.today and answer.saving is not None
-        ends = answer.run.low, answer.run.high
-        if answer.source == THEORY:
-            near = CLOSE * answer.today.cost
-            ends = answer.saving - near, answer.saving + near
+        near = CLOSE * answer.today.cost
+        low: float | None = answer.saving - near
+        high: float | None = answer.saving + near
+        if answer.run and answer.source != THEORY:
+            low, high = answer.run.low, answer.run.high
         question = self.months[0].question
-        return verdict_of(question, answer.today, answer.saving, *ends)
+        return verdict_of(question, answer.today, answer.saving, low, high)
 
 
 def over_year(months: Sequence[Planned], verdict_of: Verdict) -> Answer:
@@ -135,5 +138,6 @@ def over_year(months: Sequence[Planned], verdict_of: Verdict) -> Answer:
         correction=correction,
         run=year.run,
         calendar=tuple(month.row for month in months),
+        cost_promised=year.mean(one.cost_promised for one in year.answers),
     )
     return dataclasses.replace(answer, verdict=year.verdict(answer, verdict_of))

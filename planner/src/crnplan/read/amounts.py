@@ -67,6 +67,7 @@ KINDS = {
     "owed": ("", "below 0"),
     "on order": ("no amount", "below 0"),
     "share": ("no amount", "no share"),
+    "stated": ("no amount", "below 0"),
 }
 
 # The kinds of the amounts of each table, by role.
@@ -77,6 +78,7 @@ AMOUNTS: dict[str, dict[str, str]] = {
         "holding": "cost",
         "backlog": "cost",
         "fill": "share",
+        "no_shortage": "share",
         "s": "items",
         "S": "items",
         "stock": "number",
@@ -94,6 +96,15 @@ AMOUNTS: dict[str, dict[str, str]] = {
     "on_order": {"quantity": "on order"},
     "overrides": {"s": "items", "S": "items"},
     "out_of_stock": {},
+    "laws": {
+        "value": "stated",
+        "chance": "stated",
+        "weight": "items",
+        "mean": "stated",
+        "variance": "stated",
+        "deviation": "stated",
+        "quantile": "share",
+    },
 }
 
 
@@ -308,12 +319,24 @@ class AmountReader(ColumnReader[Amount]):
         except Unreadable:
             return None
 
+    def part(self, cell: Cell, unit: str, kind: str) -> Fraction:
+        """Returns a chance or the like, of a kind of KINDS, of a column that is perhaps in percent; so is a cell that says
+        so. What such numbers add up to, or are between, shows one that is written otherwise. Raises Unreadable.
+        """
+        if cell == "":
+            raise Unreadable("no amount")
+        amount = self.amount(cell)
+        if amount.unit not in ("", PERCENT) or amount.currency:
+            raise Unreadable(self.none, cell)
+        percent = PERCENT in (amount.unit, unit)
+        return checked(amount.number / (100 if percent else 1), kind, cell)
+
     def share(self, cell: Cell, unit: str, role: str) -> Fraction:
         """Returns a share above 0, of a column in shares or in percent. Raises Unreadable."""
         if cell == "":
             raise Unreadable("no amount")
         share = share_in(self.amount(cell), unit, cell, role)
-        return checked(share, "share" if role == "fill" else "cost", cell)
+        return checked(share, AMOUNTS["items"][role], cell)
 
 
 def meets(number: Fraction, code: str) -> bool:

@@ -29,7 +29,7 @@ from .dates import dated_cell
 from .sources import Row, Sheet, TextSheet, readable
 
 Seen = dict[str, dict[Cell, int]]  # how many good rows have each value, by role
-DATES = ("date", "ordered", "received", "due", "since", "from", "to")
+DATES = ("date", "ordered", "received", "due", "since", "from", "to", "period")
 ROWS_AT_ONCE = 200_000  # of those that are read one by one
 LOOK_BYTES = 1 << 20
 # Encodings in which no other letter has the byte of a line's end.

@@ -140,6 +140,13 @@ class Catalogued:
                 None if cell is None else read(cell) for read, cell in zip(reads, cells)
             )
 
+    @property
+    def length(self) -> int:
+        """Returns how many periods of the record count."""
+        start, stop = self.fact("periods")
+        periods = int(stop - start)
+        return min(periods, self.window or periods)
+
     def names(self, *pasts: str) -> Iterator[str]:
         """Yields the names of the items with one of these pasts, or of all."""
         for name, past in self.cells("name", "past"):
@@ -341,6 +348,7 @@ def facts_of(
         "periods": [periods.start, periods.stop],
         "found": found_of(tables, whole, words),
         "told": told_of(words),
+        "keys": tables["items"].sheet.keys,
         "remarks": [
             [remark.code, remark.facts] for remark in remarks_of(tables, parts)
         ],
@@ -409,7 +417,7 @@ def remarks_of(
     tables: Mapping[str, FiledTable], parts: Sequence[PartRead]
 ) -> Iterator[Remark]:
     """Yields what is to be said of the rows of tables: over which places items are summed, states of rows, items that
-    differ by zeros alone, and unknown periods."""
+    differ by zeros alone, and unknown and promoted periods."""
     for kind, table in tables.items():
         places = Counter[str]()
         for part in parts:
@@ -421,6 +429,12 @@ def remarks_of(
         cut = {"cut": items["cut"], "cut_periods": items["cut_periods"]}
         facts = {"items": items["unknown"], "periods": items["unknown_periods"]}
         yield Remark("items with unknown periods", {**facts, **cut})
+    if items["stated"]:
+        facts = {"items": items["stated"], "bare": items["bare"]}
+        yield Remark("items with stated laws", facts)
+    if items["promoted"]:
+        facts = {"items": items["promoted"], "periods": items["promoted_periods"]}
+        yield Remark("items with promotions", facts)
 
 
 def sources_by_role(parts: Iterable[PartRead]) -> dict[str, dict[str, int]]:

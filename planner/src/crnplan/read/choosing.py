@@ -50,12 +50,10 @@ class Condition(NamedTuple):
 
 
 def conditions_of(where: Where | None) -> tuple[str, ...]:
-    """Returns conditions as texts: of a text, several, or a table as {"Location": "Main"}, whose values may be lists, and
+    """Returns conditions as texts: of several, or of a table as {"Location": "Main"}, whose values may be lists, and
     which may be by file, as {"demand": {"Location": "Main"}}."""
     if where is None:
         return ()
-    if isinstance(where, str):
-        return (where,)
     if not isinstance(where, Mapping):
         return tuple(where)
     texts = list[str]()

@@ -14,10 +14,12 @@ from typing import TYPE_CHECKING
 
 from ..errors import Fault, RefusedFaults
 from ..remarks import Remark, Value
+from ..table import names_of
 from .amounts import CODES, ITEM, SIGNS, UNITS
 from .cells import HEADINGS, plain_name
+from .law_forms import LAWS, form_faults
 from .sources import WIDE_ROLES, Column, Sheet
-from .wide import NO_WIDE_ROLE, wide_sheet
+from .wide import NO_WIDE_ROLES, turned_sheet, wide_sheet
 
 if TYPE_CHECKING:
     from .items import Words
@@ -33,6 +35,7 @@ ROLES = {
         "on_order",
         "overrides",
         "out_of_stock",
+        LAWS,
     )
 }
 COLUMNS = [f"{kind}.{role}" for kind, roles in ROLES.items() for role in roles]
@@ -44,13 +47,14 @@ NEEDED = {
     "on_order": {"item", "quantity"},
     "overrides": {"item"},
     "out_of_stock": {"item", "from", "to"},
+    LAWS: {"item"},
 }
 # Each needs the other one.
 LEVELS = {"s": "S", "S": "s", "override_s": "override_S", "override_S": "override_s"}
 # The roles with money, whose decimals say what the smallest unit is.
 MONEY = ("setup", "holding", "backlog", "price", "supplier_min")
-# Roles that a column has by its whole name alone: others that begin so say something else, as a supplier's lead time.
-WHOLE_NAMES = {"supplier"}
+# Roles that a column has by its whole name alone: others that begin so say something else, as a supplier's lead time or the price in a promotion.
+WHOLE_NAMES = {"supplier", "promotion"}
 BESIDE = {*HEADINGS["beside"]["words"]}
 IMPLIED = {name: unit for unit, names in HEADINGS["implied"].items() for name in names}
 DAYS = {
@@ -76,8 +80,12 @@ SYMBOL = re.compile(
 )
 ROLE_UNITS = {role: kind for kind, its in COUNTED.items() for role in its["roles"]}
 SHARES = COUNTED["share"]["units"]
+PERIODS, NAMELESS = HEADINGS["periods"]["date"], HEADINGS["periods"]["nameless"]
+WANTED = COUNTED["share"]["roles"]  # shares of demand, or of periods
 TIMES = ("length", "span")  # the kinds of roles that count times
 MOST_NAME = 100
+# Of more columns than these, the first ones are named.
+MOST_LISTED, FIRST_LISTED = 12, 5
 NO_ROW = Remark("no row")
 
 
@@ -212,7 +220,8 @@ class Finder:
         self.stated = words.columns.get(kind, {})
         self.units = words.units.get(kind, {})
         if is_wide:
-            self.stated = {NO_WIDE_ROLE: "", **self.stated, **WIDE_ROLES}
+            none = dict.fromkeys({*NO_WIDE_ROLES} & {*ROLES[kind]}, "")
+            self.stated = {**none, **self.stated, **WIDE_ROLES[kind]}
         more = words.names.get(kind, {})
         self.role_of = dict[str, str]()
         for role in ROLES[kind]:
@@ -249,11 +258,12 @@ class Finder:
     @property
     def may_be_wide(self) -> bool:
         """Returns whether a table without a column of dates may have them in its heading."""
-        stated = {
-            role: self.stated.get(role, name) for role, name in WIDE_ROLES.items()
-        }
-        is_open = self.kind == "demand" and stated == WIDE_ROLES
-        return is_open and "date" not in self.columns
+        wide = WIDE_ROLES.get(self.kind)
+        if wide is None:
+            return False
+        stated = {role: self.stated.get(role, name) for role, name in wide.items()}
+        date, _ = wide
+        return stated == wide and date not in self.columns
 
     def find(self, heading: Sequence[str]) -> tuple[dict[str, Column], list[Remark]]:
         """Returns the column of each role that the heading has, and what is wrong. Names are compared whole first, for
@@ -264,8 +274,9 @@ class Finder:
         stated, self.wrong = stated_columns(heading, self.stated)
         for role, column in stated.items():
             self._add(role, column)
-        if self.is_wide and self.stated[NO_WIDE_ROLE]:
-            self._refuse("no role of a wide table", NO_WIDE_ROLE)
+        for role in NO_WIDE_ROLES if self.is_wide else ():
+            if self.stated.get(role):
+                self._refuse("no role of a wide table", role)
         for role in ROLES[self.kind]:
             if not self.stated.get(role):
                 self._find(role, heading)
@@ -274,6 +285,8 @@ class Finder:
     def _find(self, role: str, heading: Sequence[str]) -> None:
         """Adds the column that has a role, or says what is wrong. One that is stated as none is not looked for."""
         places, unclear = ([], {}) if role in self.stated else self._places(role)
+        if not (places or unclear or role in self.stated):
+            places = self._others(role)
         if len(places) > 1:
             names = " and ".join(repr(heading[place]) for place in places)
             self._refuse("two columns", role, names=names)
@@ -286,6 +299,25 @@ class Finder:
         elif role in self.needed or role not in self.stated and self._has_other(role):
             code = "no column" + f" of {role}" * (role in ("setup", "holding"))
             self._refuse(code, role, columns=listed(heading))
+
+    def _others(self, role: str) -> list[int]:
+        """Returns the places of the columns that have a role if no column has one of its names: dates that are named by
+        their periods, and the only column of a wide table that has none, if its name says nothing.
+        """
+        if role == "date":
+            return [place for place, name in enumerate(self.plain) if name in PERIODS]
+        own = self.plain[: -len(WIDE_ROLES[self.kind]) - 1] if self.is_wide else []
+        return [0] if role == "item" and len(own) == 1 and own[0] in NAMELESS else []
+
+    @property
+    def turned_place(self) -> int | None:
+        """Returns the place of the dates of a table that may have a column for each item: it has a column of dates and no
+        other one with a role. None if it can have none."""
+        if self.kind != "demand" or {"item", "quantity"} & self.stated.keys():
+            return None
+        if not self.columns and self.plain and self.plain[0] in NAMELESS:
+            return 0
+        return self.columns["date"].place if {*self.columns} == {"date"} else None
 
     def _has_other(self, role: str) -> bool:
         """Returns whether a role is s or S, and there is a column of the other one."""
@@ -357,7 +389,9 @@ class Finder:
         if kind == "rate" and not unit and self.every != "week":
             self._refuse("no unit", role, name=column.name)
         own = {ITEM, "period", "order", self.every}
-        is_own = unit in own or role == "fill" and unit == "share"
+        is_own = unit in own or role in WANTED and unit == "share"
+        if kind == "flow" and unit in DAYS and not is_own:
+            self._refuse("other time of a column", role, unit=unit, name=column.name)
         self.columns[role] = replace(
             column,
             unit=unit * (kind in TIMES or not is_own),
@@ -367,7 +401,9 @@ class Finder:
 
 
 def listed(heading: Sequence[str]) -> str:
-    return ", ".join(name[:MOST_NAME] for name in heading if name) or "none"
+    """Returns the names of columns as one text: of many, the first ones, and how many there are more."""
+    names = [name[:MOST_NAME] for name in heading if name]
+    return names_of(names, FIRST_LISTED if len(names) > MOST_LISTED else MOST_LISTED)
 
 
 def stated_columns(
@@ -403,11 +439,15 @@ def find_columns(kind: str, sheet: Sheet, words: Words) -> Sheet:
     if sheet.heading:
         sheet.columns, wrong = finder.find(sheet.heading)
     wide = wide_sheet(sheet) if finder.may_be_wide else None
+    if wide is None and sheet.heading and finder.turned_place is not None:
+        wide = turned_sheet(sheet, finder.turned_place)
     if wide:
         sheet = wide
         finder = Finder(kind, words, is_wide=True)
         sheet.columns, wrong = finder.find(sheet.heading)
         wide.mark_used()
+    if kind == LAWS and not wrong:
+        wrong = [*form_faults(sheet.columns)]
     if wrong:
         raise refused_heading(sheet, wrong)
     return sheet

@@ -21,7 +21,8 @@ from .tables import OTHER, REJECTED, STATES, USED, WITH_ITEM, TableReader, value
 
 PriceOf = Callable[[int], Fraction | None]  # of an item by its code
 # The amounts that are summed, of which the first one has a value.
-SUMMED = {kind: (*roles,) for kind, roles in AMOUNTS.items()} | {"items": ("stock",)}
+SUMMED: dict[str, tuple[str, ...]] = {kind: (*AMOUNTS[kind],) for kind in AMOUNTS}
+SUMMED |= {"items": ("stock",), "laws": ()}
 # The columns whose first and last dates are named.
 DATED = {
     "demand": "date",

@@ -18,12 +18,14 @@ import numpy as np
 
 from ..errors import Refused, argument
 from ..remarks import Remark
-from .cells import Cell, Numbers, Unreadable, bare_cell, shown
+from .cells import Cell, Numbers, Unreadable, bare_cell, plain_name, shown
 from .date_forms import (
     DATE_FORMS,
     ISO,
     NUMBERED,
     SHORT,
+    WEEK,
+    WEEK_WORDS,
     Written,
     day_of_serial,
     days_among,
@@ -47,6 +49,9 @@ PROBES = (Day(2026, 3, 31), Day(1999, 12, 4))
 EXCEL = "excel"
 # What is wrong with a cell that is no date at all.
 NO_DATES = ("no date", "no form", "number of a day", "serial", "other pattern")
+PLAIN_WEEKS = {*map(plain_name, WEEK_WORDS)}
+# The number of a week without its year.
+SHORT_WEEK = re.compile(f"(?:{WEEK})?[ .-]*[0-9]{{1,2}}", re.IGNORECASE)
 # The years of months that are written with two digits are no more than so many apart, or are days.
 MOST_YEARS = 10
 # Examples of what is stated of dates that may have the day or the month first, by whether the day comes first.
@@ -113,6 +118,7 @@ class DateReader:
         self.first_text = self.first_pattern = ""
         self.years = set[int]()
         self.has_weeks = False  # whether numbers beside years are those of weeks
+        self.is_of_weeks = False  # whether a column is named by its weeks
 
     def look(self, cells: Iterable[Cell]) -> DateReader:
         """Looks at the dates of a column, in the order of their rows. Returns itself."""
@@ -137,6 +143,11 @@ class DateReader:
                 break
         self._look_for_turned(column)
         return self
+
+    def look_at_name(self, name: str) -> None:
+        """Looks at the name of a column: in one of weeks, numbers beside years are those of weeks."""
+        if {*plain_name(name).split()} & PLAIN_WEEKS:
+            self.has_weeks = self.is_of_weeks = True
 
     def _look_at(self, text: str, parts: Written) -> None:
         """Looks at a date."""
@@ -268,6 +279,8 @@ class DateReader:
         if parts is None:
             if serial := day_of_serial(text):
                 raise Unreadable("serial", text, day=str(serial))
+            if self.is_of_weeks and SHORT_WEEK.fullmatch(text):
+                raise Unreadable("number of a week", text)
             is_number = without_time(text).isdecimal()
             raise Unreadable("number of a day" if is_number else "no form", text)
         parts = self._settled(parts)
@@ -333,8 +346,10 @@ class DateReader:
         if parts.last:
             monday = int(parts.month or 0), int(parts.day or 0)
             first = real_day(text, Day, year, *monday)
-            if first.weekday() or str(first + datetime.timedelta(6)) != parts.last:
+            if str(first + datetime.timedelta(6)) != parts.last:
                 raise Unreadable("no form", text)
+            if first.weekday():
+                raise Unreadable("other week", text)
         elif parts.week:
             first = real_day(text, Day.fromisocalendar, year, int(parts.week), 1)
         else:

@@ -5,7 +5,7 @@ import re
 from collections.abc import Callable, Collection, Mapping, Sequence
 from dataclasses import dataclass, field
 from fractions import Fraction
-from typing import Any, TypeVar
+from typing import Any, NamedTuple, TypeVar
 
 from ..errors import Refused, argument
 from ..money import Number
@@ -14,7 +14,7 @@ from ..table import names_of
 from ..words import message
 from .amounts import SIGNS, share_of
 from .cells import HEADINGS, Cell, Unreadable
-from .times import TimeReader
+from .times import PERIOD, TimeReader
 
 Value = TypeVar("Value")
 ABC = (80, 95)
@@ -32,15 +32,25 @@ MAY_BE: Mapping[str, Collection[str]] = HEADINGS["money"]["may_be"]
 CODE = re.compile("[A-Z]{3}")
 
 
+class Goals(NamedTuple):
+    """What is wanted of an item: a share of demand at once, or one of periods without a shortage, each None if it is not;
+    and by its name where that is from, which is empty if nothing is wanted."""
+
+    fill: Fraction | None
+    no_shortage: Fraction | None
+    sources: Mapping[str, str]
+
+
 @dataclass(frozen=True)
 class Defaults:
     """What a planner states for all items: `setup`, money an order; `holding_rate`, the share of the price that a year
     of holding costs; `fill`, the share of demand that is wanted at once, also by class (`service`); `lead`, the lead time,
-    or several, with their units. What the row of an item says counts first, then its class, or its receipts. `currency`
+    or several, with their units; `review`, the time from one review to the next. What the row of an item says counts first, then its class, or its receipts. `currency`
     is that of all amounts, empty if only the files say it. The classes A and B end at these shares of the value of
     demand, in percent (`abc`). `supplier_min` is the least value of an order by supplier, beside those of the masters.
     What items are wanted to meet `together` by class, or all others under an empty name, is the wanted share of items for
-    which nothing else says one.
+    which nothing else says one. Without any wanted share or backlog cost an item wants `no_shortage` in that share of
+    periods. Raises Refused for two shares that are both of such items.
     """
 
     setup: Fraction | None = None
@@ -52,6 +62,18 @@ class Defaults:
     abc: tuple[int, int] = ABC
     supplier_min: Mapping[str, Fraction] = field(default_factory=dict)
     together: Mapping[str, Fraction] = field(default_factory=dict)
+    no_shortage: Fraction | None = None
+    review: str = ""
+
+    def __post_init__(self) -> None:
+        others = {"fill": self.fill, "together": self.together.get("")}
+        for name, share in others.items():
+            if share is not None and self.no_shortage is not None:
+                raise Refused(
+                    f"{argument(name)} and {argument('no_shortage')} are both of all items for which nothing else says "
+                    "a wanted share",
+                    "leave one out",
+                )
 
     @classmethod
     def of(cls, **stated: Any) -> Defaults:
@@ -92,6 +114,16 @@ class Defaults:
                 f"{argument('lead', self.lead)}: {message(why.remark)}"
             ) from why
 
+    def reviews(self, every: str) -> int:
+        """Returns the periods from one review to the next of an item whose row does not say it: 1 without a default. A
+        number counts periods. Raises Refused."""
+        try:
+            return TimeReader().review(self.review or 1, PERIOD, every)
+        except Unreadable as why:
+            raise Refused(
+                f"{argument('review', self.review)}: {message(why.remark)}"
+            ) from why
+
     def fill_of(
         self, group: str, own: Fraction | None, backlog: Fraction | None
     ) -> tuple[Fraction | None, str]:
@@ -111,6 +143,16 @@ class Defaults:
             if fill is not None:
                 return fill, source
         return None, ""
+
+    def goals_of(self, group: str, read: Mapping[str, Any]) -> Goals:
+        """Returns what is wanted of an item of a class by the values of its row, and where that is from."""
+        fill, no_shortage = read["fill"], read["no_shortage"]
+        if no_shortage is not None:
+            return Goals(fill, no_shortage, {"no_shortage": MASTERS})
+        fill, source = self.fill_of(group, fill, read["backlog"])
+        if self.no_shortage is not None and fill is read["backlog"] is None:
+            return Goals(None, self.no_shortage, {"no_shortage": DEFAULT})
+        return Goals(fill, None, {"fill": source})
 
     def check_classes(self, groups: Collection[str]) -> None:
         """Raises Refused if a share is wanted for a class that no item has."""
@@ -149,6 +191,16 @@ def lead_of(value: Any) -> str:
     except Unreadable as why:
         if why.remark.code != "lead range":
             raise Refused(message(why.remark)) from why
+    return text
+
+
+def review_of(value: Any) -> str:
+    """Returns the time from one review to the next as a text. Raises Refused."""
+    text = str(value).strip()
+    try:
+        TimeReader().span(text, PERIOD, "day")
+    except Unreadable as why:
+        raise Refused(message(why.remark)) from why
     return text
 
 

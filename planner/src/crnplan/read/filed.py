@@ -33,6 +33,7 @@ from .cells import Cell, Unreadable, text_of
 from .columns import MONEY
 from .dates import DateReader
 from .defaults import currency_in
+from .law_forms import LAWS
 from .observed import Day, Record, ends_of, record_of
 from .repeated import sums_of_columns
 from .rows import Rows, amount_reader, date_reader
@@ -43,7 +44,7 @@ if TYPE_CHECKING:
     from .items import Words
 
 # The roles of masters that are times.
-SPANS = ("lead", "coverage", "shelf_life")
+SPANS = ("lead", "coverage", "shelf_life", "review")
 
 
 @dataclass
@@ -239,9 +240,8 @@ class Whole:
                 days[dates["demand"].day(cell)] += count
         if not days:
             check_readable(tables["demand"], dates["demand"])
-        record = record_of(
-            days, words.every, *ends_of(words.start, words.end), words.today
-        )
+        ends = ends_of(words.start, words.end)
+        record = record_of(days, words.every, *ends, words.today, LAWS in tables)
         groups = frozenset(map(text_of, masters.counts("class")))
         sums = sums_of_columns(masters, amounts)
         return cls(dates, amounts, times, currencies, record, groups, sums)

@@ -4,11 +4,14 @@ from __future__ import annotations
 import datetime
 import itertools
 import math
-from collections.abc import Iterator
+from collections.abc import Iterator, Mapping
 from decimal import Decimal
-from typing import TYPE_CHECKING, Any
+from typing import TYPE_CHECKING, Any, SupportsIndex
 
-from .cells import Cell, Shown
+import numpy as np
+
+from ..errors import Refused, argument
+from .cells import Cell, Shown, text_of
 from .sources import Row, Rules, Sheet
 
 if TYPE_CHECKING:
@@ -16,11 +19,15 @@ if TYPE_CHECKING:
 
 CELL_BYTES = 8  # about, as text
 DAY = datetime.timedelta(days=1)
+WHOLE = "int64"  # the type of whole numbers that stand among others, or without a type
+# Tables of demand, and those that may be a Series by item, with the column of its values, by their arguments.
+DEMANDS = ("sales", "demand")
+BY_ITEM = {"stock": "stock", "on_order": "quantity"}
 MISSING = ("<NA>", "NaT", "nan", "NaN")  # as their values show themselves
 
 
 class FrameSheet(Sheet):
-    """A DataFrame, whose heading is in line 1. Its index is a column if it has a name."""
+    """A DataFrame, whose heading is in line 1. Its index is a column if it has a name, or if it is of dates or texts."""
 
     unsent = ("frame",)
 
@@ -28,15 +35,65 @@ class FrameSheet(Sheet):
         """Takes the kind of the table, which is its name in messages."""
         super().__init__(kind, "DataFrame", rules)
         if any(name is not None for name in frame.index.names):
-            frame = frame.reset_index()
+            frame = with_named_index(frame, kind)
+        elif kind == "demand":
+            frame = with_index(frame)
         self.frame = frame
         self.size = CELL_BYTES * self.frame.size
 
     def rows(self) -> Iterator[Row]:
-        heading = [*map(str, self.frame.columns)]
+        heading = [*map(heading_of, self.frame.columns)]
         rows = itertools.chain([heading], self.frame.itertuples(index=False, name=None))
         for line, cells in enumerate(rows, 1):
             yield line, [cell_of(cell) for cell in cells]
+
+    @property
+    def keys(self) -> str:
+        """Returns the type of the column of items if its cells are whole numbers; empty if they are texts."""
+        from pandas.api.types import is_integer_dtype
+
+        column = self.frame.iloc[:, self.columns["item"].place]
+        if is_integer_dtype(column.dtype):
+            return str(column.dtype)
+        cells = {*map(cell_of, column)} - {None}
+        return WHOLE if cells and all(isinstance(it, int) for it in cells) else ""
+
+
+def with_named_index(frame: pd.DataFrame, kind: str) -> pd.DataFrame:
+    """Returns a frame with its index as columns, but for what a column of the same name says too. Raises Refused if that
+    says something else."""
+    import pandas as pd
+
+    for name in {*frame.index.names} & {*frame.columns}:
+        level = frame.index.get_level_values(name)
+        if not pd.Series(level).equals(frame[name].reset_index(drop=True)):
+            raise Refused(
+                f"{argument(kind)}: the index and the column {str(name)!r} differ",
+                "give one of them another name",
+            )
+        frame = frame.reset_index(level=name, drop=True)
+    is_named = any(name is not None for name in frame.index.names)
+    return frame.reset_index() if is_named else frame
+
+
+def with_index(frame: pd.DataFrame) -> pd.DataFrame:
+    """Returns a frame whose index has no name with that as a column if it says more than the place of each row: dates, or
+    texts, of which the columns say what they are."""
+    import pandas as pd
+
+    name = ""
+    if isinstance(frame.index, (pd.DatetimeIndex, pd.PeriodIndex)):
+        name = "date"
+    elif frame.index.dtype == object and frame.index.nlevels == 1:
+        name = "index"
+    if not name or name in frame.columns:
+        return frame
+    return frame.rename_axis(name).reset_index()
+
+
+def heading_of(name: object) -> str:
+    """Returns the name of a column: that of a day without its time of day."""
+    return text_of(cell_of(name)) if isinstance(name, datetime.date) else str(name)
 
 
 def cell_of(value: Any) -> Cell:
@@ -47,7 +104,7 @@ def cell_of(value: Any) -> Cell:
         return None
     # A number of numpy is what it shows: 0.1 of 32 bits is no 0.10000000149011612.
     text = str(value)
-    value = getattr(value, "item", lambda: value)()
+    value = value.item() if isinstance(value, np.generic) else value
     if isinstance(value, datetime.datetime):
         return value.date()
     if isinstance(value, datetime.timedelta):
@@ -57,6 +114,63 @@ def cell_of(value: Any) -> Cell:
     if isinstance(value, bool) or not isinstance(value, (int, float, Decimal)):
         return text
     return number_of(value, text)
+
+
+def name_of(key: str | SupportsIndex) -> str:
+    """Returns the name of an item by its key in a frame: 1 and 1.0 name `1`."""
+    return text_of(cell_of(key))
+
+
+def table_of(name: str, value: Any) -> pd.DataFrame:
+    """Returns a DataFrame, or what stands for one: columns by name, rows by name, or a Series. Raises Refused with the name
+    of the argument for anything else."""
+    import pandas as pd
+
+    if isinstance(value, pd.DataFrame):
+        return value
+    if isinstance(value, pd.Series):
+        return _frame_of(name, value)
+    if isinstance(value, Mapping) and name in BY_ITEM:
+        values = [*value.values()]
+        if values and all(map(pd.api.types.is_scalar, values)):
+            return _frame_of(name, pd.Series(value))
+    rows = value if isinstance(value, list) else [value]
+    if rows and all(isinstance(row, Mapping) and row for row in rows):
+        try:
+            return pd.DataFrame(value)
+        except ValueError as why:
+            advice = "give a DataFrame, or columns of one length"
+            raise Refused(f"{argument(name)}: no table: {why}", advice) from why
+    raise Refused(
+        f"{argument(name)}: {type(value).__name__} is no table with headings",
+        "give a DataFrame with named columns, or the path of a file",
+    )
+
+
+def _frame_of(name: str, series: pd.Series) -> pd.DataFrame:
+    """Returns a Series as a table: one by date is the demand of the item of its name, one by item has the amounts of a
+    table that needs no more. Raises Refused for others."""
+    import pandas as pd
+
+    index = series.index
+    is_dated = isinstance(index, (pd.DatetimeIndex, pd.PeriodIndex))
+    if is_dated and name in DEMANDS and series.name is not None:
+        columns = {"item": series.name, "date": index, "quantity": series.to_numpy()}
+        return pd.DataFrame(columns)
+    if is_dated and name in DEMANDS:
+        raise Refused(
+            f"{argument(name)}: the Series has no name, so its item is not known",
+            'give it the name of the item, as sales.rename("A-17")',
+        )
+    if name in DEMANDS and isinstance(index, pd.MultiIndex):
+        return pd.DataFrame(series.reset_index(name=series.name or "quantity"))
+    if name in BY_ITEM and not is_dated and not isinstance(index, pd.MultiIndex):
+        columns = {"item": index, BY_ITEM[name]: series.to_numpy()}
+        return pd.DataFrame(columns)
+    raise Refused(
+        f"{argument(name)}: a Series is no table with headings",
+        "give a DataFrame with named columns",
+    )
 
 
 def is_missing(value: Any) -> bool:

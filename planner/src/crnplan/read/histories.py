@@ -10,6 +10,7 @@ from typing import Any
 
 import numpy as np
 
+from ..arguments import judged
 from ..errors import Refused
 from ..formats import MOST_WEIGHT
 from ..remarks import Remark
@@ -39,6 +40,7 @@ ENDS = {
 }
 
 
+@judged("reading", "settings.history")
 def read_history(
     table: Table,
     *,
@@ -58,17 +60,61 @@ def read_history(
     leave_out: bool = False,
     empty: str | None = None,
 ) -> History:
-    """Reads a history of demand from a CSV file (`-` is standard input), a sheet (FILE.xlsx!SHEET) or a DataFrame.
-    `demand`, `returns` and `date` name its columns. Numbers are converted into items if a heading says `packs of 12`.
-    Without `date` each row is a period. With it each row is a movement. They are summed by day, ISO week or month
-    (`every`), and a period without one has the demand 0. The record is from `start` to `end`, else from the first to
-    the last movement, of all items if `item` is given. With `whole` periods at its ends that may be partial are left
-    out. With `net` amounts below 0 are taken off their period. A row without a demand is refused, unless `empty` says
-    that its period is "unknown", or that there was "none". Further words are those of `Rules`: `delimiter`,
-    `encoding`, `decimal`, `date_formats`, `item` and `leave_out`.
+    """Reads a history of demand from a CSV file, a sheet or a data frame.
 
-    Raises RefusedFaults with all faults of the file. With `leave_out` rows with faults are left out, and are in
-    `faults`.
+    Parameters
+    ----------
+    table : str, Path or DataFrame
+        A CSV file (`-` is standard input), a sheet (FILE.xlsx!SHEET) or a data frame. Numbers are converted into items if a
+        heading says `packs of 12`.
+    demand : str
+        The column of what customers asked for.
+    returns : str, optional
+        The column of what customers gave back.
+    date : str, optional
+        The column of dates: each row is then a movement. They are summed by period, and a period without one has the demand
+        0. Without it each row is a period.
+    every : {"day", "week", "month"}, optional
+        The period, with `date`. Weeks are ISO weeks.
+    net : bool, default False
+        Takes amounts below 0 off their period.
+    whole : bool, default False
+        Leaves out periods at the ends that may be partial.
+    start, end : date or str, optional
+        The ends of the record; by default those of the first and the last movement, of all items if `item` is given.
+    delimiter : str, optional
+        The sign between cells: one of `,`, `;` and `tab`.
+    encoding : str, optional
+        As cp1252; by default that of the byte order mark, or UTF-8.
+    decimal : {".", ","}, optional
+        The decimal sign; by default the point.
+    date_formats : sequence of str, optional
+        Patterns as "%d/%m/%y" in place of the usual forms.
+    item : mapping of str to str, optional
+        Reads only rows with these texts, by column, as {"part": "A-17"}.
+    leave_out : bool, default False
+        Goes on without rows that have a fault, which are in `faults`.
+    empty : {"unknown", "none"}, optional
+        What a row without a demand says of its period. By default it is refused.
+
+    Returns
+    -------
+    History
+        The demand of each period, in items.
+
+    Raises
+    ------
+    RefusedFaults
+        With all faults of the file.
+    Refused
+        If the words can't be meant together.
+
+    Examples
+    --------
+    >>> nuts = sales[sales["item"] == "nut"]
+    >>> history = crn.read_history(nuts, demand="quantity", date="date", every="week")
+    >>> history.counts[:4], history.periods[0]
+    ((2, 4, 4, 7), '2024-W01')
     """
     rules = Rules(
         delimiter, encoding, decimal, tuple(date_formats), item or {}, leave_out, every
@@ -84,6 +130,7 @@ def read_history(
     return _undated(table, rules, names)
 
 
+@judged("reading", "settings.history", "history")
 def read_lead_times(
     table: Table,
     *,
@@ -98,13 +145,40 @@ def read_lead_times(
     item: Mapping[str, str] | None = None,
     leave_out: bool = False,
 ) -> LeadTimes:
-    """Reads lead times in whole periods from a CSV file (`-` is standard input), a sheet or a DataFrame.
+    """Reads lead times in whole periods from a CSV file, a sheet or a data frame.
 
-    With `lead`, the name of a column, each row is a lead time; if its heading names a unit of time, as `Days`, and
-    `every` is known, it is converted. Without it each row is an order, with the dates on which it was placed and
-    received, and `every` is day, week or month. An order that was placed on any day of period t and received on any day
-    of period t + L has lead time L, and 1 if both fell in one period. Orders not yet received are left out, with a
-    note. Further words are those of `Rules`. Raises RefusedFaults with all faults of the file.
+    An order that was placed on any day of period t and received on any day of period t + L has lead time L, and 1 if both fell
+    in one period. Orders not yet received are left out, with a note.
+
+    Parameters
+    ----------
+    table : str, Path or DataFrame
+        A CSV file (`-` is standard input), a sheet (FILE.xlsx!SHEET) or a data frame.
+    lead : str, optional
+        The column of lead times. If its heading names a unit of time, as `Days`, and `every` is known, they are converted.
+        Without it each row is an order.
+    every : {"day", "week", "month"}, optional
+        The period. Orders need it.
+    ordered, received : str, optional
+        The columns of the dates on which an order was placed and received, by default of these names.
+    delimiter, encoding, decimal, date_formats, item, leave_out : optional
+        As in `read_history`.
+
+    Returns
+    -------
+    LeadTimes
+        The lead times, in periods.
+
+    Raises
+    ------
+    RefusedFaults
+        With all faults of the file.
+
+    Examples
+    --------
+    >>> orders = pd.DataFrame({"ordered": ["2026-03-02"], "received": ["2026-03-18"]})
+    >>> crn.read_lead_times(orders, every="week").counts
+    (2,)
     """
     rules = Rules(
         delimiter, encoding, decimal, tuple(date_formats), item or {}, leave_out, every

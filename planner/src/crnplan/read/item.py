@@ -7,6 +7,7 @@ from fractions import Fraction
 from functools import cached_property
 
 from ..formats import MOST_DEMAND
+from ..law import Law
 from ..remarks import Remark
 from ..store.stored import columns_of
 from .bounds import Bounds
@@ -27,6 +28,8 @@ ENDED = (
     DO_NOT_ORDER,
 )  # the pasts of items that are ordered no longer, the last by their planner
 UNORDERED = NO_DEMAND, *ENDED  # those of items of which no order is planned
+# The past of an item whose law of demand is stated, and the family of that law.
+STATED = "stated"
 TEACHING = USUAL, *ENDED  # those of items from which others learn
 # From whom an item may learn its law of demand: from no other, from those of its class, or from all.
 BORROW = ("none", "class", "all")
@@ -57,11 +60,15 @@ class Item:
     `counts` is the demand by period, `returns` what came back by period, empty if nothing did, `leads` the lead times
     seen, in periods, and `levels` today's s and S, None if no policy is in use. `setup` is money an order, `holding`
     and `backlog` money an item and period, `unit` money for each item ordered, which only counts over coming periods.
-    `fill` is the share of demand that is wanted at once; an item has a `backlog`, a `fill`, or both. `group` is its
-    class, `borrow` from whom it learns its law, perhaps empty. `bounds` are those of its orders and levels. `past` is
-    empty, NEW or one of UNORDERED. `override` is what the planner sets, whatever is chosen. `unknown` has the places,
+    `fill` is the share of demand that is wanted at once, and `no_shortage` the share of periods that are to end with
+    nothing owed; an item has a `backlog`, one of these shares, or both. `group` is its class, `borrow` from whom it learns
+    its law, perhaps empty. `bounds` are those of its orders and levels. `past` is empty, NEW, STATED or one of UNORDERED.
+    `law` is its law of demand in items if one is stated: then it is planned by that, whatever its counts are, of which
+    there may be none. `override` is what the planner sets, whatever is chosen. `unknown` has the places,
     from 0, of the periods whose demand is not known: their counts are what was seen. All that fits, tests or sums demand
     takes `known`. `cut` has those of them in which an item was out of stock: at least their counts were asked for.
+    `promoted` has the places of the periods with a promotion. Their demand counts, but no season is learned from it. The
+    item is reviewed once in `review` periods.
 
     What follows is no part of the plan: `stock` is today's, `price` the money that an item of stock is worth,
     `supplier_min` the money that an order of all items of the `supplier` comes to at least, `first` the number of the
@@ -86,9 +93,13 @@ class Item:
     borrow: str = ""
     bounds: Bounds = Bounds()
     past: str = USUAL
+    law: Law | None = None
     override: Override | None = None
     unknown: tuple[int, ...] = ()
     cut: tuple[int, ...] = ()
+    no_shortage: Fraction | None = None
+    promoted: tuple[int, ...] = ()
+    review: int = 1
     stock: Fraction | None = None
     price: Fraction | None = None
     description: str = ""
@@ -109,8 +120,14 @@ class Item:
     def box(self) -> int:
         """Returns how many items are counted as one, so that the demand of a period is within the program's range."""
         known = self.known
-        most = max((*known.counts, *known.returns, *self.least), default=0)
+        demands = self.law.values if self.law else (*known.counts, *self.least)
+        most = max((*demands, *known.returns), default=0)
         return max(1, -(-most // MOST_DEMAND))
+
+    @property
+    def wanted(self) -> Fraction | None:
+        """Returns the share that is wanted, of demand at once or of periods without a shortage; None if there is none."""
+        return self.fill if self.no_shortage is None else self.no_shortage
 
     @property
     def known(self) -> Item:
@@ -147,6 +164,7 @@ class Item:
             returns=some(self.returns[start:stop]),
             unknown=among(self.unknown, range(start, stop)),
             cut=among(self.cut, range(start, stop)),
+            promoted=among(self.promoted, range(start, stop)),
             first=self.first + start,
         )
 
@@ -162,6 +180,7 @@ class Item:
             ),
             unknown=among(self.unknown, kept),
             cut=among(self.cut, kept),
+            promoted=among(self.promoted, kept),
         )
 
     def last(self, window: int | None) -> Item:

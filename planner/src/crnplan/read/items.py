@@ -105,6 +105,7 @@ class Words(Rules):
         for name in ("columns", "units", "names"):
             self._check_places(name)
         self.defaults.leads(self.every)
+        self.defaults.reviews(self.every)
         for kind, units in self.units.items():
             for role, unit in units.items():
                 reason = unit_fault(role, unit)
@@ -121,6 +122,10 @@ class Words(Rules):
                     raise Refused(
                         f"{argument(name)}: there is no column {place}; they are {', '.join(COLUMNS)}"
                     )
+
+
+class Left(Exception):
+    """An item that is left out. Its arguments are the table and the line that say why, and what is wrong there."""
 
 
 class FileCounts(TypedDict):

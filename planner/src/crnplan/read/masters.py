@@ -12,7 +12,16 @@ from ..remarks import Value
 from .amounts import AMOUNTS, PERCENT
 from .bounds import Bounds
 from .cells import UNPRINTABLE, Cell, CellFault, RowReader, Unreadable, fault, shown
-from .columns import DAYS, MONEY, NEEDED, ROLES, SHARES, factors_of, periods_a_year
+from .columns import (
+    DAYS,
+    MONEY,
+    NEEDED,
+    ROLES,
+    SHARES,
+    WANTED,
+    factors_of,
+    periods_a_year,
+)
 from .dates import period_of
 from .defaults import DEFAULT, MASTERS, ORDERS, currency_in, distinct
 from .filed import SPANS, Whole
@@ -25,7 +34,7 @@ from .status import status_of
 
 TEXTS = ("description", "class", "supplier", "override_reason")
 # The roles whose readers convert their numbers.
-CONVERTED = {"fill", *SPANS}
+CONVERTED = {*WANTED, *SPANS}
 OVERRIDE = "override_s", "override_S", "override", "override_reason"
 
 
@@ -73,6 +82,7 @@ class Masters:
         self.share = holding * (holding in SHARES)
         self.currencies = distinct(whole.currencies)
         self.usual_leads = self.defaults.leads(words.every)
+        self.usual_review = self.defaults.reviews(words.every)
         needed = NEEDED["items"] - self.defaults.roles
         self.cells = RowReader(self._readers(), needed, factors)
 
@@ -88,12 +98,14 @@ class Masters:
             "override": word_of,
             "status": partial(status_of, stated=self.words.statuses),
             "since": lambda cell: period_of(self.whole.dates["items"].day(cell), every),
-            "fill": partial(
-                amounts["fill"].share, unit=self.units.get("fill", ""), role="fill"
-            ),
         }
+        for role in WANTED:
+            unit = self.units.get(role, "")
+            readers[role] = partial(amounts[role].share, unit=unit, role=role)
         for role, reader in times.items():
-            read: Callable[..., Any] = reader.leads if role == "lead" else reader.span
+            read: Callable[..., Any] = reader.span
+            if role in ("lead", "review"):
+                read = reader.leads if role == "lead" else reader.review
             unit = self.units.get(role, "")
             readers[role] = partial(read, unit=unit, every=every)
         for role, kind in AMOUNTS["items"].items():
@@ -140,10 +152,12 @@ class Masters:
         def add(role: str, code: str, **facts: Value) -> None:
             faults.append(fault(role, cells.get(role, ""), code, **facts))
 
-        fill, _ = self.defaults.fill_of(group, read["fill"], read["backlog"])
-        is_goal_read = not unread & {"backlog", "fill"}
-        if is_goal_read and read["backlog"] is None and fill is None:
-            add("backlog", "no goal")
+        goals = self.defaults.goals_of(group, read)
+        if not unread & {"backlog", *WANTED}:
+            if goals.fill is goals.no_shortage is read["backlog"] is None:
+                add("backlog", "no goal")
+        if goals.fill is not None and goals.no_shortage is not None:
+            add("no_shortage", "two goals")
         has_leads = read["lead"] is not None or observed or self.usual_leads
         if "lead" not in unread and not has_leads:
             add("lead", "nothing of leads")
@@ -174,9 +188,8 @@ class Masters:
         price = self._price(read)
         stated = read["lead"] or ()
         sources = self._sources(read, observed)
-        fill, sources["fill"] = self.defaults.fill_of(
-            group, read["fill"], read["backlog"]
-        )
+        goals = self.defaults.goals_of(group, read)
+        sources |= goals.sources
         read["setup"] = self.defaults.setup if read["setup"] is None else read["setup"]
         status, predecessor = read["status"] or ("", "")
         item = Item(
@@ -187,7 +200,9 @@ class Masters:
             read["setup"] or Fraction(0),
             self._holding_of(read["holding"], price),
             read["backlog"] and read["backlog"] * self.money_factors["backlog"],
-            fill,
+            goals.fill,
+            no_shortage=goals.no_shortage,
+            review=read["review"] or self.usual_review,
             group=read["class"] or "",
             borrow=read["borrow"] or "",
             bounds=self._bounds(read, price),
@@ -214,6 +229,8 @@ class Masters:
             sources[role] = DEFAULT if read[role] is None else MASTERS
         if counts_receipts(bool(read["lead"]), len(observed), self.words.lead_from):
             sources["lead"] = ORDERS
+        if self.defaults.review:
+            sources["review"] = DEFAULT if read["review"] is None else MASTERS
         return sources
 
     def _holding_of(self, stated: Fraction | None, price: Fraction | None) -> Fraction:

@@ -13,9 +13,11 @@ import numpy.typing as npt
 from ..errors import Fault, Refused, argument
 from ..formats import MOST_WEIGHT
 from ..remarks import Remark
+from ..toml.documents import shown
 from ..words import message
 from .cells import Numbers, Unreadable
 from .dates import DateReader, first_day, period_name, period_of
+from .frames import cell_of
 
 if TYPE_CHECKING:
     import pandas as pd
@@ -50,8 +52,24 @@ class Observed:
 
 @dataclass(frozen=True)
 class History(Observed):
-    """Demand by period, in items. `every` is day, week (ISO) or month, or None if each row is a period. `first` is the
-    number of the first period; `returns` is what customers gave back in the same periods.
+    """Demand by period, in items.
+
+    Attributes
+    ----------
+    counts : tuple of int
+        The demand of each period.
+    unknown : tuple of int
+        The places in `counts`, from 0, of periods whose demand is not known: a count is what was seen there.
+    every : str or None
+        day, week (ISO) or month; None if each row is a period.
+    first : int
+        The number of the first period.
+    returns : History or None
+        What customers gave back in the same periods.
+    notes, faults : tuple of Fault
+        What is to be said of the file, and faults of rows that were left out.
+    places : tuple of Fault or None
+        Where each number stands, or None if no row says it.
     """
 
     every: str | None
@@ -86,12 +104,30 @@ class History(Observed):
             series.iloc[[*self.unknown]] = pd.NA
         return series
 
+    @property
+    def frame(self) -> pd.DataFrame:
+        """Returns a row for each period, by the index of `series`: demand, and what came back in `returned` if that is
+        known, in items."""
+        import pandas as pd
+
+        columns = {"demand": self.series()}
+        if self.returns:
+            columns["returned"] = self.returns.series()
+        return pd.DataFrame(columns)
+
 
 @dataclass(frozen=True)
 class LeadTimes(Observed):
     """Lead times in whole periods, at least 1. `every` is the period of the dates, or None without dates."""
 
     every: str | None
+
+    @property
+    def frame(self) -> pd.DataFrame:
+        """Returns a row for each order: lead, in periods."""
+        import pandas as pd
+
+        return pd.DataFrame({"lead": self.counts})
 
 
 @dataclass(frozen=True)
@@ -122,12 +158,18 @@ class Record:
         return first if period <= first + HALF_YEAR[self.every] else period
 
 
-def stated_day(name: str, day: Day | str | None) -> Day | None:
-    """Returns a day that an argument states. Raises Refused."""
+def stated_day(name: str, day: object) -> Day | None:
+    """Returns a day that an argument states: a text, or a date or a time of any library. Raises Refused."""
+    if day is None:
+        return None
+    cell = cell_of(day)
     try:
-        return DateReader().look([day]).day(day) if isinstance(day, str) else day
+        found = DateReader().look([cell]).day(cell) if isinstance(day, str) else cell
     except Unreadable as fault:
         raise Refused(f"{argument(name)}: {fault}") from fault
+    if isinstance(found, Day):
+        return found
+    raise Refused(f"{argument(name)}: {shown(day)} is no date", "write 2026-02-01")
 
 
 def ends_of(
@@ -163,15 +205,18 @@ def record_of(
     start: Day | None,
     end: Day | None,
     today: Day,
+    may_be_empty: bool = False,
 ) -> Record:
     """Returns the record of a file whose days have so many rows. Without `start` and `end` it is from the first to the
     last movement, without rare days that are more than a year away from all others, and without days after `today`. If
-    these are half of all movements, none is rare. Raises Refused if no day is left, or for too many periods.
+    these are half of all movements, none is rare. Raises Refused if no day is left, unless it may be empty and both ends
+    are stated, or for too many periods.
     """
     latest = end or today
     earliest = start or Day.min
     days = sorted(day for day in counts if earliest <= day <= latest)
-    if not days:
+    is_stated = may_be_empty and start and end
+    if not days and not is_stated:
         ends = {"start": str(start or "the beginning"), "end": str(latest)}
         raise Refused(message(Remark("no demand in the record", ends)))
     first = start or _near(days, counts)

@@ -7,9 +7,9 @@ import gzip
 import sys
 import tempfile
 import zlib
-from collections.abc import Iterator
+from collections.abc import Iterator, Mapping, Sequence
 from pathlib import Path
-from typing import TYPE_CHECKING, Any, Union
+from typing import TYPE_CHECKING, Any, Union, cast
 
 from .frames import FrameSheet
 from .sources import Rules, Sheet, TextSheet, readable, refused
@@ -18,7 +18,9 @@ from .workbooks import BOOKS, OLD, sheet_of_book
 if TYPE_CHECKING:
     import pandas as pd
 
-Table = Union[str, Path, "pd.DataFrame"]
+# A file, a DataFrame, or what stands for one: a Series, columns by name, or rows.
+Columns = Mapping[str, object]
+Table = Union[str, Path, "pd.DataFrame", "pd.Series", Columns, Sequence[Columns]]
 # What a gzipped file may unpack to, and a pipe may give: a million items with 140 rows each have some 4 GB.
 MOST_UNPACKED = 8_000_000_000
 PIECE = 1 << 20
@@ -63,7 +65,7 @@ def opened(
     block; `-` is standard input. A DataFrame has the name of its kind. Raises Refused and RefusedFaults for what can't
     be read, or is more than MOST_UNPACKED."""
     if not isinstance(table, (str, Path)):
-        yield FrameSheet(kind, table, rules)
+        yield FrameSheet(kind, cast("pd.DataFrame", table), rules)
         return
     is_input = str(table) == "-"
     name = "standard input" if is_input else str(table)

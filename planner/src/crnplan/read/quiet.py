@@ -17,6 +17,9 @@ import itertools
 import math
 from collections.abc import Sequence
 
+from ..remarks import Remark
+from .dates import period_name
+from .item import Item
 from .observed import YEAR
 
 CHANCE = 0.001  # of an active item to be taken for stopped
@@ -71,4 +74,19 @@ def has_stopped(counts: Sequence[int], every: str) -> bool:
         is_dead(counts, every)
         and quiet_periods(counts) > longest_before(counts)
         and chance_of_quiet(months_of(counts[1:], every)) <= CHANCE
+    )
+
+
+def quiet_remark(item: Item, every: str) -> Remark:
+    """Returns for how long nobody has asked for an item, and how likely that is of an active one."""
+    counts = item.known.counts
+    quiet = quiet_periods(counts)
+    return Remark(
+        "asked for no longer",
+        {
+            "periods": quiet,
+            "every": every,
+            "last": period_name(item.first + item.known_places[-1 - quiet], every),
+            "chance": chance_of_quiet(months_of(counts[1:], every)),
+        },
     )

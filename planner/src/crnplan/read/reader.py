@@ -18,40 +18,23 @@ from .dates import period_name, periods_of_days
 from .defaults import LEAVE_OUT
 from .filed import Whole
 from .item import PHASE_OUT, STOPPED, Item, overridden, some
-from .items import OUTSIDE, Reject, Words
+from .items import OUTSIDE, Left, Reject, Words
 from .leads import remark_on
 from .masters import Master, Masters
-from .moves import Moves
+from .moves import Moves, is_marked
 from .observed import summed, sums_of
+from .law_forms import LAWS
 from .outages import OUT, outage_places, outages_in
-from .quiet import chance_of_quiet, months_of, quiet_periods
+from .quiet import quiet_remark
 from .repeated import is_called_total, total_rows
-from .rows import Rows, far_above
+from .rows import Rows
 from .sources import NONE
+from .stated import StatedLaws
 from .status import BY_TEST, past_of
 from .tables import OPEN, PLACES, REJECTED, USED, WITH_ITEM, TableReader
 
 # What items are counted by.
 COUNTED = ("open_orders", "twice", "named", "ready", "left_out", "late")
-
-
-class Left(Exception):
-    """An item that is left out. Its arguments are the table and the line that say why, and what is wrong there."""
-
-
-def quiet_remark(item: Item, every: str) -> Remark:
-    """Returns for how long nobody has asked for an item, and how likely that is of an active one."""
-    counts = item.known.counts
-    quiet = quiet_periods(counts)
-    return Remark(
-        "asked for no longer",
-        {
-            "periods": quiet,
-            "every": every,
-            "last": period_name(item.first + item.known_places[-1 - quiet], every),
-            "chance": chance_of_quiet(months_of(counts[1:], every)),
-        },
-    )
 
 
 class Reader:
@@ -92,6 +75,9 @@ class Reader:
         self.numbers = Counter(dict.fromkeys(COUNTED, 0))
         self.moves_of, totals = self._moves()
         self.outages_of = outages_in(self.tables.get(OUT), self.record)
+        self.laws = None
+        if LAWS in self.tables:
+            self.laws = StatedLaws(self.tables[LAWS], words.every)
         known = set[int]()
         for own in rows.values():
             known.update(np.unique(own.items[own.good]).tolist())
@@ -109,8 +95,11 @@ class Reader:
     def _value_of_demand(self, item: int) -> Fraction | None:
         moves = self.moves_of(item).known
         price = self.masters.price(self._cells(self.masters_of(item)))
-        if not len(moves.lines) or price is None:
+        if price is None:
             return None
+        if not len(moves.lines):
+            mean = self.laws.mean(item) if self.laws else None
+            return None if mean is None else price * mean
         first = self.record.first_of(int(moves.periods.min()))
         periods = self.record.periods.stop - first
         unknown = self._unknown(item, first, periods)
@@ -189,13 +178,16 @@ class Reader:
             sizes = column.of_rows(factors, np.int64)
             asked = asked * sizes
             back = back * sizes
+        marked = np.zeros_like(asked)
+        if "promotion" in rows.columns:
+            marked = demand.read_whole("promotion", is_marked)
         blank = demand.blank("quantity")
         bad = demand.bad & ~blank
         blank &= words.empty != NONE
         totals = self._reject_moves(np.flatnonzero(rows.good & bad))
         good = self._without_twins(rows.good & ~bad)
         periods = periods_of_days(days, words.every)
-        facts = np.stack([rows.lines, periods, asked, back, blank])
+        facts = np.stack([rows.lines, periods, asked, back, blank, marked])
         moves = rows.by_item(good, facts)
         return lambda item: Moves(*moves(item)), totals
 
@@ -282,14 +274,19 @@ class Reader:
         self._check_measures(code)
         master = self._master(code, leads, moves)
         self._check_far(moves)
+        stated = self.laws and self.laws.law(code, master.item.leads)
         first = self._first(master.since, moves.known)
+        if stated and not len(moves.lines):
+            first = self.record.periods.stop  # It has no history.
         asked, back, netted = self._counts(moves.known, first)
         item = replace(
             master.item,
+            law=stated and stated.law,
             counts=tuple(asked),
             returns=some(back),
             unknown=self._unknown(code, first, len(asked)),
             cut=self._cut(code, first, len(asked)),
+            promoted=tuple(sorted(moves.promoted_places(first, len(asked)))),
             first=first,
             rows=len(moves.lines),
             abc=self.letters.get(code, ""),
@@ -301,10 +298,16 @@ class Reader:
             raise Left("items", item.line, wrong)
         self.decimals = max(self.decimals, master.decimals)
         self.sources.update(master.sources.items())
+        is_bare = stated is not None and not asked
         is_late = first > self.record.periods[0] and master.since is None
+        is_late &= not is_bare
         self.numbers["late"] += is_late
         self._note_unknown(item, moves)
         remarks = tuple(self._remarks(item, code, is_late, netted))
+        if stated:
+            remarks = (stated.remark, *remarks)
+            self.numbers["stated"] += 1
+            self.numbers["bare"] += is_bare
         if remarks:
             item = replace(item, remarks=remarks)
         return overridden(item, item.override)
@@ -312,8 +315,8 @@ class Reader:
     def _past(self, item: Item) -> str:
         """Returns what the periods of an item whose demand is known say of its past, or its status."""
         words, known = self.words, item.known.counts
-        by_test = words.stopped == BY_TEST
-        return past_of(item.status, known, words.least, words.every, by_test)
+        by_test, has_law = words.stopped == BY_TEST, item.law is not None
+        return past_of(item.status, known, words.least, words.every, by_test, has_law)
 
     def _unknown(self, code: int, first: int, count: int) -> tuple[int, ...]:
         """Returns the places of the periods whose demand is not known, of so many from one on: those that a row leaves
@@ -329,7 +332,11 @@ class Reader:
         return tuple(sorted(places))
 
     def _note_unknown(self, item: Item, moves: Moves) -> None:
-        """Counts the unknown periods of an item, and names the rows that leave them so, if no word says that they do."""
+        """Counts the promoted and the unknown periods of an item, and names the rows that leave these so, if no word says
+        that they do."""
+        if item.promoted:
+            self.numbers["promoted"] += 1
+            self.numbers["promoted_periods"] += len(item.promoted)
         if not item.unknown:
             return
         self.numbers["unknown"] += 1
@@ -351,7 +358,7 @@ class Reader:
         masters, twins = len(self.masters_of(code)), self.twice[code]
         if masters > 1:
             yield Remark("equal masters", {"masters": masters})
-        if item.first > self.record.periods[0]:
+        if item.first > self.record.periods[0] and not (item.law and not item.counts):
             start = period_name(item.first, self.words.every)
             yield Remark("late" if is_late else "since", {"period": start})
         if item.box > 1:
@@ -362,6 +369,8 @@ class Reader:
             yield Remark("unknown periods", {**facts, "periods": gaps})
         if item.cut:
             yield Remark("out of stock", {**facts, "periods": len(item.cut)})
+        if item.promoted:
+            yield Remark("promoted", {**facts, "periods": len(item.promoted)})
         if netted:
             yield Remark("taken off earlier", {"amounts": netted})
         if item.stock and item.stock < 0:
@@ -434,6 +443,8 @@ class Reader:
         if not len(rows):
             kind = "orders" if leads and not len(moves.lines) else "demand"
             line = int(moves.lines[0]) if len(moves.lines) else 0
+            if self.laws and not line and self.laws.line(item):
+                kind, line = LAWS, self.laws.line(item)
             raise Left(kind, line, fault("item", name, "no master"))
         lines = self.rows["items"].lines[rows].tolist()
         if not self._are_equal(rows):
@@ -453,7 +464,8 @@ class Reader:
         stated = UNPRINTABLE.sub(" ", text_of(cells.get("class")))
         group = stated if any(self.whole.groups) else self.letters.get(item, "")
         read, faults = self.masters.read(cells, leads, group)
-        if not faults and not len(moves.lines) and self._has_row_inside(item):
+        is_empty = not len(moves.lines) and not (self.laws and self.laws.line(item))
+        if not faults and is_empty and self._has_row_inside(item):
             faults = [fault("item", name, "no rows")]
         if faults:
             raise Left("items", lines[0], *faults)
@@ -471,16 +483,5 @@ class Reader:
         """Raises Left if some amounts are far above all others, as if counted a thousand times too large."""
         if self.words.far != LEAVE_OUT:
             return
-        called = self.demand.rows.sheet.called
-        for role, amounts in (("quantity", moves.asked), ("returned", moves.back)):
-            far = far_above(amounts)
-            if far:
-                ranked = np.argsort(-amounts, kind="stable")
-                lines = moves.lines[ranked[:far]].tolist()
-                largest, least, below = amounts[ranked[[0, far - 1, far]]].tolist()
-                named = named_lines([*map(called, lines)])
-                times = least // below
-                wrong = fault(
-                    role, largest, "far", lines=named, times=times, next=below
-                )
-                raise Left("demand", lines[0], wrong)
+        if far := moves.far(self.demand.rows.sheet.called):
+            raise Left("demand", *far)

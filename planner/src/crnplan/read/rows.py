@@ -191,6 +191,8 @@ def date_reader(table: Table) -> DateReader:
     rules = table.sheet.rules
     reader = DateReader(rules.date_formats, rules.every, rules.day_first)
     for role in DATES:
+        if role in table.sheet.columns:
+            reader.look_at_name(table.sheet.columns[role].name)
         reader.look(table.counts(role))
     return reader
 

@@ -35,7 +35,10 @@ EMPTY = UNKNOWN, NONE = "unknown", "none"
 DELIMITERS = {",": ",", ";": ";", "tab": "\t", "\t": "\t"}
 # The names by which the headings of the periods of a wide table, and the cells below them, are columns with roles.
 HEADINGS_NAME, CELLS_NAME = "(headings)", "(cells)"
-WIDE_ROLES = {"date": HEADINGS_NAME, "quantity": CELLS_NAME}
+WIDE_ROLES = {
+    "demand": {"date": HEADINGS_NAME, "quantity": CELLS_NAME},
+    "laws": {"period": HEADINGS_NAME, "value": CELLS_NAME},
+}
 FILE_BITS = 40  # of a line; those above say in which file of its table it is
 MARKS = (
     (codecs.BOM_UTF8, "utf-8-sig"),
@@ -102,10 +105,6 @@ class Rules:
         for sign in (self.decimal, *self.decimals.values()):
             if sign is not None and sign not in DECIMALS:
                 raise Refused(f"{argument('decimal', sign)} is not one of . and ,")
-        if self.empty is not None and self.empty not in EMPTY:
-            raise Refused(
-                f"{argument('empty', self.empty)} is not one of {', '.join(EMPTY)}"
-            )
         try:
             b"a".decode(self.encoding or "utf-8", "replace")
         except (LookupError, ValueError) as fault:
@@ -205,7 +204,11 @@ def heading_of(
         count = again[tuple(row)]
         names = [cell for place, cell in enumerate(row) if cells[place, cell] == count]
         roles = {*map(role_of, names)} - {None}
-        fits.append((len(wanted & {*row}), len(roles), sum(map(bool, row))))
+        filled = sum(map(bool, row))
+        # A heading may lack the name of its first column, as that of an index.
+        if len(row) > 1 and not row[0] and all(row[1:]):
+            filled += 1
+        fits.append((len(wanted & {*row}), len(roles), filled))
     best = max(fits)
     return max(0, fits.index(best) - 1), best
 
@@ -283,6 +286,11 @@ class Sheet:
         """Returns the name of the file and the line in it of a row's line, and the heading of its cell in a wide table."""
         return self.file_name, line, ""
 
+    def heading_at(self, line: int, place: int) -> tuple[int, str]:
+        """Returns the line and the heading of a cell of a wide table, by its line in this one and its place from 1, which is
+        0 for a whole row."""
+        return line, self.heading[place - 1] if place else ""
+
     def called(self, line: int) -> int | str:
         """Returns the line of a row as messages call it."""
         file, line, heading = self.at(line)
@@ -292,9 +300,14 @@ class Sheet:
     def column_of(self, role: str, line: int) -> str:
         """Returns the name of the column that has a role in a row's line; the role if there is none."""
         _, _, heading = self.at(line)
-        if heading and role in WIDE_ROLES:
+        if heading and any(role in roles for roles in WIDE_ROLES.values()):
             return heading
         return self.columns[role].name if role in self.columns else role
+
+    @property
+    def keys(self) -> str:
+        """Returns the type of the whole numbers that name items; empty if texts do."""
+        return ""
 
     @property
     def used(self) -> set[int]:

@@ -6,7 +6,7 @@ from collections.abc import Mapping, Sequence
 
 from ..errors import Refused, argument
 from .cells import HEADINGS, UNPRINTABLE, Cell, Unreadable, plain_name, text_of
-from .item import NEW, NO_DEMAND, PHASE_OUT, STOPPED, USUAL
+from .item import NEW, NO_DEMAND, PHASE_OUT, STATED, STOPPED, USUAL
 from .quiet import has_stopped
 
 ACTIVE, SUCCESSOR = "active", "successor"
@@ -50,13 +50,21 @@ def status_of(cell: Cell, stated: Mapping[str, str]) -> tuple[str, str]:
 
 
 def past_of(
-    status: str, counts: Sequence[int], least: int, every: str, by_test: bool
+    status: str,
+    counts: Sequence[int],
+    least: int,
+    every: str,
+    by_test: bool,
+    has_law: bool = False,
 ) -> str:
     """Returns what the record of an item says of its past, if its status does not say it: the demand by period, of which
-    a law of its own needs at least so many. `by_test` lets the record say that the item has stopped.
+    a law of its own needs at least so many. `by_test` lets the record say that the item has stopped. One whose law is
+    stated is planned whatever its record says.
     """
     if status in (STOPPED, PHASE_OUT):
         return status
+    if has_law:
+        return STATED
     if len(counts) < least:
         return NEW
     if not any(counts):

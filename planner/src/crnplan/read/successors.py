@@ -22,7 +22,7 @@ Find = Callable[[str], Item | None]
 
 def summed(item: Item, old: Item) -> Item:
     """Returns an item with the demand, and what came back, of another one too, from the first period of both on. A
-    period is known if that of each is."""
+    period is known if that of each is, and promoted if that of one is."""
     first = min(item.first, old.first)
 
     def together(name: str) -> tuple[int, ...]:
@@ -33,14 +33,22 @@ def summed(item: Item, old: Item) -> Item:
         return tuple(map(sum, zip(*rows, strict=True)))
 
     counts, returns = map(together, ("counts", "returns"))
-    unknown, cut = set[int](), set[int]()
+    unknown, cut, promoted = set[int](), set[int](), set[int]()
     for part in (item, old):
         unknown.update(part.first - first + place for place in part.unknown)
         cut.update(part.first - first + place for place in part.cut)
+        promoted.update(part.first - first + place for place in part.promoted)
     for part in (item, old):
         cut -= {part.first - first + place for place in {*part.unknown} - {*part.cut}}
-    joint = replace(item, first=first, counts=counts, returns=some(returns))
-    return replace(joint, unknown=tuple(sorted(unknown)), cut=tuple(sorted(cut)))
+    return replace(
+        item,
+        first=first,
+        counts=counts,
+        returns=some(returns),
+        unknown=tuple(sorted(unknown)),
+        cut=tuple(sorted(cut)),
+        promoted=tuple(sorted(promoted)),
+    )
 
 
 def check_chains(predecessors: Mapping[str, str]) -> None:
@@ -103,7 +111,8 @@ def succeeded(
 def heir(item: Item, old: Item, words: Words) -> Item:
     """Returns an item that succeeds another one, with its demand."""
     joint = summed(item, old)
-    past = past_of(item.status, joint.known.counts, words.least, words.every, False)
+    known, has_law = joint.known.counts, item.law is not None
+    past = past_of(item.status, known, words.least, words.every, False, has_law)
     first = period_name(old.first, words.every)
     remark = Remark(
         "successor", {"item": old.name, "items": sum(old.known.counts), "first": first}

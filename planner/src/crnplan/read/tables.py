@@ -95,11 +95,19 @@ class TableReader:
         readers = {role: amount_reader(rows, role) for role in amounts}
         return cls(kind, rows, date_reader(rows), readers, add)
 
-    def _read(self, role: str, read: Callable[[Cell], int]) -> Numbers:
+    def read_whole(self, role: str, read: Callable[[Cell], int]) -> Numbers:
         """Returns the number that a function reads in each row's cell of a column, 0 of one that has none."""
         column = self.rows.columns[role]
         numbers, self.wrong[role] = values_of(column.distinct, read, 0)
         return column.of_rows(numbers, np.int64)
+
+    def read_exact(
+        self, role: str, read: Callable[[Cell], Fraction]
+    ) -> npt.NDArray[np.object_]:
+        """Returns the exact numbers of a column, as `read_whole` does."""
+        column = self.rows.columns[role]
+        numbers, self.wrong[role] = values_of(column.distinct, read, Fraction(0))
+        return column.of_rows(numbers, object)
 
     def read_days(
         self, role: str, check: Callable[[Day], Any] = lambda day: None
@@ -111,7 +119,7 @@ class TableReader:
             check(day)
             return day.toordinal()
 
-        return self._read(role, day_of)
+        return self.read_whole(role, day_of)
 
     def pack(self, role: str) -> int:
         """Returns how many items the numbers of a column count as one."""
@@ -122,7 +130,7 @@ class TableReader:
         """Returns the amount of each row in items, of a kind of KINDS."""
         number = self.amounts[role].number
         pack = self.pack(role)
-        return self._read(role, lambda cell: int(number(cell, kind)) * pack)
+        return self.read_whole(role, lambda cell: int(number(cell, kind)) * pack)
 
     def read_orders(self, every: str) -> Orders:
         """Returns what each order took. One that was placed on any day of period t and received on any day of period

@@ -97,6 +97,9 @@ def times_of_part(part: str, decimal: str, is_listed: bool) -> set[Times]:
     return times
 
 
+MOST_REVIEW = 52  # periods from one review to the next
+
+
 class TimeReader(ColumnReader[Times]):
     """Reads the times of a column: texts, or numbers as a sheet stores them."""
 
@@ -166,3 +169,13 @@ class TimeReader(ColumnReader[Times]):
         if len(times) > 1 or periods < 0:
             raise Unreadable(self.none, cell)
         return periods
+
+    def review(self, cell: Cell, unit: str, every: str) -> int:
+        """Returns the time from one review to the next, in whole periods. Raises Unreadable."""
+        periods = self.span(cell, unit, every)
+        if periods.denominator == 1 and 1 <= periods <= MOST_REVIEW:
+            return int(periods)
+        number = float(periods)
+        raise Unreadable(
+            "no review", cell, periods=number, every=every, most=MOST_REVIEW
+        )

@@ -7,14 +7,11 @@ from typing import NamedTuple
 
 from ..plan.backtest.catalogue import Tested
 from ..plan.backtest.one import Backtest
-from ..plan.answer import TODAY
-from ..plan.backtest.methods import CORRECTED, KEPT, REFITTED, SMOOTHED
+from ..plan.backtest.methods import KEPT, REFITTED, SEASONAL, SMOOTHED
 from ..plan.backtest.sums import BLOCK, Group, Sums, moves_of, sides_of, summed
 from ..read.item import Item
 from .backtest_tables import class_rows, first_line, side_rows
 from .page import (
-    OF_CHOSEN,
-    OF_TODAY,
     Line,
     Plot,
     Scale,
@@ -27,20 +24,11 @@ from .page import (
 from .verdicts import METHOD_WORDS, gains_said, past_said
 
 MOST_WORST = 12
-MOST_POINTS, BIN = (
-    50,
-    5,
-)  # of the picture of items: where it ends, and the width of a bar
+# Where the picture of items ends on either side, in points: few meet far more than was promised.
+LEAST_POINTS, MOST_POINTS = -20, 10
 MOST_STOCK = 300.0  # percent of that of the kept plan, which a picture shows
 PROMISED = "of-promised"
-LINES = {
-    TODAY: "of-now",
-    KEPT: OF_CHOSEN,
-    REFITTED: "of-better",
-    CORRECTED: "of-corrected",
-    SMOOTHED: OF_TODAY,
-}
-IN_TIME = KEPT, REFITTED, SMOOTHED
+IN_TIME = KEPT, REFITTED, SEASONAL, SMOOTHED
 LEAST_END = 99.0  # percent, up to which an axis of service begins
 Tests = Sequence[tuple[Item, Backtest]]
 
@@ -69,32 +57,32 @@ class Worst(NamedTuple):
 
 
 def spread_plot(tests: Sequence[Backtest]) -> Plot:
-    """Returns how many items met how many points more at once, or less, than was promised, as bars of 5 points each."""
-    counts, met = [0] * (2 * MOST_POINTS // BIN), 0
+    """Returns how many items met how many points more at once, or less, than was promised, as bars of a point each."""
+    counts, met = [0] * (MOST_POINTS - LEAST_POINTS), 0
     for test in tests:
         promised, came = test.kept.promised_fill, test.kept.fill
         if promised is not None and came is not None:
-            points = 100 * (came - promised)
-            points = max(-MOST_POINTS, min(points, MOST_POINTS - 1))
-            counts[math.floor((points + MOST_POINTS) / BIN)] += 1
+            points = math.floor(100 * (came - promised))
+            points = max(LEAST_POINTS, min(points, MOST_POINTS - 1))
+            counts[points - LEAST_POINTS] += 1
             met += came >= promised
     scale = Scale.of(counts, is_whole=True)
-    across = Scale.between(-MOST_POINTS, MOST_POINTS)
+    across = Scale.between(LEAST_POINTS, MOST_POINTS)
     return Plot(
         title="Items by what they met at once, less what was promised",
         description=f"{sum(counts):,} items, of which {met:,} met at least what was promised.",
         scale=scale,
         marks=across.marks,
-        across=f"points above the promise, in steps of {BIN}; the ends have all beyond",
+        across="points above the promise; the ends have all beyond",
         lines=[],
         bars=bars(counts, scale),
     )
 
 
-def curve_plot(tests: Sequence[Backtest], promised: float) -> Plot:
-    """Returns what each method met at once by its stock, over its aims, with what was promised. Stocks are in percent of
-    that of the kept plan."""
-    curves, said = dict[str, list[tuple[float, float]]](), list[str]()
+def method_curves(tests: Sequence[Backtest]) -> dict[str, list[tuple[float, float]]]:
+    """Returns by method its stock, in percent of that of the kept plan, and what it met at once with that, in percent, at
+    each of its aims."""
+    curves = dict[str, list[tuple[float, float]]]()
     for method, sides in sides_of(tests):
         curve, kept = sides.curve(method.code), sides.stock(KEPT).sum() or 1.0
         points = list[tuple[float, float]]()
@@ -102,11 +90,17 @@ def curve_plot(tests: Sequence[Backtest], promised: float) -> Plot:
             points.append((100 * float(stocks.sum() / kept), 100 - 100 * share))
         if points:
             curves[method.code] = points
-            (low, least), (high, most) = points[0], points[-1]
-            name = METHOD_WORDS[method.code].name
-            said.append(
-                f"{name}: {least:.1f}% with {low:.0f}, {most:.1f}% with {high:.0f}"
-            )
+    return curves
+
+
+def curve_plot(tests: Sequence[Backtest], promised: float) -> Plot:
+    """Returns what each method met at once by its stock, over its aims, with what was promised. Stocks are in percent of
+    that of the kept plan."""
+    curves, said = method_curves(tests), list[str]()
+    for code, points in curves.items():
+        (low, least), (high, most) = points[0], points[-1]
+        name = METHOD_WORDS[code].name
+        said.append(f"{name}: {least:.1f}% with {low:.0f}, {most:.1f}% with {high:.0f}")
     every = [point for points in curves.values() for point in points]
     across = Scale.of([min(MOST_STOCK, max((x for x, _ in every), default=0.0))])
     up = Scale.between(min([LEAST_END, *(y for _, y in every)]), 100.0)
@@ -114,7 +108,7 @@ def curve_plot(tests: Sequence[Backtest], promised: float) -> Plot:
     for code, points in curves.items():
         shown = [(x, y) for x, y in points if x <= across.high]
         path = path_of(across, up, shown)
-        lines.append(Line(METHOD_WORDS[code].name, LINES[code], path))
+        lines.append(Line(METHOD_WORDS[code].name, METHOD_WORDS[code].style, path))
     return Plot(
         title="Demand met at once by stock, over the aims of each method",
         description=f"Stock in percent of the kept plan's. {'; '.join(said)}.",
@@ -130,6 +124,8 @@ def time_plot(tests: Sequence[Backtest], promised: float, every: str) -> Plot:
     group = Group(tests)
     shares: dict[str, list[float]] = {}
     for policy in IN_TIME:
+        if not getattr(tests[0], policy):  # of no item: see `Backtest`
+            continue
         shares[policy] = (100 - 100 * group.unmet(policy).by_block).tolist()
     least = min(min(own) for own in shares.values())
     scale = Scale.between(min(100 * promised - 1, least), 100.0)
@@ -139,7 +135,7 @@ def time_plot(tests: Sequence[Backtest], promised: float, every: str) -> Plot:
     for policy, own in shares.items():
         across = Scale(0, max(1, len(own) - 1), ())
         path = path_of(across, scale, enumerate(own))
-        lines.append(Line(policy, LINES[policy], path))
+        lines.append(Line(policy, METHOD_WORDS[policy].style, path))
         said.append(f"{policy}: from {min(own):.1f}% to {max(own):.1f}%")
     count = len(shares[KEPT])
     return Plot(
@@ -180,13 +176,24 @@ def plots_of(
     }
 
 
-def backtest_page(tested: Tested) -> str:
-    """Returns the page of a catalogue's test on its past."""
-    pairs = [
+def summed_of(tested: Tested) -> Tests:
+    """Returns the items whose tests count in the sums, with these."""
+    return [
         (item, test)
         for item, test in tested.items
         if isinstance(test, Backtest) and summed(test)
     ]
+
+
+def named_curves(tested: Tested) -> dict[str, list[tuple[float, float]]]:
+    """Returns the curves of methods by their names: see `method_curves`."""
+    curves = method_curves([test for _, test in summed_of(tested)])
+    return {METHOD_WORDS[code].name: points for code, points in curves.items()}
+
+
+def backtest_page(tested: Tested) -> str:
+    """Returns the page of a catalogue's test on its past."""
+    pairs = summed_of(tested)
     tests = [test for _, test in pairs]
     sums = tested.whole
     return rendered(

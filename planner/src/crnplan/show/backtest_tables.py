@@ -8,7 +8,7 @@ from typing import Any, NamedTuple
 from ..plan.backtest.catalogue import Past, Tested
 from ..plan.backtest.one import Backtest
 from ..plan.backtest.estimates import Estimate
-from ..plan.backtest.methods import CORRECTED, KEPT, METHODS
+from ..plan.backtest.methods import KEPT, METHODS
 from ..plan.backtest.sums import SLACK, Sums, moves_of
 from ..read.item import Item
 from ..remarks import Remark
@@ -16,7 +16,7 @@ from ..table import Column, DataTable, aligned
 from ..words import advised, counted
 from ..columns import columns_of
 from .page import met, number, percent, points, rendered
-from .verdicts import GAIN, METHOD_WORDS, gains_said, past_said
+from .verdicts import GAIN, METHOD_WORDS, gains_said, less_said, past_said
 
 BACKTEST, SUMS, SUMMARY, PAGE = (
     "backtest.csv",
@@ -123,7 +123,7 @@ SUM_COLUMNS = (*_sum_columns(),)
 def backtest_of(tested: Tested) -> DataTable:
     """Returns the tests by item. An item without one has the reason."""
     rows = [Row.of(item, test) for item, test in tested.items]
-    return DataTable.of(BACKTEST_COLUMNS, rows, tested.decimals, "")
+    return DataTable.of(BACKTEST_COLUMNS, rows, tested.decimals, "", keys=tested.keys)
 
 
 def sums_table(tested: Tested) -> DataTable:
@@ -233,7 +233,10 @@ def first_line(sums: Sums | None) -> str:
         return f"{line}."
     if sums.best is None:
         return f"{line}; {GAIN['none']}."
-    return f"{line}, and {came(sums, sums.best)} by {METHOD_WORDS[sums.best].meaning}."
+    by = f"by {METHOD_WORDS[sums.best].meaning}"
+    if sums.lifts(sums.best):
+        return f"{line}, and {came(sums, sums.best)} {by}."
+    return f"{line}; the same {by}, with {less_said(sums.gains[0])}."
 
 
 def came(sums: Sums, method: str) -> str:
@@ -254,11 +257,12 @@ def past_line(past: Past | None) -> str:
             "FOLDER."
         )
     sums, lines = past.sums, [first_line(past.sums)]
-    is_tested = sums is not None and CORRECTED in sums.unmet
-    if past.corrects and not is_tested:
-        lines.append("That is without the correction.")
-    elif past.corrects and sums and sums.best != CORRECTED:
-        lines.append(f"Plans that aim as this one met {came(sums, CORRECTED)}.")
-    if past.together:
-        lines.append("That is with a fill rate for each item, not together.")
+    if sums is None:
+        return lines[0]
+    for method in past.methods:
+        meaning = METHOD_WORDS[method].meaning
+        if method not in sums.unmet:
+            lines.append(f"That is without {meaning}, which is not tested.")
+        elif method != sums.best:
+            lines.append(f"By {meaning}: {came(sums, method)}.")
     return " ".join(lines)

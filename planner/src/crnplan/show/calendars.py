@@ -54,4 +54,4 @@ def item_months(planned: PlannedFolder) -> Iterator[ItemMonth]:
 
 def levels_of(planned: PlannedFolder) -> DataTable:
     """Returns the levels of a folder by month: no rows if no season is planned."""
-    return DataTable.of(COLUMNS, item_months(planned), missing="")
+    return planned.table(COLUMNS, item_months(planned))

@@ -7,9 +7,10 @@ import math
 from collections import Counter
 from collections.abc import Iterable, Iterator, Mapping, Sequence
 from pathlib import Path
-from typing import NamedTuple
+from typing import NamedTuple, SupportsIndex
 from urllib.parse import quote
 
+from ..arguments import judged
 from ..crnsim.program import find_program
 from ..curve.parts import Point
 from ..curve.exchange_curve import kept_curve, said_of
@@ -28,6 +29,7 @@ from ..plan.swings import keep_swings
 from ..plan.totals import Totals
 from ..plan.one import of_month
 from ..read.catalogue_reading import CATALOGUE, missing_of
+from ..read.frames import name_of
 from ..read.item import Item
 from ..remarks import Remark
 from ..table import DataTable
@@ -40,13 +42,11 @@ from .catalogue_tables import (
     EXACT,
     REJECTS,
     Decision,
-    aims_of,
     catalogue_summary,
     decisions_of,
     exact_of,
     reasons_of,
     rejects_of,
-    together_of,
 )
 from .change_tables import CHANGES, change_lines, changes_of, moved_rows
 from ..columns import declared
@@ -54,6 +54,7 @@ from .control_tables import controls_of
 from .curves import MARKERS, CurvePicture
 from .item_page import ItemWords, item_page
 from .lateness import LATENESS, lateness_of
+from .promise_tables import aims_of, costs_of, together_of
 from .page import OF_CHOSEN, Line, Money, Plot, Scale, path_of, percent, rendered
 from .today_tables import OrdersToday, orders_by_masters
 from .verdicts import VERDICTS
@@ -159,6 +160,7 @@ def catalogue_page(
                 folder.read.controls(), folder.currency.decimals, currency.code
             ),
             "aims": aims_of(folder, totals),
+            "costs": costs_of(folder),
             "groups": together_of(folder, totals),
             "lost": missing_of(folder.counts, totals.answered),
             "past": past_line(past_of(folder)),
@@ -239,8 +241,9 @@ def bars_of(rows: Iterable[Shown]) -> list[Bar]:
     for row in rows:
         saving = saving_of(row.answer)
         if isinstance(row.answer, Answer) and saving and saving > 0:
-            low, high = row.answer.run.low, row.answer.run.high
-            ends = (saving, saving) if low is None or high is None else (low, high)
+            run, ends = row.answer.run, (saving, saving)
+            if run and run.low is not None and run.high is not None:
+                ends = run.low, run.high
             bars.append(Bar(row, saving, *ends))
     return bars[:MOST_SAVINGS]
 
@@ -388,9 +391,10 @@ def write_item(
     )
 
 
+@judged("page", "common", "call")
 def report(
     folder: str | Path,
-    items: Iterable[str] = (),
+    items: Iterable[str | SupportsIndex] = (),
     *,
     orders: OrdersToday | None = None,
     jobs: int | None = None,
@@ -400,19 +404,47 @@ def report(
 ) -> Path:
     """Writes the page of a planned folder, report.html, and returns its path.
 
-    `folder` is that of `plan`, or of `crnplan catalogue`, in which the run has ended. The page has what the plan saves
-    a year, with service and stock before and after, what would change that, the exchange curve if `exchange_curve` has
-    drawn it, the greatest savings, what was left out and why, and a table of all items, which sorts and filters; above
-    5,000 items, of those with the greatest saving or loss. It has the `orders` that `Plan.orders_today` gives, or without
-    them those of today by the stock of the masters, if these have one: that it is not known what is on order is said. It
-    is one file that asks for no other; the same plan and orders give the same bytes.
-
-    What would change the answer is computed for at most 120 items by `jobs` processes or a Dask `cluster`, and kept in
+    The page has what the plan saves a year, with service and stock before and after, what would change that, the exchange
+    curve if `exchange_curve` has drawn it, the greatest savings, what was left out and why, and a table of all items, which
+    sorts and filters; above 5,000 items, of those with the greatest saving or loss. It is one file that asks for no other;
+    the same plan and orders give the same bytes. What would change the answer is computed for at most 120 items, and kept in
     the folder.
 
-    `items` get pages of their own first, below `items` in the folder, to which the table links. These need the program
-    crnsim, found as `program` says. Raises Refused for a folder without a finished plan of the rows that were read
-    last, for an item that is not planned, and for a folder that cannot be written; and ProgramError.
+    Parameters
+    ----------
+    folder : str or Path
+        That of `plan`, or of `crnplan catalogue`, in which the run has ended.
+    items : iterable of str, optional
+        Items that get pages of their own first, below `items` in the folder, to which the table links. These need crnsim.
+    orders : OrdersToday, optional
+        The orders that `Plan.orders_today` gives. Without them the page has those of today by the stock of the masters, if
+        these have one, and says that it is not known what is on order.
+    jobs : int, at least 1, optional
+        How many processes work; by default one for each processor.
+    cluster : str or distributed.Client, optional
+        The address of a Dask scheduler, or a client, whose workers work in place of processes.
+    program : str or Path, optional
+        The path of crnsim: see `find_program`.
+    progress : bool, default False
+        Shows on standard error how many items are done.
+
+    Returns
+    -------
+    Path
+        That of report.html.
+
+    Raises
+    ------
+    Refused
+        For a folder without a finished plan of the rows that were read last, for an item that is not planned, and for a
+        folder that cannot be written.
+    ProgramError
+        If a run by crnsim fails.
+
+    Examples
+    --------
+    >>> crn.report(plan.path, jobs=1).name
+    'report.html'
     """
     path = Path(folder)
     orders = orders or orders_by_masters(path)
@@ -420,7 +452,7 @@ def report(
         planned.check()
         if orders:
             orders.check(planned)
-        for name in items:
+        for name in map(name_of, items):
             write_item(own, planned, name, program)
         survey = Survey.of(planned, MOST_ROWS)
         keep_swings(own, planned, survey, Means(jobs, cluster, shown=progress))

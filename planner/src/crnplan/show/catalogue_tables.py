@@ -7,9 +7,7 @@ from fractions import Fraction
 from functools import cached_property
 from typing import TYPE_CHECKING, Any, NamedTuple
 
-from ..plan.aims import CLASSES, Tried
-from ..plan.answer import RUN, THEORY, Answer, Figures
-from ..plan.prices import Price
+from ..plan.answer import CHOSEN, RUN, THEORY, TODAY, Answer, Figures, Run
 from ..read.catalogue_reading import defaulted
 from ..read.classes import xyz_of
 from ..read.item import NO_DEMAND, UNORDERED, Item
@@ -21,6 +19,7 @@ from ..words import advice, counted, pattern, sentence
 from ..columns import columns_of
 from .control_tables import controls_of
 from .page import rendered
+from .promise_tables import aims_of, costs_of, together_of
 
 if TYPE_CHECKING:
     from ..plan.catalogue import PlannedFolder
@@ -37,9 +36,6 @@ AS_READ = frozenset(
     (*OUTSIDE, "total", "twin", "twins", "before order", "lead range")
 )  # codes of the latter
 PLANNED_BY = {THEORY: "theory", RUN: "crnsim"}
-# Items that are planned together: those of all classes, or of all but the named ones.
-ALL_CLASSES, OTHER_CLASSES = "all", "others"
-MOST_WANTED = 3  # fill rates, of which the aims are shown
 
 
 def codes_of(remarks: Iterable[Remark]) -> str:
@@ -79,6 +75,24 @@ class Decision:
         return self.item.fill
 
     @property
+    def no_shortage(self) -> Mapping[str, Fraction | float]:
+        """Returns the share of periods without a shortage that is wanted, and those of policies; nothing if none is."""
+        wanted = self.item.no_shortage
+        if wanted is None:
+            return {}
+        shares: dict[str, Fraction | float] = {"wanted": wanted}
+        for name in (TODAY, CHOSEN):
+            figures = getattr(self.answer, name, None)
+            if figures:
+                shares[name] = figures.no_shortage
+        return shares
+
+    @property
+    def review(self) -> int | None:
+        """Returns the periods from one review to the next; None if each has one."""
+        return self.item.review if self.item.review > 1 else None
+
+    @property
     def planned_by(self) -> str | None:
         """Returns whose figures costs and savings are."""
         if self.answer:
@@ -96,7 +110,8 @@ class Decision:
 
     @property
     def periods(self) -> int:
-        return len(self.item.counts)
+        """Returns how many periods of the history are known."""
+        return len(self.item.known.counts)
 
     @property
     def abc(self) -> str | None:
@@ -156,6 +171,7 @@ class ExactRow(NamedTuple):
 
     item: Item
     answer: Answer
+    run: Run
 
     @property
     def today(self) -> Mapping[str, int]:
@@ -174,28 +190,28 @@ class ExactRow(NamedTuple):
 
     @property
     def cost_today(self) -> Fraction | None:
-        return self._cost(self.answer.run.total_today)
+        return self._cost(self.run.total_today)
 
     @property
     def cost_chosen(self) -> Fraction | None:
-        return self._cost(self.answer.run.total_chosen)
+        return self._cost(self.run.total_chosen)
 
     def _cost(self, total: int | None) -> Fraction | None:
         """Returns what a period costs by the cost of all replications, in the program's units."""
         if total is None:
             return None
-        return total / (self.answer.run.replications * self._units)
+        return total / (self.run.replications * self._units)
 
     @property
     def saving(self) -> Fraction | None:
-        difference = self.answer.run.difference
+        difference = self.run.difference
         if difference is None:
             return None
         return -difference / self._units
 
     @property
     def variance(self) -> Fraction | None:
-        variance = self.answer.run.variance
+        variance = self.run.variance
         if variance is None:
             return None
         return variance / self._units**2
@@ -203,62 +219,7 @@ class ExactRow(NamedTuple):
     @property
     def _units(self) -> Fraction:
         """Returns the program's units of a replication that are one of money a period."""
-        return self.answer.run.periods * self.answer.run.scale
-
-
-class Aimed(NamedTuple):
-    """Where a class of items, whose past was `tried`, aims for a wanted fill rate."""
-
-    wanted: float
-    name: str
-    tried: Tried
-
-    @property
-    def aimed(self) -> float:
-        return self.tried.aim(self.wanted)
-
-    @property
-    def met(self) -> float:
-        """Returns the share of demand that this met on the past."""
-        return self.tried.met(self.aimed)
-
-
-class Together(NamedTuple):
-    """A group of items that are planned together, by its `price`, with what they come to."""
-
-    group: str
-    price: Price
-    totals: Totals
-    has_others: bool
-
-    @property
-    def name(self) -> str:
-        """Returns the class of the group: all items, or those of other classes than named ones, have none."""
-        return self.group or (OTHER_CLASSES if self.has_others else ALL_CLASSES)
-
-    @property
-    def items(self) -> int:
-        return self.totals.shared[self.group]
-
-    @property
-    def promised(self) -> float | None:
-        """Returns the share that the chosen policies meet by theory; None if no item is planned."""
-        asked = self.totals[f"together {self.group}"]
-        return self.totals[f"met together {self.group}"] / asked if asked else None
-
-    @property
-    def least(self) -> float | None:
-        fills = self.totals.fills.get(self.group)
-        return fills[0] if fills else None
-
-    @property
-    def greatest(self) -> float | None:
-        fills = self.totals.fills.get(self.group)
-        return fills[1] if fills else None
-
-    @property
-    def at_least(self) -> int:
-        return self.totals.least[self.group]
+        return self.run.periods * self.run.scale
 
 
 def line_of(reject: Reject) -> int | None:
@@ -275,8 +236,6 @@ def advice_of(reject: Reject) -> str:
 
 DECISION_COLUMNS = columns_of("show", "decisions")
 EXACT_COLUMNS = columns_of("show", "exact")
-AIM_COLUMNS = columns_of("show", "aims")
-TOGETHER_COLUMNS = columns_of("show", "together")
 REJECT_COLUMNS = columns_of(
     "show", "rejects", {"line": line_of, "reason": reason_of, "advice": advice_of}
 )
@@ -296,9 +255,11 @@ def decisions_of(folder: PlannedFolder, answers: Iterable[Decided]) -> DataTable
 
 
 def exact_of(answers: Iterable[Decided]) -> DataTable:
-    """Returns the exact figures of the runs of the items that are planned."""
+    """Returns the exact figures of the runs of the items that are planned, of those that have one."""
     planned = (
-        ExactRow(item, answer) for item, answer in answers if isinstance(answer, Answer)
+        ExactRow(item, answer, answer.run)
+        for item, answer in answers
+        if isinstance(answer, Answer) and answer.run
     )
     return DataTable.of(EXACT_COLUMNS, planned, missing="")
 
@@ -383,9 +344,9 @@ def reasons_of(rejects: Iterable[Reject]) -> list[Reason]:
     return sorted(reasons.values(), key=lambda reason: reason.rank)
 
 
-def rejects_of(rejects: Iterable[Reject]) -> DataTable:
-    """Returns what was left out or named, with the reason and what to do."""
-    return DataTable.of(REJECT_COLUMNS, rejects, missing="")
+def rejects_of(rejects: Iterable[Reject], keys: str = "") -> DataTable:
+    """Returns what was left out or named, with the reason and what to do. Items have `keys` of a type in a frame."""
+    return DataTable.of(REJECT_COLUMNS, rejects, missing="", keys=keys)
 
 
 def counted_rows(files: Mapping[str, FileCounts]) -> Iterator[str]:
@@ -407,35 +368,6 @@ def hardly_read(files: Mapping[str, FileCounts]) -> Iterator[str]:
             yield f"{counts['name']}: {rejected:,} of {read:,} rows were rejected, more than half"
         elif read and not counts["used"]:
             yield f"{counts['name']}: none of {counted(read, 'row')} is used"
-
-
-def aims_of(folder: PlannedFolder, totals: Totals) -> DataTable | None:
-    """Returns where each class of items aims, for the wanted fill rates that most items have; None if these are not
-    corrected."""
-    aims = folder.settings.aims
-    if aims is None:
-        return None
-    aimed = []
-    for wanted in sorted(fill for fill, _ in totals.corrected.most_common(MOST_WANTED)):
-        aimed += [
-            Aimed(wanted, name, tried) for name, tried in zip(CLASSES, aims.classes)
-        ]
-    return DataTable.of(AIM_COLUMNS, aimed)
-
-
-def together_of(folder: PlannedFolder, totals: Totals) -> DataTable | None:
-    """Returns what the groups come to whose items are planned together; None if none are."""
-    prices = folder.settings.prices
-    if prices is None:
-        return None
-    has_others = len(prices.groups) > 1
-    groups = [
-        Together(group, price, totals, has_others)
-        for group, price in sorted(prices.groups.items())
-    ]
-    has = {"past": folder.settings.correct, "at_least": folder.settings.at_least}
-    columns = [column for column in TOGETHER_COLUMNS if has.get(column.name, True)]
-    return DataTable.of(columns, groups)
 
 
 def catalogue_summary(
@@ -462,6 +394,7 @@ def catalogue_summary(
             "ends": totals.run_ends(settings.level),
             "missing": missing,
             "aims": aims_of(folder, totals),
+            "costs": costs_of(folder),
             "together": together_of(folder, totals),
             "money": folder.currency.text,
             "remarks": read.remarks(),

@@ -59,9 +59,7 @@ CHANGE_COLUMNS = columns_of(
 
 def changes_of(folder: PlannedFolder) -> DataTable:
     """Returns what has changed since the earlier plan: a row for each item of either."""
-    return DataTable.of(
-        CHANGE_COLUMNS, map(ChangeRow, folder.changes()), folder.currency.decimals, ""
-    )
+    return folder.table(CHANGE_COLUMNS, map(ChangeRow, folder.changes()))
 
 
 def _size(change: Change) -> tuple[float, str]:

@@ -16,6 +16,7 @@ from ..decide.verdicts import POLICY
 from ..demand import EMPIRICAL
 from ..demand.checks import largest_periods
 from ..demand.fitted import Figures as LawFigures, FittedLaw, fit_words
+from ..demand.seasons import months_of
 from ..errors import Fault, spelt, worded
 from ..money import Currency
 from ..plan.answer import THEORY, Figures
@@ -24,9 +25,9 @@ from ..plan.question import Question
 from ..plan.settings import as_setting
 from ..read.dates import EVERY, period_name
 from ..remarks import Remark
-from ..scenario import Policy
+from ..policies import Policy
 from ..table import MONEY, DataTable
-from ..words import advised, exactness, sentence
+from ..words import MONTHS, advised, exactness, sentence
 from .catalogue_tables import DECISION_COLUMNS, Decision, exact_of
 from ..columns import columns_of, declared
 from .item_plots import ALONE, history_plot, law_plot, season_plot, stock_plot
@@ -142,7 +143,17 @@ class ItemWords:
         today, chosen = self.answer.today, self.answer.chosen
         levels = f"{today.point:,}, {today.level:,}" if today else ""
         verdict = VERDICTS[self.answer.verdict].said.format(levels)
-        return f"Below {chosen.point:,}, order up to {chosen.level:,}: {verdict}"
+        when = f"In {self.month} below" if self.month else "Below"
+        return f"{when} {chosen.point:,}, order up to {chosen.level:,}: {verdict}"
+
+    @property
+    def month(self) -> str:
+        """Returns the month of the levels of an item with a season; nothing for others."""
+        season = self.question.season
+        if season is None:
+            return ""
+        (month,) = months_of(season.every, season.stretch.first, 1).tolist()
+        return MONTHS[month]
 
     @property
     def promise(self) -> str:

@@ -19,6 +19,7 @@ from .page import (
     Plot,
     Scale,
     bars,
+    capital,
     marks_of,
     number,
     tick,
@@ -195,7 +196,7 @@ def season_plot(depth: Depth, every: str) -> Plot | None:
     across = f"{every} of the coming year; bars are the demand a year before"
     return Plot(
         title="Levels of the coming year, above the demand of the last one",
-        description=f"{', '.join(said)}.",
+        description=capital(", ".join(said)),
         scale=scale,
         marks=marks_of(names),
         across=across + UNKNOWN * any(is_gap),

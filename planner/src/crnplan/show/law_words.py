@@ -3,6 +3,7 @@ from __future__ import annotations
 
 from ..demand import EMPIRICAL
 from ..demand.fitted import FittedLaw
+from ..read.item import STATED
 
 
 def source_words(prior: str) -> str:
@@ -15,6 +16,8 @@ def source_words(prior: str) -> str:
 def law_words(law: FittedLaw) -> str:
     """Returns in words what a figure is by that rests on a law: on a fitted one, or on the history."""
     its, method = law.diagnostics, law.diagnostics.method
+    if law.family == STATED:
+        return "the law that is stated for it"
     if law.family == EMPIRICAL:
         is_unlike = method != EMPIRICAL and not law.is_of_leads
         return "this history" + f" ({method}: no family gives it back)" * is_unlike
@@ -34,6 +37,8 @@ def law_words(law: FittedLaw) -> str:
 def law_said(law: FittedLaw) -> str:
     """Returns in a plain sentence by which law demand is planned."""
     borrowed = law.diagnostics.borrowed
+    if law.family == STATED:
+        return "Demand is planned by the law that is stated for it."
     if law.family == EMPIRICAL:
         return "Demand is planned as it was seen in this history."
     if borrowed and not borrowed.alone:

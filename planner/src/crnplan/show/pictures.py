@@ -9,7 +9,7 @@ from __future__ import annotations
 import contextlib
 import io
 import os
-from collections.abc import Mapping, Sequence
+from collections.abc import Callable, Mapping, Sequence
 from pathlib import Path
 from typing import Any
 
@@ -23,7 +23,7 @@ from ..decide.doubt import MOST, Doubt
 from ..decide.verdicts import Compared, Decision
 from ..errors import Refused
 from ..store.files import named_bytes
-from ..scenario import Policy
+from ..policies import Policy
 from ..words import counted
 from .curves import (
     BLACK,
@@ -49,13 +49,18 @@ try:
     from matplotlib.colors import PowerNorm
     from matplotlib.figure import Figure
     from matplotlib.patches import Rectangle
-    from matplotlib.ticker import MaxNLocator, SymmetricalLogLocator
+    from matplotlib.ticker import (
+        MaxNLocator as MaxNLocator,
+        PercentFormatter as PercentFormatter,
+        SymmetricalLogLocator,
+    )
 except ImportError as missing:
     raise Refused(
         "a picture needs matplotlib, which is missing here",
         "install it (on Debian: apt-get install python3-matplotlib)",
     ) from missing
 
+Size = tuple[float, float]  # width and height in inches
 SETTINGS = {
     "svg.fonttype": "none",
     "svg.hashsalt": "crnsim",
@@ -94,6 +99,27 @@ def blank(width: float, height: float, rows: int = 1) -> tuple[Figure, list[Axes
     """Returns an empty picture of a size in inches, with so many axes below one another that share what is across."""
     figure = Figure(figsize=(width, height), layout="constrained")
     return figure, [*figure.subplots(rows, sharex=True, squeeze=False)[:, 0]]
+
+
+def on_axes(draw: Callable[[Axes], str], size: Size, axes: Axes | None) -> Axes:
+    """Draws on axes, or on those of a new figure of pyplot, which a notebook shows, of a size in inches. That gets the
+    title that is returned."""
+    if axes is None:
+        from matplotlib import pyplot
+
+        # Not within STYLED: a notebook's backend, which is loaded now, has settings of its own that must last.
+        figure = pyplot.figure(figsize=size, layout="constrained")
+        return on_figure(figure, draw)
+    STYLED(draw)(axes)
+    return axes
+
+
+@STYLED
+def on_figure(figure: Figure, draw: Callable[[Axes], str]) -> Axes:
+    """Draws on axes of an empty figure, with the title that is returned."""
+    axes: Axes = figure.subplots()
+    set_title(figure, draw(axes))
+    return axes
 
 
 @STYLED
@@ -247,14 +273,20 @@ def map_picture(decision: Decision) -> Figure:
     return figure
 
 
-@STYLED
-def exchange_picture(
-    curve: Sequence[tuple[float, Point]], named: Mapping[str, Point], money: Money
-) -> Figure:
-    """Returns a picture of an exchange curve, the value of the stock against the share of demand met at once: its line,
-    by price and point, with named points."""
+def exchange_size(named: Mapping[str, Point]) -> Size:
+    """Returns the size of the picture of an exchange curve, with a line of the legend for each named point."""
+    return 8, 5.2 + LEGEND_LINE * (len(named) + 1)
+
+
+def draw_exchange(
+    axes: Axes,
+    curve: Sequence[tuple[float, Point]],
+    named: Mapping[str, Point],
+    money: Money,
+) -> str:
+    """Draws an exchange curve, the value of the stock against the share of demand met at once: its line, by price and
+    point, with named points. Returns the title."""
     shown = CurvePicture(named, money)
-    figure, (axes,) = blank(8, 5.2 + LEGEND_LINE * (len(named) + 1))
     axes.plot(
         *zip(*(shown.place(point) for _, point in curve)),
         color=BLUE,
@@ -280,7 +312,16 @@ def exchange_picture(
     axes.grid(alpha=0.3)
     axes.set_axisbelow(True)
     axes.legend(**ABOVE)
-    set_title(figure, TITLE)
+    return TITLE
+
+
+@STYLED
+def exchange_picture(
+    curve: Sequence[tuple[float, Point]], named: Mapping[str, Point], money: Money
+) -> Figure:
+    """Returns a picture of an exchange curve: see `draw_exchange`."""
+    figure, (axes,) = blank(*exchange_size(named))
+    set_title(figure, draw_exchange(axes, curve, named, money))
     return figure
 
 
@@ -300,13 +341,16 @@ def draw_regrets(axes: Axes, regrets: Floats) -> None:
     axes.vlines(bound, places - 0.34, places + 0.34, label=label, **bar)
 
 
-@STYLED
-def regrets_picture(doubt: Doubt) -> Figure:
-    """Returns a picture of how much more than the best each policy costs under the laws that a history allows: a dot
-    for each law, the cheapest policy first."""
+def doubt_size(doubt: Doubt) -> Size:
+    """Returns the size of the picture of regrets, with a row for each policy."""
+    return 9, 2.2 + 0.34 * len(doubt.policies)
+
+
+def draw_doubt(axes: Axes, doubt: Doubt) -> str:
+    """Draws how much more than the best each policy costs under the laws that a history allows: a dot for each law, the
+    cheapest policy first. Returns the title."""
     policies = [doubt.policies[place] for place in doubt.order]
     regrets, within, rows = 100 * doubt.regrets_shown, 100 * doubt.within, len(policies)
-    figure, (axes,) = blank(9, 2.2 + 0.34 * rows)
     axes.axvspan(-1, within, color=NEAR, zorder=0, linewidth=0)
     draw_regrets(axes, regrets)
     shares = [f"{share:.0%}" for share in (regrets <= within).mean(axis=0)]
@@ -327,12 +371,16 @@ def regrets_picture(doubt: Doubt) -> Figure:
     axes.set_xlabel(
         f"regret: how much more it costs in the long run than the best {best}"
     )
-    set_title(
-        figure,
-        f"{subject} under {len(regrets)} laws that the history allows: "
-        f"regret, and share of laws {near}",
-    )
     axes.legend(ncol=3, **ABOVE)
+    laws = f"{subject} under {len(regrets)} laws that the history allows"
+    return f"{laws}: regret, and share of laws {near}"
+
+
+@STYLED
+def regrets_picture(doubt: Doubt) -> Figure:
+    """Returns a picture of the doubt: see `draw_doubt`."""
+    figure, (axes,) = blank(*doubt_size(doubt))
+    set_title(figure, draw_doubt(axes, doubt))
     return figure
 
 

@@ -12,7 +12,7 @@ from dataclasses import dataclass, field, replace
 from fractions import Fraction
 from functools import cached_property
 from pathlib import Path
-from typing import TYPE_CHECKING
+from typing import TYPE_CHECKING, ClassVar
 
 from ..errors import Refused
 from ..store.files import Folder
@@ -27,7 +27,7 @@ from ..read.observed import Day, stated_day
 from ..read.opening import Table
 from ..read.told import merged, told_of, words_from
 from ..remarks import Remark
-from ..table import DataTable, TextResult, names_of
+from ..table import DataTable, Json, Result, names_of
 from ..words import counted
 from .catalogue_tables import (
     REJECT_COLUMNS,
@@ -238,8 +238,8 @@ def short_of(group: Group) -> tuple[Group, str, Fraction]:
     return group, names_of(names, MOST_NAMED), group.lacking
 
 
-@dataclass(frozen=True)
-class OrdersToday(TextResult):
+@dataclass(frozen=True, eq=False, repr=False)
+class OrdersToday(Result):
     """What a plan says on a day. `frame` has a row for each order, the most urgent first, and then for each item of
     which nothing is known; `text` says what it comes to. docs/TABLES.md has all columns.
     """
@@ -248,6 +248,14 @@ class OrdersToday(TextResult):
     every: str = field(default="", repr=False)
     currency: Currency = field(default=Currency(), repr=False)
     plan: str = field(default="", repr=False)  # the digest of the plan
+    keys: str = field(default="", repr=False)  # the type of its items' names
+
+    brief: ClassVar = "item supplier position s S placed value chance".split()
+
+    @property
+    def content(self) -> list[list[dict[str, Json]]]:
+        """Returns the rows of all tables as plain data."""
+        return [table.records for table in self.tables.values()]
 
     def _table(self, name: str, things: Iterable[object]) -> DataTable:
         currency = self.currency
@@ -258,6 +266,7 @@ class OrdersToday(TextResult):
             "",
             currency=currency.code,
             every=self.every,
+            keys=self.keys,
         )
 
     def _rows(self, standings: Iterable[Standing]) -> list[Row]:
@@ -336,7 +345,7 @@ class OrdersToday(TextResult):
             "lines": self._lines(today.suppliers),
             "at_risk": self._table("at_risk", self.risks),
             "controls": controls_of(today.controls, currency.decimals, currency.code),
-            "left_out": rejects_of(today.rejects),
+            "left_out": rejects_of(today.rejects, self.keys),
         }
 
     def write(self, folder: Folder) -> None:
@@ -469,7 +478,9 @@ def orders_today(
             asked,
             kept.defaults.supplier_min,
         )
-        return OrdersToday(today, folder.every, folder.currency, folder.digest)
+        return OrdersToday(
+            today, folder.every, folder.currency, folder.digest, folder.keys
+        )
 
 
 def has_stock(path: Path) -> bool:

@@ -25,10 +25,11 @@ GAIN: dict[str, str] = WORDS["gain"]
 
 
 class MethodWords(NamedTuple):
-    """The name of a method that a test runs, and what it is."""
+    """The name of a method that a test runs, what it is, and the style of its lines."""
 
     name: str
     meaning: str
+    style: str = ""
 
 
 METHOD_WORDS = {code: MethodWords(*words) for code, words in WORDS["methods"].items()}
@@ -49,3 +50,8 @@ def gains_said(gains: Sequence[Remark]) -> str:
         words = GAIN["apart" if gain.facts["fill"] is None else "one"]
         parts.append(words.format(name=name, **gain.facts))
     return f"gained: {', '.join(parts)}"
+
+
+def less_said(gain: Remark) -> str:
+    """Returns what a method needs beside the kept plan that meets as much."""
+    return GAIN["less"].format(**gain.facts)

@@ -23,7 +23,7 @@ import tempfile
 import weakref
 from collections.abc import Iterable, Iterator
 from pathlib import Path
-from typing import IO, Any
+from typing import IO, Any, NoReturn
 
 from .digests import sha256
 from ..errors import Failed, Refused, escaped
@@ -454,11 +454,13 @@ def own_folder(path: Path, kind: str, names: Iterable[str] = ()) -> Iterator[Fol
 
 class Room:
     """A new folder among the temporary files. It is removed once no value needs it, and in whatever way this process
-    ends: if by force, then by a guard that waits for that."""
+    ends: if by force, then by a guard that waits for that. So it is of no use to another process, and what is in it is
+    not pickled: `kept` says how it is kept."""
 
-    def __init__(self) -> None:
+    def __init__(self, kept: str) -> None:
         import subprocess
 
+        self.kept = kept
         self.path = Path(tempfile.mkdtemp(prefix="crnplan-")).absolute()
         guard = subprocess.Popen(
             ["/bin/sh", "-c", GUARD, "crnplan", self.path],
@@ -469,6 +471,11 @@ class Room:
             start_new_session=True,
         )
         weakref.finalize(self, remove_room, self.path, guard, os.getpid())
+
+    def __reduce__(self) -> NoReturn:
+        """Raises Refused."""
+        what = "it can't be pickled: it is in a temporary folder that ends with this process"
+        raise Refused(what, self.kept)
 
 
 def remove_room(path: Path, guard: Any, owner: int) -> None:

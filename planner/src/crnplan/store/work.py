@@ -8,6 +8,7 @@ from __future__ import annotations
 import contextlib
 import sys
 import time
+import warnings
 from collections import deque
 from collections.abc import Callable, Generator, Iterable, Iterator, Sequence
 from dataclasses import dataclass, field
@@ -175,8 +176,8 @@ class _Turns:
 
 
 class Progress:
-    """How many of a total are done, of which some are `kept` from before. It is shown on standard error: as a bar on a
-    terminal; in a log as a line at once, and whenever a further ninth of them is done.
+    """How many of a total are done, of which some are `kept` from before. It is shown as a bar on a terminal and in a
+    notebook; in a log, on standard error, as a line at once, and whenever a further ninth of them is done.
     """
 
     def __init__(
@@ -221,6 +222,27 @@ def hide(progress: Progress) -> None:
     """Shows nothing."""
 
 
+def in_notebook() -> bool:
+    """Returns whether this process works for a notebook."""
+    shell = getattr(sys.modules.get("IPython"), "get_ipython", lambda: None)()
+    return "IPKernelApp" in getattr(shell, "config", ())
+
+
+def bar_of(total: int, unit: str, kept: int) -> Any:
+    """Returns a bar: on standard error; in a notebook one that goes when it is full, as text if there are no widgets, on
+    standard output, since a notebook shows the other in red."""
+    words: dict[str, Any] = {"total": total, "initial": kept, "unit": f" {unit}"}
+    if not in_notebook():
+        from tqdm import tqdm
+
+        return tqdm(file=sys.__stderr__, dynamic_ncols=True, **words)
+    with warnings.catch_warnings():  # that there are no widgets
+        warnings.simplefilter("ignore")
+        from tqdm.auto import tqdm as its_bar
+
+    return its_bar(file=sys.stdout, leave=False, **words)
+
+
 @contextlib.contextmanager
 def progress(total: int, shown: bool, unit: str, kept: int = 0) -> Iterator[Progress]:
     """Gives what counts how much is done, and shows it from the first call of `add` on, if it is to be shown. If work
@@ -229,21 +251,12 @@ def progress(total: int, shown: bool, unit: str, kept: int = 0) -> Iterator[Prog
         bars = list[Any]()
 
         def move(counted: Progress) -> None:
-            from tqdm import tqdm
-
             if not bars:
-                bar = tqdm(
-                    file=sys.__stderr__,
-                    total=total,
-                    initial=kept,
-                    unit=f" {unit}",
-                    dynamic_ncols=True,
-                )
-                bars.append(stack.enter_context(bar))
+                bars.append(stack.enter_context(bar_of(total, unit, kept)))
             bars[0].set_description(f"{counted.kept} kept", refresh=False)
             bars[0].update(counted.done - bars[0].n)
 
-        show = move if sys.stderr.isatty() else Progress.log
+        show = move if sys.stderr.isatty() or in_notebook() else Progress.log
         counted = Progress(total, unit, kept, show if shown else hide)
         try:
             yield counted

@@ -4,6 +4,10 @@ Let m be the longest lead time. All orders of the reviews up to period t have ar
 the end of that period follows from the position after the review of period t (`Walk`) and from what happens in the m
 periods after it: see `shortfalls.py`. With one lead time L, it is that position less the net demand of L + 1 periods
 (Zipkin, Foundations of Inventory Management, 2000, chapter 9).
+
+With a review in each n-th period only, an order that may arrive L periods after a review is followed by the next one n
+periods later. So in the periods L + j after a review, j = 0 .. n - 1, the stock is the position after that review less
+the net demand of L + j + 1 periods. Each j is one in n periods: their figures are those of the mean of these laws.
 """
 from __future__ import annotations
 
@@ -14,9 +18,18 @@ from typing import NamedTuple
 import numpy as np
 
 from ..chances import Floats, Whole
-from ..scenario import Policy, Scenario
+from ..policies import Policy
+from ..scenario import Scenario
 from .shortfalls import Shortfalls, lateness
-from .walk import LatticeLaw, Surplus, Walk, figures_at, power_of, sum_of
+from .walk import (
+    LatticeLaw,
+    Surplus,
+    Walk,
+    figures_at,
+    mean_of,
+    power_of,
+    sum_of,
+)
 
 MOST_CELLS = 50_000  # of tables with a row for each of many gaps
 UNMET, STOCK_LEFT = 1, 3  # rows of `LongRun.figures_from`
@@ -47,37 +60,62 @@ class Figured(Walk):
         self.figured = dict[tuple[int, int], Figures]()
         self.asked = self.demand.mean * step  # the mean demand of a period, in items
         # How far the mean stock less the mean backlog is below the mean low, in items.
-        taken = self.net.mean * float(scenario.lead.mean + 1)
+        taken = self.one.mean * float(scenario.lead.mean + (self.review + 1) / 2)
         self.offset = step * (self.above_low.mean + taken)
         self.late = lateness(leads)
         self.longest = max(leads)
-        # What is independently lost of a stock before a period's net demand.
-        under_way = power_of(self.net, min(leads))
+        # What is independently lost of a stock before a period's net demand, and in addition by how long the review is
+        # ago on whose order the stock depends.
+        under_way = power_of(self.one, min(leads))
+        self.waits = [power_of(self.one, wait) for wait in range(self.review)]
         self.has_one_lead = len(leads) == 1
         # How many cells a gap's row in a table has above S, and beside those of the gap, about.
         if self.has_one_lead:
-            under_way = sum_of(under_way, self.above_low)
+            under_way = sum_of(sum_of(under_way, mean_of(self.waits)), self.above_low)
             self.above = 0
             self.beside = under_way.high
         else:
-            self.above = len(self.late) * max(0, -self.net.low) - self.above_low.low
-            most_late = power_of(self.net, len(self.late)).high
-            self.beside = self.above + max(self.net.high, most_late)
-        self.after = sum_of(under_way, self.net)
+            self.above, self.beside = self.room_beside()
+        self.under_way = under_way
+        self.after = sum_of(under_way, self.one)
         self.one_period = Surplus(self.after, step)
         self.one_before = Surplus(sum_of(under_way, self.back.reflected), step)
 
-    def figures_from(self, levels: Whole) -> Floats:
+    def room_beside(self) -> tuple[int, int]:
+        """Returns how many cells a shortfall has above S, and beside those of its gap."""
+        above, most_late = 0, self.net.high
+        for wait, law in enumerate(self.waits):
+            reviews = len(self.late[wait :: self.review])
+            rise = reviews * max(0, -self.net.low) + max(0, -law.low)
+            above = max(above, rise)
+            most_late = max(most_late, power_of(self.net, reviews).high + law.high)
+        above -= self.above_low.low
+        return above, above + most_late
+
+    def figures_from(self, levels: Whole, is_shortest: bool = False) -> Floats:
         """Returns rows with stock costs, unmet demand, the chance of no backlog and the stock at the end of a period
-        that starts from lows at these levels, in items."""
+        that starts from lows at these levels, in items; if all lead times were the shortest, whatever else is late.
+        """
+        after, before = (
+            self.of_shortest if is_shortest else (self.one_period, self.one_before)
+        )
         return figures_at(
             levels,
             self.step,
-            *self.one_period.sums,
-            *self.one_before.sums,
+            *after.sums,
+            *before.sums,
             self.holding,
             self.backlog,
         )
+
+    @cached_property
+    def of_shortest(self) -> tuple[Surplus, Surplus]:
+        """Returns what is left of a low after a period's demand, and before it, if all lead times were the shortest."""
+        if self.has_one_lead or self.review == 1:
+            return self.one_period, self.one_before
+        under_way = sum_of(self.under_way, mean_of(self.waits))
+        laws = sum_of(under_way, self.one), sum_of(under_way, self.back.reflected)
+        return Surplus(laws[0], self.step), Surplus(laws[1], self.step)
 
     def lows_below(self, gaps: Sequence[int]) -> list[Floats]:
         """Returns for each gap the chances of how far a low of `figures_from` is below S, from the cell -above on."""

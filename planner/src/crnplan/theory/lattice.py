@@ -45,7 +45,9 @@ class NoTheory(Refused):
 
 @dataclass(frozen=True)
 class Shape:
-    """How large the numbers of a scenario are, in items and periods. `base` divides all of them."""
+    """How large the numbers of a scenario are, in items and periods. `base` divides all of them. `high` is that of the
+    periods from one review to the next, and `lead` has those until the next review too.
+    """
 
     base: int
     mean: float
@@ -143,24 +145,25 @@ def shape_of(scenario: Scenario, least_gap: int = 0) -> Shape:
     check_net(demand, back)
     squares = float(sum(chances @ values**2 for values, chances in laws))
     variance = squares - demand**2 - back**2
+    review = scenario.review
     both = costs.holding + costs.backlog
     rate = 2 * costs.setup * both / (costs.holding * costs.backlog)
-    order = math.sqrt(rate * (demand - back)) + (rate * variance) ** (1 / 3)
+    order = math.sqrt(rate * (demand - back)) + (rate * review * variance) ** (1 / 3)
     occurring = np.concatenate([values for values, _ in laws])
-    high = int(occurring.max())
+    high = review * int(occurring.max())
     leads = [*scenario.lead.chances]
     height = rise = 0.0
     if scenario.returns:
         rise = max(0, max(scenario.returns.values) - min(scenario.demand.values))
         if back:
-            step = max(1, high // CELLS_OF_SHAPE)
+            step = max(1, high // (review * CELLS_OF_SHAPE))
             height = height_of(scenario.demand, scenario.returns, step)
     return Shape(
         int(np.gcd.reduce(occurring)),
         demand - back,
         math.sqrt(variance),
         high,
-        leads[-1],
+        leads[-1] + review - 1,
         len(leads),
         order,
         height,
@@ -250,7 +253,8 @@ def theories_of(
     Raises NoTheory if the scenario has no best policy, or if its numbers are too far apart.
     """
     if widest is None:
-        widest = scenario.policies[0].S - scenario.policies[0].s
+        gaps = [policy.S - policy.s for policy in scenario.policies[:1]]
+        widest = max(gaps, default=0)
     shape = shape_of(scenario)
     step, exact = lattice_of(scenario, shape, widest)
     theory = theory_on(scenario, shape, step, exact)

@@ -104,7 +104,7 @@ def level_at(
 
 @compiled
 def cheaper_of(
-    lows: Lows, bounds: Bounds, level: int, least: int, allowed: float
+    lows: Lows, bounds: Bounds, level: int, least: int, allowed: float, held: float
 ) -> tuple[int, float]:
     """Returns the cheapest level that may be chosen, and the sum of its stock costs, if some level is the cheapest of
     all; infinity if there is none, or if that level is above the cut. Costs are convex in the level, so it is one of
@@ -122,6 +122,10 @@ def cheaper_of(
         if chosen != level and allowed < np.inf:
             unmet = sum_between(lows, cells, 1)
             if unmet > allowed * (1 + NEAR):
+                continue
+        if chosen < level and held > 0:
+            # Between two cells a level has the chance of the lower one.
+            if sum_at(lows, int(np.floor(cells)), 2) < held:
                 continue
         cost = sum_between(lows, cells, 0)
         if cost < least_cost:
@@ -141,13 +145,14 @@ def best_level(
     near: int,
     allowed: float,
     ratio: float,
+    held: float,
 ) -> tuple[int, int, float]:
     """Returns the least place that is enough, not before a place and near another one, and what `cheaper_of` does."""
     first = max(bounds.origin - (-least // bounds.step), before)
     first = min(first, lows.table.shape[1] - 1)
-    place = least_place(lows, first, near, allowed, ratio)
-    level = level_at(lows, bounds, place, least, allowed, ratio)
-    level, cost = cheaper_of(lows, bounds, level, least, allowed)
+    place = least_place(lows, first, near, allowed, max(ratio, held))
+    level = level_at(lows, bounds, place, least, allowed, max(ratio, held))
+    level, cost = cheaper_of(lows, bounds, level, least, allowed, held)
     return place, level, cost
 
 
@@ -167,6 +172,7 @@ def walked(
     rise: float,
     allowed: float,
     ratio: float,
+    held: float,
     known: float,
     is_nested: bool,
     is_pruned: bool,
@@ -181,7 +187,8 @@ def walked(
     `evened`: rows with what the lows before `even` add to these three at each level, as far as they have other chances
     than the last low, and rows with the sums of the table up to each.
 
-    A level is enough if the mean unmet demand is at most `allowed`, and the mean chance of no backlog at least `ratio`.
+    A level is enough if the mean unmet demand is at most `allowed`, and the mean chance of no backlog at least `ratio`,
+    below which a level costs more than it need, and at least `held`, which is asked of all levels.
     `setup` is the cost of a cycle. If `is_pruned`, gaps are left out that cost more than `known`, or, if they are
     nested, than one before: see `long_run.py`. All but orders costs at least `base`, and `rise` more by cell, but for
     the first gap.
@@ -218,6 +225,7 @@ def walked(
                 place,
                 allowed * size,
                 ratio * size,
+                held * size,
             )
         costs[each] = setup / total + cost / size
         limit = min(limit, CLOSE * costs[each])

@@ -24,6 +24,9 @@ single policy, 1991). Gaps are left out that cost more than another one:
 5. With one lead time, if G(s) is above C(g, S), the policy with the gap g - 1 and the same S costs less, and meets more
    demand at once, since the lowest of all lows meets least. So the best policy has G(s) of at most its cost, unless its
    gap is the least feasible one: see `lowest_point`.
+
+A share is one of demand that is met at once, or of periods that end with nothing owed (`counts_periods`). Both rise with
+the stock of a low. So all of this holds of either.
 """
 from __future__ import annotations
 
@@ -38,7 +41,7 @@ import numpy as np
 from ..chances import Floats, Whole
 from ..scenario import Costs, Scenario
 from .feasible import ALL, Feasible, Places
-from .figures import Figured
+from .figures import Figured, Figures
 from .grid import CLOSE, gap_grid, search
 from .levels import NEAR, Bounds, walked
 from .shortfalls import work_of
@@ -73,9 +76,9 @@ Fixed = Callable[[Whole], tuple[Whole, Whole]]
 
 
 class Sought(NamedTuple):
-    """What is sought of some gaps: the cheapest feasible levels that meet a share of demand at once, or fixed ones. But
-    for the first gap, s is at least `lowest`. Policies with the greatest S of all are only looked at `to_the_top`, if
-    their gap would rather have a higher one."""
+    """What is sought of some gaps: the cheapest feasible levels that meet a share, or fixed ones. But for the first gap,
+    s is at least `lowest`. Policies with the greatest S of all are only looked at `to_the_top`, if their gap would
+    rather have a higher one."""
 
     share: float = 0.0
     lowest: int = 0
@@ -107,6 +110,8 @@ class LongRun(Figured):
 
     # Whether a search looked at a grid of gaps alone. Else its policy is the best of all feasible pairs.
     is_searched = False
+    # What a share counts that is wanted: demand that is met at once, or the periods that end with nothing owed.
+    counts_periods = False
 
     def __init__(
         self,
@@ -140,6 +145,15 @@ class LongRun(Figured):
         other.__dict__.pop("free", None)
         return other
 
+    def counting(self, periods: bool) -> LongRun:
+        """Returns the same theory with wanted shares of periods without a shortage, or of demand."""
+        if periods == self.counts_periods:
+            return self
+        other = self.within(self.feasible)
+        other.counts_periods = periods
+        other.__dict__.pop("free", None)
+        return other
+
     @cached_property
     def free(self) -> LongRun:
         """Returns the same theory with all policies feasible."""
@@ -153,7 +167,7 @@ class LongRun(Figured):
     @property
     def usual_gap(self) -> float:
         """Returns the gap of the economic order quantity (Zipkin 2000, section 3.2)."""
-        return math.sqrt(2 * self.setup * self.net.mean / (self.holding * self.step))
+        return math.sqrt(2 * self.setup * self.one.mean / (self.holding * self.step))
 
     @property
     def ratio(self) -> float:
@@ -217,7 +231,17 @@ class LongRun(Figured):
 
     def allowed(self, share: float) -> float:
         """Returns how much demand of a period may not be met at once, in items, if this share is to be met."""
-        return (1 - share) * self.asked * (1 + NEAR) if share else math.inf
+        if self.counts_periods or not share:
+            return math.inf
+        return (1 - share) * self.asked * (1 + NEAR)
+
+    def held(self, share: float) -> float:
+        """Returns the least chance that a period ends with nothing owed, if this share is to be met."""
+        return share * (1 - NEAR) if self.counts_periods else 0.0
+
+    def met(self, figures: Figures) -> float:
+        """Returns what a policy meets of that of which a share is wanted."""
+        return 1 - figures.short if self.counts_periods else figures.fill
 
     def walk(
         self,
@@ -225,7 +249,7 @@ class LongRun(Figured):
         leasts: Whole,
         fixed: Whole = NONE,
         *,
-        allowed: float = math.inf,
+        share: float = 0.0,
         ratio: float = 0.0,
         is_nested: bool = True,
         feasible: Feasible | None = None,
@@ -233,19 +257,19 @@ class LongRun(Figured):
         base: float = -math.inf,
         known: float | None = None,
     ) -> Levels:
-        """Returns the best or fixed levels of some rising gaps with what they cost: see `walked`. Nested gaps have the
-        lows of one lead time. Any level is feasible if no bounds are given, and no gap is left out if no
-        cost is known."""
+        """Returns the best or fixed levels of some rising gaps that meet a share, with what they cost: see `walked`.
+        Nested gaps have the lows of one lead time. Any level is feasible if no bounds are given, and no gap is left out
+        if no cost is known."""
         lows = self.lows_of(int(gaps[-1]))
         above = 0 if is_nested else self.above
         turned = (lows[None] if is_nested else self.rows_of(gaps))[:, ::-1].copy()
         width = turned.shape[1]
-        # Levels are no less than their gaps, if these are nested and levels have bounds.
-        origin = 2 if is_nested and feasible else width
+        # Levels are no less than their gaps, if these are nested and no s is below 0.
+        origin = 2 if is_nested and feasible and feasible.least >= 0 else width
         # With a level below the last one, nothing is ever owed.
         last = max(int(self.floor(gaps[-1])), width - above + self.after.high) + 1
         cells = np.arange(above - origin, above + last + 1)
-        table = self.figures_from(self.step * cells)
+        table = self.figures_from(self.step * cells, is_nested)
         multiple, top = 1, MOST_LEVEL
         if feasible:
             multiple, top = feasible.multiple, feasible.top
@@ -261,8 +285,9 @@ class LongRun(Figured):
             self.setup / self.span,
             base,
             self.holding * self.step / 2,
-            allowed,
+            self.allowed(share),
             ratio,
+            self.held(share),
             math.inf if known is None else known,
             is_nested,
             known is not None,
@@ -271,26 +296,18 @@ class LongRun(Figured):
     def levels_with_fill(
         self, gaps: Sequence[int], shares: Sequence[float]
     ) -> Iterator[tuple[int, list[int]]]:
-        """Yields rising gaps, each with the least levels, in items, that meet these shares of demand at once."""
+        """Yields rising gaps, each with the least levels, in items, that meet these shares."""
         for some in self.parts(gaps):
             levels = [
-                self.walk(
-                    some,
-                    0 * some,
-                    allowed=self.allowed(share),
-                    is_nested=self.has_one_lead,
-                )[0]
+                self.walk(some, 0 * some, share=share, is_nested=self.has_one_lead)[0]
                 for share in shares
             ]
             yield from zip(some.tolist(), np.transpose(levels).tolist())
 
     def floors(self, share: float, gaps: Whole) -> Floats:
-        """Returns what a policy that meets a share of demand at once costs at least, by some rising gaps: see the
-        module."""
-        _, costs = self.walk(
-            gaps, 0 * gaps, allowed=self.allowed(share), ratio=self.ratio
-        )
-        return costs - self.holding * self.step * self.net.mean * float(self.late.sum())
+        """Returns what a policy that meets a share costs at least, by some rising gaps: see the module."""
+        _, costs = self.walk(gaps, 0 * gaps, share=share, ratio=self.ratio)
+        return costs - self.holding * self.step * self.one.mean * float(self.late.sum())
 
     def first_gap(self, cost: float, most: int) -> int:
         """Returns the first gap up to the most whose orders alone cost no more."""
@@ -300,9 +317,11 @@ class LongRun(Figured):
         """Returns the least s, but for the least feasible gap, of a policy that costs no more: see the module."""
         if not self.has_one_lead or self.feasible.multiple > 1:
             return self.feasible.least
-        levels = self.step * np.arange(self.after.high + 2)
+        first = self.feasible.least // self.step
+        levels = self.step * np.arange(min(first, 0), self.after.high + 2)
         cheap = int((self.figures_from(levels)[0] <= CLOSE * cost).argmax())
-        return max(self.feasible.least, self.step * (cheap - 1) + 1)
+        lowest = int(levels[cheap]) - self.step + 1
+        return max(self.feasible.least, lowest)
 
     def levels_of(self, gaps: Whole, sought: Sought, known: float = math.inf) -> Levels:
         """Returns for each of some rising gaps the level that is sought, with its cost. Gaps that cost more than a known
@@ -326,9 +345,10 @@ class LongRun(Figured):
             start += len(some)
             levels[here], costs[here] = self.walk(
                 some,
-                self.items(some) + self.feasible.least,
+                # The best S is never below 0.
+                np.maximum(self.items(some) + self.feasible.least, 0),
                 fixed[here] if len(fixed) else NONE,
-                allowed=self.allowed(sought.share),
+                share=sought.share,
                 ratio=self.ratio,
                 is_nested=self.has_one_lead,
                 feasible=self.feasible,
@@ -370,9 +390,9 @@ class LongRun(Figured):
                 lowest=max(sought.lowest, self.lowest_point(known.cost))
             )
         most = self.widest(known.cost, sought.lowest)
-        work = (most + 1) * work_of(
-            power_of(self.net, self.longest).high + most, self.longest
-        )
+        reviews = -(-self.longest // self.review)
+        room = power_of(self.net, reviews).high + most
+        work = (most + 1) * self.review * work_of(room, reviews)
         if work > MOST_WORK and not self.has_one_lead:
             self.is_searched = True
             return self.searched(sought, known.cost, most)
@@ -396,8 +416,7 @@ class LongRun(Figured):
         return search(policies_of, len(every) - 1)
 
     def best(self, share: float = 0.0) -> Candidate:
-        """Returns the cheapest feasible policy that meets at least this share of demand at once: that of all policies,
-        if it is feasible."""
+        """Returns the cheapest feasible policy that meets at least this share: that of all policies, if it is feasible."""
         if share not in self.found:
             free = self.free.best(share) if self.feasible != ALL else NO_POLICY
             if free.cost < math.inf and self.has(free):
@@ -409,6 +428,14 @@ class LongRun(Figured):
                 )
         return self.found[share]
 
+    def best_below_0(self, known: Candidate) -> Candidate:
+        """Returns the cheapest policy if s may be below 0, beside the best one with s of at least 0. No low of it costs more
+        than a period of the known one, and a low y below 0 costs at least `backlog` times -y.
+        """
+        least = -math.ceil(known.cost / self.backlog)
+        below = self.within(Feasible(least_point=least))
+        return below.at_gap(below.cheapest(Sought(lowest=least)))
+
     def at_gap(self, found: Candidate, point: int | None = None) -> Candidate:
         """Returns the policy of what a search has found, and perhaps a point."""
         return (
@@ -418,15 +445,16 @@ class LongRun(Figured):
         )
 
     def cheapest_of_gaps(self, gaps: Sequence[int], share: float) -> Candidate:
-        """Returns the cheapest feasible policy of rising gaps that meets a share of demand at once."""
+        """Returns the cheapest feasible policy of rising gaps that meets a share."""
         return self.at_gap(self.least_of(np.array(gaps), Sought(share)))
 
     def fullest(self) -> Candidate:
-        """Returns the feasible policy that meets most demand at once: that of the greatest S and the least gap."""
+        """Returns the feasible policy that meets most demand at once, and has the fewest periods with a shortage: that of
+        the greatest S and the least gap."""
         return self.policy(self.feasible.gap(0) // self.step, self.feasible.top)
 
     def nearest(self, share: float) -> Candidate:
-        """Returns the cheapest feasible policy that meets a share of demand at once, or the one that meets most."""
+        """Returns the cheapest feasible policy that meets a share, or the one that meets most."""
         best = self.best(share)
         return best if best.cost < math.inf else self.fullest()
 

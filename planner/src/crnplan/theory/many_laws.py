@@ -23,7 +23,8 @@ import numpy as np
 from ..chances import Floats
 from ..errors import Refused
 from ..law import Law
-from ..scenario import Policy, Scenario
+from ..policies import Policy
+from ..scenario import Scenario
 from .feasible import ALL, Feasible
 from .lattice import NoTheory, Shape, finest, shape_of, theory_on
 from .long_run import NO_POLICY, Candidate, LongRun, Sought, place_of_least
@@ -107,8 +108,8 @@ def run_of(
         net = walk.net
         above = -walk.above_low.low + shape.lead * max(0, -net.low) + walk.back.high
         likely = (
-            periods * net.mean
-            + DEVIATIONS * math.sqrt(periods * net.variance)
+            periods * walk.one.mean
+            + DEVIATIONS * math.sqrt(periods * walk.one.variance)
             + net.high
         )
         gap = -(-widest // step)
@@ -126,11 +127,13 @@ def run_of(
 
 def compute_shortfalls(asked: Iterable[tuple[LongRun, Iterable[int]]]) -> None:
     """Computes the shortfalls of gaps under many laws, some laws together, which takes less time than law by law. Laws
-    with one lead time or with returns are left out."""
+    with one lead time or with returns are left out, and those without a review in each period.
+    """
     alike = defaultdict[int, list[tuple[LongRun, list[int]]]](list)
     for theory, gaps in asked:
         new = sorted({*gaps} - theory.shorts.keys())
-        if new and not theory.has_one_lead and theory.net.low >= 0:
+        is_alike = theory.net.low >= 0 and theory.review == 1
+        if new and not theory.has_one_lead and is_alike:
             alike[len(theory.late)].append((theory, new))
     for pairs in alike.values():
         for first in range(0, len(pairs), TOGETHER):
@@ -282,7 +285,7 @@ def figures_of_laws(
 
 
 class Promises:
-    """Policies of a scenario that meet shares of demand at once under enough of some laws, and by its own.
+    """Policies of a scenario that meet shares, as its theory counts them, under enough of some laws, and by its own.
 
     `made` has the long runs of laws, by their places; `lacking` laws have none, and so keep no promise. Fill rates are
     counted in steps of `step` items, exact but for rounding if `exact` says so.
@@ -324,7 +327,8 @@ class Promises:
         self.made = dict[int, LongRun]()
         for place, (own, shape) in enumerate(scenarios):
             if shape and shape.has_room(self.step):
-                self.made[place] = theory_on(own, shape, self.step, self.exact)
+                made = theory_on(own, shape, self.step, self.exact)
+                self.made[place] = made.counting(theory.counts_periods)
         self.theories = [*self.made.values()]
         self.lacking = len(laws) - len(self.theories)
         self.levels = dict[tuple[int, int], dict[float, int]]()

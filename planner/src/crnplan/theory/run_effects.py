@@ -26,7 +26,8 @@ import numpy as np
 from scipy import fft
 
 from ..chances import Floats
-from ..scenario import Policy, Scenario
+from ..policies import Policy
+from ..scenario import Scenario
 from .feasible import ALL
 from .lattice import MOST_GAPS, NoTheory, lattice_of, shape_of, theory_on
 from .long_run import LongRun

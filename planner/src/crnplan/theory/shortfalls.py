@@ -25,6 +25,10 @@ and z the transform of a net demand. An order has the amount 1 - (1 - z) C, and 
 while the shortfall beside them is R(0) .. R(m - 1). So of a cycle, the shortfalls are together
 
     C (1 - (1 - z) (late(0) R(0) + .. + late(m - 1) R(m - 1)))
+
+If one in n periods has a review, z is the transform of the net demand of n periods, and ages are counted in reviews. Of
+the periods l + j after a review, j = 0 .. n - 1, an order of the age of i reviews is late with the chance late(j + i n),
+and the net demand of j periods more is taken from the stock: the shortfall is the mean over all j.
 """
 from __future__ import annotations
 
@@ -329,26 +333,36 @@ class Shortfalls:
         self.rooms = dict[int, tuple[Transforms, Floats]]()
 
     def in_room(self, room: int) -> tuple[Transforms, Floats]:
-        """Returns the transforms of the net demand, of how far it is above a low, and of what is taken; and the net
-        demand of some reviews: see `demands_of`."""
+        """Returns the transforms of the net demand of a review, of how far it is above a low, of the net demand of a period,
+        and of what is taken; and the net demand of some reviews: see `demands_of`."""
         if room not in self.rooms:
             laws = transforms_of(
-                [self.walk.net, self.walk.above_low, *self.taken], room
+                [self.walk.net, self.walk.above_low, self.walk.one, *self.taken], room
             )
             self.rooms[room] = laws, demands_of(laws[0], len(self.late), room)
         return self.rooms[room]
 
     def transforms(self, gaps: Whole, room: int) -> Transforms:
         """Returns the transforms of the shortfalls of some rising gaps, a row each, times the reviews of a cycle."""
+        review, (laws, _) = self.walk.review, self.in_room(room)
+        total = self.waited(gaps, room, 0)
+        for wait in range(1, review):
+            total += self.waited(gaps, room, wait) * laws[2] ** wait
+        return total / review
+
+    def waited(self, gaps: Whole, room: int, wait: int) -> Transforms:
+        """Returns the transforms of the shortfalls of some rising gaps, a row each, times the reviews of a cycle: of orders
+        so many periods after the shortest lead time."""
         (move, above, *_), demands = self.in_room(room)
-        cycle = self.walk.span * self.walk.lows_of(int(gaps[-1]))
-        if self.walk.net.low >= 0:
-            return falling(cycle, demands, gaps, move, self.late)
-        begun = (
-            fft.rfft(np.where(np.arange(len(cycle)) <= gaps[:, None], cycle, 0.0), room)
-            * above
-        )
-        return moving(begun, gaps, move, self.late, room, self.above)
+        late = self.late[wait :: self.walk.review]
+        cycle = (self.walk.span / self.walk.review) * self.walk.lows_of(int(gaps[-1]))
+        if self.walk.net.low >= 0 and len(late):
+            return falling(cycle, demands[: len(late) - 1], gaps, move, late)
+        within = np.where(np.arange(len(cycle)) <= gaps[:, None], cycle, 0.0)
+        begun: Transforms = fft.rfft(within, room) * above
+        if not len(late):
+            return begun
+        return moving(begun, gaps, move, late, room, self.above)
 
     def chances(self, gaps: Whole) -> Floats:
         """Returns the chances of the shortfalls of some rising gaps, a row each, from the cell -above on."""
@@ -365,7 +379,7 @@ class Shortfalls:
             int(gaps[-1]) + self.beside + max(law.high for law in self.taken) + 1 - low
         )
         chances = fft.irfft(
-            self.transforms(gaps, room) * self.in_room(room)[0][2:, None], room
+            self.transforms(gaps, room) * self.in_room(room)[0][3:, None], room
         )
         return np.roll(chances, -low, axis=2) if low else chances, low
 

@@ -13,13 +13,14 @@ from __future__ import annotations
 
 import itertools
 import math
-from collections.abc import Iterator, Sequence
+from collections.abc import Iterable, Iterator, Sequence
 from dataclasses import dataclass
 
 from ..formats import MOST_ITEMS, POLICIES
 from ..law import Law
 from ..remarks import Remark
-from ..scenario import BY_ITS_LAWS, Policy, Scenario
+from ..policies import Policy
+from ..scenario import BY_ITS_LAWS, Scenario
 from ..columns import columns_of
 from ..table import DataTable, Json, Result
 from ..toml.documents import read_document
@@ -46,6 +47,8 @@ NEIGHBOURS = {
     "higher_3": 3,
     "lower_3": -3,
 }
+BEST = Remark("the best")
+MUCH = 0.001  # by which the best policy may cost more than one with s below 0, unsaid
 ROUGH = 0.05
 # In percent: how much dearer than the best of all a policy of a search was in planner/studies/search.csv.
 MOST_EXCESS = 0.7
@@ -139,7 +142,7 @@ def chosen_policies(
 ) -> Chosen:
     """Returns the suggested policies of a scenario, of which the best is known. All but today's are feasible."""
     chosen = Chosen(scenario)
-    chosen.add("best", best, Remark("the best"))
+    chosen.add("best", best, BEST)
     for today in scenario.policies[:1]:
         chosen.add("same_s", theory.best_with_point(today.s), Remark("today's s"))
         chosen.add("same_S", theory.best_with_level(today.S), Remark("today's S"))
@@ -185,7 +188,81 @@ class Suggestion:
         )
 
 
-@dataclass(frozen=True)
+def figures_said(unit: float, step: int, error: float | None) -> list[Remark]:
+    """Returns what figures by theory mean: what items cost a period beside them, and what is known of their error."""
+    remarks = [Remark("figures of suggestions", {"unit": unit})]
+    if error is None:
+        return [*remarks, Remark("exact figures")]
+    kind = "rough figures" if error > ROUGH else "rounded figures"
+    facts = {"step": step, "error": max(error, 1e-4), "twice": 2 * step}
+    return [*remarks, Remark(kind, facts)]
+
+
+@dataclass(frozen=True, eq=False, repr=False)
+class ByTheory(Result):
+    """Policies with their figures of a period in the long run, by theory: cost (money, without `unit`), fill and short
+    (shares), stock (items) and orders. The rows are in the order of the policies.
+
+    Attributes
+    ----------
+    scenario : Scenario
+        Whose laws and costs count.
+    rows : tuple of Suggestion
+        The policies with their figures.
+    step : int
+        Demand is counted in steps of so many items.
+    error : float or None
+        About the relative error of the costs; None if they are exact but for rounding.
+    net : float
+        The mean net demand of a period, in items.
+    """
+
+    scenario: Scenario
+    rows: tuple[Suggestion, ...]
+    step: int
+    error: float | None
+    net: float
+
+    @property
+    def table(self) -> DataTable:
+        """Returns the figures, indexed by `policy`."""
+        return DataTable.of(COLUMNS[:-1], self.rows, index="policy")
+
+    @property
+    def notes(self) -> str:
+        """Returns what the figures mean, and what is known of their error."""
+        unit = self.scenario.costs.unit * self.net
+        said = map(sentence, figures_said(unit, self.step, self.error))
+        return "\n".join(["", BY_ITS_LAWS, *said, ""])
+
+
+def figured(
+    policies: Iterable[Policy], theory: LongRun, coarse: LongRun | None
+) -> Iterator[tuple[Figures, float | None]]:
+    """Yields the figures of policies, each with about the relative error of its cost by a coarser theory; None without
+    one."""
+    for policy in policies:
+        figures, error = theory.figures(policy.s, policy.S), None
+        if coarse:
+            cost = coarse.figures(policy.s, policy.S).cost
+            error = abs(cost - figures.cost) / figures.cost
+        yield figures, error
+
+
+def by_theory(scenario: Scenario, policies: Sequence[Policy]) -> ByTheory:
+    """Returns the figures of policies by the theory of a scenario. Raises NoTheory."""
+    widest = max(policy.S - policy.s for policy in policies)
+    theory, coarse = theories_of(scenario, widest)
+    rows, errors = list[Suggestion](), list[float]()
+    for policy, (figures, error) in zip(policies, figured(policies, theory, coarse)):
+        rows.append(Suggestion(policy, (), figures))
+        errors += [] if error is None else [error]
+    net = theory.net.mean * theory.step
+    most = max(errors, default=None)
+    return ByTheory(scenario, tuple(rows), theory.step, most, net)
+
+
+@dataclass(frozen=True, eq=False, repr=False)
 class Suggestions(Result):
     """The suggested policies of a scenario, today's first, and what is known of their figures.
 
@@ -201,6 +278,12 @@ class Suggestions(Result):
     position: float
     net: float
     remarks: tuple[Remark, ...]
+
+    @property
+    def best(self) -> Policy:
+        """Returns the best policy, under whatever name: that of today if they behave alike."""
+        (best,) = (row.policy for row in self.rows if BEST in row.remarks)
+        return best
 
     @property
     def initial(self) -> int:
@@ -233,16 +316,11 @@ class Suggestions(Result):
     def notes(self) -> str:
         """Returns the lines below the table: what its columns mean, and what is known of the error and of a run."""
         unit = self.scenario.costs.unit
-        remarks = [Remark("figures of suggestions", {"unit": unit * self.net})]
-        if self.error is None:
-            remarks.append(Remark("exact figures"))
-        else:
-            kind = "rough figures" if self.error > ROUGH else "rounded figures"
-            facts = {"step": self.step, "error": max(self.error, 1e-4)}
-            remarks.append(Remark(kind, {**facts, "twice": 2 * self.step}))
+        remarks = figures_said(unit * self.net, self.step, self.error)
         start = {"mean": self.position, "today": self.scenario.initial}
         remarks += self.remarks
-        remarks.append(Remark("initial", {**start, "initial": self.initial}))
+        if self.scenario.has_initial:
+            remarks.append(Remark("initial", {**start, "initial": self.initial}))
         if unit > 0:
             remarks.append(Remark("unit of a run"))
         return "\n".join(["", BY_ITS_LAWS, *map(sentence, remarks), ""])
@@ -254,7 +332,7 @@ class Suggestions(Result):
         source = self.scenario.toml()
         tree, _ = read_document(source.encode())
         tree["policy"] = []
-        if initial:
+        if initial or not self.scenario.has_initial:
             tree["initial"] = self.initial
         if unit_zero:
             tree["costs"]["unit"] = 0
@@ -283,14 +361,13 @@ def suggestions_of(
         fills = [*FILLS.values()]
         promises = Promises(scenario, theory, gap, laws, leads, fills, confidence)
     chosen = chosen_policies(scenario, theory, best, promises)
-    rows = []
-    errors = []
-    for policy, reasons in chosen.policies.values():
-        figures = theory.figures(policy.s, policy.S)
+    rows, errors = list[Suggestion](), list[float]()
+    known = [policy for policy, _ in chosen.policies.values()]
+    for (policy, reasons), (figures, error) in zip(
+        chosen.policies.values(), figured(known, theory, coarse)
+    ):
         rows.append(Suggestion(policy, tuple(reasons), figures))
-        if coarse:
-            cost = coarse.figures(policy.s, policy.S).cost
-            errors.append(abs(cost - figures.cost) / figures.cost)
+        errors += [] if error is None else [error]
     return Suggestions(
         scenario,
         tuple(rows),
@@ -298,8 +375,20 @@ def suggestions_of(
         max(errors, default=None),
         theory.mean_position(best.point, best.level),
         theory.net.mean * theory.step,
-        tuple(remarks_of(theory, chosen, promises)),
+        (*remarks_of(theory, chosen, promises), *below_0(theory, best)),
     )
+
+
+def below_0(theory: LongRun, best: Candidate) -> Iterator[Remark]:
+    """Yields what the best policy costs more than one that waits until items are owed, if that is much. Costs of lows fall
+    and then rise with them, so a policy with s below 0 can only be better if the best one has the least s.
+    """
+    if best.point >= theory.step:
+        return
+    other = theory.best_below_0(best)
+    if best.cost > other.cost * (1 + MUCH):
+        facts = {"s": other.point, "S": other.level, "more": best.cost / other.cost - 1}
+        yield Remark("s below 0", facts)
 
 
 def remarks_of(

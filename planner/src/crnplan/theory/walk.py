@@ -1,6 +1,7 @@
 """Describes how the inventory position of a scenario moves in the long run, with laws of whole numbers on a lattice.
 
-A law is counted in cells of `step` items, levels of stock in items.
+A law is counted in cells of `step` items, levels of stock in items. A review may be one in several periods, from one
+to the next of which the net demand is that of all of them.
 
 Counted down from S, the position after a review is a random walk that starts anew with each order. Without returns, how
 often it visits each place is a renewal sequence (Veinott and Wagner, Computing optimal (s,S) inventory policies, 1965).
@@ -11,6 +12,7 @@ volume II, chapters XII and XVIII).
 from __future__ import annotations
 
 import math
+from collections.abc import Sequence
 from dataclasses import dataclass
 from functools import cached_property, lru_cache
 
@@ -152,6 +154,15 @@ def sum_of(left: LatticeLaw, right: LatticeLaw) -> LatticeLaw:
     return LatticeLaw.scaled(
         left.low + right.low, convolved(left.chances, right.chances)
     )
+
+
+def mean_of(laws: Sequence[LatticeLaw]) -> LatticeLaw:
+    """Returns the law of a number that has each of some laws as often as any other."""
+    if len(laws) == 1:
+        return laws[0]
+    low, high = min(law.low for law in laws), max(law.high for law in laws)
+    chances = np.sum([law.between(low, high) for law in laws], axis=0)
+    return LatticeLaw.scaled(low, chances)
 
 
 def power_of(law: LatticeLaw, count: int) -> LatticeLaw:
@@ -311,9 +322,13 @@ class Walk:
         self.back = (
             LatticeLaw.of(scenario.returns, step) if scenario.returns else NOTHING
         )
-        self.net = sum_of(self.demand, self.back.reflected)
+        self.one = sum_of(
+            self.demand, self.back.reflected
+        )  # the net demand of a period
+        self.review = scenario.review
+        self.net = power_of(self.one, self.review)  # that from one review to the next
         visits, self.falls = factors_of(self.net)
-        self.span = float(visits.sum())
+        self.span = self.review * float(visits.sum())  # periods of a low
         self.lows: Floats = NOTHING.chances
         self.above_low = (
             LatticeLaw.scaled(0, visits).reflected if self.net.low < 0 else NOTHING
@@ -322,7 +337,7 @@ class Walk:
     @property
     def deviation(self) -> float:
         """Returns the standard deviation of the net demand of a period, in items."""
-        return self.step * math.sqrt(self.net.variance)
+        return self.step * math.sqrt(self.one.variance)
 
     def lows_of(self, gap: int) -> Floats:
         """Returns the chances of the places S, S - 1, .. to be a low of a cycle."""

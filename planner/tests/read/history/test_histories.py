@@ -24,7 +24,7 @@ CASES, OTHERS = (
     tomllib.loads(Path(__file__).with_name(f"{name}.toml").read_text("utf-8"))
     for name in ("histories", "suspicions")
 )
-ROWS, MOST_SECONDS, MOST_KILOBYTES, MOST_RUNS = 200_000, 5, 400_000, 4
+ROWS, MOST_SECONDS, MOST_KILOBYTES, MOST_RUNS = 200_000, 10, 400_000, 4
 DATED = ["--demand", "n", "--date", "at", "--every", "day"]
 COST = Path(__file__).parents[4] / "tests/hostile/cost.py"
 
@@ -254,7 +254,7 @@ def test_line_without_end(tmp_path: Path) -> None:
 @pytest.mark.serial
 @pytest.mark.parametrize("clock", ["", " %H:%M:%S"], ids=["dates", "times"])
 def test_large_history(tmp_path: Path, clock: str) -> None:
-    """200,000 rows of three years take at most 5 processor seconds and 400 MB, with a fault and even if all dates
+    """200,000 rows of three years take at most 10 processor seconds and 400 MB, with a fault and even if all dates
     differ."""
     random, path = np.random.default_rng(1), tmp_path / "large.csv"
     seconds = pd.to_timedelta(random.integers(0, 3 * 365 * 86_400, ROWS), "s")

@@ -6,61 +6,40 @@ import contextlib
 import dataclasses
 import json
 import tempfile
-from collections.abc import Iterator, Sequence
+from collections.abc import Iterator, Mapping, Sequence
 from dataclasses import dataclass
 from pathlib import Path
+from typing import Any, NamedTuple
 
 from ...compiled import load_compiler
-from ...demand.learning import Prior
 from ...errors import Refused, argument
 from ...store.files import IN_KEPT, Folder, faults_of, read_folder
 from ...store.means import Means
 from ...read.catalogue_reading import CATALOGUE, READ, Catalogued
-from ...read.item import Item
+from ...read.item import WEIGHED, Item
 from ...remarks import Remark
 from ...store.stored import Store
 from ...store.work import Work
-from ..aims import Aims
 from ..after import check_records
 from ..catalogue import PlannedFolder, readable, whole_digest
-from ..correction import LEAST_ITEMS, tried_on, ways_of
-from ..learned import learned_of
 from ..how import Settings
-from .methods import CORRECTED, KEPT, METHODS, Walk
+from .as_tested import words_as
+from .lessons import Lessons, Records, uncorrected
+from .methods import CORRECTED, SEASONAL, TOGETHER, Walk
 from .one import Backtest, backtest_item
 from .sums import Sums, sums_of, whole_of
 
 TESTS = f"{IN_KEPT}backtest.sqlite"
-TRIALS = f"{IN_KEPT}backtest_trials.sqlite"  # of records alone
-# A fact of the store: the text that all digests have, the settings, how the past was walked through, and the columns of
-# items on which tests depend.
-TESTED = "tested"
+TESTED = "tested"  # a fact of the store: see Basis
 AGAIN = "run crnplan backtest again"
-
-
-class Records(Catalogued):
-    """A catalogue as it was at the end of the record of each item, by the last periods of that which count for a
-    plan."""
-
-    def __init__(
-        self,
-        path: Path,
-        record: int,
-        periods: int | None,
-        planned: Sequence[str],
-    ) -> None:
-        super().__init__(path, planned=planned)
-        self.record, self.periods = record, periods
-
-    def counting(self, item: Item) -> Item:
-        return item.part(0, self.record).last(self.periods)
 
 
 @dataclass(frozen=True)
 class Tested:
     """The tests of a catalogue: how its past was walked through, how many items its tables name, each that can be
-    planned with its test or why it has none, the sums of all items and of classes, remarks on what was learned, and how
-    many items were tested now and before."""
+    planned with its test or why it has none, the sums of all items and of classes, remarks on what was learned, how
+    many items were tested now and before, and the type of whole numbers that name items.
+    """
 
     walk: Walk
     every: str
@@ -71,6 +50,7 @@ class Tested:
     learned: Sequence[Remark]
     now: int
     kept: int
+    keys: str = ""
 
     @property
     def whole(self) -> Sums | None:
@@ -78,106 +58,72 @@ class Tested:
         return whole_of(self.sums)
 
 
+class Basis(NamedTuple):
+    """What tests depend on: the text that all digests have, the settings of the kept plan, how the past was walked
+    through, and by which words a catalogue is planned as a method, by its code."""
+
+    common: str
+    settings: Mapping[str, Any]
+    walk: Mapping[str, Any]
+    words: Mapping[str, Mapping[str, Any]]
+
+    @classmethod
+    def of(cls, tests: Store[Backtest]) -> Basis | None:
+        """Returns that of finished tests of this version; None if they are not."""
+        fact = tests.fact(TESTED)
+        return cls(*json.loads(fact)) if fact and tests.is_ours else None
+
+
 @dataclass(frozen=True)
 class Past:
     """What the test in the folder of a plan says of all its items, None if it tests none. `is_old` says whether it is
-    of other rows or settings than the plan, `corrects` whether the plan corrects fill rates, and `together` whether it
-    plans items together, which no test does.
+    of other rows or settings than the plan, and `methods` which ones the plan has: some of CORRECTED, TOGETHER and
+    SEASONAL.
     """
 
     sums: Sums | None
     is_old: bool
-    corrects: bool
-    together: bool
+    methods: Sequence[str] = ()
 
 
-def uncorrected(settings: Settings) -> Settings:
-    """Returns settings by which plans are tested: what a catalogue has learned of fill rates, prices and seasons is from
-    all its periods, also from those on which they are tested. So each item has its own fill rate.
-    """
-    return dataclasses.replace(
-        settings,
-        correct=False,
-        aims=None,
-        together={},
-        weigh=Settings.weigh,
-        at_least=None,
-        prices=None,
-        seasons=None,
-    )
+OLD = Past(None, True)
+
+
+def methods_of(settings: Settings) -> list[str]:
+    """Returns the methods by which a plan is made beside the kept one."""
+    seasons = settings.seasons
+    has = {
+        CORRECTED: settings.correct,
+        TOGETHER: bool(settings.together),
+        SEASONAL: bool(seasons and seasons.classes),
+    }
+    return [method for method in has if has[method]]
 
 
 def past_of(planned: PlannedFolder) -> Past | None:
     """Returns what the test in the folder of a plan says; None if there is none."""
     if not (planned.path / TESTS).is_file():
         return None
-    with contextlib.closing(Store(planned.path / TESTS, Backtest)) as tests:
-        fact = tests.fact(TESTED)
-        if fact is None:
+    path, own = planned.read.path, dataclasses.asdict(uncorrected(planned.settings))
+    with (
+        contextlib.closing(Store(planned.path / TESTS, Backtest)) as tests,
+        contextlib.closing(Catalogued(path, is_known=True, planned=WEIGHED)) as read,
+    ):
+        if tests.fact(TESTED) is None:
             return None
-        if not tests.is_ours:
-            return Past(None, True, False, False)
-        common, settings, *_ = json.loads(fact)
-        if settings != dataclasses.asdict(uncorrected(planned.settings)) or (
-            tests.digest != whole_digest(planned.read, common)
-        ):
-            return Past(None, True, False, False)
-        kept = (test for _, _, test in tests.answers() if isinstance(test, Backtest))
-        corrects, together = planned.settings.correct, bool(planned.settings.together)
-        return Past(whole_of(sums_of(kept)), False, corrects, together)
+        basis = Basis.of(tests)
+        if basis is None or basis.settings != own:
+            return OLD
+        if tests.digest != whole_digest(read, basis.common):
+            return OLD
+        whole = whole_of(tested_sums(tests))
+        return Past(whole, False, methods_of(planned.settings))
 
 
-def aims_before(
-    folder: Folder,
-    read: Records,
-    settings: Settings,
-    prior: Prior,
-    means: Means,
-) -> Aims | Remark:
-    """Returns at which fill rates items would have aimed at the end of their records by these alone, as `--correct` has
-    them; or why they would not. What was tried is kept in the folder."""
-    on = ways_of(settings)
-    common = on.common(f"record {read.record}", prior)
-    tried = tried_on(folder, read, on, prior, common, means, TRIALS)
-    if len(tried) >= LEAST_ITEMS:
-        return Aims.of(tried)
-    return Remark("not corrected", {"items": len(tried), "least": LEAST_ITEMS})
-
-
-@dataclass(frozen=True)
-class Lessons:
-    """What the items of a catalogue have learned up to the end of their records: the settings of their plans, what their
-    laws learn, at which fill rates corrected plans aim, None if they do not, and remarks on it.
-    """
-
-    settings: Settings
-    prior: Prior
-    aims: Aims | None
-    remarks: tuple[Remark, ...]
-
-    @classmethod
-    def of(
-        cls,
-        folder: Folder,
-        tests: Store[Backtest],
-        read: Records,
-        settings: Settings,
-        means: Means,
-    ) -> Lessons:
-        """Learns from the records of a catalogue."""
-        learned = learned_of(tests, read, settings, True)
-        settings = dataclasses.replace(
-            uncorrected(settings), borrow=learned.usual, every=read.fact("every")
-        )
-        aims = aims_before(folder, read, settings, learned.prior, means)
-        if isinstance(aims, Remark):
-            return cls(settings, learned.prior, None, (*learned.remarks, aims))
-        return cls(settings, learned.prior, aims, learned.remarks)
-
-    def common(self, walk: Walk) -> str:
-        """Returns what all tests depend on, as a text."""
-        aiming = dataclasses.replace(self.settings, aims=self.aims)
-        return aiming.common(repr(walk), self.prior)
+def tested_sums(tests: Store[Backtest]) -> list[Sums]:
+    """Returns the sums of finished tests."""
+    answers = (test for _, _, test in tests.answers())
+    return sums_of(test for test in answers if isinstance(test, Backtest))
 
 
 def backtest_into(
@@ -188,24 +134,22 @@ def backtest_into(
     path = folder.path / READ
     with (
         faults_of(folder.path),
-        contextlib.closing(
-            Records(path, walk.record, settings.window, settings.planned_by)
-        ) as read,
+        contextlib.closing(Records(path, walk.record, settings.window)) as read,
         contextlib.closing(Store(folder.store(TESTS), Backtest)) as tests,
     ):
-        lessons = Lessons.of(folder, tests, read, settings, means)
+        lessons = Lessons.of(folder, tests, read, settings, walk, means)
         common = lessons.common(walk)
         work = Work(
             tests,
             lambda: read.digests(common),
             read.whole_item,
             backtest_item,
-            (lessons.settings, lessons.prior, walk, lessons.aims),
+            (lessons.settings, lessons.prior, walk, lessons.ways),
             load=load_compiler,
         )
-        trees = map(dataclasses.asdict, (lessons.settings, walk))
-        fact = json.dumps([common, *trees, read.planned])
-        work.finish(means.workers(), {TESTED: fact}, shown=means.shown)
+        settled, through = map(dataclasses.asdict, (lessons.settings, walk))
+        basis = Basis(common, settled, through, lessons.words)
+        work.finish(means.workers(), {TESTED: json.dumps(basis)}, shown=means.shown)
         items = list[tuple[Item, Backtest | Remark]]()
         for item, (_, _, test) in zip(read.whole_items(), tests.answers(), strict=True):
             items.append((item, test))
@@ -216,10 +160,20 @@ def backtest_into(
             read.fact("counts")["items"]["named"],
             items,
             sums_of(test for _, test in items if isinstance(test, Backtest)),
-            lessons.remarks,
+            (*lessons.remarks, *remarks_of_stated(items)),
             work.now,
             work.kept,
+            read.fact("keys"),
         )
+
+
+def remarks_of_stated(
+    items: Sequence[tuple[Item, Backtest | Remark]]
+) -> Iterator[Remark]:
+    """Yields that some items have a stated law, by which none is tested, if there are such."""
+    stated = [item for item, test in items if item.law and isinstance(test, Backtest)]
+    if stated:
+        yield Remark("stated in tests", {"items": len(stated)})
 
 
 def check_test(path: Path, out: Path | None) -> None:
@@ -237,9 +191,9 @@ def check_test(path: Path, out: Path | None) -> None:
 
 
 @contextlib.contextmanager
-def tested_folder(path: Path) -> Iterator[tuple[Records, Store[Backtest], Walk]]:
-    """Opens the test in a folder so that nothing is written into that: the records that were tested, the tests, and how
-    the past was walked through. Raises Refused if no finished test of the rows that were read last is in it.
+def tested_folder(path: Path) -> Iterator[tuple[Records, Store[Backtest], Basis]]:
+    """Opens the test in a folder so that nothing is written into that: the records that were tested, the tests, and what
+    they depend on. Raises Refused if no finished test of the rows that were read last is in it.
     """
     with contextlib.ExitStack() as stack:
         stack.enter_context(read_folder(path, CATALOGUE))
@@ -247,39 +201,35 @@ def tested_folder(path: Path) -> Iterator[tuple[Records, Store[Backtest], Walk]]
         index, is_read = readable(path / TESTS, Path(room))
         tests = Store(index, Backtest, is_read=is_read, named=path / TESTS)
         stack.callback(tests.close)
-        fact = tests.fact(TESTED)
-        if fact is None or not tests.is_ours:
+        basis = Basis.of(tests)
+        if basis is None:
             raise Refused(f"{path}: its test is not finished by this version", AGAIN)
-        common, settings, walk, planned = json.loads(fact)
-        records = Records(path / READ, walk["record"], settings["window"], planned)
+        window = basis.settings["window"]
+        records = Records(path / READ, basis.walk["record"], window)
         stack.callback(records.close)
-        if tests.digest != whole_digest(records, common):
+        if tests.digest != whole_digest(records, basis.common):
             raise Refused(
                 f"{path}: its test is not of the rows that were read last", AGAIN
             )
-        yield records, tests, Walk(**walk)
+        yield records, tests, basis
 
 
 def settings_as(
     path: Path, read: Catalogued, settings: Settings
-) -> tuple[Settings, Remark]:
-    """Returns the settings of a plan by the method that gained most in the test of a folder, of those by which there are
-    plans; without one the settings as they are. The remark has its code, and that of one that gained more.
+) -> tuple[Settings, list[Remark]]:
+    """Returns the settings of a plan as the test in a folder found best, and remarks on that: see `words_as`.
 
     Raises Refused if no finished test is there, if it is of another catalogue, and if the settings plan otherwise.
     """
-    with tested_folder(path) as (records, tests, walk):
+    with tested_folder(path) as (records, tests, basis):
         check_records(path, records, read)
-        kept = (test for _, _, test in tests.answers() if isinstance(test, Backtest))
-        sums = whole_of(sums_of(kept))
-    gained = [gain.code for gain in sums.gains] if sums else []
-    ways = {method.code: method.settings for method in METHODS if method.settings}
-    method = next((code for code in gained if code in ways), KEPT)
-    taken = ways[method](settings, walk)
-    if settings.correct and method != CORRECTED:
-        raise Refused(
-            f"{argument('correct')} and {argument('as_backtest', str(path))}: the test found {method} plans better",
-            "leave one out",
-        )
-    best = gained[0] if gained else method
-    return taken, Remark("as backtest", {"method": method, "best": best})
+        sums = tested_sums(tests)
+    words, remarks = words_as(sums, basis.words)
+    method = remarks[0].facts["method"]
+    for name, taken in words.items():
+        if getattr(settings, name) not in (getattr(Settings(), name), taken):
+            raise Refused(
+                f"{argument(name)} and {argument('as_backtest', str(path))}: the test found {method} plans better",
+                "leave one out",
+            )
+    return dataclasses.replace(settings, **words), remarks

@@ -7,7 +7,7 @@ clustering, Journal of Business and Economic Statistics 29, 2011.
 from __future__ import annotations
 
 import math
-from dataclasses import dataclass
+from dataclasses import dataclass, replace
 from functools import cached_property
 
 import numpy as np
@@ -16,6 +16,7 @@ from ...chances import Floats, Whole
 from ...decide.verdicts import t_quantile
 
 NO_BLOCK = -1
+MANY = 1_000_000  # degrees of freedom
 # Of intervals, this share does not hold the figure. So of catalogues whose promise holds, this share at most is said to
 # break it: half of it for each part of a miss.
 ALARM = 0.05
@@ -23,11 +24,18 @@ ALARM = 0.05
 
 @dataclass(frozen=True)
 class Estimate:
-    """A figure, its standard error, and how many of these both ends of its interval are away."""
+    """A figure, its standard error, how many of these both ends of its interval are away, and the degrees of freedom from
+    which that follows."""
 
     value: float
     error: float
     quantile: float
+    freedom: int = MANY
+
+    def at(self, alarm: float) -> Estimate:
+        """Returns the same with an interval that does not hold the figure with another chance."""
+        quantile = t_quantile(alarm, self.freedom)
+        return replace(self, quantile=quantile)
 
     @property
     def low(self) -> float:
@@ -89,9 +97,11 @@ def squares(influence: Floats, clusters: Whole) -> float:
     return float((sums**2).sum()) * len(sums) / max(1, len(sums) - 1)
 
 
-def error_of(influence: Floats, items: Whole, blocks: Whole) -> tuple[float, float]:
-    """Returns the standard error of a sum of parts, and the quantile of its interval: the variance of items, and what
-    the items of a block have in common."""
+def error_of(
+    influence: Floats, items: Whole, blocks: Whole
+) -> tuple[float, float, int]:
+    """Returns the standard error of a sum of parts, the quantile of its interval, and the degrees of freedom: the variance
+    of items, and what the items of a block have in common."""
     timed, several = blocks != NO_BLOCK, [len(np.unique(items))]
     common = 0.0
     if timed.any():
@@ -99,5 +109,6 @@ def error_of(influence: Floats, items: Whole, blocks: Whole) -> tuple[float, flo
         common = squares(influence[timed], blocks[timed])
         common -= squares(influence[timed], pairs[timed])
         several.append(len(np.unique(blocks[timed])))
-    quantile = t_quantile(ALARM, max(1, min(several) - 1))
-    return math.sqrt(squares(influence, items) + max(0.0, common)), quantile
+    freedom = max(1, min(several) - 1)
+    error = math.sqrt(squares(influence, items) + max(0.0, common))
+    return error, t_quantile(ALARM, freedom), freedom

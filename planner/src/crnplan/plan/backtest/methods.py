@@ -2,32 +2,40 @@
 
 A method is run as it aims by itself, and at several aims about that. What these come to is a curve of stock against
 demand met at once, on which methods are compared at one fill rate: see `curves.py`. A further method is a field of
-`Backtest`, an entry of METHODS with its code, and its words in show/words.toml.
+`Backtest`, an entry of METHODS with its code, and its words in show/words.toml; and an entry in `Lessons` if items learn
+for it, or if catalogues are planned so.
 """
 from __future__ import annotations
 
 import contextlib
 import dataclasses
 import math
-from collections.abc import Callable, Iterator, Sequence
+import itertools
+from collections.abc import Callable, Iterator, Mapping, Sequence
 from dataclasses import dataclass
-from functools import cached_property
-from typing import NamedTuple
+from functools import cached_property, partial
+from types import MappingProxyType
+from typing import Any, NamedTuple
 
 from ...demand.learning import Prior
 from ...errors import Refused, argument
 from ...read.item import Item
-from ..aims import FILLS, Aims
+from ..aims import FILLS
 from ..answer import TODAY, Figures
 from ..choice import choice_of
 from ..how import Settings
+from ..offers import ByPrice
 from ..question import Levels, Question, question_of
+from ..seasons import InSeason, Stretch
 from .outcomes import Happened, Outcome, Run
 from .smoothing import smoothed_levels, wanted_share
 
 KEPT, REFITTED, DAMPED = "kept", "refitted", "damped"
-CORRECTED, SMOOTHED = "corrected", "smoothed"
-# The aims of a method leave so many times unmet what it aims to leave unmet by itself.
+CORRECTED, TOGETHER, SEASONAL = "corrected", "together", "seasonal"
+FOLLOWED = "followed"
+SMOOTHED = "smoothed"
+# The aims of a method leave so many times unmet what it aims to leave unmet by itself, or have a price that is so many
+# times lower.
 FACTORS = 5.0, 2.0, 1.0, 1 / 3, 1 / 10
 LEAST_AIM, MOST_AIM = 0.1, FILLS[-1]
 # The aims of today's policies move both levels by so many standard deviations of demand until an order is there.
@@ -46,6 +54,19 @@ class Walk:
     window: int = 52
     least_gain: float | None = None
 
+    @classmethod
+    def of(
+        cls,
+        settings: Settings,
+        record: int,
+        every: int,
+        window: int | None,
+        least_gain: float | None,
+    ) -> Walk:
+        """Returns a walk whose window and least gain are as the plan has them, if they are not stated."""
+        window = window or settings.window or cls.window
+        return cls(record, every, window, least_gain or settings.least_gain)
+
     def __post_init__(self) -> None:
         for name in ("record", "every", "window"):
             number = getattr(self, name)
@@ -57,6 +78,18 @@ class Walk:
         for origin in range(self.record, periods, self.every):
             start = 0 if origin == self.record else max(0, origin - self.window)
             yield start, origin, min(origin + self.every, periods)
+
+
+class Way(NamedTuple):
+    """How the items of a catalogue are planned by a method: by which words of planning, beside those of the kept plan; its
+    settings, with what was learned on the records for it; and what its laws learn."""
+
+    words: Mapping[str, Any]
+    settings: Settings
+    prior: Prior
+
+
+NO_WAYS: Mapping[str, Way] = MappingProxyType({})
 
 
 def aims_about(share: float) -> list[float]:
@@ -77,8 +110,14 @@ class Plan(NamedTuple):
     @property
     def aims(self) -> list[Levels]:
         """Returns s and S, in items, by the law of the plan and with the gap of its policy, for each fill rate about that
-        at which it aims; without one, that of its policy."""
+        at which it aims; without one, that of its policy. If the item has a price together with others, they are those of
+        prices about it."""
         question, box = self.question, self.question.item.box
+        prices, group = question.settings.prices, question.together
+        if prices and group is not None:
+            price = prices.groups[group].price
+            pairs = ByPrice(question, [price / factor for factor in FACTORS]).pairs
+            return [(s * box, S * box) for s, S in pairs]
         theory, s, S = question.theory.free, self.figures.point, self.figures.level
         gap = theory.gap_of(s // box, S // box)
         shares = aims_about(question.aim or self.figures.fill)
@@ -98,21 +137,28 @@ class Walked:
 
     def __init__(
         self,
-        item: Item,
+        as_read: Item,
         settings: Settings,
         prior: Prior,
         walk: Walk,
-        aims: Aims | None = None,
+        ways: Mapping[str, Way] = NO_WAYS,
     ) -> None:
-        """Plans an item as it was at the end of its record. `aims` are those that the records of the catalogue make of
-        wanted fill rates. Raises Refused if it could not be planned then."""
-        self.item, self.prior, self.walk, self.aims = item, prior, walk, aims
+        """Plans an item as it was at the end of its record, by its known periods, one after another. `ways` are what the
+        records of the catalogue teach for methods. Raises Refused if it could not be planned then.
+        """
+        self.as_read, self.item = as_read, as_read.known
+        self.prior, self.walk, self.ways = prior, walk, ways
         self.settings = dataclasses.replace(settings, least_gain=walk.least_gain)
         self.question = self._asked(0, walk.record)
         self.happened = Happened(
-            item, self.question.lead, self.question.seed("past"), walk.record
+            self.item, self.question.lead, self.question.seed("past"), walk.record
         )
         self.plan, _ = chosen(self.question)
+
+    @cached_property
+    def later(self) -> list[int]:
+        """Returns the places of the later periods that are known, in all periods of the item."""
+        return self.as_read.known_places[self.walk.record :]
 
     def _asked(self, start: int, stop: int, before: Levels | None = None) -> Question:
         item = self.item.part(start, stop).last(self.settings.window)
@@ -198,18 +244,88 @@ def damped_of(walked: Walked) -> Run | None:
     return Run(levels, promises)
 
 
-def corrected_of(walked: Walked) -> Run | None:
-    """Returns the plan of the record that aims as the records of the catalogue make it, or the plain one if the item
-    wants no fill rate, or has no policy at that; None without such aims."""
-    if walked.aims is None:
+def planned_of(walked: Walked, method: str) -> Run | None:
+    """Returns the plan of the record by the laws of the kept one, in the way of a method; or the kept one if the item has no
+    policy so. None if the records teach no such way."""
+    way = walked.ways.get(method)
+    if way is None:
         return None
     question, figures = walked.question, walked.plan
-    aiming = dataclasses.replace(question.settings, correct=True, aims=walked.aims)
     with contextlib.suppress(Refused):
-        asked = dataclasses.replace(question, settings=aiming)
+        asked = dataclasses.replace(
+            question, settings=way.settings, known=question.theory
+        )
         figures, _ = chosen(asked)
         question = asked
     return walked.run([Plan(question, figures, walked.happened.later)])
+
+
+def corrected_of(walked: Walked) -> Run | None:
+    """Returns the plan of the record that aims as the records of the catalogue make it: the kept one if the item wants no
+    fill rate; None without such aims."""
+    return planned_of(walked, CORRECTED)
+
+
+def together_of(walked: Walked) -> Run | None:
+    """Returns the plan of the record by the price of the item's class: the kept one if the item has none; None without
+    prices."""
+    return planned_of(walked, TOGETHER)
+
+
+def month_of(season: InSeason, number: int) -> Stretch:
+    """Returns the month of the coming year that has a period, or the one a year or more before it. A year of weeks has 52."""
+    first, end = season.year[0].first, season.year[-1].end
+    within = first + (number - first) % (end - first)
+    return next(month for month in season.year if within < month.end)
+
+
+def seasonal_of(walked: Walked) -> Run | None:
+    """Returns the plan of the record by its months: the kept one if the item has no season; None if the records show
+    none. A period has the levels of its month, by its number in the calendar, also if periods before it are not known.
+    """
+    way = walked.ways.get(SEASONAL)
+    if way is None:
+        return None
+    plans = list[Plan]()
+    with contextlib.suppress(Refused):
+        plans = months_planned(walked, way)
+    return walked.run(plans) if plans else kept_of(walked)
+
+
+def months_planned(walked: Walked, way: Way) -> list[Plan]:
+    """Returns the plans of the later periods of an item by their months; none without a season. Raises Refused if it
+    could not be planned so."""
+    item, window = walked.as_read, way.settings.window
+    record = dataclasses.replace(item.part(0, walked.later[0]), cut=())
+    question = question_of(record.last(window), way.settings, way.prior)
+    season = question.season
+    if season is None:
+        return []
+    known, plans = dict[Stretch, tuple[Question, Figures]](), list[Plan]()
+    numbers = [item.first + place for place in walked.later]
+    for month, own in itertools.groupby(numbers, partial(month_of, season)):
+        if month not in known:
+            asked = question.month(month)
+            known[month] = asked, chosen(asked)[0]
+        plans.append(Plan(*known[month], len([*own])))
+    return plans
+
+
+def followed_of(walked: Walked) -> Run | None:
+    """Returns plans that are refitted, at the level of their last periods: at that of the record for items whose class
+    does not follow it. None if the records show no class that does."""
+    way = walked.ways.get(FOLLOWED)
+    if way is None or way.settings.following is None:
+        return None
+    plans = list[Plan]()
+    for plan, _ in walked.refits:
+        asked = plan.question
+        level = way.settings.following.at_level(asked.item, asked.demand)
+        with contextlib.suppress(Refused):
+            moved_so = asked.moved(level, None)
+            plan = Plan(moved_so, chosen(moved_so)[0], plan.periods)
+        plans.append(plan)
+    return walked.run(plans)
 
 
 def smoothed_of(walked: Walked) -> Run:
@@ -223,39 +339,25 @@ def smoothed_of(walked: Walked) -> Run:
     return Run(runs[0], aims=runs[1:])
 
 
-def as_they_are(settings: Settings, walk: Walk) -> Settings:
-    """Returns settings of a plan as the kept one."""
-    return settings
-
-
-def windowed(settings: Settings, walk: Walk) -> Settings:
-    """Returns settings of a plan as each refitted one."""
-    return dataclasses.replace(settings, window=settings.window or walk.window)
-
-
-def aiming(settings: Settings, walk: Walk) -> Settings:
-    """Returns settings of a plan as the corrected one."""
-    return dataclasses.replace(settings, correct=True)
-
-
 @dataclass(frozen=True)
 class Method:
-    """A way of planning that is run on the past: its code; the s and S that it has for an item, None if it has none; by
-    which settings a catalogue is planned so, None if it can't be; and whether it promises anything, and its levels
-    change."""
+    """A way of planning that is run on the past: its code; the s and S that it has for an item, None if it has none; and
+    whether it promises anything, and its levels change."""
 
     code: str
     run: Callable[[Walked], Run | None]
-    settings: Callable[[Settings, Walk], Settings] | None = None
     is_promising: bool = True
     is_changing: bool = False
 
 
 METHODS = (
     Method(TODAY, today_of),
-    Method(KEPT, kept_of, as_they_are),
-    Method(REFITTED, refitted_of, windowed, is_changing=True),
+    Method(KEPT, kept_of),
+    Method(REFITTED, refitted_of, is_changing=True),
     Method(DAMPED, damped_of, is_changing=True),
-    Method(CORRECTED, corrected_of, aiming),
+    Method(CORRECTED, corrected_of),
+    Method(TOGETHER, together_of),
+    Method(SEASONAL, seasonal_of, is_changing=True),
+    Method(FOLLOWED, followed_of, is_changing=True),
     Method(SMOOTHED, smoothed_of, is_promising=False, is_changing=True),
 )

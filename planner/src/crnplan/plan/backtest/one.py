@@ -8,7 +8,7 @@ from __future__ import annotations
 import dataclasses
 import operator
 import statistics
-from collections.abc import Sequence
+from collections.abc import Mapping, Sequence
 from dataclasses import dataclass
 from typing import Any
 
@@ -18,13 +18,13 @@ from ...demand.learning import Prior
 from ...errors import Refused
 from ...read.item import Item
 from ...remarks import Remark
-from ..aims import Aims
 from ..one import or_fault
 from ..how import Settings
-from .methods import METHODS, Walk, Walked
+from .methods import METHODS, NO_WAYS, Walk, Walked, Way
 from .outcomes import Outcome, Traced
 
 SHORT_RECORD = "short record"  # periods, needed
+NO_HISTORY = "stated without history"
 
 
 @dataclass(frozen=True)
@@ -32,7 +32,8 @@ class Backtest:
     """An item's test on its past. `first` is the number of the first later period, `demands` what was asked in these,
     `mean` the mean demand of all its periods, `setup` money an order and `holding` money an item and period. `today` is
     None without a policy today. `kept` and `refitted` are the plan, and `damped` is the refitted one with a least gain, None without.
-    `corrected` aims by the records of the catalogue, None if these are too few. `smoothed` is the rule of thumb, and
+    `corrected` aims by the records of the catalogue, `together` has the price of the item's class, `seasonal` the
+    levels of each month, and `followed` is refitted at the level of the last periods: None if the records teach none of that. `smoothed` is the rule of thumb, and
     `shuffled` the plan that is kept with all periods in a random order; None if that has none. `above` is the largest
     later demand over the largest before, with nothing before None."""
 
@@ -50,6 +51,9 @@ class Backtest:
     refitted: Traced
     damped: Traced | None
     corrected: Traced | None
+    together: Traced | None
+    seasonal: Traced | None
+    followed: Traced | None
     smoothed: Traced
     shuffled: Outcome | None
     shuffled_demands: tuple[int, ...]
@@ -71,11 +75,16 @@ def shuffled(item: Item, seed: int) -> Item:
 
 
 def backtest_one(
-    item: Item, settings: Settings, prior: Prior, walk: Walk, aims: Aims | None = None
+    as_read: Item,
+    settings: Settings,
+    prior: Prior,
+    walk: Walk,
+    ways: Mapping[str, Way] = NO_WAYS,
 ) -> Backtest:
     """Returns an item's test on its past: see `Walked`. Raises Refused if it could not be planned at the end of its
     record."""
-    walked, record = Walked(item, settings, prior, walk, aims), walk.record
+    walked, record = Walked(as_read, settings, prior, walk, ways), walk.record
+    item = walked.item
     traced = dict[str, Any]()
     for method in METHODS:
         run = method.run(walked)
@@ -89,7 +98,7 @@ def backtest_one(
         name=item.name,
         group=item.category,
         record=record,
-        first=item.first + record,
+        first=item.first + walked.later[0],
         mean=statistics.fmean(item.counts),
         setup=float(item.setup),
         holding=float(item.holding),
@@ -103,14 +112,19 @@ def backtest_one(
 
 
 def backtest_item(
-    item: Item, settings: Settings, prior: Prior, walk: Walk, aims: Aims | None = None
+    item: Item,
+    settings: Settings,
+    prior: Prior,
+    walk: Walk,
+    ways: Mapping[str, Way] = NO_WAYS,
 ) -> Backtest | Remark:
     """Returns an item's test on its past, or why it has none. Unknown periods are left out, as if they had not been, so
-    what a policy would have met in these counts for nothing. `first` is right for the first later period.
+    what a policy would have met in these counts for nothing. A law that is stated does not count.
     """
-    places, needed = item.known_places, walk.record + walk.every
-    if len(places) < needed:
-        return Remark(SHORT_RECORD, {"periods": len(places), "needed": needed})
-    gaps = places[walk.record] - walk.record
-    known = dataclasses.replace(item.known, first=item.first + gaps)
-    return or_fault(known, backtest_one, settings, prior, walk, aims)
+    if item.law and not item.counts:
+        return Remark(NO_HISTORY)
+    item = dataclasses.replace(item, law=None)  # Nobody has stated that of the past.
+    periods, needed = len(item.known_places), walk.record + walk.every
+    if periods < needed:
+        return Remark(SHORT_RECORD, {"periods": periods, "needed": needed})
+    return or_fault(item, backtest_one, settings, prior, walk, ways)

@@ -2,7 +2,8 @@
 
 Each policy is in use from the first period on. What happens before the later periods is not counted, but leaves a stock
 and orders on their way, as they are when a policy has been in use for long. It begins with nothing on order and a stock
-between its s and S, by chance, where its position mostly is in the long run. Lead times are drawn from a law.
+between its s and S, by chance, where its position mostly is in the long run. Lead times are drawn from a law. If an item
+is not reviewed in each period, it is in the first later one.
 """
 from __future__ import annotations
 
@@ -71,7 +72,11 @@ class Happened:
         periods, self.record = len(item.counts), record
         random = np.random.default_rng(seed)
         self.past = Past(
-            item.counts, item.returns or (0,) * periods, lead.draws(random, periods)
+            item.counts,
+            item.returns or (0,) * periods,
+            lead.draws(random, periods),
+            item.review,
+            record,
         )
         self.start = float(random.random())
         self.rates = Rates(item.setup, 0, item.holding, item.backlog or Fraction(0))

@@ -12,26 +12,11 @@ from collections.abc import Iterator, Sequence
 
 from scipy.special import ndtr
 
+from ...demand.level import smoothed
 from ...read.item import Item
 from ..question import Levels
 
-SMOOTHING = 0.1  # the weight of the last period, for both
-FIRST = 13  # periods from which both begin
 MOST_FACTOR = 8.0  # the largest safety factor, on either side
-
-
-def smoothed(demands: Sequence[int]) -> Iterator[tuple[float, float]]:
-    """Yields the mean and the squared error that are forecast for each period. Of the first ones both are those of
-    these periods."""
-    first = demands[:FIRST]
-    mean = sum(first) / len(first)
-    square = sum((demand - mean) ** 2 for demand in first) / max(1, len(first) - 1)
-    for place, demand in enumerate(demands):
-        yield mean, square
-        if place >= FIRST:
-            error = demand - mean
-            square += SMOOTHING * (error**2 - square)
-            mean += SMOOTHING * error
 
 
 def loss(factor: float) -> float:
@@ -56,10 +41,10 @@ def safety_factor(share: float, quantity: float) -> float:
 
 
 def wanted_share(item: Item) -> float:
-    """Returns the wanted fill rate, or else the share of periods without items owed that backlog and holding make
-    best."""
-    if item.fill is not None:
-        return float(item.fill)
+    """Returns the wanted share, of demand at once or of periods without items owed, or else the latter that backlog and
+    holding make best."""
+    if item.wanted is not None:
+        return float(item.wanted)
     assert item.backlog is not None
     return float(item.backlog / (item.backlog + item.holding))
 
@@ -68,11 +53,12 @@ def smoothed_levels(
     item: Item, share: float, demands: Sequence[int], lead: float, variance: float
 ) -> Iterator[Levels]:
     """Yields s and S of each period by the demand before it, of which a share is to be met at once. An order must last
-    for its lead time, in periods of this mean and variance, and a period."""
+    for its lead time, in periods of this mean and variance, and until the next review.
+    """
     setup, holding = float(item.setup), float(item.holding)
     for mean, square in smoothed(demands):
         mean = max(mean, 0.0)
-        periods = lead + 1
+        periods = lead + item.review
         deviation = math.sqrt(periods * square + mean**2 * variance)
         quantity = max(math.sqrt(2 * setup * mean / holding), mean, 1.0)
         safety = 0.0

@@ -1,0 +1,260 @@
+"""Judges the arguments of calls by the words of options.toml: each becomes what its kind says, or is refused by name."""
+from __future__ import annotations
+
+import functools
+import inspect
+import os
+from collections.abc import Callable, Iterable, Mapping
+from pathlib import Path
+from typing import Any, TypeVar, cast
+
+from .errors import Refused, argument
+from .money import exact, whole, whole_numbers
+from .options import SEEN, Option, option, table_of
+from .toml.documents import shown
+
+Call = TypeVar("Call", bound=Callable[..., Any])
+Read = Callable[[Option, Any], Any]
+OWN = ("self", "cls")  # what a method is called on
+
+
+def _refused(word: Option, value: Any, what: str, advice: str) -> Refused:
+    return Refused(f"{argument(word.name)}: {shown(value)} is {what}", advice)
+
+
+def _whole(word: Option, value: Any) -> int:
+    number = whole(value, argument(word.name))
+    word.check(number)
+    return number
+
+
+def _number(word: Option, value: Any) -> float:
+    number = exact(value)
+    if number is None:
+        raise _refused(word, value, "no number", "write it as 12.5")
+    word.check(float(number))
+    return float(number)
+
+
+def _share(word: Option, value: Any) -> float:
+    from .read.amounts import share_of
+    from .read.defaults import read_argument
+
+    return float(read_argument(word.name, value, share_of))
+
+
+def _stated(word: Option, value: Any) -> Any:
+    """Returns a value that its function can read, as it is."""
+    from .read.defaults import read_argument
+    from .read.frames import is_missing
+
+    if is_missing(value):
+        raise _refused(word, value, "not known", "leave it out, or write a value")
+    read_argument(word.name, value, word.read)
+    return value
+
+
+def _choice(word: Option, value: Any) -> str:
+    if not isinstance(value, str):
+        choices = ", ".join(word.choices)
+        raise _refused(word, value, f"not one of {choices}", "write one of them")
+    word.check(value)
+    return value
+
+
+def _text(word: Option, value: Any) -> str:
+    if not isinstance(value, str):
+        raise _refused(word, value, "no text", "write it in quotes")
+    return value
+
+
+def _seed(word: Option, value: Any) -> str:
+    return value if isinstance(value, str) else str(whole(value, argument(word.name)))
+
+
+def _name(word: Option, value: Any) -> str:
+    """Returns a name of an item or a column, as a table has it that is read."""
+    from .read.frames import name_of
+
+    if not isinstance(value, str) and exact(value) is None:
+        raise _refused(word, value, "no name", "write it as in the table")
+    return name_of(value)
+
+
+def _several(read: Read) -> Read:
+    """Returns what reads several values, or a single one."""
+
+    def several(word: Option, value: Any) -> tuple[Any, ...]:
+        if isinstance(value, Mapping) or not isinstance(value, Iterable):
+            value = [value]
+        values = [value] if isinstance(value, str) else value
+        return tuple(read(word, one) for one in values)
+
+    return several
+
+
+def _by_name(read: Read) -> Read:
+    """Returns what reads values by name. One that is None is as by default."""
+
+    def by_name(word: Option, value: Any) -> dict[str, Any]:
+        if not isinstance(value, Mapping):
+            advice = f"write it by name, as {word.example}"
+            raise _refused(word, value, "no dict", advice)
+        stated = {name: one for name, one in value.items() if one is not None}
+        return {_name(word, name): read(word, one) for name, one in stated.items()}
+
+    return by_name
+
+
+def _pairs(word: Option, value: Any) -> dict[str, Any]:
+    """Returns values by name, each as the facts of the word say it."""
+    read: Read = _name
+    if word.choices:
+        read = _choice
+    elif word.range:
+        read = _whole
+    elif word.read:
+        read = _stated
+    return cast(dict[str, Any], _by_name(read)(word, value))
+
+
+def _key(word: Option, value: Any) -> Any:
+    """Returns a word of the key of a stream, or several."""
+    return value if isinstance(value, str) else _several(_text)(word, value)
+
+
+def _conditions(word: Option, value: Any) -> Any:
+    return value if isinstance(value, Mapping) else _several(_text)(word, value)
+
+
+def _flag(word: Option, value: Any) -> bool:
+    if type(value).__name__ not in ("bool", "bool_"):
+        raise _refused(word, value, "neither True nor False", "write one of them")
+    return bool(value)
+
+
+def _date(word: Option, value: Any) -> Any:
+    from .read.observed import stated_day
+
+    return stated_day(word.name, value)
+
+
+def _path(word: Option, value: Any) -> str | Path:
+    text = os.fspath(value) if isinstance(value, (str, os.PathLike)) else ""
+    if not text or "\0" in str(text):
+        raise _refused(word, value, "no path", "name a file or a folder")
+    return value if isinstance(value, str) else Path(value)
+
+
+def _table(word: Option, value: Any) -> Any:
+    """Returns the path of a table, a DataFrame, or what stands for one."""
+    from .read.frames import table_of as frame_of
+
+    if isinstance(value, (str, os.PathLike)):
+        return _path(word, value)
+    return frame_of(word.name, value)
+
+
+def _tables(word: Option, value: Any) -> Any:
+    """Returns a table, or a catalogue that was read."""
+    return value if isinstance(value, word.read) else _table(word, value)
+
+
+def _laws(word: Option, value: Any) -> Any:
+    from .read.stated import laws_frame
+
+    return _table(word, laws_frame(value))
+
+
+def _whole_numbers(word: Option, value: Any) -> list[int]:
+    from .read.defaults import read_argument
+
+    return read_argument(word.name, value, lambda given: whole_numbers(given, "entry"))
+
+
+def _scheduler(word: Option, value: Any) -> Any:
+    if not isinstance(value, str) and not hasattr(value, "scheduler_info"):
+        advice = "write its address, or give a Client"
+        raise _refused(word, value, "no Dask scheduler", advice)
+    return value
+
+
+def _of_class(word: Option, value: Any) -> Any:
+    kind = word.read.__name__
+    if not isinstance(value, word.read):
+        raise _refused(word, value, f"no {kind}", f"give a {kind}")
+    return value
+
+
+def _anything(word: Option, value: Any) -> Any:
+    """Returns what the call itself judges."""
+    return value
+
+
+# What reads the arguments of each kind.
+KINDS: Mapping[str, Read] = {
+    "text": _text,
+    **dict.fromkeys(("choice", "sign"), _choice),
+    **dict.fromkeys(("share", "percent"), _share),
+    **dict.fromkeys(("stated", "shares"), _stated),
+    **dict.fromkeys(("path", "folder", "file"), _path),
+    "whole": _whole,
+    "numbers": _whole_numbers,
+    "number": _number,
+    "flag": _flag,
+    "date": _date,
+    "texts": _several(_text),
+    "pairs": _pairs,
+    "places": _by_name(_by_name(_name)),
+    "names": _by_name(_by_name(_several(_name))),
+    **dict.fromkeys(("name", "column"), _name),
+    "items": _several(_name),
+    "seed": _seed,
+    "keys": _several(_key),
+    "conditions": _conditions,
+    "table": _table,
+    "catalogue": _tables,
+    "laws": _laws,
+    "scheduler": _scheduler,
+    "class": _of_class,
+    "any": _anything,
+}
+
+
+def word_of(name: str, tables: Iterable[str]) -> Option:
+    """Returns the word of an argument in the first of some tables of options.toml that has it."""
+    table = next(table for table in tables if name in table_of(table))
+    return option(f"{table}.{name}")
+
+
+def judged(*tables: str) -> Callable[[Call], Call]:
+    """Returns a decorator by which each argument of a function is read by its word in the first of some tables of
+    options.toml that has it. None is as by default. Raises Refused for what can't be meant, with the argument's name.
+    """
+
+    def made(function: Call) -> Call:
+        signature = inspect.signature(function)
+
+        @functools.wraps(function)
+        def called(*values: Any, **named: Any) -> Any:
+            try:
+                given = signature.bind(*values, **named)
+            except TypeError as why:
+                raise TypeError(f"{function.__name__}() {why}") from None
+            for name, value in [*given.arguments.items()]:
+                part = signature.parameters[name]
+                if value is None and part.default is part.empty:
+                    raise Refused(f"{argument(name)} is missing", "it can't be None")
+                if value is None and part.kind is part.KEYWORD_ONLY:
+                    del given.arguments[name]
+                elif value is None or value is part.default:
+                    given.arguments[name] = part.default
+                elif name not in OWN:
+                    word = word_of(name, tables)
+                    given.arguments[name] = KINDS[word.kind](word, value)
+            return function(*given.args, **given.kwargs)
+
+        setattr(called, "__signature__", getattr(function, SEEN, signature))
+        return cast(Call, called)
+
+    return made

@@ -1,0 +1,248 @@
+"""What the items of a catalogue have learned up to the end of their records, and by which words each method plans."""
+from __future__ import annotations
+
+import dataclasses
+from collections import defaultdict
+from collections.abc import Mapping, Sequence
+from dataclasses import dataclass
+from pathlib import Path
+from typing import Any
+
+from ...demand import AUTO
+from ...demand.learning import Prior
+from ...demand.seasons import CALENDAR, YEARS
+from ...errors import Refused, worded
+from ...read.catalogue_reading import Catalogued
+from ...read.item import UNORDERED, WEIGHED, Item
+from ...remarks import Remark
+from ...store.files import IN_KEPT, Folder
+from ...store.means import Means
+from ...store.stored import Store
+from ..aims import Aims
+from ..correction import LEAST_ITEMS, OF_FILLS, tried_on, ways_of
+from ..how import Settings
+from ..learned import following_of, learned_of, seasons_of
+from ..prices import ITEMS, REST, weight_of
+from ..seasons import Seasons
+from ..together import Finding
+from .methods import CORRECTED, FOLLOWED, KEPT, REFITTED, SEASONAL, TOGETHER, Walk, Way
+
+OF_RECORDS = OF_FILLS._replace(store=f"{IN_KEPT}backtest_trials.sqlite")
+LEAST_GROUP = 10  # Classes of fewer items have one price together.
+DIGITS = 4  # of a wanted share
+
+
+class Records(Catalogued):
+    """A catalogue as it was at the end of the record of each item, by the last periods of that which count for a
+    plan. Nobody has stated a law then."""
+
+    def __init__(self, path: Path, record: int, periods: int | None) -> None:
+        super().__init__(path, planned=WEIGHED)
+        self.record, self.periods = record, periods
+
+    def counting(self, item: Item) -> Item:
+        known = item.part(0, self.record).last(self.periods)
+        return dataclasses.replace(known, law=None)
+
+    @property
+    def length(self) -> int:
+        return min(super().length, self.record, self.periods or self.record)
+
+
+class OfRecords(Finding):
+    """Finds the prices of the records of a catalogue. What these offer is kept apart from what all periods do."""
+
+    stores = (
+        f"{IN_KEPT}backtest_offers.sqlite",
+        f"{IN_KEPT}backtest_finer.sqlite",
+        f"{IN_KEPT}backtest_offers_past.sqlite",
+    )
+
+    def __init__(
+        self,
+        folder: Folder,
+        read: Records,
+        settings: Settings,
+        prior: Prior,
+        means: Means,
+    ) -> None:
+        super().__init__(folder, read, settings, prior, means)
+        self.part = f"record {read.record}"
+
+
+def uncorrected(settings: Settings) -> Settings:
+    """Returns settings by which plans are tested: what a catalogue has learned of fill rates, prices and seasons is from
+    all its periods, also from those on which they are tested. So each item has its own fill rate.
+    """
+    return dataclasses.replace(
+        settings,
+        correct=False,
+        aims=None,
+        overruns=None,
+        together={},
+        weigh=Settings.weigh,
+        at_least=None,
+        prices=None,
+        seasons=None,
+        following=None,
+    )
+
+
+@dataclass(frozen=True)
+class Learning:
+    """What items learn by: a folder, which keeps what was tried, their records, the settings of the kept plan, what its
+    laws learn, and the means."""
+
+    folder: Folder
+    tests: Store[Any]
+    read: Records
+    settings: Settings
+    prior: Prior
+    means: Means
+
+    def way(self, words: Mapping[str, Any], **learned: Any) -> Way:
+        """Returns the way of a method by words of planning and what was learned for it, with the same laws."""
+        settings = dataclasses.replace(self.settings, **words, **learned)
+        return Way(words, settings, self.prior)
+
+    def corrected(self) -> Way | Remark:
+        """Returns the fill rates at which items would have aimed by their records alone, as `--correct` has them; or why
+        they would not. What was tried is kept in the folder."""
+        on = ways_of(self.settings)
+        common = on.common(f"record {self.read.record}", self.prior)
+        words = self.folder, self.read, on, self.prior, common, self.means
+        tried = tried_on(*words, OF_RECORDS)
+        if len(tried) < LEAST_ITEMS:
+            facts = {"items": len(tried), "least": LEAST_ITEMS}
+            return Remark("not corrected", facts)
+        return self.way({"correct": True}, aims=Aims.of(tried))
+
+    def together(self, weigh: str) -> Way | Remark:
+        """Returns the prices of classes by which their items would have been planned by theory and their records alone;
+        or why they would not."""
+        shares = wanted_shares(self.read, weigh)
+        if not shares:
+            return Remark("few together", {"least": LEAST_GROUP})
+        words = {"together": shares, "weigh": weigh}
+        on = dataclasses.replace(self.settings, **words)
+        try:
+            finding = OfRecords(self.folder, self.read, on, self.prior, self.means)
+            return self.way(words, prices=finding.prices())
+        except Refused as why:
+            return Remark("not together", {"what": worded(why.what)})
+
+    def followed(self, window: int) -> Way | None:
+        """Returns how far classes follow their level by their records alone, with the window of refitted plans; None if
+        none does."""
+        words = {"window": window, "follow": AUTO}
+        on = dataclasses.replace(self.settings, follow=AUTO)
+        following = following_of(self.tests, self.read, on, True)
+        if not following or not following.classes:
+            return None
+        return self.way(words, following=following)
+
+    def seasonal(self, stated: Settings) -> Way | Remark | None:
+        """Returns the seasons that the records have, with what laws learn without them; None if there are none, or the
+        settings want none. If the plan has seasons for which records are too short, the remark says so.
+        """
+        seasons = seasons_of(self.tests, self.read, self.settings, True)
+        if seasons is None:
+            return None
+        if has_seasons(self.read, seasons):
+            settings = dataclasses.replace(self.settings, seasons=seasons)
+            prior = learned_of(self.tests, self.read, settings, True).prior
+            return Way({"season": AUTO}, settings, prior)
+        least = YEARS * CALENDAR[seasons.every]["season"]
+        if stated.seasons and stated.seasons.classes and self.read.length < least:
+            facts = {"record": self.read.length, "least": least}
+            return Remark("seasons untested", facts)
+        return None
+
+
+def has_seasons(read: Records, seasons: Seasons) -> bool:
+    """Returns whether a class or an item has a season."""
+    return bool(seasons.classes) or any(map(seasons.of_item, read.items()))
+
+
+def wanted_shares(read: Catalogued, weigh: str) -> dict[str, float]:
+    """Returns which share of its demand each class of 10 items or more is to meet: what its items without a backlog cost
+    want, in the mean by what their demand weighs. All others are one class, whose name is empty.
+    """
+    wanted = defaultdict[str, list[tuple[float, float]]](list)
+    for item in read.items():
+        counts = item.known.counts
+        weight = sum(counts) / max(1, len(counts)) * weight_of(item, weigh)
+        is_one = item.fill is not None and item.backlog is None
+        if weight and is_one and item.past not in UNORDERED:
+            wanted[item.category].append((weight, float(item.fill or 0)))
+    for name in [name for name in wanted if len(wanted[name]) < LEAST_GROUP]:
+        if name != REST:
+            wanted[REST] += wanted.pop(name)
+    return {
+        name: round(mean_of(wanted[name]), DIGITS)
+        for name in sorted(wanted)
+        if len(wanted[name]) >= LEAST_GROUP
+    }
+
+
+def mean_of(pairs: Sequence[tuple[float, float]]) -> float:
+    """Returns the mean of figures, each of which has its weight before it."""
+    return sum(weight * figure for weight, figure in pairs) / sum(
+        weight for weight, _ in pairs
+    )
+
+
+@dataclass(frozen=True)
+class Lessons:
+    """What the items of a catalogue have learned up to the end of their records: the settings of the kept plan, what its
+    laws learn, the ways of the methods by which catalogues are planned, and remarks on all that.
+    """
+
+    settings: Settings
+    prior: Prior
+    ways: Mapping[str, Way]
+    remarks: tuple[Remark, ...]
+
+    @classmethod
+    def of(
+        cls,
+        folder: Folder,
+        tests: Store[Any],
+        read: Records,
+        stated: Settings,
+        walk: Walk,
+        means: Means,
+    ) -> Lessons:
+        """Learns from the records of a catalogue. A price is that of items that weigh alike, as they do in sums, unless
+        the settings plan items together: then these say by what they weigh."""
+        learned = learned_of(tests, read, uncorrected(stated), True)
+        settings = dataclasses.replace(
+            uncorrected(stated), borrow=learned.usual, every=read.fact("every")
+        )
+        on = Learning(folder, tests, read, settings, learned.prior, means)
+        ways = {KEPT: on.way({})}
+        window = settings.window or walk.window
+        ways[REFITTED] = on.way({"window": window})
+        remarks = [*learned.remarks]
+        for code, way in (
+            (CORRECTED, on.corrected()),
+            (TOGETHER, on.together(stated.weigh if stated.together else ITEMS)),
+            (SEASONAL, on.seasonal(stated)),
+            (FOLLOWED, on.followed(window)),
+        ):
+            if isinstance(way, Remark):
+                remarks.append(way)
+            elif way:
+                ways[code] = way
+        return cls(settings, learned.prior, ways, (*remarks,))
+
+    @property
+    def words(self) -> dict[str, Mapping[str, Any]]:
+        """Returns by which words of planning a catalogue is planned as each method."""
+        return {code: way.words for code, way in self.ways.items()}
+
+    def common(self, walk: Walk) -> str:
+        """Returns what all tests depend on, as a text."""
+        return repr(
+            [way.settings.common(repr(walk), way.prior) for way in self.ways.values()]
+        )

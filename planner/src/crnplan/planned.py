@@ -1,0 +1,471 @@
+"""What a notebook gets: the plan of a catalogue and that of one item as values."""
+from __future__ import annotations
+
+import datetime
+from collections.abc import Iterable, Mapping
+from dataclasses import dataclass, field, fields, replace
+from functools import cached_property
+from pathlib import Path
+from typing import TYPE_CHECKING, Any, ClassVar, SupportsIndex, Unpack
+
+from .arguments import judged
+from .catalogues import Catalogue
+from .given import FileWords
+from .crnsim.program import find_program
+from .errors import CrnplanError, Refused, argument
+from .store.files import Room
+from .store.clusters import Scheduler
+from .money import Amount
+from .options import with_words
+from .show.catalogue_page import report
+from .show.catalogue_tables import catalogue_summary, decisions_of, rejects_of
+from .show.change_tables import change_lines, changes_of
+from .show.calendars import levels_of
+from .show.lateness import lateness_of
+from .show.today_tables import OrdersToday, orders_today
+from .show.item_page import ItemWords, item_page, item_summary, policies_of
+from .plan.catalogue import planned_folder
+from .plan.totals import Totals
+from .plan.item import Depth
+from .plan.one import of_month
+from .plan.survey import Survey
+from .plan.what_ifs import Moves
+from .read.catalogue_reading import READ
+from .read.defaults import Defaults
+from .read.frames import name_of
+from .read.items import Words
+from .read.opening import Table
+from .read.told import words_of
+from .remarks import Remark
+from .scenario import Scenario
+from .table import DataTable, Json, Result
+from .words import counted
+
+if TYPE_CHECKING:
+    import pandas as pd
+    from matplotlib.axes import Axes
+    from matplotlib.figure import Figure
+
+    from .curve.exchange_curve import Drawn
+
+
+@dataclass(frozen=True, eq=False, repr=False)
+class Figures(Result):
+    """A table of an item's plan, with what is said of it."""
+
+    cells: DataTable = field(repr=False)
+    said: str = field(default="", repr=False)
+
+    @property
+    def table(self) -> DataTable:
+        """Returns the table."""
+        return self.cells
+
+    @property
+    def notes(self) -> str:
+        """Returns what is said of it."""
+        return self.said
+
+
+@dataclass(frozen=True, eq=False, repr=False)
+class PlannedItem(Result):
+    """The plan of one item. `frame` has its policies, the cheapest first; `text` is a summary of one screen."""
+
+    words: ItemWords = field(repr=False)
+    brief: ClassVar = "policy s S cost difference verdict fill stock".split()
+
+    @property
+    def headline(self) -> str:
+        """Returns the item, s and S of its chosen policy, and what that costs a period."""
+        words = self.words
+        chosen = words.answer.chosen
+        (cost,) = (
+            policy.cost
+            for policy in words.depth.compared
+            if policy.name == words.depth.chosen
+        )
+        levels = f"s {chosen.point:,}, S {chosen.level:,}"
+        return f"{words.item.name}: {levels}, costs {words.money(cost)} a {words.every}"
+
+    @property
+    def table(self) -> DataTable:
+        """Returns the policies of the item, the cheapest first."""
+        return policies_of(self.words)
+
+    @cached_property
+    def text(self) -> str:
+        """Returns the summary, of at most 24 lines."""
+        return item_summary(self.words)
+
+    @property
+    def scenario(self) -> Scenario:
+        """Returns the scenario by which the item is planned, in boxes: its laws, costs and policies."""
+        depth = self.words.depth
+        return replace(depth.scenario, scale=depth.question.scale)
+
+    @property
+    def notes(self) -> str:
+        """Returns what was decided, in sentences."""
+        return "\n".join(
+            [self.words.headline, *self.words.said, *self.words.warnings, ""]
+        )
+
+    def compare(self) -> Figures:
+        """Returns all policies of the item: cost by theory and by crnsim, service, stock, orders, and the difference
+        from today's, or else from the chosen one's, with its interval."""
+        return Figures(policies_of(self.words), "\n".join(self.words.said))
+
+    def doubt(self) -> Figures:
+        """Returns what each policy costs and meets under the laws that the item's history allows."""
+        return Figures(self.words.doubt, self.words.promise)
+
+    def moves(self) -> Moves:
+        """Returns how the best policy moves if a cost, the demand or the lead time differs, and what the chosen one
+        costs then."""
+        return self.words.depth.moves
+
+    def plot(self) -> Figure:
+        """Returns a picture of stock, position and orders of today's and the chosen policy in one run."""
+        from .show.pictures import trajectories_picture
+
+        drawn = self.words.depth.trajectory
+        policies = [
+            policy for policy in self.words.depth.policies if policy.name in drawn
+        ]
+        runs = [drawn[policy.name] for policy in policies]
+        start = next(iter(drawn.values()))[0]
+        initial = start.position + start.net_demand - start.ordered
+        return trajectories_picture(policies, runs, initial)
+
+    @property
+    def page(self) -> str:
+        """Returns the page of the item as HTML, which asks for no other file."""
+        return item_page(self.words)
+
+
+class TodayWords(FileWords, total=False):
+    """How today's tables are read, and the least value of an order by supplier."""
+
+    supplier_min: Mapping[str, Amount] | None
+
+
+@dataclass(frozen=True, eq=False, repr=False)
+class Plan(Result):
+    """The plan of a catalogue. `frame` and `decisions` have a row for each item, unrounded; `text` says what it comes to.
+
+    Attributes
+    ----------
+    path : Path
+        The folder with what was planned, which goes with the plan, or stays where `out` said.
+    learned : tuple of Remark
+        What is to be said of what items learned from one another.
+    program : str, Path or None
+        The path of crnsim, if one was named.
+    """
+
+    path: Path
+    learned: tuple[Remark, ...] = field(default=(), repr=False)
+    program: str | Path | None = field(default=None, repr=False)
+    room: Room | None = field(default=None, repr=False, compare=False)
+    brief: ClassVar = (
+        "item verdict s_today S_today s_chosen S_chosen saving fill_chosen".split()
+    )
+
+    @property
+    def headline(self) -> str:
+        """Returns how many items are planned, by how many periods, and what that saves; or why that is not known."""
+        try:
+            with planned_folder(self._folder) as folder:
+                items = counted(len([*self.table.rows]), "item")
+                periods = counted(folder.read.length, folder.every)
+                saving = folder.currency.text(float(self.totals["saving"]))
+        except CrnplanError as fault:
+            return str(fault)
+        return f"{items}, {periods}, saves {saving} a {folder.every}"
+
+    @property
+    def content(self) -> list[list[dict[str, Json]]]:
+        """Returns the decisions, what is left out, the levels by month, and the changes, as plain data."""
+        with planned_folder(self._folder) as folder:
+            left = rejects_of(folder.read.rejects(Survey.of(folder).faults))
+            tables = self.table, left, levels_of(folder), changes_of(folder)
+            return [table.records for table in tables]
+
+    def __getstate__(self) -> dict[str, Any]:
+        """Returns what a pickle has: the path of the folder. Raises Refused if that is a temporary one."""
+        names = [its.name for its in fields(self)]
+        kept = {name: vars(self)[name] for name in names}
+        return {**kept, "path": self.path.absolute()}
+
+    @property
+    def _folder(self) -> Path:
+        """Returns the folder of the plan. Raises Refused if it is gone."""
+        if not self.path.is_dir():
+            raise Refused(
+                f"{self.path}: the folder of this plan is gone",
+                f"plan again with {argument('out', 'FOLDER')}, or call open_plan(FOLDER) if it was moved",
+            )
+        return self.path
+
+    @cached_property
+    def table(self) -> DataTable:
+        """Returns the decisions, by item."""
+        with planned_folder(self._folder) as folder:
+            table = decisions_of(folder, folder.answers())
+            return replace(table, rows=[*table.rows])
+
+    @property
+    def decisions(self) -> pd.DataFrame:
+        """Returns a typed row for each planned item: today's (empty if there is none) and the chosen policy, costs and
+        saving of a period in money, by theory or by crnsim (`by`), the run beside with its interval, service, stock,
+        orders and warnings. `item` is a whole number of the type that the data frame of the masters has, or a text.
+        docs/TABLES.md has all columns."""
+        return self.frame
+
+    @property
+    def controls(self) -> pd.DataFrame:
+        """Returns rows, sums, value and dates of each file and of what is used, to tick off against the source."""
+        return Catalogue(self._folder / READ).controls
+
+    @cached_property
+    def rejects(self) -> pd.DataFrame:
+        """Returns what was left out or is suspicious: kind, file, line, item, column, text, reason, advice, rows."""
+        with planned_folder(self._folder) as folder:
+            rejects = folder.read.rejects(Survey.of(folder).faults)
+            return rejects_of(rejects, folder.keys).frame
+
+    @cached_property
+    def changes(self) -> pd.DataFrame:
+        """Returns a row for each item of this plan and of the earlier one: what has moved, why, what that gains, and
+        how the earlier policy did since. It has no rows without `after`. docs/TABLES.md has all columns.
+        """
+        with planned_folder(self._folder) as folder:
+            return changes_of(folder).frame
+
+    @cached_property
+    def levels(self) -> pd.DataFrame:
+        """Returns the levels of items that are planned by their season, a row for each month of the coming year: the first
+        and the last day, s and S. It has no rows if no season is planned.
+        """
+        with planned_folder(self._folder) as folder:
+            return levels_of(folder).frame
+
+    @cached_property
+    def lateness(self) -> pd.DataFrame:
+        """Returns a row for each supplier with receipts, the latest first: the stated lead time, what receipts took in the
+        mean and at the 90% quantile (days), and the share that took longer than stated.
+        """
+        with planned_folder(self._folder) as folder:
+            return lateness_of(folder.read).frame
+
+    @cached_property
+    def totals(self) -> Totals:
+        """Returns the sums over all items, as `totals["saving"]`, and counts of items."""
+        with planned_folder(self._folder) as folder:
+            return folder.totals
+
+    @cached_property
+    def text(self) -> str:
+        """Returns what became of all rows and items, and the totals."""
+        with planned_folder(self._folder) as folder:
+            return catalogue_summary(
+                folder, self.totals, self.learned, change_lines(folder)
+            )
+
+    @judged("call")
+    def item(self, name: str | SupportsIndex) -> PlannedItem:
+        """Returns the plan of an item, with what else can be asked of it.
+
+        Parameters
+        ----------
+        name : str or int
+            The item, as it is named in `decisions` or in the tables that were read.
+
+        Raises
+        ------
+        Refused
+            If it is not there, left out, or without a run, and why.
+
+        Examples
+        --------
+        >>> print(plan.item("nut").notes.splitlines()[0])
+        Below 14, order up to 78: cheaper than today's policy (20, 60)
+        """
+        with planned_folder(self._folder) as folder:
+            item, answer = folder.item(name_of(name))
+            question, program = folder.question(item), str(find_program(self.program))
+            depth = Depth(question, of_month(question, answer, program), program)
+            return PlannedItem(ItemWords(depth, folder.every, folder.currency))
+
+    def curve(
+        self,
+        *,
+        stock_value: float | None = None,
+        fill: float | None = None,
+        orders: float | None = None,
+        correct: bool = False,
+        confirm: int = 0,
+        jobs: int | None = None,
+        cluster: Scheduler | None = None,
+    ) -> Drawn:
+        """Returns how much service the whole stock can give for its value: see `exchange_curve`.
+
+        Parameters
+        ----------
+        stock_value, fill, orders : float, optional
+            A budget: the value of the mean stock, the share of demand by value that is met at once, and the orders of a period.
+        correct : bool, default False
+            Has beside each named point what it met on the past.
+        confirm : int, at least 0, default 0
+            Of so many items crnsim counts the stock at each named point.
+        jobs : int, at least 1, optional
+            How many processes work; by default one for each processor.
+        cluster : str or distributed.Client, optional
+            The address of a Dask scheduler, or a client, whose workers work in place of processes.
+
+        Returns
+        -------
+        Drawn
+            `frame` has the points, and `policies` the policy of each item for the budget.
+        """
+        from .curve.exchange_curve import exchange_curve
+
+        drawn = exchange_curve(
+            self._folder,
+            stock_value=stock_value,
+            fill=fill,
+            orders=orders,
+            correct=correct,
+            jobs=jobs,
+            cluster=cluster,
+            program=self.program,
+            confirm=confirm,
+        )
+        return drawn.keep() if self.room else drawn
+
+    @judged("call", "plan")
+    @with_words(TodayWords, Words, Defaults)
+    def orders_today(
+        self,
+        stock: Table | None = None,
+        on_order: Table | None = None,
+        date: datetime.date | str | None = None,
+        **words: Unpack[TodayWords],
+    ) -> OrdersToday:
+        """Returns what to order on a date, what lies too long, and what is owed. Nothing is planned again.
+
+        Tables are read as those of the plan were, unless a word says otherwise.
+
+        Parameters
+        ----------
+        stock : path, DataFrame, or Series or dict by item, optional
+            A row for each item, or for each of its places: item, stock, perhaps owed (items), which add up; a stock below 0 is
+            owed. Without it that of the masters counts.
+        on_order : path, DataFrame, or Series or dict by item, optional
+            What is to come: item, quantity, perhaps due.
+        date : date or str, optional
+            By default today.
+
+        Returns
+        -------
+        OrdersToday
+            `frame` has a row for each order, the most urgent first.
+
+        Raises
+        ------
+        Refused
+            For what can't be read or meant, and if the plan is not as the rows that were read last.
+
+        Examples
+        --------
+        >>> to_come = pd.DataFrame({"item": ["bolt"], "quantity": [60], "due": ["2026-01-05"]})
+        >>> orders = plan.orders_today(on_order=to_come, date="2025-12-29")
+        >>> orders.frame[["item", "stock", "s", "S"]].to_dict("records")
+        [{'item': 'washer', 'stock': 3.0, 's': 4, 'S': 42}]
+        """
+        return orders_today(
+            self._folder, {"stock": stock, "on_order": on_order}, words_of(words), date
+        )
+
+    def plot(self, ax: Axes | None = None) -> Axes:
+        """Draws the greatest savings and losses by item, at most 15, and returns the axes.
+
+        Parameters
+        ----------
+        ax : matplotlib.axes.Axes, optional
+            Where to draw; by default on a new figure.
+
+        Raises
+        ------
+        Refused
+            If no item has a policy today.
+        """
+        from .show.plots import plot_savings
+
+        with planned_folder(self._folder) as folder:
+            savings = {
+                str(row["item"]): row["saving"]
+                for row in self.table.records
+                if isinstance(row["saving"], float)
+            }
+            if not savings:
+                raise Refused(
+                    "no item has a policy today, beside which another could save"
+                )
+            return plot_savings(savings, folder.currency, folder.every, ax)
+
+    def to_excel(self, path: str | Path, orders: OrdersToday | None = None) -> None:
+        """Writes the plan as a workbook: its summary, decisions, orders, what is left out, the curve if it was drawn, classes, and
+        what each column means.
+
+        Parameters
+        ----------
+        path : str or Path
+            The file, which ends with .xlsx.
+        orders : OrdersToday, optional
+            What `orders_today` gave. Without it those of today by the stock of the masters are written, if these have one, as
+            orders without what is on order.
+
+        Raises
+        ------
+        Refused
+            If the file can't be written, or the orders are those of another plan.
+        """
+        from .show.workbook import write_workbook
+
+        write_workbook(self._folder, Path(path), orders)
+
+    def report(
+        self,
+        items: Iterable[str | SupportsIndex] = (),
+        *,
+        orders: OrdersToday | None = None,
+        jobs: int | None = None,
+        cluster: Scheduler | None = None,
+    ) -> Path:
+        """Writes report.html, and pages of items, into the folder of the plan: see `report`.
+
+        Parameters
+        ----------
+        items : iterable of str, optional
+            Items that get pages of their own.
+        orders : OrdersToday, optional
+            What `orders_today` gave.
+        jobs : int, at least 1, optional
+            How many processes work; by default one for each processor.
+        cluster : str or distributed.Client, optional
+            The address of a Dask scheduler, or a client, whose workers work in place of processes.
+
+        Returns
+        -------
+        Path
+            That of report.html.
+        """
+        return report(
+            self._folder,
+            items,
+            orders=orders,
+            jobs=jobs,
+            cluster=cluster,
+            program=self.program,
+        )

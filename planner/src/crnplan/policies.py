@@ -1,0 +1,102 @@
+"""Defines (s,S) policies, and makes them of pairs, mappings and tables."""
+from __future__ import annotations
+
+from collections.abc import Iterable, Mapping
+from dataclasses import dataclass
+from typing import Any
+
+from . import formats
+from .errors import Refused
+from .money import whole
+from .table import Result
+from .toml.documents import shown
+
+Levels = tuple[int, int]  # s and S of a policy
+Policies = (
+    Iterable[object] | Mapping[str, tuple[int, int]] | Result
+)  # what stands for some
+
+
+@dataclass(frozen=True)
+class Policy:
+    """An (s,S) policy: if the inventory position is below s, order up to S.
+
+    Parameters
+    ----------
+    name : str
+        The name, of at most 16 letters, digits, `_` and `-`.
+    s : int
+        The reorder point, in items, from 0 to 1,000,000.
+    S : int
+        The order-up-to level, in items, from s to 1,000,000.
+    """
+
+    name: str
+    s: int
+    S: int
+
+    @classmethod
+    def of_levels(cls, s: int, S: int, name: str = "") -> Policy:
+        """Makes a policy of its levels.
+
+        Parameters
+        ----------
+        s, S : int
+            The levels, in items.
+        name : str, optional
+            By default s1_S2, or s1S2 if that is too long.
+        """
+        own = f"s{s}_S{S}"
+        return cls(
+            name or (own if len(own) <= formats.MOST_LETTERS else own.replace("_", "")),
+            s,
+            S,
+        )
+
+
+def levels_of(pair: Any, name: str) -> tuple[int, int]:
+    """Returns the levels of a pair (s, S). Raises Refused if it is none; `name` says what it is."""
+    try:
+        low, high = pair
+    except (TypeError, ValueError):
+        raise Refused(
+            f"{name}: {shown(pair)} is not a pair (s, S); give two levels in items"
+        ) from None
+    return whole(low, f"{name}: s"), whole(high, f"{name}: S")
+
+
+def policies_of(given: Policies) -> list[Policy]:
+    """Returns policies, from those, pairs (s, S), a mapping of names to pairs, or a table with the columns s and S."""
+    policies: Any = given.frame if isinstance(given, Result) else given
+    if hasattr(policies, "columns"):
+        return _policies_of_table(policies)
+    if isinstance(policies, Mapping):
+        return [
+            Policy.of_levels(*levels_of(pair, f"policies: {name}"), name)
+            for name, pair in policies.items()
+        ]
+    if not isinstance(policies, Iterable):
+        raise Refused(f"policies: {shown(policies)} is no list", "give pairs (s, S)")
+    return [
+        one
+        if isinstance(one, Policy)
+        else Policy.of_levels(*levels_of(one, "policies"))
+        for one in policies
+    ]
+
+
+def _policies_of_table(policies: Any) -> list[Policy]:
+    """Returns the policies of a DataFrame. Their names are its column `policy`, or an index of that name or of texts."""
+    if not {"s", "S"} <= {*policies.columns}:
+        raise Refused(
+            "policies: the table lacks the column s or S; name them policy, s and S"
+        )
+    table = policies.set_index("policy") if "policy" in policies else policies
+    names = [""] * len(table)
+    if table.index.name == "policy" or table.index.dtype == object:
+        names = [str(name) for name in table.index]
+    pairs = zip(table["s"], table["S"])
+    return [
+        Policy.of_levels(*levels_of(pair, "policies"), name)
+        for name, pair in zip(names, pairs)
+    ]

@@ -1,0 +1,269 @@
+"""Tests that each argument of a public call takes what it says, or is refused by its name, whatever is given."""
+from __future__ import annotations
+
+import datetime
+import inspect
+from collections.abc import Callable, Iterator, Mapping
+from pathlib import Path
+from typing import Any, NamedTuple
+
+import numpy as np
+import pandas as pd
+import pytest
+
+import crnplan as crn
+from crnplan.arguments import KINDS, OWN, word_of
+from crnplan.errors import CrnplanError, Refused
+from crnplan.options import within
+from planner.tests.test_options import OF_CALLS
+
+WEEKS = pd.date_range("2025-01-06", periods=60, freq="W-MON")
+SALES = pd.DataFrame({"item": 1, "date": WEEKS, "quantity": [3, 0, 5, 1] * 15})
+MASTERS = pd.DataFrame(
+    [[1, 45.0, 1.0, 10.0, 2, 4.0, 5, 20, 9]],
+    columns=["item", "setup", "holding", "backlog", "lead (weeks)"]
+    + ["price", "s", "S", "stock"],
+)
+FAST: dict[str, Any] = {
+    "fit": "empirical",
+    "borrow": "none",
+    "season": "none",
+    "periods": 8,
+    "replications": 2,
+    "jobs": 1,
+}
+ODD: dict[str, Any] = {
+    "None": None,
+    "text": "x",
+    "negative": -1,
+    "nan": float("nan"),
+    "int64": np.int64(3),
+    "float64": np.float64(0.5),
+    "list": [],
+    "dict": {},
+    "object": object(),
+    "flag": True,
+    "array": np.array([1, 2]),
+}
+DEMAND = [1, 2, 0, 3, 1, 0, 2] * 5
+# What a message calls an argument, if not by its name.
+SAID = {
+    "observed": "demand",
+    "history": "demand",
+    "leads": "lead time",
+    "best": "policy",
+}
+Called = tuple[Callable[..., Any], dict[str, Any]]
+
+
+@pytest.fixture(scope="module")
+def plan(program: Path) -> crn.Plan:
+    return crn.plan(SALES, MASTERS, program=program, **FAST)
+
+
+@pytest.fixture(scope="module")
+def scenario() -> crn.Scenario:
+    costs: Any = {"setup": 32, "holding": 1, "backlog": 5, "today": (20, 40)}
+    return crn.Scenario.of([1, 2], [1], periods=8, replications=2, **costs)
+
+
+@pytest.fixture(scope="module")
+def calls(
+    plan: crn.Plan, scenario: crn.Scenario, program: Path
+) -> Mapping[str, Called]:
+    """Returns public calls by name, each with arguments by which it works."""
+    tables = {"sales": SALES, "masters": MASTERS}
+    stock = pd.DataFrame({"item": [1], "stock": [3]})
+    fast = {"fit": "empirical", "borrow": "none", "every": 4, "jobs": 1}
+    costs = {"setup": 32, "holding": 1, "backlog": 5, "today": (20, 40)}
+    laws = {"demand": [1], "lead": [1], "returns": [0, 1], "key": "x"}
+    changes = {"periods": 5, "costs": {"setup": 3}, "policies": [(1, 2)], **laws}
+    run = {"scenario": scenario, "program": program}
+    two = scenario.changed(policies={"one": (20, 40), "two": (10, 30)})
+    orders = pd.DataFrame({"ordered": WEEKS[:3], "received": WEEKS[2:5]})
+    doubt = {"scenario": scenario, "history": DEMAND, "times": 10}
+    grid = {"scenario": scenario, "s": [10], "S": [30], "jobs": 1, "program": program}
+    return {
+        "plan": (crn.plan, {**tables, "program": program, **FAST}),
+        "read_catalogue": (crn.read_catalogue, {"demand": SALES, "items": MASTERS}),
+        "backtest": (crn.backtest, {**tables, **fast}),
+        "open_plan": (crn.open_plan, {"folder": plan.path}),
+        "plan_item": (crn.plan_item, {"history": "no.csv", "settings": "no.toml"}),
+        "exchange_curve": (crn.exchange_curve, {"folder": plan.path, "jobs": 1}),
+        "curve": (plan.curve, {"jobs": 1}),
+        "item": (plan.item, {"name": 1}),
+        "orders_today": (plan.orders_today, {"stock": stock}),
+        "of": (crn.Scenario.of, {"demand": [1, 2], "lead": [1], **costs}),
+        "changed": (scenario.changed, changes),
+        "fit_demand": (crn.fit_demand, {"observed": DEMAND}),
+        "sweep": (crn.sweep, grid),
+        "doubt": (crn.doubt, {**doubt, "program": program}),
+        "sensitivity": (crn.sensitivity, run),
+        "check_keys": (
+            crn.check_keys,
+            {**run, "scenario": two, "best": "two", "replications": 2, "count": 1},
+        ),
+        "trajectories": (crn.trajectories, {**run, "periods": 2}),
+        "run": (scenario.run, {"program": program}),
+        "long_run": (scenario.long_run, {"program": program, "keys": 2}),
+        "report": (crn.report, {"folder": plan.path, "program": program, "jobs": 1}),
+        "read_history": (
+            crn.read_history,
+            {"table": SALES, "demand": "quantity", "date": "date", "every": "week"},
+        ),
+        "read_lead_times": (crn.read_lead_times, {"table": orders, "every": "week"}),
+    }
+
+
+def names_of(function: Callable[..., Any], given: Mapping[str, Any]) -> list[str]:
+    """Returns the arguments of a function, also those that it takes and does not show, or those that are given if it takes
+    any."""
+    whole = inspect.signature(getattr(function, "__wrapped__", function))
+    parameters = whole.parameters.values()
+    if any(it.kind is it.VAR_KEYWORD for it in parameters):
+        return [*given]
+    return [it.name for it in parameters if it.name not in OWN]
+
+
+NAMES = "plan read_catalogue backtest open_plan plan_item exchange_curve curve item orders_today of changed fit_demand sweep"
+
+
+MORE = "doubt sensitivity check_keys trajectories run long_run report read_history read_lead_times"
+
+
+@pytest.mark.parametrize("name", [*NAMES.split(), *MORE.split()])
+def test_each_argument_works_or_is_named(
+    name: str,
+    calls: Mapping[str, Called],
+    tmp_path: Path,
+    monkeypatch: pytest.MonkeyPatch,
+) -> None:
+    """A call with a value of another type works, or raises an error of ours that names the argument, or the value of a
+    path. The text x may be the name of a folder that is made here."""
+    monkeypatch.chdir(tmp_path)
+    function, given = calls[name]
+    wrong = []
+    for argument in names_of(function, given):
+        for kind, value in ODD.items():
+            if (argument, kind) == ("cluster", "text"):
+                continue  # An address that nobody answers at takes ten seconds.
+            try:
+                function(**{**given, argument: value})
+            except CrnplanError as why:
+                named = argument, SAID.get(argument, argument), "item"
+                said = *named, "x: ", "no.toml: "
+                if not any(part in str(why) for part in said):
+                    wrong.append((argument, kind, str(why)))
+            except Exception as why:
+                wrong.append((argument, kind, repr(why)))
+    assert wrong == []
+
+
+def words_of_calls() -> Iterator[Any]:
+    for table in OF_CALLS:
+        yield from within(table)
+
+
+def test_each_word_is_an_argument(calls: Mapping[str, Called]) -> None:
+    """Each word of calls alone is an argument of a call, and each kind of it is one that is read."""
+    taken = {
+        it for function, given in calls.values() for it in names_of(function, given)
+    }
+    assert {word.name for word in words_of_calls()} <= taken
+    assert {word.kind for word in words_of_calls()} <= KINDS.keys()
+    assert word_of("orders", ("curve", "call")).kind == "number"
+    assert word_of("orders", ("call", "curve")).kind == "table"
+
+
+class Same(NamedTuple):
+    """Two values of an argument that mean the same."""
+
+    call: str
+    argument: str
+    odd: Any
+    usual: Any
+
+
+SAME = [
+    Same("plan", "periods", np.int64(9), 9),
+    Same("plan", "replications", np.float64(3), 3),
+    Same("plan", "seed", np.int64(7), "7"),
+    Same("plan", "today", "2026-02-01", datetime.date(2026, 2, 1)),
+    Same("plan", "today", np.datetime64("2026-02-01"), datetime.date(2026, 2, 1)),
+    Same("plan", "end", pd.Timestamp("2026-02-01 13:00"), "2026-02-01"),
+    Same("plan", "confidence", "80%", 0.8),
+    Same("plan", "sales", SALES.to_dict("list"), SALES),
+    Same("plan", "sales", SALES.to_dict("records"), SALES),
+    Same("plan", "date_formats", "%Y-%m-%d", ("%Y-%m-%d",)),
+    Same("plan", "columns", {"demand": {"item": "item"}}, None),
+    Same("plan", "at_least", None, None),
+    Same("curve", "fill", "97%", 0.97),
+    Same("curve", "confirm", np.int64(0), None),
+    Same("item", "name", np.int64(1), "1"),
+    Same("item", "name", 1.0, "1"),
+    Same("orders_today", "stock", pd.Series([3], index=[1]), None),
+    Same("orders_today", "stock", {1: 3}, None),
+    Same("orders_today", "date", pd.Timestamp.today(), None),
+    Same("sweep", "s", np.array([10]), [10]),
+    Same("fit_demand", "box", np.int64(2), 2),
+]
+
+
+@pytest.mark.parametrize("same", SAME, ids=lambda it: f"{it.call}-{it.argument}")
+def test_what_means_the_same(same: Same, calls: Mapping[str, Called]) -> None:
+    """A value of another type whose meaning is clear gives the same text as the usual one."""
+    function, given = calls[same.call]
+    texts = []
+    for value in (same.odd, same.usual):
+        words = {**given, same.argument: value}
+        if value is None and same.argument in given:
+            words[same.argument] = given[same.argument]
+        found = function(**words)
+        texts.append(getattr(found, "text", found))
+    assert texts[0] == texts[1]
+
+
+REFUSED: list[tuple[str, dict[str, Any], str]] = [
+    ("plan", {"sales": None}, "sales is missing"),
+    ("plan", {"sales": SALES.to_numpy()}, "sales: ndarray is no table with headings"),
+    ("plan", {"sales": {"item": [1], "date": [2, 3]}}, "sales: no table: All arrays"),
+    ("plan", {"masters": pd.Series([1])}, "masters: a Series is no table"),
+    ("plan", {"jobs": -1}, "jobs=-1 is not at least 1"),
+    ("plan", {"periods": 2.5}, "periods: 2.5 is not a whole number"),
+    ("plan", {"net": 1}, "net: 1 is neither True nor False"),
+    ("plan", {"every": 7}, "every: 7 is not one of day, week, month"),
+    ("plan", {"today": 20260201}, "today: 20260201 is no date"),
+    ("plan", {"currency": float("nan")}, "currency: nan is not known"),
+    ("plan", {"out": ""}, "out: '' is no path"),
+    ("plan", {"out": "a\0b"}, "out: 'a.x00b' is no path"),
+    ("plan", {"columns": ["item"]}, "columns: .'item'. is no dict; write it by name"),
+    ("plan", {"factors": {"KAR": 1.5}}, "factors: 1.5 is not a whole number"),
+    ("plan", {"statuses": {"Z3": 3}}, "statuses: 3 is not one of active"),
+    ("plan", {"columns": {"demand": {"item": []}}}, "columns: .. is no name"),
+    ("plan", {"laws": {1: 5}}, "laws: no table: If using all scalar"),
+    ("curve", {"fill": 97}, "fill: 97 may be 97% or 97 as a share"),
+    ("orders_today", {"supplier_min": {"B": "x"}}, "supplier_min: 'x' is no cost"),
+    ("doubt", {"scenario": "x"}, "scenario: 'x' is no Scenario; give a Scenario"),
+    ("sweep", {"s": [1, 2.5]}, "s: entry 2: 2.5 is not a whole number"),
+    ("of", {"key": 5}, "key: 5 is no key; give a text"),
+    ("changed", {"costs": 5}, "costs: 5 is no dict"),
+    ("changed", {"policies": 5}, "policies: 5 is no list"),
+    ("check_keys", {"keys": [5]}, "keys: 5 is no text"),
+    ("long_run", {"keys": 2.5}, "keys: 2.5 is not a whole number"),
+    ("report", {"orders": 5}, "orders: 5 is no OrdersToday"),
+    ("read_history", {"table": [1, 2]}, "table: list is no table with headings"),
+]
+
+
+@pytest.mark.parametrize("name, words, why", REFUSED, ids=lambda it: str(it)[:40])
+def test_refused(
+    name: str, words: dict[str, Any], why: str, calls: Mapping[str, Called]
+) -> None:
+    function, given = calls[name]
+    with pytest.raises(Refused, match=f"^{why}"):
+        function(**{**given, **words})
+
+
+def test_an_argument_that_is_none() -> None:
+    with pytest.raises(TypeError, match=r"^plan\(\) got an unexpected keyword"):
+        crn.plan(SALES, MASTERS, colour=3)  # type: ignore[call-arg]

@@ -1,0 +1,93 @@
+"""Tests of the words that calls on a catalogue share: as a value, one by one, and said twice."""
+from __future__ import annotations
+
+import inspect
+import pickle
+from pathlib import Path
+from typing import Any
+
+import pandas as pd
+import pytest
+
+import crnplan as crn
+from crnplan.errors import Refused
+from crnplan.given import COMMON
+from planner.tests.test_call_words import FAST, MASTERS, SALES
+
+OWN = {name: value for name, value in FAST.items() if name != "jobs"}
+LATER = {"start": "2025-03-03", "least": 5}
+
+
+@pytest.mark.parametrize("is_all", [False, True], ids=["some", "all"])
+def test_values_are_as_words(program: Path, is_all: bool) -> None:
+    """A plan by values is that by the same words one by one."""
+    words: dict[str, Any] = {"program": program, "jobs": 1}
+    alone = crn.plan(SALES, MASTERS, **words, **OWN, **LATER)
+    settings = crn.Settings(**OWN if is_all else {"periods": 8, "replications": 2})
+    others = (
+        {} if is_all else {name: OWN[name] for name in OWN.keys() - settings.keys()}
+    )
+    reading = crn.Reading(**LATER)
+    plan = crn.plan(
+        SALES, MASTERS, reading=reading, settings=settings, **words, **others
+    )
+    assert plan == alone and plan.controls.equals(alone.controls)
+    read = crn.read_catalogue(SALES, MASTERS, reading=reading, jobs=1)
+    assert read.fact("told") == {"from": "2025-03-03", "least": 5}
+
+
+def test_tests_on_the_past_share_them() -> None:
+    """A backtest takes the same values; its window and its period are those of them, unless it says others."""
+    settings = crn.Settings(window=20, fit="empirical", season="none")
+    reading = crn.Reading(every="week")
+    words: dict[str, Any] = {"record": 30, "jobs": 1}
+    alone = crn.backtest(
+        SALES,
+        MASTERS,
+        window=20,
+        settings=crn.Settings(fit="empirical", season="none", window=20),
+        **words,
+    )
+    tests = crn.backtest(SALES, MASTERS, settings=settings, reading=reading, **words)
+    assert tests == alone and tests.tested.walk.window == 20
+    other = crn.backtest(SALES, MASTERS, window=26, settings=settings, **words)
+    assert other.tested.walk.window == 26
+    with pytest.raises(Refused, match="every is said by itself and in reading"):
+        crn.backtest(SALES, MASTERS, period="week", reading=reading, **words)
+
+
+def test_what_is_said_twice() -> None:
+    """A word is said by itself or in a value: it is not guessed which one counts. None says nothing."""
+    with pytest.raises(Refused) as refused:
+        crn.plan(SALES, MASTERS, seed=3, settings=crn.Settings(seed=3))
+    assert str(refused.value) == "seed is said by itself and in settings; leave one out"
+    units = {"items": {"holding": "month", "backlog": "month"}}
+    reading = crn.Reading(every="month", units=units)
+    read = crn.read_catalogue(SALES, MASTERS, every=None, reading=reading, jobs=1)  # type: ignore[arg-type]
+    assert read.fact("every") == "month"
+
+
+def test_values_are_judged_and_compared() -> None:
+    """A value refuses what the call would refuse, by its name; it is shown as it is made, equal by content, and pickled."""
+    with pytest.raises(Refused, match="least=0 is not from 1"):
+        crn.Reading(least=0)
+    with pytest.raises(TypeError, match="unexpected keyword argument 'levle'"):
+        crn.Settings(levle=0.9)  # type: ignore[call-arg]
+    reading = crn.Reading(least=5, every="month")
+    assert repr(reading) == "Reading(every='month', least=5)"
+    assert (
+        reading
+        == crn.Reading(every="month", least=5)
+        == pickle.loads(pickle.dumps(reading))
+    )
+    assert reading != crn.Reading(every="month")
+    assert crn.Settings(season=None) == crn.Settings()  # type: ignore[arg-type]
+
+
+def test_shown_words() -> None:
+    """A call shows the common words, and takes all; a value shows each word once with its default."""
+    shown = inspect.signature(crn.plan).parameters
+    assert {*COMMON} <= shown.keys() and "replications" not in shown
+    assert inspect.signature(crn.Settings).parameters["level"].default == 0.95
+    assert "replications" in (crn.Settings.__init__.__doc__ or "")
+    assert len(shown) < 30

@@ -1,0 +1,3 @@
+from typing import Any
+
+class Axes(Any): ...  # type: ignore[misc]
