@@ -38,9 +38,12 @@ class Answer(NamedTuple):
 Command = Callable[..., Answer]
 # A user of whom the machine knows nothing, without a name and a home.
 NOBODY = "54321"
+# What `crnplan desk` alone loads, with what that brings.
+OF_THE_DESK = {"flask", "waitress", "werkzeug"}
 HEAVY = {
     *"babel distributed jinja2 matplotlib numba numpy openpyxl pandas scipy".split(),
     *"tomlkit tqdm xlsxwriter".split(),
+    *OF_THE_DESK,
 }
 
 

@@ -26,7 +26,14 @@ from crnplan.given import PlanWords
 from crnplan.planned import TodayWords
 from crnplan.cli import COMMANDS, Spelling, group
 from crnplan.table import Result
-from planner.tests.conftest import Command, HEAVY, cases_beside, heavy_of
+from planner.tests.conftest import (
+    OF_THE_DESK,
+    Command,
+    HEAVY,
+    cases_beside,
+    heavy_of,
+)
+from planner.tests import test_layers
 
 CASES = cases_beside(__file__)
 
@@ -73,6 +80,22 @@ def test_imports_no_heavy_library() -> None:
     ).stdout.split()
     assert "crnplan" in loaded
     assert not {it.split(".")[0] for it in loaded} & HEAVY
+
+
+def test_only_the_desk_loads_its_libraries() -> None:
+    """No module outside of it does, whatever else that loads."""
+    code = "import importlib, sys; [*map(importlib.import_module, sys.argv[1:])]; print(*sys.modules)"
+    files = [it.relative_to(test_layers.SOURCE) for it in test_layers.FILES]
+    parts = [it.with_suffix("").parts for it in files]
+    others = [".".join(["crnplan", *it]) for it in parts if it[0] != "desk"]
+    loaded = subprocess.run(
+        [sys.executable, "-c", code, *others],
+        capture_output=True,
+        text=True,
+        check=True,
+    ).stdout.split()
+    assert {*others} - {*loaded} == set()
+    assert {*loaded} & OF_THE_DESK == set()
 
 
 def test_version(crnplan: Command) -> None:
