@@ -203,6 +203,7 @@ SAME = [
     Same("item", "name", 1.0, "1"),
     Same("orders_today", "stock", pd.Series([3], index=[1]), None),
     Same("orders_today", "stock", {1: 3}, None),
+    Same("orders_today", "placed", {1: 0}, pd.DataFrame({"item": [1], "quantity": 0})),
     Same("orders_today", "date", pd.Timestamp.today(), None),
     Same("sweep", "s", np.array([10]), [10]),
     Same("fit_demand", "box", np.int64(2), 2),

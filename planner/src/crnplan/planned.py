@@ -350,6 +350,8 @@ class Plan(Result):
         stock: Table | None = None,
         on_order: Table | None = None,
         date: datetime.date | str | None = None,
+        *,
+        placed: Table | None = None,
         **words: Unpack[TodayWords],
     ) -> OrdersToday:
         """Returns what to order on a date, what lies too long, and what is owed. Nothing is planned again.
@@ -365,6 +367,8 @@ class Plan(Result):
             What is to come: item, quantity, perhaps due.
         date : date or str, optional
             By default today.
+        placed : path, DataFrame, or Series or dict by item, optional
+            What was ordered since the table of what is on order was exported: item, quantity, perhaps due. It adds to that.
 
         Returns
         -------
@@ -383,9 +387,8 @@ class Plan(Result):
         >>> orders.frame[["item", "stock", "s", "S"]].to_dict("records")
         [{'item': 'washer', 'stock': 3.0, 's': 4, 'S': 42}]
         """
-        return orders_today(
-            self._folder, {"stock": stock, "on_order": on_order}, words_of(words), date
-        )
+        tables = {"stock": stock, "on_order": on_order, "placed": placed}
+        return orders_today(self._folder, tables, words_of(words), date)
 
     def plot(self, ax: Axes | None = None) -> Axes:
         """Draws the greatest savings and losses by item, at most 15, and returns the axes.

@@ -100,6 +100,75 @@ def test_sums_by_pandas(
     assert reasons["X-1"] == "no item of the plan has this name"
 
 
+def split(table: pd.DataFrame) -> tuple[pd.DataFrame, pd.DataFrame]:
+    """Returns the rows of a table in two parts, in each of which some items are alone, and some are in both."""
+    is_first = table.index % 3 > 0
+    return table[is_first], table[~is_first]
+
+
+def test_placed_orders_are_on_order(
+    folder: Path, stock: pd.DataFrame, on_order: pd.DataFrame
+) -> None:
+    """A row is the same in both tables: all that follows is as if one table had them all. Each has its own totals."""
+    plan = crn.open_plan(folder)
+    coming = pd.concat([on_order, on_order.assign(quantity=3)], ignore_index=True)
+    before, since = split(coming)
+    whole = plan.orders_today(stock, coming, FRIDAY)
+    parts = plan.orders_today(stock, before, FRIDAY, placed=since)
+    alone = plan.orders_today(stock, date=FRIDAY, placed=coming)
+    for name in ("orders", "above", "owed", "suppliers", "lines", "at_risk"):
+        table = whole.tables[name].frame
+        assert len(table) or name == "suppliers"
+        for other in (parts, alone):
+            pd.testing.assert_frame_equal(other.tables[name].frame, table)
+    assert parts.headline == alone.headline == whole.headline
+    assert all(orders.today.has_orders for orders in (whole, parts, alone))
+    assert not plan.orders_today(stock, date=FRIDAY).today.has_orders
+    totals = parts.controls.set_index(["file", "rows_are"]).units
+    for name, table in (("on_order", before), ("placed", since)):
+        assert totals[name, "used"] == table.quantity.sum()
+    by_item = {name: float(own.sum()) for name, own in since.groupby("item").quantity}
+    for placed in (by_item, pd.Series(by_item)):
+        orders = plan.orders_today(stock, before, FRIDAY, placed=placed)
+        positions = (it.frame.set_index("item").position for it in (orders, whole))
+        pd.testing.assert_series_equal(*(it.sort_index() for it in positions))
+
+
+def test_placed_orders_that_cannot_be_read(folder: Path, stock: pd.DataFrame) -> None:
+    """Nothing is known of an item of which such a row can't be read."""
+    plan = crn.open_plan(folder)
+    name = stock.item[0]
+    placed = pd.DataFrame({"item": [name, "X-2"], "quantity": ["many", 3]})
+    orders = plan.orders_today(stock, date=FRIDAY, placed=placed)
+    assert orders.frame.set_index("item").code[name] == "unread stock"
+    left = orders.left_out[orders.left_out.file == "placed"]
+    assert [*left.item] == [name, "X-2"]
+    assert orders.today.counts["placed"]["rejected"] == 1
+
+
+def test_orders_of_the_day_as_placed(
+    folder: Path,
+    stock: pd.DataFrame,
+    tmp_path: Path,
+    crnplan: Command,
+    monkeypatch: pytest.MonkeyPatch,
+) -> None:
+    """Once the lines that were written are placed, nothing is left to order, by both commands."""
+    monkeypatch.chdir(tmp_path)
+    stock.to_csv("stock.csv", index=False)
+    words = "--stock", "stock.csv", "--date", "2026-11-27"
+    first = crnplan("today", folder, *words, "--out", "first")
+    lines = pd.read_csv("first/today_lines.csv")
+    assert first.status == 0 and lines.placed.sum() > 0
+    words = *words, "--placed", "first/today_lines.csv"
+    assert (
+        "2026-11-27: 0 orders, worth 0.00\n" in crnplan("today", folder, *words).output
+    )
+    one = crnplan("today", folder, *words[:-1], "first/today_supplier_001.csv")
+    part = lines[lines.number == lines.number[0]]
+    assert f": {len(lines) - len(part)} orders, worth" in one.output
+
+
 def made_plan(folder: Path, stock: int, answer: Answer | Remark) -> crn.Plan:
     """Returns a plan of items among which one is quiet, with a stock in its masters and an answer."""
     quiet, _ = made_pair(random.Random(3), "Q-1")

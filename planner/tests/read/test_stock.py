@@ -12,7 +12,7 @@ import pytest
 
 from crnplan.errors import RefusedFaults
 from crnplan.read.items import Words
-from crnplan.read.stock import Arrival, Holdings, OnHand, read_holdings
+from crnplan.read.stock import KINDS, Arrival, Holdings, OnHand, read_holdings
 from crnplan.catalogues import read_catalogue
 from crnplan.words import sentence
 from planner.tests.read.catalogues import (
@@ -28,10 +28,12 @@ CASES = cases_of("stock")
 DUE = datetime.date(2026, 12, 1)
 
 
-def read(folder: Path, stock: str = "", on_order: str = "", **words: Any) -> Holdings:
+def read(
+    folder: Path, stock: str = "", on_order: str = "", placed: str = "", **words: Any
+) -> Holdings:
     """Reads files of these lines for the items A and B."""
     tables: dict[str, Path | None] = {}
-    for kind, lines in (("stock", stock), ("on_order", on_order)):
+    for kind, lines in zip(KINDS, (stock, on_order, placed)):
         tables[kind] = folder / f"{kind}.csv" if lines else None
         if lines:
             (folder / f"{kind}.csv").write_text(f"{lines}\n", "utf-8")
@@ -49,14 +51,30 @@ def test_headings_of_stock(tmp_path: Path, heading: str) -> None:
     assert holdings.on_hand == {"A": hand(Fraction(27, 2), 3), "B": hand(0, 2)}
 
 
+@pytest.mark.parametrize("kind", ["on_order", "placed"])
 @pytest.mark.parametrize("heading", CASES["on_order"])
-def test_headings_of_orders(tmp_path: Path, heading: str) -> None:
-    holdings = read(tmp_path, "", f"{heading}\nA;10;01.12.2026\nB;2;\nA;0;2026-12-01")
+def test_headings_of_orders(tmp_path: Path, heading: str, kind: str) -> None:
+    """Orders that were placed since have the headings of what is on order, too."""
+    lines = f"{heading}\nA;10;01.12.2026\nB;2;\nA;0;2026-12-01"
+    holdings = read(tmp_path, **{kind: lines})
     assert holdings.on_hand is None
     assert holdings.arrivals == {
         "A": [Arrival(Fraction(10), DUE), Arrival(Fraction(0), DUE)],
         "B": [Arrival(Fraction(2), None)],
     }
+
+
+@pytest.mark.parametrize("heading", CASES["placed"])
+def test_headings_of_placed_orders(tmp_path: Path, heading: str) -> None:
+    """Orders as they are placed add to what is on order, which has no such columns."""
+    lines = f"{heading}\nA;x;10;2026-12-01\nB;y;2;"
+    holdings = read(tmp_path, on_order="item,quantity\nA,4", placed=lines)
+    assert holdings.arrivals == {
+        "A": [Arrival(Fraction(4)), Arrival(Fraction(10), DUE)],
+        "B": [Arrival(Fraction(2))],
+    }
+    with pytest.raises(RefusedFaults, match="no column looks like the quantity"):
+        read(tmp_path, on_order=lines)
 
 
 @pytest.mark.parametrize("heading, cells, words, stock, owed", CASES["words"])

@@ -12,22 +12,18 @@ from ..show.catalogue_page import file_of
 from ..show.catalogue_tables import hardly_read
 from ..show.today_tables import TODAY, OrdersToday, has_stock, orders_today
 from ..plan.settings import read_config
+from ..read.stock import KINDS
 from .catalogues import status_of, words_of
 from .words import command
 
 
 def orders_by(
-    folder: Path,
-    *,
-    stock: str | None,
-    on_order: str | None,
-    date: str | None,
-    config: str | None,
-    **reading: Any,
+    folder: Path, *, date: str | None, config: str | None, **asked: Any
 ) -> OrdersToday:
     """Returns what to order on a day by the words of both commands."""
-    words, _ = words_of(reading, read_config(config))
-    return orders_today(folder, {"stock": stock, "on_order": on_order}, words, date)
+    tables = {kind: asked.pop(kind) for kind in KINDS}
+    words, _ = words_of(asked, read_config(config))
+    return orders_today(folder, tables, words, date)
 
 
 @command()
@@ -54,7 +50,7 @@ def report(
     **asked: Any,
 ) -> int:
     orders = None
-    if asked["stock"] or asked["on_order"] or has_stock(folder):
+    if any(asked[kind] for kind in KINDS) or has_stock(folder):
         orders = orders_by(folder, **asked)
     if xlsx:
         crn.Plan(folder).to_excel(xlsx, orders)

@@ -21,7 +21,7 @@ from ..read.items import FileCounts, Reject, Words
 from ..read.observed import Day
 from ..read.opening import Table
 from ..read.quiet import is_dead, quiet_periods
-from ..read.stock import NONE, ON_ORDER, Holdings, OnHand, read_holdings
+from ..read.stock import NONE, TO_COME, Holdings, OnHand, read_holdings
 from ..remarks import Remark, Value
 from ..words import message
 from .answer import Answer
@@ -349,8 +349,8 @@ def today_of(
     day: Day,
     stated: Mapping[str, Fraction],
 ) -> Today:
-    """Returns what a planned folder, whose items have answers, says on a day, with tables of stock and of what is on
-    order by kind. Items are by all their periods. Without a table of stock, that of the masters counts. Raises Refused
+    """Returns what a planned folder, whose items have answers, says on a day, with tables of stock and of what is to come
+    by kind. Items are by all their periods. Without a table of stock, that of the masters counts. Raises Refused
     if no stock is known, and as `read_holdings` does."""
     prices = {name: price for name, price in folder.read.values("name", "price")}
     holdings = read_holdings(tables, words, prices)
@@ -370,7 +370,7 @@ def today_of(
         unknown=found.unknown,
         dead=found.dead,
         minimums=minimums_of(found.items, stated),
-        has_orders=tables.get(ON_ORDER) is not None,
+        has_orders=any(tables.get(kind) is not None for kind in TO_COME),
         counts=holdings.counts,
         rejects=holdings.rejects,
         sellers=sorted({item.supplier for item in found.items}),

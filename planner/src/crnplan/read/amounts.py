@@ -94,6 +94,7 @@ AMOUNTS: dict[str, dict[str, str]] = {
     "orders": {},
     "stock": {"stock": "number", "owed": "owed"},
     "on_order": {"quantity": "on order"},
+    "placed": {"quantity": "on order"},
     "overrides": {"s": "items", "S": "items"},
     "out_of_stock": {},
     "laws": {

@@ -24,7 +24,7 @@ WATCHED = {name: use for use in (PLACE, STATE) for name in HEADINGS["watched"][u
 # Words that a name may end with, as in `Location Code`.
 ENDINGS = {*HEADINGS["watched"]["endings"]}
 # Masters are not watched for states: these are the items' own.
-STATE_KINDS = {"demand", "orders", "stock", "on_order"}
+STATE_KINDS = {"demand", "orders", "stock", "on_order", "placed"}
 MOST_VALUES = 6  # that are named
 CONDITION = re.compile(rf"(?:({'|'.join(ROLES)})\.)?([^=]*[^=\s][^=]*)=(.*)")
 Where = str | Sequence[str] | Mapping[str, object]

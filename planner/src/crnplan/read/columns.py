@@ -33,11 +33,14 @@ ROLES = {
         "orders",
         "stock",
         "on_order",
+        "placed",
         "overrides",
         "out_of_stock",
         LAWS,
     )
 }
+# Tables whose columns may also have the names of another table.
+LIKE = {"placed": "on_order"}
 COLUMNS = [f"{kind}.{role}" for kind, roles in ROLES.items() for role in roles]
 NEEDED = {
     "demand": {"item", "date", "quantity"},
@@ -45,6 +48,7 @@ NEEDED = {
     "orders": {"item", "ordered", "received"},
     "stock": {"item", "stock"},
     "on_order": {"item", "quantity"},
+    "placed": {"item", "quantity"},
     "overrides": {"item"},
     "out_of_stock": {"item", "from", "to"},
     LAWS: {"item"},
@@ -209,6 +213,15 @@ def currency_in_name(name: str) -> str:
     return next(filter(None, map(CURRENCIES.get, words)), "")
 
 
+def usual_names(kind: str, role: str) -> list[str]:
+    """Returns the usual names of the column of a role in a table: those of all tables, its own, and those of the table that it
+    is like."""
+    names = list[str]()
+    for table in ("all", kind, LIKE.get(kind, kind)):
+        names += HEADINGS[table].get(role, ())
+    return names
+
+
 class Finder:
     """Finds the columns of a table in its heading, by the words of a planner and by usual names."""
 
@@ -225,8 +238,10 @@ class Finder:
         more = words.names.get(kind, {})
         self.role_of = dict[str, str]()
         for role in ROLES[kind]:
-            names = [*HEADINGS["all"].get(role, ()), *HEADINGS[kind].get(role, ())]
-            for name in (*names, *map(plain_name, more.get(role, ()))):
+            for name in (
+                *usual_names(kind, role),
+                *map(plain_name, more.get(role, ())),
+            ):
                 self.role_of.setdefault(name, role)
         self.columns: dict[str, Column] = {}
         self.wrong: list[Remark] = []

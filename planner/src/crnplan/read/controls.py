@@ -28,6 +28,7 @@ DATED = {
     "demand": "date",
     "orders": "ordered",
     "on_order": "due",
+    "placed": "due",
     "out_of_stock": "from",
 }
 MOST_EXACT = 1 << 62  # of sums of whole numbers of 64 bits

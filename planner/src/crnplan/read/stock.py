@@ -1,6 +1,7 @@
-"""Reads today's tables: the stock of items, what is owed to customers, and what is on order."""
+"""Reads today's tables: the stock of items, what is owed to customers, what is on order, and what was placed since."""
 from __future__ import annotations
 
+from collections import defaultdict
 from collections.abc import Callable, Iterable, Iterator, Mapping, Sequence
 from dataclasses import dataclass, field
 from fractions import Fraction
@@ -22,7 +23,8 @@ from .several import open_tables
 from .sources import Sheet
 from .tables import OPEN, PLACES, USED, WITH_ITEM, TableReader
 
-STOCK, ON_ORDER = "stock", "on_order"  # the kinds of the tables
+KINDS = STOCK, ON_ORDER, PLACED = "stock", "on_order", "placed"  # of the tables
+TO_COME = ON_ORDER, PLACED  # the kinds of what is to come
 NONE = Fraction(0)
 
 
@@ -157,19 +159,19 @@ def read_holdings(
             for kind, sheet in sheets.items()
         }
     on_hand = dict[str, OnHand]()
-    arrivals = dict[str, Sequence[Arrival]]()
+    arrivals = defaultdict[str, list[Arrival]](list)
     for kind, reader in readers.items():
         for name, rows in reader.items():
             if kind == STOCK:
                 hands = [OnHand.of(row["stock"], row["owed"]) for row in rows]
                 on_hand[name] = sum(hands, OnHand(NONE))
             else:
-                arrivals[name] = [
+                arrivals[name] += [
                     Arrival(row["quantity"], row.get("due")) for row in rows
                 ]
     return Holdings(
         on_hand if STOCK in readers else None,
-        arrivals,
+        dict(arrivals),
         frozenset().union(*(reader.unread for reader in readers.values())),
         *_said_by(readers.values()),
     )
