@@ -41,7 +41,11 @@ if TYPE_CHECKING:
     from .crnsim.sweep import sweep as sweep
     from .crnsim.trajectory import trajectories as trajectories
     from .planned import Plan as Plan, PlannedItem as PlannedItem
-    from .given import Reading as Reading, Settings as Settings
+    from .given import (
+        Reading as Reading,
+        Settings as Settings,
+        read_config as read_config,
+    )
     from .api import (
         open_plan as open_plan,
         plan as plan,
@@ -80,7 +84,7 @@ _NAMES = {
     "crnsim.sweep": ("sweep",),
     "crnsim.trajectory": ("trajectories",),
     "planned": ("Plan", "PlannedItem"),
-    "given": ("Reading", "Settings"),
+    "given": ("Reading", "Settings", "read_config"),
     "api": ("open_plan", "plan", "plan_item"),
     "backtesting": ("Backtests", "backtest"),
     "catalogues": ("Catalogue", "read_catalogue"),

@@ -207,6 +207,7 @@ KINDS: Mapping[str, Read] = {
     "pairs": _pairs,
     "places": _by_name(_by_name(_name)),
     "names": _by_name(_by_name(_several(_name))),
+    "written": _by_name(_by_name(_anything)),
     **dict.fromkeys(("name", "column"), _name),
     "items": _several(_name),
     "seed": _seed,

@@ -4,17 +4,21 @@ from __future__ import annotations
 
 import inspect
 from collections.abc import Iterator, Mapping, Sequence
+from pathlib import Path
 from typing import Any, TypedDict, Unpack
 
 from .arguments import judged
 from .errors import Refused, argument
 from .money import Amount, Number
-from .options import CALL, PLAN, with_words
+from .options import CALL, PLAN, with_words, within
 from .plan import how
+from .plan.settings import read_config as config_in
 from .read.choosing import Where
+from .read.columns import ROLES
 from .read.defaults import Defaults
 from .read.items import Words
 from .read.observed import Day
+from .read.told import BY_PLACE, by_kind
 
 # The words that a call shows among its own arguments; it takes the others too.
 COMMON = (
@@ -62,6 +66,7 @@ class ReadingWords(FileWords, total=False):
     service: Mapping[str, Amount] | None
     currency: str | None
     abc: str | Sequence[Number] | None
+    written: Mapping[str, Mapping[str, Any]] | None
 
 
 class SettingsWords(TypedDict, total=False):
@@ -159,3 +164,50 @@ def joined(words: Mapping[str, Any], **values: Given | None) -> dict[str, Any]:
                 )
         known |= value or {}
     return known
+
+
+def words_in(tree: Mapping[str, Any]) -> dict[str, Any]:
+    """Returns the words of the table [catalogue] of crnplan.toml by the names of arguments."""
+    words: dict[str, Any] = {}
+    columns = {kind: tree[kind] for kind in ROLES if kind in tree}
+    if columns:
+        words["columns"] = columns
+    for word in within(PLAN):
+        if word.name != "columns" and word.key in tree:
+            value = tree[word.key]
+            words[word.name] = by_kind(value) if word.name in BY_PLACE else value
+    return words
+
+
+@judged(CALL)
+def read_config(path: str | Path) -> tuple[Reading, Settings]:
+    """Reads crnplan.toml for calls: what it says of reading, and of planning.
+
+    Parameters
+    ----------
+    path : str or Path
+        A file with the table [catalogue], as found.toml of a plan.
+
+    Returns
+    -------
+    tuple of Reading and Settings
+        The words of the file, for `plan`, `read_catalogue` and `backtest`.
+
+    Raises
+    ------
+    Refused
+        If the file can't be read.
+    RefusedFaults
+        With all that is wrong with it.
+
+    Examples
+    --------
+    >>> reading, settings = crn.read_config(plan.path / "found.toml")
+    >>> reading["every"]
+    'week'
+    """
+    words = words_in(config_in(path))
+    kinds = ReadingWords, SettingsWords
+    own = [names.__annotations__.keys() & words.keys() for names in kinds]
+    reading, settings = ({name: words[name] for name in names} for names in own)
+    return Reading(**reading), Settings(**settings)

@@ -99,7 +99,8 @@ def parameter_of(option: Option) -> Callable[[Callable[..., Any]], Callable[...,
         "nargs": option.nargs,
     }
     if option.positional:
-        return click.argument(option.name, required=True, **facts)
+        facts |= {"required": option.default is None, "default": option.default}
+        return click.argument(option.name, **facts)
     facts |= {
         "help": option.help or None,
         "default": option.default,

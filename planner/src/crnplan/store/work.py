@@ -11,6 +11,7 @@ import time
 import warnings
 from collections import deque
 from collections.abc import Callable, Generator, Iterable, Iterator, Sequence
+from contextvars import ContextVar
 from dataclasses import dataclass, field
 from typing import Any, Generic, NamedTuple, TypeVar
 
@@ -199,16 +200,27 @@ class Progress:
         self.show(self)
 
     @property
-    def text(self) -> str:
-        """Returns a line: how many are done and kept, how many a second, and the time that is left."""
+    def rate(self) -> float:
+        """Returns how many are done a second; 0 if none is done now."""
+        new = self.done - self.kept
+        return new / max(1e-9, time.monotonic() - self.start)
+
+    @property
+    def left(self) -> str:
+        """Returns the time that is left, as 01:48; empty if that is not known."""
         from tqdm import tqdm
 
+        if not self.rate:
+            return ""
+        return str(tqdm.format_interval((self.total - self.done) / self.rate))
+
+    @property
+    def text(self) -> str:
+        """Returns a line: how many are done and kept, how many a second, and the time that is left."""
         line = f"{self.done} of {self.total} {self.unit} ({self.kept} kept)"
-        new = self.done - self.kept
-        if not new:
+        if not self.rate:
             return line
-        rate = new / max(1e-9, time.monotonic() - self.start)
-        return f"{line}, {rate:.3g} a second, {tqdm.format_interval((self.total - self.done) / rate)} left"
+        return f"{line}, {self.rate:.3g} a second, {self.left} left"
 
     def log(self) -> None:
         """Writes a line if a further ninth is done."""
@@ -243,6 +255,21 @@ def bar_of(total: int, unit: str, kept: int) -> Any:
     return its_bar(file=sys.stdout, leave=False, **words)
 
 
+_shown_by: ContextVar[Callable[[Progress], object] | None] = ContextVar(
+    "shown_by", default=None
+)
+
+
+@contextlib.contextmanager
+def shown_by(show: Callable[[Progress], object]) -> Iterator[None]:
+    """Has a function show within the block how much is done, in place of a bar or lines."""
+    token = _shown_by.set(show)
+    try:
+        yield
+    finally:
+        _shown_by.reset(token)
+
+
 @contextlib.contextmanager
 def progress(total: int, shown: bool, unit: str, kept: int = 0) -> Iterator[Progress]:
     """Gives what counts how much is done, and shows it from the first call of `add` on, if it is to be shown. If work
@@ -256,7 +283,8 @@ def progress(total: int, shown: bool, unit: str, kept: int = 0) -> Iterator[Prog
             bars[0].set_description(f"{counted.kept} kept", refresh=False)
             bars[0].update(counted.done - bars[0].n)
 
-        show = move if sys.stderr.isatty() or in_notebook() else Progress.log
+        usual = move if sys.stderr.isatty() or in_notebook() else Progress.log
+        show = _shown_by.get() or usual
         counted = Progress(total, unit, kept, show if shown else hide)
         try:
             yield counted

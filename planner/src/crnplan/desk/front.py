@@ -1,0 +1,178 @@
+"""Joins a desk, its pages and the work that is under way."""
+from __future__ import annotations
+
+import datetime
+import shlex
+import threading
+from collections.abc import Mapping
+from pathlib import Path
+from typing import Any, cast
+
+from flask import current_app, request
+
+from ..errors import Refused
+from ..planned import Plan
+from ..show.page import rendered
+from .kept import LOOK, PLANNED, PLANS, TESTS, Begun, Desk
+from .language import ENGLISH, LANGUAGES, words_of
+from .safety import TOKEN, Secret
+from .work import DONE, PLANNING, READING, Work
+
+FRONT = "front"  # of an application
+PAGES = "files", "settings", "plan", "result", "today", "past"
+
+
+class Front:
+    """A desk as its pages use it: with work that is under way, at most one at a time."""
+
+    def __init__(self, desk: Desk, secret: Secret, program: str | None = None) -> None:
+        self.desk, self.secret, self.program = desk, secret, program
+        self.work: Work | None = None
+        self.lock = threading.RLock()
+        self.closes = False
+        # What pages have computed of a plan, by what it is and what it depends on.
+        self.known: dict[str, tuple[object, Any]] = {}
+
+    def begin(self, begun: Begun) -> None:
+        """Begins work. Raises Refused if other work is under way, or if a file is missing."""
+        with self.lock:
+            if self.work:
+                raise Refused("other work is under way", "wait for its end, or stop it")
+            asked = self._asked(begun)
+            with self.desk.changing() as state:
+                state.begun, state.ended, state.said = begun, "", []
+            self.work = Work(asked, self.desk.folder.room(), self._end)
+
+    def _asked(self, begun: Begun) -> dict[str, Any]:
+        """Returns what the process of some work is asked for."""
+        desk = self.desk
+        tables = desk.tables(PLANNED)
+        for kind in ("demand", "items"):
+            if kind not in tables:
+                what = words_of(ENGLISH)["kinds"][kind]
+                raise Refused(f"no file has {what}", "drop one on the page Files")
+        return {
+            "kind": begun.kind,
+            "tables": tables,
+            "config": str(desk.config),
+            "overrides": desk.overrides_table(),
+            "out": str(desk.path / begun.out),
+            "after": str(desk.path / begun.after) if begun.after else "",
+            "test": str(desk.path / begun.test) if begun.test else "",
+            "program": self.program,
+        }
+
+    def _end(self, work: Work) -> None:
+        """Keeps how work has ended."""
+        with self.lock:
+            with self.desk.changing() as state:
+                state.ended, state.said = work.ended, work.said
+                if work.ended == DONE and state.begun:
+                    self._done(state, state.begun)
+            self.work = None
+
+    @staticmethod
+    def _done(state: Any, begun: Begun) -> None:
+        """Notes what was done."""
+        if begun.kind == READING:
+            state.read = begun.changed
+        if begun.kind == PLANNING:
+            state.planned = begun.changed
+            name = Path(begun.out).name
+            if name not in state.plans:
+                state.plans.append(name)
+
+    def read(self) -> None:
+        """Begins to read the files, if they are all there and no work is under way."""
+        tables = self.desk.tables(PLANNED)
+        if {"demand", "items"} <= tables.keys() and not self.work:
+            self.begin(Begun(READING, LOOK, changed=self.desk.state.changed))
+
+    def go_on(self) -> None:
+        """Goes on with the work that was under way when the desk ended."""
+        state = self.desk.state
+        if state.begun and not state.ended:
+            self.begin(state.begun)
+
+    def stop(self) -> None:
+        """Stops the work that is under way. What it has done is kept."""
+        work = self.work
+        if work:
+            work.close()
+
+    def close(self) -> None:
+        """Ends the work that is under way, which goes on when the desk is opened again."""
+        work = self.work
+        if work:
+            begun = self.desk.state.begun
+            work.close()
+            with self.desk.changing() as state:
+                state.begun, state.ended, state.said = begun, "", []
+
+    def new_name(self) -> str:
+        """Returns a name for a new plan: the day, and if there is one of this day already, a number."""
+        day = datetime.date.today().isoformat()
+        names = [day, *(f"{day}-{number}" for number in range(2, 1000))]
+        return next(
+            name for name in names if not (self.desk.path / PLANS / name).exists()
+        )
+
+    def plan(self, name: str = "") -> Plan:
+        """Returns a plan, by default the last one. Raises Refused if there is none."""
+        plans = self.desk.state.plans
+        if not plans:
+            raise Refused("no plan is finished", "begin one on the page Plan")
+        path = self.desk.plan_path(name or plans[-1])
+        return Plan(path, program=self.program)
+
+    def once(self, what: str, of: object, make: Any) -> Any:
+        """Returns what was computed of something, or computes it: the last of each kind is kept."""
+        with self.lock:
+            known = self.known.get(what)
+        if known is None or known[0] != of:
+            known = of, make()
+            with self.lock:
+                self.known[what] = known
+        return known[1]
+
+
+def front() -> Front:
+    """Returns the desk of the application that is asked."""
+    return cast(Front, current_app.extensions[FRONT])
+
+
+def language() -> str:
+    """Returns the language of a page: the one that the reader's browser likes most."""
+    return request.accept_languages.best_match(LANGUAGES) or ENGLISH
+
+
+def words() -> Mapping[str, Any]:
+    """Returns the words of the page that is asked for."""
+    return words_of(language())
+
+
+def page(template: str, **facts: Any) -> str:
+    """Returns a page of the desk in the language of its reader."""
+    own = front()
+    shared = {
+        "w": words(),
+        "language": language(),
+        "token": own.secret.derived(TOKEN),
+        "pages": PAGES,
+        "at": request.path.split("/")[1],
+        "state": own.desk.state,
+        "work": own.work,
+        "desk": own.desk.path,
+    }
+    return rendered(f"desk/{template}", {**shared, **facts})
+
+
+def command_of(name: str, *words: object, **options: object) -> str:
+    """Returns the command that does what a page does, to copy. An option of None is left out, and one of True has no value."""
+    parts = ["crnplan", name, *map(str, words)]
+    for option, value in options.items():
+        if value is not None and value is not False:
+            parts.append(f"--{option.replace('_', '-')}")
+            if value is not True:
+                parts.append(str(value))
+    return shlex.join(parts)

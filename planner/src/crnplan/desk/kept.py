@@ -1,0 +1,296 @@
+"""Keeps what a desk has in its folder: files, how they are read and planned, plans, and what its planner has set.
+
+How files are read and planned is in crnplan.toml, all else in one file of its own, which is written whole at each change.
+Tables for calls and commands are written from it.
+"""
+from __future__ import annotations
+
+import contextlib
+import csv
+import datetime
+import glob
+import json
+import shutil
+import threading
+from collections.abc import Iterable, Iterator, Mapping, Sequence
+from dataclasses import asdict, dataclass, field, replace
+from pathlib import Path
+from typing import IO, Any
+
+from ..catalogues import Catalogue
+from ..errors import Refused
+from ..given import words_in
+from ..plan.settings import CONFIG, read_config
+from ..read.catalogue_reading import READ
+from ..store.files import IN_KEPT, Folder, new_bytes
+
+DESK = "desk"  # the kind of the folder
+STATE = f"{IN_KEPT}desk.json"
+FILES, PLANS, TESTS, LOOK = "files", "plans", "tests", "read"
+UNKNOWN = "unknown"  # where files stand whose kind is not known
+# The kinds of files, in the order of the page: those that a plan reads, and those of today.
+PLANNED = "demand", "items", "orders", "out_of_stock", "laws"
+TODAY = "stock", "on_order"
+OVERRIDES, PLACED, QUANTITIES = "overrides.csv", "placed.csv", "quantities.csv"
+SUFFIXES = ".csv", ".txt", ".tsv", ".gz", ".xlsx", ".xlsm"
+
+
+@dataclass(frozen=True)
+class Dropped:
+    """A file that was dropped: its kind, its name in the desk, how its owner calls it, the sheet of a workbook, and when it
+    came."""
+
+    kind: str
+    name: str
+    called: str
+    sheet: str = ""
+    added: str = ""
+
+    @property
+    def place(self) -> str:
+        """Returns where it is in the desk."""
+        return f"{FILES}/{self.kind}/{self.name}"
+
+
+@dataclass(frozen=True)
+class Override:
+    """What a planner has set for an item: levels, not to order, or nothing any longer; and why."""
+
+    item: str
+    s: int | None = None
+    S: int | None = None
+    is_stopped: bool = False
+    reason: str = ""
+
+    @property
+    def row(self) -> list[object]:
+        """Returns the row of a table of overrides."""
+        return [
+            self.item,
+            self.s,
+            self.S,
+            "do not order" if self.is_stopped else "",
+            self.reason,
+        ]
+
+
+@dataclass(frozen=True)
+class Placed:
+    """An order that was placed: so many of an item, in the order of a supplier with a number, and when."""
+
+    item: str
+    quantity: int
+    number: str
+    added: str
+
+
+@dataclass(frozen=True)
+class Begun:
+    """Work that was begun: its kind, its folder, that of the plan which it follows, that of the test by which it plans, and how
+    often files and words had changed then."""
+
+    kind: str
+    out: str = ""
+    after: str = ""
+    test: str = ""
+    changed: int = 0
+
+
+@dataclass
+class State:
+    """All that a desk keeps beside crnplan.toml. `sources` has the kind of a file by its heading. Whenever files or words
+    change, `changed` is one more; `read` and `planned` say at which of these all was read and planned. `begun` is the last
+    work, which goes on if it has not `ended`, and `said` what is to be said of its end. `quantities` are what the planner orders on a `day` in place of what the plan says, by item.
+    """
+
+    files: list[Dropped] = field(default_factory=list)
+    sources: dict[str, str] = field(default_factory=dict)
+    next_file: int = 1
+    changed: int = 0
+    read: int = -1
+    planned: int = -1
+    plans: list[str] = field(default_factory=list)
+    begun: Begun | None = None
+    ended: str = ""
+    said: list[str] = field(default_factory=list)
+    overrides: dict[str, Override] = field(default_factory=dict)
+    day: str = ""
+    quantities: dict[str, int] = field(default_factory=dict)
+    placed: list[Placed] = field(default_factory=list)
+
+    @classmethod
+    def parse(cls, text: str) -> State:
+        """Returns the state that a text has."""
+        tree = json.loads(text)
+        tree["files"] = [Dropped(**file) for file in tree["files"]]
+        tree["placed"] = [Placed(**order) for order in tree["placed"]]
+        tree["begun"] = tree["begun"] and Begun(**tree["begun"])
+        stated = tree["overrides"].items()
+        tree["overrides"] = {name: Override(**one) for name, one in stated}
+        return cls(**tree)
+
+
+def now() -> str:
+    """Returns the time to the second."""
+    return datetime.datetime.now().isoformat(" ", "seconds")
+
+
+class Desk:
+    """A desk in a folder that no other run uses. Several threads may use it: `changing` is what one of them does at a time."""
+
+    def __init__(self, folder: Folder) -> None:
+        self.folder, self.path = folder, folder.path
+        self.lock = threading.RLock()
+        for name in (FILES, PLANS, TESTS, IN_KEPT.rstrip("/")):
+            folder.inner(name)
+        stored = self.path / STATE
+        text = stored.read_text("utf-8") if stored.is_file() else ""
+        self.state = State.parse(text) if text else State()
+        if not (self.path / CONFIG).is_file():
+            self.keep_words({})
+
+    @contextlib.contextmanager
+    def changing(self) -> Iterator[State]:
+        """Gives the state to change, and keeps it at the end of the block. A block that raises keeps nothing."""
+        with self.lock:
+            before = json.dumps(asdict(self.state))
+            try:
+                yield self.state
+            except BaseException:
+                self.state = State.parse(before)
+                raise
+            after = json.dumps(asdict(self.state), ensure_ascii=False, indent=1)
+            self.folder.write(STATE, after)
+
+    @property
+    def config(self) -> Path:
+        """Returns the path of crnplan.toml."""
+        return self.path / CONFIG
+
+    @property
+    def tree(self) -> dict[str, Any]:
+        """Returns the table [catalogue] of crnplan.toml."""
+        return read_config(self.config)
+
+    @property
+    def words(self) -> dict[str, Any]:
+        """Returns the words of crnplan.toml as arguments of calls."""
+        return words_in(self.tree)
+
+    def keep_words(self, tree: Mapping[str, Any]) -> None:
+        """Writes crnplan.toml, if it can be meant. Raises Refused and RefusedFaults, and then all is as before."""
+        import tomlkit
+
+        text = tomlkit.dumps({"catalogue": tree})
+        part = self.folder.room() / CONFIG
+        part.write_text(text, "utf-8")
+        read_config(part)
+        with self.changing() as state:
+            self.folder.take(part, CONFIG)
+            state.changed += 1
+
+    def add_file(self, called: str, data: IO[bytes]) -> Dropped:
+        """Keeps a file that was dropped under a name of ours. Its kind is not known yet. Raises Refused for another ending."""
+        suffix = Path(called).suffix.lower()
+        if suffix not in SUFFIXES:
+            endings = ", ".join(SUFFIXES)
+            raise Refused(f"{called}: its name does not end with one of {endings}")
+        ending = f".csv{suffix}" if suffix == ".gz" else suffix
+        with self.changing() as state:
+            name = f"{state.next_file:04}{ending}"
+            file = Dropped(UNKNOWN, name, called, added=now())
+            self._room_of(file)
+            with new_bytes(self.path / file.place, self.folder.room()) as copy:
+                shutil.copyfileobj(data, copy)
+            state.files.append(file)
+            state.next_file += 1
+            state.changed += 1
+        return file
+
+    def _room_of(self, file: Dropped) -> None:
+        (self.path / file.place).parent.mkdir(exist_ok=True)
+
+    def file(self, name: str) -> Dropped:
+        """Returns the file of a name. Raises Refused if there is none."""
+        for file in self.state.files:
+            if file.name == name:
+                return file
+        raise Refused(f"{name}: there is no such file any longer")
+
+    def set_file(self, name: str, kind: str, sheet: str, replaces: bool) -> Dropped:
+        """Says of which kind a file is, and which sheet of it is meant, perhaps in place of all others of this kind."""
+        with self.changing() as state:
+            old = self.file(name)
+            new = replace(old, kind=kind, sheet=sheet)
+            others = [file for file in self.files_of(kind) if file.name != name]
+            for file in others if replaces else ():
+                self._drop(file)
+            if old.kind != kind:
+                self._room_of(new)
+                (self.path / old.place).rename(self.path / new.place)
+            state.files[state.files.index(old)] = new
+            state.changed += 1
+        return new
+
+    def remove_file(self, name: str) -> None:
+        """Removes a file that was dropped."""
+        with self.changing() as state:
+            self._drop(self.file(name))
+            state.changed += 1
+
+    def _drop(self, file: Dropped) -> None:
+        self.state.files.remove(file)
+        (self.path / file.place).unlink(missing_ok=True)
+
+    def files_of(self, kind: str) -> list[Dropped]:
+        """Returns the files of a kind, in the order in which they came."""
+        return [file for file in self.state.files if file.kind == kind]
+
+    def table_of(self, kind: str) -> str | None:
+        """Returns the table of a kind as calls and commands name it; None if no file has it. Raises Refused if one of several
+        files is a sheet."""
+        files = self.files_of(kind)
+        if not files:
+            return None
+        paths = [self.path / file.place for file in files]
+        if len(files) == 1:
+            return f"{paths[0]}!{files[0].sheet}" if files[0].sheet else str(paths[0])
+        if any(file.sheet for file in files):
+            raise Refused(
+                f"{kind}: one of several files is a sheet of a workbook",
+                "keep one file, or drop workbooks of one sheet",
+            )
+        return f"{glob.escape(str(paths[0].parent))}/*"
+
+    def tables(self, kinds: Iterable[str]) -> dict[str, str]:
+        """Returns the tables of some kinds, of those that have files."""
+        tables = {kind: self.table_of(kind) for kind in kinds}
+        return {kind: table for kind, table in tables.items() if table is not None}
+
+    @property
+    def catalogue(self) -> Catalogue | None:
+        """Returns what was read last; None if nothing was."""
+        path = self.path / LOOK / READ
+        return Catalogue(path) if path.is_file() else None
+
+    def plan_path(self, name: str) -> Path:
+        """Returns the folder of a plan. Raises Refused if there is none of this name."""
+        if name not in self.state.plans:
+            raise Refused(f"{name}: there is no such plan")
+        return self.path / PLANS / name
+
+    def table(
+        self, name: str, heading: Sequence[str], rows: Sequence[Sequence[object]]
+    ) -> str | None:
+        """Writes a table that calls and commands read, and returns its path; None if it has no rows."""
+        if not rows:
+            self.folder.remove(name)
+            return None
+        with self.folder.writing(name) as file:
+            csv.writer(file, lineterminator="\n").writerows([heading, *rows])
+        return str(self.path / name)
+
+    def overrides_table(self) -> str | None:
+        """Writes what the planner has set for items, and returns the path of the table."""
+        rows = [override.row for override in self.state.overrides.values()]
+        return self.table(OVERRIDES, ["item", "s", "S", "override", "reason"], rows)

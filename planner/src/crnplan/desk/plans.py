@@ -1,0 +1,125 @@
+"""The page on which plans are begun, watched and stopped."""
+from __future__ import annotations
+
+from dataclasses import replace
+
+from flask import Blueprint, Response, jsonify, redirect, request
+from werkzeug.wrappers import Response as Redirect
+
+from ..errors import Refused
+from ..plan.catalogue import planned_folder
+from ..show.change_tables import change_lines
+from .front import command_of, front, page, words
+from .kept import OVERRIDES, PLANNED, PLANS, Begun, Desk
+from .work import PLANNING, STOPPED, Work
+
+pages = Blueprint("plans", __name__)
+
+
+def changes_of(desk: Desk) -> list[dict[str, object]]:
+    """Returns the plans of a desk, the last one first, each with what has moved since the one before."""
+    plans = []
+    for name in reversed(desk.state.plans):
+        with planned_folder(desk.plan_path(name)) as planned:
+            totals = planned.totals
+            facts = {
+                "name": name,
+                "items": totals.planned,
+                "saving": planned.currency.text(float(totals["saving"])),
+                "every": planned.every,
+                "changes": change_lines(planned),
+            }
+        plans.append(facts)
+    return plans
+
+
+def asked_command(desk: Desk, out: str, after: str) -> str:
+    """Returns the command that plans as the desk does."""
+    tables = desk.tables(PLANNED)
+    first = [tables.pop(kind, f"{kind}.csv") for kind in ("demand", "items")]
+    overrides = desk.path / OVERRIDES
+    return command_of(
+        "catalogue",
+        *first,
+        **tables,
+        overrides=overrides if overrides.is_file() else None,
+        config=desk.config,
+        after=desk.path / after if after else None,
+        out=desk.path / out,
+    )
+
+
+@pages.get("/plan")
+def plan() -> str:
+    own = front()
+    desk = own.desk
+    last = desk.state.plans[-1] if desk.state.plans else ""
+    is_new = desk.state.planned != desk.state.changed
+    begun = desk.state.begun
+    out = begun.out if begun and begun.kind == PLANNING else f"{PLANS}/{own.new_name()}"
+    return page(
+        "plan.html",
+        last=last,
+        is_new=is_new,
+        plans=own.once(
+            "plans", [*desk.state.plans, desk.state.ended], lambda: changes_of(desk)
+        ),
+        command=asked_command(desk, out, begun.after if begun else ""),
+        is_stopped=desk.state.ended == STOPPED
+        and begun is not None
+        and begun.kind == PLANNING,
+    )
+
+
+@pages.post("/plan/begin")
+def begin() -> Redirect:
+    own = front()
+    state = own.desk.state
+    last = f"{PLANS}/{state.plans[-1]}" if state.plans else ""
+    match request.form.get("way"):
+        case "again" if last:
+            begun = Begun(PLANNING, last)
+        case "after" if last:
+            begun = Begun(PLANNING, f"{PLANS}/{own.new_name()}", after=last)
+        case _:
+            begun = Begun(PLANNING, f"{PLANS}/{own.new_name()}")
+    own.begin(replace(begun, changed=state.changed, test=request.form.get("test", "")))
+    return redirect("/plan", 303)
+
+
+@pages.post("/plan/stop")
+def stop() -> Redirect:
+    front().stop()
+    return redirect(request.form.get("back", "/plan"), 303)
+
+
+@pages.post("/plan/go-on")
+def go_on() -> Redirect:
+    own = front()
+    begun = own.desk.state.begun
+    if begun is None:
+        raise Refused("nothing was stopped", "begin a plan")
+    own.begin(begun)
+    return redirect("/plan", 303)
+
+
+def shown_progress(work: Work) -> str:
+    """Returns how far work is, in words."""
+    facts, own = work.progress, words()["all"]
+    if not facts:
+        return ""
+    text: str = own["done"].format(
+        done=f"{facts['done']:,}", total=f"{facts['total']:,}"
+    )
+    if facts["left"]:
+        text += ", " + own["left"].format(left=facts["left"])
+    return text
+
+
+@pages.get("/progress")
+def progress() -> Response:
+    """Returns how far the work is, for the script of the pages."""
+    work = front().work
+    if work is None:
+        return jsonify({})
+    return jsonify(work.progress | {"kind": work.kind, "shown": shown_progress(work)})

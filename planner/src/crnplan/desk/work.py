@@ -1,0 +1,204 @@
+"""Reads and plans for a desk in a process of its own, which says how far it is, and can be stopped at any time.
+
+What is done is kept, so that the same work goes on when it is begun again. The process ends if the desk does: its input
+is then at its end.
+"""
+from __future__ import annotations
+
+import json
+import os
+import signal
+import subprocess
+import sys
+import threading
+import time
+import traceback
+from pathlib import Path
+from typing import Any
+
+import crnplan as crn
+from ..errors import CrnplanError, spelt
+from ..given import PlanWords, ReadingWords
+from ..read.catalogue_reading import CATALOGUE
+from ..store.files import own_folder
+from ..store.interrupts import heed_interrupt, heeding_interrupts
+from ..store.work import Progress, shown_by
+from .language import as_field
+
+READING, PLANNING, TESTING = "read", "plan", "test"
+DONE, REFUSED, STOPPED = "done", "refused", "stopped"
+SHOWN_SECONDS = 0.3  # from one report of the progress to the next
+
+
+class Work:
+    """Work that is under way in a process of its own: how far it is, how it has ended, and what is to be said of that."""
+
+    def __init__(self, asked: dict[str, Any], room: Path, end: Any) -> None:
+        """Begins the work that is `asked`, and calls `end` with this at its end."""
+        self.kind = asked["kind"]
+        self.progress: dict[str, Any] = {}
+        self.ended, self.said = "", list[str]()
+        self._end = end
+        self.process = subprocess.Popen(
+            [sys.executable, "-P", "-m", __name__],
+            stdin=subprocess.PIPE,
+            stdout=subprocess.PIPE,
+            stderr=subprocess.DEVNULL,
+            env={**os.environ, "TMPDIR": str(room)},
+            start_new_session=True,
+            text=True,
+        )
+        assert self.process.stdin
+        self.process.stdin.write(json.dumps(asked) + "\n")
+        self.process.stdin.flush()
+        self.thread = threading.Thread(target=self._hear, daemon=True)
+        self.thread.start()
+
+    def _hear(self) -> None:
+        """Notes what the process says, until it ends."""
+        assert self.process.stdout
+        ended, said = REFUSED, list[str]()
+        for line in self.process.stdout:
+            told = json.loads(line)
+            if "ended" in told:
+                ended, said = told["ended"], told["said"]
+            else:
+                self.progress = told
+        status = self.process.wait()
+        if not said and ended == REFUSED:
+            said = [
+                f"the work has ended by itself, with status {status}; what was done is kept: begin it again"
+            ]
+        self.ended, self.said = ended, said
+        self._end(self)
+
+    def stop(self) -> None:
+        """Has the process end within two seconds. What it has done is kept."""
+        if self.process.poll() is None:
+            self.process.send_signal(signal.SIGINT)
+
+    def close(self) -> None:
+        """Stops the work, and waits for its end."""
+        self.stop()
+        self.thread.join()
+
+
+def told(**facts: object) -> None:
+    """Says facts to the desk."""
+    print(json.dumps(facts), flush=True)
+
+
+class Shown:
+    """Says to the desk how much is done, at most some times a second."""
+
+    def __init__(self) -> None:
+        self.last = 0.0
+
+    def __call__(self, progress: Progress) -> None:
+        now = time.monotonic()
+        if now - self.last > SHOWN_SECONDS or progress.done == progress.total:
+            self.last = now
+            told(
+                unit=progress.unit,
+                done=progress.done,
+                total=progress.total,
+                left=progress.left,
+            )
+
+
+def read(asked: dict[str, Any], words: dict[str, Any]) -> None:
+    """Reads the files of a desk, and keeps what was read."""
+    from ..api import take_tables
+    from ..read.told import words_of
+
+    own = {name: words[name] for name in words if name in ReadingWords.__annotations__}
+    tables = asked["tables"]
+    read = crn.read_catalogue(
+        tables["demand"],
+        tables["items"],
+        tables.get("orders"),
+        out_of_stock=tables.get("out_of_stock"),
+        laws=tables.get("laws"),
+        **own,
+    )
+    with own_folder(Path(asked["out"]), CATALOGUE) as folder:
+        take_tables(folder, read, None, None, None, words_of({}), None)
+
+
+def plan(asked: dict[str, Any], words: dict[str, Any]) -> None:
+    """Plans the files of a desk into a folder."""
+    own = {name: words[name] for name in words if name in PlanWords.__annotations__}
+    if not asked["after"]:
+        own.pop("least_gain", None)
+    tables = asked["tables"]
+    crn.plan(
+        tables["demand"],
+        tables["items"],
+        tables.get("orders"),
+        out_of_stock=tables.get("out_of_stock"),
+        laws=tables.get("laws"),
+        overrides=asked["overrides"],
+        out=asked["out"],
+        after=asked["after"] or None,
+        as_backtest=asked["test"] or None,
+        program=asked["program"],
+        progress=True,
+        **own,
+    )
+
+
+def test(asked: dict[str, Any], words: dict[str, Any]) -> None:
+    """Tests plans on the past of the files of a desk, in a folder."""
+    reading, settings = crn.read_config(asked["config"])
+    tables = asked["tables"]
+    crn.backtest(
+        tables["demand"],
+        tables["items"],
+        tables.get("orders"),
+        out_of_stock=tables.get("out_of_stock"),
+        reading=reading,
+        settings=settings,
+        out=asked["out"],
+        progress=True,
+    )
+
+
+WORK = {READING: read, PLANNING: plan, TESTING: test}
+
+
+def stop_with(desk: Any) -> None:
+    """Interrupts this process when the desk has ended."""
+    desk.read()
+    os.kill(os.getpid(), signal.SIGINT)
+
+
+def main() -> None:
+    """Does the work that the first line of standard input asks for, and says on standard output how it goes and ends."""
+    from ..given import words_in
+    from ..plan.settings import read_config
+
+    with heeding_interrupts(), shown_by(Shown()), spelt(as_field):
+        try:
+            asked = json.loads(sys.stdin.readline())
+            threading.Thread(target=stop_with, args=[sys.stdin], daemon=True).start()
+            WORK[asked["kind"]](asked, words_in(read_config(asked["config"])))
+            told(ended=DONE, said=[])
+        except KeyboardInterrupt:
+            heed_interrupt()
+            told(ended=STOPPED, said=[])
+        except CrnplanError as why:
+            told(ended=REFUSED, said=str(why).splitlines())
+        except Exception as crash:
+            place = traceback.extract_tb(crash.__traceback__)[-1]
+            where = f"{Path(place.filename).name}:{place.lineno}"
+            said = (
+                f"a fault of crnplan itself: {type(crash).__name__}: {crash} ({where})"
+            )
+            told(ended=REFUSED, said=[said])
+    heed_interrupt()
+    sys.stdout.flush()
+    os._exit(0)
+
+
+if __name__ == "__main__":
+    main()
