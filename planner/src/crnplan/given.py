@@ -66,7 +66,7 @@ class ReadingWords(FileWords, total=False):
     service: Mapping[str, Amount] | None
     currency: str | None
     abc: str | Sequence[Number] | None
-    written: Mapping[str, Mapping[str, Any]] | None
+    written: Mapping[str, Mapping[str, object]] | None
 
 
 class SettingsWords(TypedDict, total=False):
