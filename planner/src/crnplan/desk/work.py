@@ -166,9 +166,9 @@ def test(asked: dict[str, Any], words: dict[str, Any]) -> None:
 WORK = {READING: read, PLANNING: plan, TESTING: test}
 
 
-def stop_with(desk: Any) -> None:
-    """Interrupts this process when the desk has ended."""
-    desk.read()
+def stop_with_desk(line: int) -> None:
+    """Interrupts this process when the desk has ended, which nothing else says on this line."""
+    os.read(line, 1)
     os.kill(os.getpid(), signal.SIGINT)
 
 
@@ -180,7 +180,8 @@ def main() -> None:
     with heeding_interrupts(), shown_by(Shown()), spelt(as_field):
         try:
             asked = json.loads(sys.stdin.readline())
-            threading.Thread(target=stop_with, args=[sys.stdin], daemon=True).start()
+            words = [sys.stdin.fileno()]
+            threading.Thread(target=stop_with_desk, args=words, daemon=True).start()
             WORK[asked["kind"]](asked, words_in(read_config(asked["config"])))
             told(ended=DONE, said=[])
         except KeyboardInterrupt:
@@ -195,9 +196,7 @@ def main() -> None:
                 f"a fault of crnplan itself: {type(crash).__name__}: {crash} ({where})"
             )
             told(ended=REFUSED, said=[said])
-    heed_interrupt()
-    sys.stdout.flush()
-    os._exit(0)
+        heed_interrupt()
 
 
 if __name__ == "__main__":
