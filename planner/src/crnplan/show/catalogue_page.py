@@ -143,41 +143,59 @@ def catalogue_page(
 ) -> str:
     """Returns the page of a planned catalogue, with a link to the page of each item that has one, and perhaps with the
     orders of a day."""
-    totals, currency, curve = survey.totals, folder.currency, kept_curve(folder.store)
-    money = Money(currency.code, currency.decimals)
-    rows = shown_items(survey.greatest, currency.digits)
-    shown_curve = curve or known_points(totals, folder.settings)
+    curve = kept_curve(folder.store)
+    money = money_of(folder)
+    rows = shown_items(survey.greatest, folder.currency.digits)
+    shown_curve = curve or known_points(survey.totals, folder.settings)
     plot, points = exchange_plot(shown_curve, money) if shown_curve else (None, [])
     return rendered(
         "catalogue.html",
         {
-            "folder": folder,
-            "totals": totals,
             "money": money.exact,
             "orders": orders,
-            "board": board_of(folder, survey, money),
             "controls": controls_of(
-                folder.read.controls(), folder.currency.decimals, currency.code
+                folder.read.controls(), folder.currency.decimals, folder.currency.code
             ),
-            "aims": aims_of(folder, totals),
+            "aims": aims_of(folder, survey.totals),
             "costs": costs_of(folder),
-            "groups": together_of(folder, totals),
-            "lost": missing_of(folder.counts, totals.answered),
-            "past": past_line(past_of(folder)),
             "changes": change_lines(folder),
             "moved": moved_rows(folder),
-            "reasons": reasons_of(folder.read.rejects(survey.faults)),
-            "first_reasons": FIRST_REASONS,
-            "asked": math.fsum(survey.asked),
             "most_reasons": MOST_REASONS,
             "plot": plot,
             "points": points,
             "curve": curve,
             "verdicts": VERDICTS,
+            **board_facts(folder, survey),
             **bars_facts(rows),
             **table_facts(folder.path, rows),
         },
     )
+
+
+def money_of(folder: PlannedFolder) -> Money:
+    """Returns how money is shown on pages of a plan."""
+    return Money(folder.currency.code, folder.currency.decimals)
+
+
+def board_facts(folder: PlannedFolder, survey: Survey) -> dict[str, object]:
+    """Returns what the first screen of a plan has."""
+    totals = survey.totals
+    return {
+        "folder": folder,
+        "every": folder.every,
+        "settings": folder.settings,
+        "sources": folder.counts["files"],
+        "named": folder.counts["items"]["named"],
+        "totals": totals,
+        "ends": totals.run_ends(folder.settings.level),
+        "board": board_of(folder, survey, money_of(folder)),
+        "groups": together_of(folder, totals),
+        "lost": missing_of(folder.counts, totals.answered),
+        "past": past_line(past_of(folder)),
+        "reasons": reasons_of(folder.read.rejects(survey.faults)),
+        "first_reasons": FIRST_REASONS,
+        "asked": math.fsum(survey.asked),
+    }
 
 
 def bars_facts(rows: Sequence[Shown]) -> dict[str, object]:
