@@ -11,7 +11,9 @@ import secrets
 from hmac import compare_digest
 from typing import NoReturn
 
+import werkzeug.formparser
 from flask import Flask, Request, Response, abort, redirect, request
+from werkzeug.exceptions import RequestEntityTooLarge
 from werkzeug.wrappers import Response as AnyResponse
 
 MOST_UPLOAD = 2_000_000_000  # bytes of a request
@@ -33,7 +35,13 @@ HEADERS = {
     "Cache-Control": "no-store",
 }
 METHODS = "GET", "HEAD", "POST"
+SITES = (
+    "same-origin",
+    "none",
+)  # of whom a request may come: a page of the desk, or the user
 COOKIE, TOKEN = "crnplan-desk", "token"
+# werkzeug 2.2.2 of Debian raises this for a large field, but does not import it.
+setattr(werkzeug.formparser, "RequestEntityTooLarge", RequestEntityTooLarge)
 
 
 class Secret:
@@ -65,6 +73,11 @@ def refuse() -> NoReturn:
     abort(Response(text, 403, mimetype="text/plain"))
 
 
+def cookie_name() -> str:
+    """Returns the name of the desk's cookie, which has its port: all desks of a machine share their cookies."""
+    return f"{COOKIE}-{request.host.rpartition(':')[2]}"
+
+
 def guard(app: Flask, secret: Secret, hosts: set[str]) -> None:
     """Has an application answer only who has the secret, and only for some hosts."""
     app.request_class = BoundedRequest
@@ -74,11 +87,11 @@ def guard(app: Flask, secret: Secret, hosts: set[str]) -> None:
     def check() -> AnyResponse | None:
         if request.host not in hosts or request.method not in METHODS:
             refuse()
-        if request.headers.get("Sec-Fetch-Site", "none") == "cross-site":
+        if request.headers.get("Sec-Fetch-Site", "none") not in SITES:
             refuse()
         if request.endpoint == "enter":
             return None
-        if not is_equal(request.cookies.get(COOKIE, ""), session):
+        if not is_equal(request.cookies.get(cookie_name(), ""), session):
             refuse()
         if request.method == "POST":
             if request.headers.get("Origin") != f"http://{request.host}":
@@ -92,7 +105,7 @@ def guard(app: Flask, secret: Secret, hosts: set[str]) -> None:
         if not is_equal(given, secret.text):
             refuse()
         answer = redirect("/", 303)
-        answer.set_cookie(COOKIE, session, httponly=True, samesite="Strict")
+        answer.set_cookie(cookie_name(), session, httponly=True, samesite="Strict")
         return answer
 
     @app.after_request
