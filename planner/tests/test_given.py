@@ -91,3 +91,69 @@ def test_shown_words() -> None:
     assert inspect.signature(crn.Settings).parameters["level"].default == 0.95
     assert "replications" in (crn.Settings.__init__.__doc__ or "")
     assert len(shown) < 30
+
+
+WRITTEN = """
+[catalogue]
+every = "week"
+from = "2025-01-06"
+holding_rate = "20%"
+seed = "own"
+supplier_min = { ACME = 500 }
+
+[catalogue.demand]
+quantity = "sold"
+
+[catalogue.units]
+"items.lead" = "day"
+
+[catalogue.written.demand]
+delimiter = ";"
+decimal = { quantity = "," }
+"""
+
+
+def test_words_of_a_file(tmp_path: Path) -> None:
+    """crnplan.toml says in calls what it says in commands. Words of today's orders alone are in neither value."""
+    path = tmp_path / "crnplan.toml"
+    path.write_text(WRITTEN, "utf-8")
+    reading, settings = crn.read_config(path)
+    assert reading == {
+        "every": "week",
+        "start": pd.Timestamp("2025-01-06").date(),
+        "holding_rate": "20%",
+        "columns": {"demand": {"quantity": "sold"}},
+        "units": {"items": {"lead": "day"}},
+        "written": {"demand": {"delimiter": ";", "decimal": {"quantity": ","}}},
+    }
+    assert settings == {"seed": "own"}
+
+
+WEEKS = [day.date() for day in pd.date_range("2025-01-06", periods=20, freq="W-MON")]
+
+
+def test_how_a_file_is_written(tmp_path: Path) -> None:
+    """A decimal sign that is stated of a column decides what its cells leave open: 1,500 is 1500 or one and a half."""
+    days = [f"1;{day};1,500\n" for day in WEEKS]
+    path = tmp_path / "sales.csv"
+    path.write_text(f"item;date;quantity\n{''.join(days)}", "utf-8")
+    for sign, used in ((".", 20), (",", 0)):
+        written = {"demand": {"decimal": {"quantity": sign}}}
+        read = crn.read_catalogue(path, MASTERS, written=written, jobs=1)
+        counts = read.counts["files"]["demand"]
+        assert (counts["used"], counts["rejected"]) == (used, 20 - used)
+    with pytest.raises(crn.Refused, match="written: 'demand' is no dict"):
+        crn.Reading(written="demand")  # type: ignore[arg-type]
+    with pytest.raises(crn.Refused, match="decimal=' is not one of"):
+        crn.read_catalogue(
+            path, MASTERS, written={"demand": {"decimal": {"quantity": "'"}}}
+        )
+
+
+def test_a_file_that_is_wrong(tmp_path: Path) -> None:
+    path = tmp_path / "crnplan.toml"
+    path.write_text("[catalogue]\nevery = 'year'\nplanet = 1\n", "utf-8")
+    with pytest.raises(crn.Refused, match="every.*\n.*planet"):
+        crn.read_config(path)
+    with pytest.raises(crn.Refused, match="nowhere.toml"):
+        crn.read_config(tmp_path / "nowhere.toml")
