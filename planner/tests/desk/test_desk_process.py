@@ -1,0 +1,117 @@
+"""Tests of the desk as a process: how it is opened and ended, what it leaves behind, and what bytes of others do to it."""
+from __future__ import annotations
+
+import signal
+from collections.abc import Iterator
+from pathlib import Path
+
+import psutil
+import pytest
+
+from planner.tests.desk.opened import Opened
+
+
+@pytest.fixture
+def opened(tmp_path: Path) -> Iterator[Opened]:
+    """Returns a new desk that was opened and entered."""
+    desk = Opened(tmp_path)
+    desk.enter()
+    yield desk
+    desk.close()
+
+
+def leaves_nothing(desk: Opened, processes: list[psutil.Process]) -> bool:
+    """Returns whether an ended desk has left no process, no temporary folder, and nothing outside its folder."""
+    _, left = psutil.wait_procs(processes, timeout=20)
+    unfinished = [*desk.folder.glob("unfinished-*"), *desk.folder.rglob("*.part")]
+    is_closed = not (desk.folder / "kept/address").exists()
+    return not left and not unfinished and is_closed and desk.outside() == desk.before
+
+
+def test_interrupt_ends_it(opened: Opened) -> None:
+    processes = opened.processes()
+    opened.process.send_signal(signal.SIGINT)
+    assert opened.ended() == (0, "")
+    assert leaves_nothing(opened, processes)
+
+
+def test_button_closes_it(opened: Opened) -> None:
+    """The page that says so is still shown."""
+    processes = opened.processes()
+    status, text = opened.post("/close")
+    assert status == 200 and "The desk is closed" in text
+    assert opened.ended() == (0, "")
+    assert leaves_nothing(opened, processes)
+
+
+def test_second_start_shows_the_first(opened: Opened) -> None:
+    """It prints the address of the first and ends; the first goes on."""
+    second = Opened(opened.around)
+    assert second.address == opened.address
+    assert second.ended() == (0, "")
+    assert opened.get("/plan")[0] == 200
+    opened.process.send_signal(signal.SIGINT)
+    assert opened.ended()[0] == 0
+    third = Opened(opened.around)
+    assert third.address != opened.address
+    third.enter()
+    assert third.get("/plan")[0] == 200
+    third.close()
+
+
+PATHS = """/../../../../etc/passwd /%2e%2e/%2e%2e/%2e%2e/etc/passwd /..%2f..%2f..%2fetc/passwd /plan/../../etc/passwd
+    /%00 /plan%00 /..%00/ //plan ///etc/passwd /\\..\\..\\ /plan;x /style.css/../server.py /static/icon.svg /words/en.toml
+    /kept/desk.json /crnplan.toml /files/../crnplan.toml /%c0%ae%c0%ae/ /%ff /?plan=../../x""".split()
+# What is sent in place of a sound request, and the first word of the answer. {own} has the sound words of a head.
+HEADS = {
+    "no host": ("GET /plan HTTP/1.1\r\n{cookie}\r\n", b"403"),
+    "two hosts": ("GET /plan HTTP/1.1\r\nHost: x\r\n{own}\r\n", b"403"),
+    "two hosts, ours first": ("GET /plan HTTP/1.1\r\n{own}Host: x\r\n\r\n", b"403"),
+    "trace": ("TRACE /plan HTTP/1.1\r\n{own}\r\n", b"403"),
+    "connect": ("CONNECT x:80 HTTP/1.1\r\n{own}\r\n", b"403"),
+    "a large head": ("GET /plan HTTP/1.1\r\n{own}X: {large}\r\n\r\n", b"431"),
+    "a large path": ("GET /{large} HTTP/1.1\r\n{own}\r\n", b"431"),
+    "a large body": (
+        "POST /plan/stop HTTP/1.1\r\n{own}Content-Length: 3000000000\r\n\r\n",
+        b"413",
+    ),
+    "a length below 0": (
+        "POST /plan/stop HTTP/1.1\r\n{own}Content-Length: -1\r\n\r\n",
+        b"400",
+    ),
+    "two lengths": (
+        "POST /plan/stop HTTP/1.1\r\n{own}Content-Length: 1\r\nContent-Length: 2\r\n\r\nxx",
+        b"400",
+    ),
+    "an unknown encoding": (
+        "POST /plan/stop HTTP/1.1\r\n{own}Transfer-Encoding: x\r\n\r\n",
+        b"501",
+    ),
+    "a broken chunk": (
+        "POST /plan/stop HTTP/1.1\r\n{own}Transfer-Encoding: chunked\r\n\r\nxyz\r\n",
+        b"400",
+    ),
+    "no request": ("\x00\x01\x02\r\n\r\n", b"400"),
+}
+
+
+def test_bytes_of_others(opened: Opened) -> None:
+    """Whatever is sent, nothing of the machine is shown, nothing is written, and the desk goes on."""
+    cookie = f"Cookie: {opened.cookie}\r\nConnection: close\r\n"
+    own = f"Host: {opened.host}\r\n{cookie}"
+    inside = {*opened.folder.rglob("*")}
+    facts = {"own": own, "cookie": cookie, "large": "x" * 300_000}
+    assert b" 200 " in opened.raw(f"GET /plan HTTP/1.1\r\n{own}\r\n".encode())
+    for path in PATHS:
+        answer = opened.raw(f"GET {path} HTTP/1.1\r\n{own}\r\n".encode())
+        assert answer.split()[1] in (b"200", b"303", b"308", b"404"), (path, answer)
+        assert b"root:" not in answer and b"crnplan folder" not in answer
+    for name, (text, status) in HEADS.items():
+        answer = opened.raw(text.format(**facts).encode("latin-1"))
+        if answer or "large" not in name:
+            assert answer.split()[1] == status, (name, answer)
+        assert opened.cookie.encode() not in answer
+        assert str(opened.folder).encode() not in answer
+    assert opened.get("/plan")[0] == 200
+    assert {*opened.folder.rglob("*")} == inside
+    assert opened.outside() == opened.before
