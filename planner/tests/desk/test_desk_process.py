@@ -91,7 +91,7 @@ HEADS = {
         "POST /plan/stop HTTP/1.1\r\n{own}Transfer-Encoding: chunked\r\n\r\nxyz\r\n",
         b"400",
     ),
-    "no request": ("\x00\x01\x02\r\n\r\n", b"400"),
+    "no request": ("\x00\x01\x02\r\n\r\n", b"403"),
 }
 
 
