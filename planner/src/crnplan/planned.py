@@ -352,6 +352,7 @@ class Plan(Result):
         date: datetime.date | str | None = None,
         *,
         placed: Table | None = None,
+        quantities: Table | None = None,
         **words: Unpack[TodayWords],
     ) -> OrdersToday:
         """Returns what to order on a date, what lies too long, and what is owed. Nothing is planned again.
@@ -369,6 +370,9 @@ class Plan(Result):
             By default today.
         placed : path, DataFrame, or Series or dict by item, optional
             What was ordered since the table of what is on order was exported: item, quantity, perhaps due. It adds to that.
+        quantities : path, DataFrame, or Series or dict by item, optional
+            What a planner orders that day in place of what the plan says, in whole packs: item, quantity, perhaps reason. 0 leaves
+            an order out, and an item that is not due is added.
 
         Returns
         -------
@@ -387,7 +391,12 @@ class Plan(Result):
         >>> orders.frame[["item", "stock", "s", "S"]].to_dict("records")
         [{'item': 'washer', 'stock': 3.0, 's': 4, 'S': 42}]
         """
-        tables = {"stock": stock, "on_order": on_order, "placed": placed}
+        tables = {
+            "stock": stock,
+            "on_order": on_order,
+            "placed": placed,
+            "quantities": quantities,
+        }
         return orders_today(self._folder, tables, words_of(words), date)
 
     def plot(self, ax: Axes | None = None) -> Axes:

@@ -12,6 +12,7 @@ import pytest
 
 from crnplan.errors import RefusedFaults
 from crnplan.read.items import Words
+from crnplan.read.quantities import Quantity
 from crnplan.read.stock import KINDS, Arrival, Holdings, OnHand, read_holdings
 from crnplan.catalogues import read_catalogue
 from crnplan.words import sentence
@@ -29,11 +30,16 @@ DUE = datetime.date(2026, 12, 1)
 
 
 def read(
-    folder: Path, stock: str = "", on_order: str = "", placed: str = "", **words: Any
+    folder: Path,
+    stock: str = "",
+    on_order: str = "",
+    placed: str = "",
+    quantities: str = "",
+    **words: Any,
 ) -> Holdings:
     """Reads files of these lines for the items A and B."""
     tables: dict[str, Path | None] = {}
-    for kind, lines in zip(KINDS, (stock, on_order, placed)):
+    for kind, lines in zip(KINDS, (stock, on_order, placed, quantities)):
         tables[kind] = folder / f"{kind}.csv" if lines else None
         if lines:
             (folder / f"{kind}.csv").write_text(f"{lines}\n", "utf-8")
@@ -75,6 +81,17 @@ def test_headings_of_placed_orders(tmp_path: Path, heading: str) -> None:
     }
     with pytest.raises(RefusedFaults, match="no column looks like the quantity"):
         read(tmp_path, on_order=lines)
+
+
+@pytest.mark.parametrize("heading", CASES["quantities"])
+def test_headings_of_quantities(tmp_path: Path, heading: str) -> None:
+    """Quantities have names of their own, and those of orders as they are placed; why a plan orders is no reason."""
+    holdings = read(tmp_path, quantities=f"{heading}\nA;x;10;one truck\nB;y;0;")
+    reason = "" if heading.endswith("why") else "one truck"
+    assert holdings.quantities == {"A": Quantity(10, reason), "B": Quantity(0)}
+    packs = read(tmp_path, quantities="item,qty (packs of 12)\nA,2")
+    assert packs.quantities == {"A": Quantity(24)}
+    assert not packs.arrivals and packs.on_hand is None
 
 
 @pytest.mark.parametrize("heading, cells, words, stock, owed", CASES["words"])

@@ -1,7 +1,7 @@
 """Says what an item of a plan stands at on a day: its position, whether it is ordered, and how long its stock lasts.
 
 The position of an item is its stock, less what is owed, plus all that is on order. If it is below s, the item is
-ordered up to S. The chance of a shortage before delivery is that of the net demand of a lead time and one more period
+ordered up to S, unless its planner orders another quantity on that day. The chance of a shortage before delivery is that of the net demand of a lead time and one more period
 exceeding what is there by then. It assumes the laws of the plan, independent periods, and that what is on order comes
 when it is due; what has no date, or is overdue, comes in time.
 """
@@ -18,8 +18,9 @@ from functools import cached_property
 from ..law import Law
 from ..read.columns import DAYS
 from ..read.dates import period_of
-from ..read.item import Item
+from ..read.item import PHASE_OUT, Item
 from ..read.observed import Day
+from ..read.quantities import Quantity
 from ..read.stock import NONE, Arrival, OnHand
 from ..remarks import Remark, Value
 from ..theory.walk import NOTHING, LatticeLaw, power_of, sum_of
@@ -50,7 +51,8 @@ def demands_of(
 @dataclass(frozen=True)
 class Standing:
     """An item of a plan on a day, of a catalogue whose period is `every`. Amounts are in items. One that is phased out has
-    no answer: what is owed of it is ordered. Nor needs one whose planner has set levels.
+    no answer: what is owed of it is ordered. Nor needs one whose planner has set levels. If there is a `quantity`, that
+    is ordered, whatever the plan says.
     """
 
     item: Item
@@ -59,14 +61,25 @@ class Standing:
     arrivals: Sequence[Arrival]
     day: Day
     every: str
+    quantity: Quantity | None = None
+
+    @property
+    def is_planned(self) -> bool:
+        """Returns whether there are s and S by which the item is ordered."""
+        is_phased_out = self.item.past == PHASE_OUT
+        return is_phased_out or bool(self.answer or self.set_levels)
+
+    @property
+    def set_levels(self) -> tuple[int, int] | None:
+        """Returns s and S that its planner has set; None if there are none."""
+        return self.item.override.levels if self.item.override else None
 
     @property
     def levels(self) -> tuple[int, int]:
         """Returns s and S by which the item is ordered: those that its planner has set, else those of the plan, by a season
         those of the month of the day."""
-        override = self.item.override and self.item.override.levels
-        if override:
-            return override
+        if self.set_levels:
+            return self.set_levels
         if self.answer is None:
             return 0, 0
         if self.answer.calendar:
@@ -102,9 +115,14 @@ class Standing:
         return self.there + self.on_order
 
     @cached_property
-    def is_due(self) -> bool:
+    def is_below(self) -> bool:
         """Returns whether the policy orders: the position is below s."""
-        return self.position < self.levels[0]
+        return self.is_planned and self.position < self.levels[0]
+
+    @cached_property
+    def is_due(self) -> bool:
+        """Returns whether the item is ordered: by its planner's quantity, else by its policy."""
+        return self.is_below if self.quantity is None else self.quantity.items > 0
 
     @property
     def to_level(self) -> Fraction:
@@ -113,18 +131,34 @@ class Standing:
 
     @property
     def above(self) -> Fraction:
-        """Returns what stands above S; 0 if nothing does."""
-        return max(-self.to_level, NONE)
+        """Returns what stands above S; 0 if nothing does, or there is no S."""
+        return max(-self.to_level, NONE) if self.is_planned else NONE
 
     @property
-    def packs(self) -> int:
-        """Returns the packs of an order up to S."""
-        return math.ceil(self.to_level / self.item.bounds.pack)
+    def up_to_level(self) -> int:
+        """Returns an order up to S in whole packs."""
+        pack = self.item.bounds.pack
+        return math.ceil(self.to_level / pack) * pack
+
+    @property
+    def planned(self) -> int:
+        """Returns what the policy orders; 0 if it orders nothing."""
+        return self.up_to_level if self.is_below else 0
 
     @property
     def placed(self) -> int:
-        """Returns an order up to S in whole packs."""
-        return self.packs * self.item.bounds.pack
+        """Returns the planner's quantity, else an order up to S in whole packs."""
+        return self.up_to_level if self.quantity is None else self.quantity.items
+
+    @property
+    def packs(self) -> int:
+        """Returns the packs of that order."""
+        return self.placed // self.item.bounds.pack
+
+    @property
+    def is_changed(self) -> bool:
+        """Returns whether the planner orders another quantity than the policy."""
+        return self.quantity is not None and self.placed != self.planned
 
     def worth(self, items: Fraction | int) -> Money:
         """Returns what so many items are worth."""
@@ -232,10 +266,15 @@ class Standing:
     @property
     def reasons(self) -> list[Remark]:
         """Returns why so many items are ordered."""
-        reasons = [self.reason]
-        if self.item.override is not None:
+        reasons = [self.reason] if self.is_below else []
+        if self.set_levels:
             reasons.append(Remark("by override"))
-        if self.placed != self.to_level:
+        if self.quantity and (self.is_changed or self.quantity.reason):
+            reason = self.quantity.reason
+            reasons.append(
+                Remark("by the plan", {"planned": self.planned, "reason": reason})
+            )
+        if not self.is_changed and self.placed != self.to_level:
             reasons.append(
                 Remark(
                     "whole packs", {"packs": self.packs, "pack": self.item.bounds.pack}

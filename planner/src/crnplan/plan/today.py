@@ -16,19 +16,21 @@ from operator import attrgetter, itemgetter
 from ..errors import Refused, argument
 from ..read.controls import Controls
 from ..read.dates import first_day
-from ..read.item import ENDED, NO_DEMAND, PHASE_OUT, Item, value_of
+from ..read.item import ENDED, NO_DEMAND, Item, value_of
 from ..read.items import FileCounts, Reject, Words
 from ..read.observed import Day
 from ..read.opening import Table
 from ..read.quiet import is_dead, quiet_periods
-from ..read.stock import NONE, TO_COME, Holdings, OnHand, read_holdings
+from ..read.stock import NONE, QUANTITIES, TO_COME, Holdings, OnHand, read_holdings
 from ..remarks import Remark, Value
+from ..table import names_of
 from ..words import message
 from .answer import Answer
 from .catalogue import PlannedFolder
 from .standing import Money, Standing
 from .survey import Decided
 
+MOST_NAMED = 8  # items of a message
 OLD_DAYS = 56  # after its record, from which on the age of a plan is said
 # Remarks on an item that say why it is ordered no longer.
 WHY_ENDED = "asked for no longer", "stated status", "succeeded", "not to be ordered"
@@ -144,7 +146,8 @@ class Today:
     """What a plan says on a day: the items whose stock is known, the most urgent order first, those that are `unknown`,
     with the reason, those that lie too long, and those that have `ended`. `end` is the last day of the record. `counts`
     and `rejects` say what became of the rows of tables, `controls` what they come to, and `said` what is to be said of
-    them. `sellers` are all suppliers of the plan in order, with an empty name of items without one.
+    them. `sellers` are all suppliers of the plan in order, with an empty name of items without one. `has_quantities` says
+    whether a planner has named quantities.
     """
 
     day: Day
@@ -160,6 +163,7 @@ class Today:
     ended: Sequence[Lying] = ()
     said: Sequence[Remark] = ()
     controls: Controls = field(default_factory=dict)
+    has_quantities: bool = False
 
     @cached_property
     def whole(self) -> Group:
@@ -208,6 +212,21 @@ class Today:
     def overdue(self) -> int:
         """Returns how many orders were due before the day."""
         return sum(len(standing.overdue) for standing in self.standings)
+
+    @cached_property
+    def changed(self) -> list[Standing]:
+        """Returns the items of which the planner orders another quantity than the plan."""
+        return [standing for standing in self.standings if standing.is_changed]
+
+    @property
+    def omitted(self) -> list[Standing]:
+        """Returns those that the plan orders, and the planner does not."""
+        return [standing for standing in self.changed if not standing.placed]
+
+    @property
+    def added(self) -> list[Standing]:
+        """Returns those that the planner orders, and the plan does not."""
+        return [standing for standing in self.changed if not standing.planned]
 
     @cached_property
     def short(self) -> dict[str, Group]:
@@ -302,6 +321,7 @@ class _Sorted:
         self.items, self.standings = list[Item](), list[Standing]()
         self.unknown = list[tuple[Item, Remark]]()
         self.dead, self.ended = list[Lying](), list[Lying]()
+        self.unstocked = list[str]()  # of which a planner orders a quantity
         self.has_stock = False
 
     def hand(self, item: Item) -> OnHand | None:
@@ -317,7 +337,10 @@ class _Sorted:
         self.items.append(item)
         hand, is_set = self.hand(item), bool(item.override and item.override.levels)
         is_ended = item.past in ENDED and not is_set
+        quantity = self.holdings.quantities.get(item.name)
         if hand is None:
+            if quantity and quantity.items:
+                self.unstocked.append(item.name)
             if is_ended:
                 self.ended.append(Lying(item, None))
             else:
@@ -328,14 +351,16 @@ class _Sorted:
         self.has_stock = True
         planned = answer if isinstance(answer, Answer) else None
         arrivals = self.holdings.arrivals.get(item.name, ())
-        standing = Standing(item, planned, hand, arrivals, self.day, self.every)
+        standing = Standing(
+            item, planned, hand, arrivals, self.day, self.every, quantity
+        )
         is_quiet = is_dead(item.known.counts, self.every)
         is_idle = item.past == NO_DEMAND and is_quiet and not hand.owed
         if is_ended:
             self.ended.append(Lying(item, hand, standing.on_order))
-        elif isinstance(answer, Remark) and not is_set and not is_idle:
+        elif isinstance(answer, Remark) and not (is_set or is_idle or standing.is_due):
             self.unknown.append((item, answer))
-        if planned or is_set or item.past == PHASE_OUT and standing.is_due:
+        if planned or is_set or standing.is_below or standing.is_due:
             self.standings.append(standing)
         if is_quiet and hand.stock:
             self.dead.append(Lying(item, hand))
@@ -353,7 +378,8 @@ def today_of(
     by kind. Items are by all their periods. Without a table of stock, that of the masters counts. Raises Refused
     if no stock is known, and as `read_holdings` does."""
     prices = {name: price for name, price in folder.read.values("name", "price")}
-    holdings = read_holdings(tables, words, prices)
+    packs = {name: pack for name, pack in folder.read.cells("name", "bounds_pack")}
+    holdings = read_holdings(tables, words, prices, packs)
     found = _Sorted(holdings, day, folder.every)
     for item, answer in answers:
         found.add(item, answer)
@@ -361,6 +387,11 @@ def today_of(
         raise Refused(
             f"{folder.path}: no item has a stock in its masters",
             f"name a table by {argument('stock')}",
+        )
+    if found.unstocked:
+        raise Refused(
+            f"{argument('quantities')}: the stock of {names_of(found.unstocked, MOST_NAMED)} is not known",
+            "add it to the stock, or write 0",
         )
     next_day = first_day(folder.read.fact("periods")[1], folder.every)
     return Today(
@@ -377,4 +408,5 @@ def today_of(
         ended=found.ended,
         said=holdings.remarks,
         controls=holdings.controls,
+        has_quantities=tables.get(QUANTITIES) is not None,
     )

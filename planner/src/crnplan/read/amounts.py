@@ -95,6 +95,7 @@ AMOUNTS: dict[str, dict[str, str]] = {
     "stock": {"stock": "number", "owed": "owed"},
     "on_order": {"quantity": "on order"},
     "placed": {"quantity": "on order"},
+    "quantities": {"quantity": "number"},
     "overrides": {"s": "items", "S": "items"},
     "out_of_stock": {},
     "laws": {

@@ -156,6 +156,11 @@ def text_of(cell: Cell) -> str:
     return "" if cell is None else str(cell)
 
 
+def reason_of(cell: Cell) -> str:
+    """Returns what a planner says of a row, on one line."""
+    return UNPRINTABLE.sub(" ", text_of(cell))
+
+
 def bare_cell(cell: Cell) -> Cell:
     """Returns a cell without blanks around it; the empty text if it has nothing."""
     return cell.strip() if isinstance(cell, str) else "" if cell is None else cell

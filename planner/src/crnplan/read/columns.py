@@ -34,13 +34,14 @@ ROLES = {
         "stock",
         "on_order",
         "placed",
+        "quantities",
         "overrides",
         "out_of_stock",
         LAWS,
     )
 }
 # Tables whose columns may also have the names of another table.
-LIKE = {"placed": "on_order"}
+LIKE = {"placed": "on_order", "quantities": "placed"}
 COLUMNS = [f"{kind}.{role}" for kind, roles in ROLES.items() for role in roles]
 NEEDED = {
     "demand": {"item", "date", "quantity"},
@@ -49,6 +50,7 @@ NEEDED = {
     "stock": {"item", "stock"},
     "on_order": {"item", "quantity"},
     "placed": {"item", "quantity"},
+    "quantities": {"item", "quantity"},
     "overrides": {"item"},
     "out_of_stock": {"item", "from", "to"},
     LAWS: {"item"},

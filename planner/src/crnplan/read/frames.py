@@ -22,7 +22,12 @@ DAY = datetime.timedelta(days=1)
 WHOLE = "int64"  # the type of whole numbers that stand among others, or without a type
 # Tables of demand, and those that may be a Series by item, with the column of its values, by their arguments.
 DEMANDS = ("sales", "demand")
-BY_ITEM = {"stock": "stock", "on_order": "quantity", "placed": "quantity"}
+BY_ITEM = {
+    "stock": "stock",
+    "on_order": "quantity",
+    "placed": "quantity",
+    "quantities": "quantity",
+}
 MISSING = ("<NA>", "NaT", "nan", "NaN")  # as their values show themselves
 
 

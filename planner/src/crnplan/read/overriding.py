@@ -21,7 +21,7 @@ from ..remarks import Remark
 from ..store.files import Folder
 from .amounts import AMOUNTS
 from .catalogue_reading import READ, Catalogued
-from .cells import UNPRINTABLE, Cell, RowReader, fault, text_of
+from .cells import Cell, RowReader, fault, reason_of
 from .columns import ROLES, factors_of
 from .item import overridden
 from .items import Reject, Words, reject_of
@@ -42,8 +42,10 @@ def fault_of(rows: Rows, row: int, remark: Remark) -> Fault:
 def overrides_in(rows: Rows, every: str) -> dict[str, tuple[int, Override | None]]:
     """Returns the override of each item with its line. Raises RefusedFaults with all that is wrong: no item is ordered by
     levels that could not be read."""
-    readers: dict[str, Callable[[Cell], Any]] = {"override": word_of}
-    readers["reason"] = lambda cell: UNPRINTABLE.sub(" ", text_of(cell))
+    readers: dict[str, Callable[[Cell], Any]] = {
+        "override": word_of,
+        "reason": reason_of,
+    }
     for role, kind in AMOUNTS[OVERRIDES].items():
         readers[role] = partial(amount_reader(rows, role).number, kind=kind)
     reader = RowReader(readers, factors=factors_of(rows.sheet.columns, every))

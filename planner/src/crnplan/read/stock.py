@@ -1,4 +1,5 @@
-"""Reads today's tables: the stock of items, what is owed to customers, what is on order, and what was placed since."""
+"""Reads today's tables: the stock of items, what is owed to customers, what is on order, what was placed since, and what a
+planner orders in place of what the plan says."""
 from __future__ import annotations
 
 from collections import defaultdict
@@ -6,24 +7,33 @@ from collections.abc import Callable, Iterable, Iterator, Mapping, Sequence
 from dataclasses import dataclass, field
 from fractions import Fraction
 from functools import partial
+from operator import attrgetter
+from types import MappingProxyType
 from typing import Any
 
 import numpy as np
 
+from ..errors import Fault, RefusedFaults
 from ..remarks import Remark
 from .amounts import AMOUNTS
-from .cells import Cell, CellFault, RowReader, fault
+from .cells import Cell, CellFault, RowReader, fault, reason_of
 from .choosing import said_of_marks, split_items
 from .columns import factors_of
 from .controls import Controls, controls_of, counts_of, no_rows, together
 from .items import FileCounts, Reject, Words
 from .observed import Day
 from .opening import Table
+from .quantities import Quantity, quantity_fault
 from .several import open_tables
 from .sources import Sheet
 from .tables import OPEN, PLACES, USED, WITH_ITEM, TableReader
 
-KINDS = STOCK, ON_ORDER, PLACED = "stock", "on_order", "placed"  # of the tables
+KINDS = STOCK, ON_ORDER, PLACED, QUANTITIES = (
+    "stock",
+    "on_order",
+    "placed",
+    "quantities",
+)  # of the tables
 TO_COME = ON_ORDER, PLACED  # the kinds of what is to come
 NONE = Fraction(0)
 
@@ -55,11 +65,12 @@ class Arrival:
 @dataclass(frozen=True)
 class Holdings:
     """What tables say of today, by item. `on_hand` is None without a table of stock. `unread` are items with a row that
-    can't be read: what they have is not known. `counts` say what became of the rows of each table, `controls` what they
+    can't be read: what they have is not known. `quantities` are what a planner orders. `counts` say what became of the rows of each table, `controls` what they
     come to, and `remarks` what is to be said of them."""
 
     on_hand: Mapping[str, OnHand] | None
     arrivals: Mapping[str, Sequence[Arrival]]
+    quantities: Mapping[str, Quantity]
     unread: frozenset[str]
     counts: Mapping[str, FileCounts]
     rejects: tuple[Reject, ...]
@@ -87,12 +98,20 @@ class _Reader:
             readers["due"] = self.table.dates.day
             for remark in self.table.dates.notes.values():
                 self.table.name("suspicious", 0, "", [("due", "", remark)])
+        if "reason" in self.rows.columns:
+            readers["reason"] = reason_of
         self.reader = RowReader(readers, needed, factors_of(sheet.columns, every))
 
     def _read(self, row: int) -> tuple[dict[str, Any], list[CellFault]]:
         """Returns the values of a row by role, and what is wrong with its cells."""
         cells = {role: self.rows.cell(role, row) for role in self.reader.readers}
         values, faults = self.reader.read(cells)
+        if not faults:
+            faults = [*self._judged(row, values)]
+        return values, faults
+
+    def _judged(self, row: int, values: Mapping[str, Any]) -> Iterator[CellFault]:
+        """Yields what is wrong with the values of a row, each of which can be read."""
         stock = values.get("stock") or NONE
         owed = values.get("owed") or NONE
         if stock < 0 < owed:
@@ -101,8 +120,7 @@ class _Reader:
                 "least": f"{float(max(-stock, owed)):g}",
                 "most": f"{float(owed - stock):g}",
             }
-            faults.append(fault("owed", cells["owed"], "owed twice", **facts))
-        return values, faults
+            yield fault("owed", self.rows.cell("owed", row), "owed twice", **facts)
 
     @property
     def controls(self) -> Controls:
@@ -145,22 +163,68 @@ class _Reader:
         self.table.close(became)
 
 
+class _QuantityReader(_Reader):
+    """Reads what a planner orders of items, in one row each."""
+
+    def __init__(self, packs: Mapping[str, int], *words: Any) -> None:
+        """Takes the packs of items, if they are not of one item."""
+        super().__init__(*words)
+        self.packs = packs
+        self.read = set[str]()
+
+    def _judged(self, row: int, values: Mapping[str, Any]) -> Iterator[CellFault]:
+        name = str(self.rows.cell("item", row))
+        if name not in self.prices:
+            return
+        if name in self.read:
+            yield fault("item", name, "several quantities", item=name)
+        self.read.add(name)
+        wrong = quantity_fault(values["quantity"], name, self.packs.get(name, 1))
+        if wrong:
+            yield "quantity", self.rows.cell("quantity", row), wrong
+
+    def quantities(self) -> dict[str, Quantity]:
+        """Returns the quantities of items. Raises RefusedFaults with all that is wrong: nothing is ordered by a table that
+        can't be read."""
+        quantities = dict[str, Quantity]()
+        for name, (row, *_) in self.items():
+            quantities[name] = Quantity(int(row["quantity"]), row.get("reason") or "")
+        faults = [
+            Fault(reject.remark, reject.file, reject.line)
+            for reject in self.rejects
+            if reject.kind == "row"
+        ]
+        if faults:
+            raise RefusedFaults(sorted(faults, key=attrgetter("file", "line")))
+        return quantities
+
+
 def read_holdings(
     tables: Mapping[str, Table | None],
     words: Words,
     prices: Mapping[str, Fraction | None],
+    packs: Mapping[str, int] = MappingProxyType({}),
 ) -> Holdings:
-    """Reads the tables of today, by kind, for the items of a plan, whose prices are known. Rows of one item add up. Raises
-    Refused and RefusedFaults for tables that can't be read. Rows with faults are in `rejects`.
+    """Reads the tables of today, by kind, for the items of a plan, whose prices are known, and packs if they are not of one
+    item. Rows of one item add up; but a quantity has one row. Raises Refused and RefusedFaults for tables that can't be
+    read, and for quantities with faults. Other rows with faults are in `rejects`.
     """
+    readers = dict[str, _Reader]()
     with open_tables(tables, words) as sheets:
-        readers = {
-            kind: _Reader(kind, sheet, prices, words.every)
-            for kind, sheet in sheets.items()
-        }
+        for kind, sheet in sheets.items():
+            given = kind, sheet, prices, words.every
+            readers[kind] = (
+                _QuantityReader(packs, *given)
+                if kind == QUANTITIES
+                else _Reader(*given)
+            )
     on_hand = dict[str, OnHand]()
     arrivals = defaultdict[str, list[Arrival]](list)
+    quantities = dict[str, Quantity]()
     for kind, reader in readers.items():
+        if isinstance(reader, _QuantityReader):
+            quantities = reader.quantities()
+            continue
         for name, rows in reader.items():
             if kind == STOCK:
                 hands = [OnHand.of(row["stock"], row["owed"]) for row in rows]
@@ -172,6 +236,7 @@ def read_holdings(
     return Holdings(
         on_hand if STOCK in readers else None,
         dict(arrivals),
+        quantities,
         frozenset().union(*(reader.unread for reader in readers.values())),
         *_said_by(readers.values()),
     )

@@ -19,27 +19,25 @@ from ..store.files import Folder
 from ..money import Currency
 from ..plan.catalogue import PlannedFolder, copied_folder, planned_folder
 from ..plan.risk import Risk, risks_of
-from ..plan.standing import Money, Standing
-from ..plan.today import Addition, Group, Lying, Today, sum_of_money, today_of
-from ..read.item import PHASE_OUT, Item
+from ..plan.standing import Standing
+from ..plan.today import Group, Today, sum_of_money, today_of
+from ..read.item import PHASE_OUT
 from ..read.items import Words
 from ..read.observed import Day, stated_day
 from ..read.opening import Table
 from ..read.told import merged, told_of, words_from
-from ..remarks import Remark
 from ..table import DataTable, Json, Result, names_of
 from ..words import counted
 from .catalogue_tables import (
     REJECT_COLUMNS,
-    codes_of,
     counted_rows,
     reasons_of,
     rejects_of,
-    words_of,
 )
 from ..columns import columns_of
 from .control_tables import CONTROL_COLUMNS, controls_of
 from .page import rendered
+from .today_rows import CELLS, GroupRow, Row, UnknownRow, supplier_file
 
 if TYPE_CHECKING:
     import pandas as pd
@@ -61,145 +59,6 @@ URGENT = [
     "latest",
 ]  # of the text
 SUPPLIER_FILE = re.compile("today_supplier_[0-9]{3,}[.]csv")
-
-
-@dataclass(frozen=True)
-class Row:
-    """An item on a day with what it stands at."""
-
-    today: Today
-    standing: Standing
-
-    @property
-    def item(self) -> Item:
-        return self.standing.item
-
-    @property
-    def reasons(self) -> Sequence[Remark]:
-        return self.today.reasons(self.standing)
-
-    @property
-    def latest(self) -> Day | None:
-        return self.today.latest(self.standing)
-
-    @property
-    def number(self) -> str:
-        """Returns the number of the order of its supplier."""
-        return self.today.number(self.item.supplier)
-
-    @property
-    def placed(self) -> int:
-        """Returns today's order in whole packs; 0 if there is none."""
-        if self.standing.is_due:
-            return self.standing.placed
-        return 0
-
-    @property
-    def excess_worth(self) -> Money:
-        return self.standing.worth(self.standing.above)
-
-    @property
-    def excess_weeks(self) -> float | None:
-        """Returns the weeks of mean demand in which the excess is used."""
-        return self.standing.weeks_of(self.standing.above)
-
-    @property
-    def owed_worth(self) -> Money:
-        return self.standing.worth(self.standing.hand.owed)
-
-
-@dataclass(frozen=True)
-class UnknownRow:
-    """An item of which nothing is known but why."""
-
-    item: Item
-    remark: Remark
-    standing: None = None
-    latest: None = None
-
-    @property
-    def reasons(self) -> Sequence[Remark]:
-        return [self.remark]
-
-
-@dataclass(frozen=True)
-class GroupRow:
-    """The items of a class or a supplier on a day."""
-
-    today: Today
-    group: Group
-
-    @property
-    def items(self) -> int:
-        return len(self.group.standings)
-
-    @property
-    def orders(self) -> int:
-        return len(self.group.due)
-
-    @property
-    def number(self) -> str:
-        """Returns the number of today's order of a supplier; empty if nothing is ordered."""
-        if self.group.due:
-            return self.today.number(self.group.name)
-        return ""
-
-    @property
-    def file(self) -> str:
-        """Returns the file of today's order; empty if nothing is ordered."""
-        if self.group.due:
-            return supplier_file(self.today.place(self.group.name))
-        return ""
-
-
-Stands = Row | UnknownRow | Addition | Risk
-Reasoned = Row | UnknownRow | Risk | Lying
-
-
-def point_of(row: Stands) -> int | None:
-    if row.standing:
-        return row.standing.levels[0]
-    return None
-
-
-def level_of(row: Stands) -> int | None:
-    if row.standing:
-        return row.standing.levels[1]
-    return None
-
-
-def placed_worth(row: Stands) -> Money:
-    """Returns what an order in whole packs is worth."""
-    if row.standing:
-        return row.standing.worth(row.standing.placed)
-    return None
-
-
-def codes(row: Reasoned) -> str:
-    return codes_of(row.reasons)
-
-
-def said(row: Reasoned) -> str:
-    return words_of(row.reasons)
-
-
-def overdue_orders(risk: Risk) -> int:
-    return len(risk.standing.overdue)
-
-
-def next_receipt(risk: Risk) -> Day | str:
-    return risk.receipt or ""
-
-
-CELLS = {
-    "s": point_of,
-    "S": level_of,
-    "value": placed_worth,
-    "code": codes,
-    "why": said,
-    "overdue_orders": overdue_orders,
-    "next_receipt": next_receipt,
-}
 
 
 ON_A_DAY = (
@@ -224,18 +83,16 @@ def file_of(table: str) -> str:
     return f"today_{table}.csv"
 
 
-def supplier_file(place: int) -> str:
-    """Returns the file of the order of a supplier, by its place: no name comes from masters."""
-    return f"today_supplier_{place:03}.csv"
+def named_orders(standings: Iterable[Standing], fact: str) -> str:
+    """Returns items, each with what is ordered of it by a fact."""
+    names = [f"{getattr(it, fact):,} {it.item.name}" for it in standings]
+    return names_of(names, MOST_NAMED)
 
 
 def short_of(group: Group) -> tuple[Group, str, Fraction]:
     """Returns a supplier whose order is below its least value, with what to add, and what is lacking then."""
-    names = []
-    for addition in group.additions():
-        standing = addition.standing
-        names.append(f"{standing.placed:,} {standing.item.name}")
-    return group, names_of(names, MOST_NAMED), group.lacking
+    added = named_orders((it.standing for it in group.additions()), "placed")
+    return group, added, group.lacking
 
 
 @dataclass(frozen=True, eq=False, repr=False)
@@ -293,13 +150,18 @@ class OrdersToday(Result):
 
     @property
     def headline(self) -> str:
-        """Returns how many orders there are and what they are worth, and that it is not known what is on order."""
-        whole = self.today.whole
+        """Returns how many orders there are and what they are worth, how many of them a planner has changed, added and left
+        out, and that it is not known what is on order."""
+        today, whole = self.today, self.today.whole
         line = f"{self.today.day}: {counted(len(whole.due), 'order')}, worth {self.money(whole.value)}"
         unpriced = sum(standing.item.price is None for standing in whole.due)
         if unpriced:
             line += f", and {unpriced:,} of them without a price"
-        if not self.today.has_orders:
+        if today.has_quantities:
+            omitted, added = len(today.omitted), len(today.added)
+            changed = len(today.changed) - omitted - added
+            line += f" (the planner changed {changed:,}, added {added:,}, left out {omitted:,})"
+        if not today.has_orders:
             line += f", {WITHOUT}: say --on-order"
         return line
 
@@ -427,10 +289,14 @@ class OrdersToday(Result):
         expedited = [
             risk.standing.item.name for risk in risks if risk.standing.on_order
         ]
+        ordered = {standing.item.name for standing in today.whole.due}
         unserved = [
             ended
             for ended in today.ended
-            if ended.hand and ended.hand.owed and ended.item.past != PHASE_OUT
+            if ended.hand
+            and ended.hand.owed
+            and ended.item.past != PHASE_OUT
+            and ended.item.name not in ordered
         ]
         return rendered(
             "today.txt",
@@ -438,6 +304,7 @@ class OrdersToday(Result):
                 "orders": self,
                 "today": today,
                 "whole": today.whole,
+                "omitted": named_orders(today.omitted, "planned"),
                 "files": counted_rows(today.counts),
                 "reasons": reasons_of(today.rejects),
                 "short": [*map(short_of, today.short.values())],
