@@ -246,21 +246,26 @@ class Desk:
         """Returns the files of a kind, in the order in which they came."""
         return [file for file in self.state.files if file.kind == kind]
 
+    def table_in(self, file: Dropped) -> str:
+        """Returns the table of a file as calls and commands name it."""
+        path = self.path / file.place
+        return f"{path}!{file.sheet}" if file.sheet else str(path)
+
     def table_of(self, kind: str) -> str | None:
         """Returns the table of a kind as calls and commands name it; None if no file has it. Raises Refused if one of several
         files is a sheet."""
         files = self.files_of(kind)
         if not files:
             return None
-        paths = [self.path / file.place for file in files]
         if len(files) == 1:
-            return f"{paths[0]}!{files[0].sheet}" if files[0].sheet else str(paths[0])
+            return self.table_in(files[0])
         if any(file.sheet for file in files):
             raise Refused(
                 f"{kind}: one of several files is a sheet of a workbook",
                 "keep one file, or drop workbooks of one sheet",
             )
-        return f"{glob.escape(str(paths[0].parent))}/*"
+        folder = (self.path / files[0].place).parent
+        return f"{glob.escape(str(folder))}/*"
 
     def tables(self, kinds: Iterable[str]) -> dict[str, str]:
         """Returns the tables of some kinds, of those that have files."""

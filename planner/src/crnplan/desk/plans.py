@@ -33,17 +33,19 @@ def changes_of(desk: Desk) -> list[dict[str, object]]:
     return plans
 
 
-def asked_command(desk: Desk, out: str, after: str) -> str:
-    """Returns the command that plans as the desk does."""
+def catalogue_command(desk: Desk, **options: object) -> str:
+    """Returns a command on the catalogue of the desk."""
     tables = desk.tables(PLANNED)
     first = [tables.pop(kind, f"{kind}.csv") for kind in ("demand", "items")]
+    return command_of("catalogue", *first, **tables, config=desk.config, **options)
+
+
+def asked_command(desk: Desk, out: str, after: str) -> str:
+    """Returns the command that plans as the desk does."""
     overrides = desk.path / OVERRIDES
-    return command_of(
-        "catalogue",
-        *first,
-        **tables,
+    return catalogue_command(
+        desk,
         overrides=overrides if overrides.is_file() else None,
-        config=desk.config,
         after=desk.path / after if after else None,
         out=desk.path / out,
     )

@@ -445,13 +445,18 @@ def stated_columns(
     return columns, wrong
 
 
-def find_columns(kind: str, sheet: Sheet, words: Words) -> Sheet:
-    """Returns a table of a catalogue with its heading, its columns and its first rows. Raises RefusedFaults with all
-    that is wrong with them."""
+def find_heading(kind: str, sheet: Sheet, words: Words) -> Finder:
+    """Finds the heading of a table of a catalogue, and returns what finds its columns."""
     finder = Finder(kind, words)
     sheet.find_heading([*filter(None, finder.stated.values())], finder.usual_role)
-    if sheet.fault:
-        raise RefusedFaults([sheet.fault])
+    return finder
+
+
+def columns_in(
+    finder: Finder, sheet: Sheet, words: Words
+) -> tuple[Sheet, list[Remark]]:
+    """Returns a table whose heading is found with its columns, as rows if it is a wide one, and what is wrong with them."""
+    kind = finder.kind
     sheet.columns, wrong = {}, [NO_ROW]
     if sheet.heading:
         sheet.columns, wrong = finder.find(sheet.heading)
@@ -465,6 +470,16 @@ def find_columns(kind: str, sheet: Sheet, words: Words) -> Sheet:
         wide.mark_used()
     if kind == LAWS and not wrong:
         wrong = [*form_faults(sheet.columns)]
+    return sheet, wrong
+
+
+def find_columns(kind: str, sheet: Sheet, words: Words) -> Sheet:
+    """Returns a table of a catalogue with its heading, its columns and its first rows. Raises RefusedFaults with all
+    that is wrong with them."""
+    finder = find_heading(kind, sheet, words)
+    if sheet.fault:
+        raise RefusedFaults([sheet.fault])
+    sheet, wrong = columns_in(finder, sheet, words)
     if wrong:
         raise refused_heading(sheet, wrong)
     return sheet

@@ -1,0 +1,126 @@
+"""Looks at a file before it is read: as which tables it can be read, by which columns, and what is wrong with it.
+
+Nothing is raised for that: who looks may then say what is meant.
+"""
+from __future__ import annotations
+
+import itertools
+from collections.abc import Iterable, Iterator, Mapping, Sequence
+from dataclasses import dataclass, field
+from pathlib import Path
+
+from ..errors import Fault, Refused, RefusedFaults
+from ..remarks import Remark
+from ..store.digests import digest_of
+from .cells import text_of
+from .columns import NEEDED, columns_in, find_heading
+from .items import Words
+from .law_forms import LAWS
+from .opening import opened
+from .sources import Column, Sheet
+
+SEEN_ROWS = 5
+# The roles that masters need, and that a planner may state for all items in place of a column.
+STATED = {"setup", "holding"}
+
+
+@dataclass(frozen=True)
+class Glance:
+    """What is seen of a file as a table of a kind: how it is written, the digest of its heading, its columns and its first
+    rows as they are read, which of them has which role, what is wrong with it (`faults`), and with its columns (`wrong`).
+    The columns of a wide table that stand for periods are two: of dates and of amounts. So its heading is the same with
+    other periods (`is_wide`). `is_refused` says whether it can't be such a table at all.
+    """
+
+    kind: str
+    written: str = ""
+    source: str = ""
+    heading: Sequence[str] = ()
+    rows: Sequence[Sequence[str]] = ()
+    columns: Mapping[str, Column] = field(default_factory=dict)
+    faults: Sequence[Fault] = ()
+    wrong: Sequence[Fault] = ()
+    is_wide: bool = False
+    is_refused: bool = False
+
+    @property
+    def fits(self) -> bool:
+        """Returns whether the file has all columns that its kind needs."""
+        if self.kind == LAWS and self.wrong:
+            return False
+        return NEEDED[self.kind] - STATED <= self.columns.keys()
+
+    @property
+    def rank(self) -> tuple[int, bool]:
+        """Returns what sorts the kinds that a file fits: by how many columns it has of each."""
+        return len(self.columns), NEEDED[self.kind] <= self.columns.keys()
+
+    @property
+    def likely(self) -> str:
+        """Returns the likeliest encoding of bytes that are not UTF-8; empty if there is none."""
+        for fault in self.faults:
+            if isinstance(fault.said, Remark):
+                return str(fault.said.facts.get("encoding 1", ""))
+        return ""
+
+    @property
+    def roles(self) -> dict[int, str]:
+        """Returns the role of each column that has one, by its place."""
+        return {column.place: role for role, column in self.columns.items()}
+
+
+def glance(kind: str, table: str, words: Words, room: Path | None = None) -> Glance:
+    """Returns what is seen of a file as a table of a kind. A gzipped file is unpacked in `room`."""
+    faults = list[Fault]()
+    try:
+        with opened(table, kind, words.rules_of(kind), room) as sheet:
+            finder = find_heading(kind, sheet, words)
+            if sheet.fault:
+                faults.append(sheet.fault)
+            found, wrong = columns_in(finder, sheet, words)
+            return Glance(
+                kind,
+                sheet.written,
+                digest_of(found.heading) if found.heading else "",
+                found.heading if found is sheet else found.heading[:-1],
+                [*seen_rows(found, faults)],
+                found.columns,
+                faults,
+                [Fault(what, sheet.name, sheet.line) for what in wrong],
+                found is not sheet,
+            )
+    except Refused as why:
+        faults += faults_of(why)
+        return Glance(kind, faults=faults, is_refused=True)
+
+
+def faults_of(why: Refused) -> Sequence[Fault]:
+    """Returns the faults of an error."""
+    return why.faults if isinstance(why, RefusedFaults) else [Fault(why.message)]
+
+
+def seen_rows(sheet: Sheet, faults: list[Fault]) -> Iterator[list[str]]:
+    """Yields the first rows below the heading of a table as texts, up to one that can't be read, which is a fault."""
+    rows = (
+        [*map(text_of, cells)]
+        for line, cells in sheet.rows()
+        if line > sheet.line and any(map(text_of, cells))
+    )
+    try:
+        yield from itertools.islice(rows, SEEN_ROWS)
+    except Refused as why:
+        faults += faults_of(why)
+
+
+def likeliest(glances: Iterable[Glance], known: Mapping[str, str]) -> Glance | None:
+    """Returns of what is seen of a file as tables of several kinds what it is: what a file with this heading is `known` to
+    be, else the kind that it fits with most columns; None if none is clear."""
+    seen = [*glances]
+    for one in seen:
+        if known.get(one.source) == one.kind:
+            return one
+    fitting = sorted((one for one in seen if one.fits), key=lambda one: one.rank)
+    if not fitting or any(one.is_refused for one in seen):
+        return None
+    *others, best = fitting
+    return None if others and others[-1].rank == best.rank else best
