@@ -27,6 +27,7 @@ from ..store.files import IN_KEPT, Folder, new_bytes
 DESK = "desk"  # the kind of the folder
 STATE = f"{IN_KEPT}desk.json"
 FILES, PLANS, TESTS, LOOK = "files", "plans", "tests", "read"
+LAST_TEST = f"{TESTS}/last"
 UNKNOWN = "unknown"  # where files stand whose kind is not known
 # The kinds of files, in the order of the page: those that a plan reads, and those of today.
 PLANNED = "demand", "items", "orders", "out_of_stock", "laws"
@@ -129,6 +130,21 @@ class State:
         tree["overrides"] = {name: Override(**one) for name, one in stated}
         return cls(**tree)
 
+    @classmethod
+    def stored(cls, path: Path) -> State:
+        """Returns the state of a file. Raises Refused if it is none, or if a name in it leads out of the desk."""
+        try:
+            state = cls.parse(path.read_text("utf-8"))
+            begun = state.begun or Begun("")
+            places = [*state.plans, begun.out, begun.after, begun.test]
+            places += [file.place for file in state.files]
+            if any(".." in Path(place).parts or place[:1] == "/" for place in places):
+                raise ValueError("a name leads out of the desk")
+        except (AttributeError, KeyError, TypeError, ValueError) as fault:
+            what = f"{path}: it is damaged ({fault})"
+            raise Refused(what, "put a copy of it there, or name a new folder")
+        return state
+
 
 def now() -> str:
     """Returns the time to the second."""
@@ -144,8 +160,7 @@ class Desk:
         for name in (FILES, PLANS, TESTS, IN_KEPT.rstrip("/")):
             folder.inner(name)
         stored = self.path / STATE
-        text = stored.read_text("utf-8") if stored.is_file() else ""
-        self.state = State.parse(text) if text else State()
+        self.state = State.stored(stored) if stored.is_file() else State()
         if not (self.path / CONFIG).is_file():
             self.keep_words({})
 
@@ -208,7 +223,8 @@ class Desk:
         return file
 
     def _room_of(self, file: Dropped) -> None:
-        (self.path / file.place).parent.mkdir(exist_ok=True)
+        """Makes the folder of a file, which is no symlink to another one."""
+        self.folder.inner(f"{FILES}/{file.kind}")
 
     def file(self, name: str) -> Dropped:
         """Returns the file of a name. Raises Refused if there is none."""

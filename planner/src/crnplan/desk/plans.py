@@ -9,8 +9,8 @@ from werkzeug.wrappers import Response as Redirect
 from ..errors import Refused
 from ..plan.catalogue import planned_folder
 from ..show.change_tables import change_lines
-from .front import command_of, front, page, words
-from .kept import OVERRIDES, PLANNED, PLANS, Begun, Desk
+from .front import PAGES, command_of, front, page, words
+from .kept import LAST_TEST, OVERRIDES, PLANNED, PLANS, Begun, Desk
 from .work import PLANNING, STOPPED, Work
 
 pages = Blueprint("plans", __name__)
@@ -75,8 +75,10 @@ def plan() -> str:
 
 @pages.post("/plan/begin")
 def begin() -> Redirect:
-    own = front()
+    own, test = front(), request.form.get("test", "")
     state = own.desk.state
+    if test not in ("", LAST_TEST):
+        raise Refused("there is no such test", "begin one on the page Past")
     last = f"{PLANS}/{state.plans[-1]}" if state.plans else ""
     match request.form.get("way"):
         case "again" if last:
@@ -85,14 +87,15 @@ def begin() -> Redirect:
             begun = Begun(PLANNING, f"{PLANS}/{own.new_name()}", after=last)
         case _:
             begun = Begun(PLANNING, f"{PLANS}/{own.new_name()}")
-    own.begin(replace(begun, changed=state.changed, test=request.form.get("test", "")))
+    own.begin(replace(begun, changed=state.changed, test=test))
     return redirect("/plan", 303)
 
 
 @pages.post("/plan/stop")
 def stop() -> Redirect:
     front().stop()
-    return redirect(request.form.get("back", "/plan"), 303)
+    back = request.form.get("back", "").strip("/")
+    return redirect(f"/{back if back in PAGES else 'plan'}", 303)
 
 
 @pages.post("/plan/go-on")

@@ -1,0 +1,193 @@
+"""Tests of hostile names, values and files: each is refused in words, and nothing outside the desk is read or written."""
+from __future__ import annotations
+
+import json
+import os
+import re
+from collections.abc import Iterator
+from pathlib import Path
+from types import ModuleType
+
+import pytest
+
+from crnplan.desk import server
+from crnplan.desk.front import PAGES, Front
+from crnplan.desk.kept import FILES, STATE, UNKNOWN, Begun
+from crnplan.errors import CrnplanError, Refused
+from crnplan.show.page import rendered
+from planner.tests.desk.conftest import Planner, add_made_plan, file_of, opened
+from planner.tests.desk.monday import warehouses
+
+DEMAND = b"item,date,quantity\nA,2026-11-02,3\n"
+
+
+def inside(folder: Path) -> set[str]:
+    return {str(path.relative_to(folder)) for path in folder.rglob("*")}
+
+
+@pytest.mark.parametrize("at", [f"{FILES}/{UNKNOWN}", "plans", "kept", "files"])
+def test_symlink_is_not_followed(tmp_path: Path, at: str) -> None:
+    """A desk that somebody has sent writes nothing outside its folder."""
+    outside = tmp_path / "outside"
+    outside.mkdir()
+    with opened(tmp_path / "desk"):
+        pass
+    place = tmp_path / "desk" / at
+    if place.is_dir():
+        os.rename(place, tmp_path / "old")
+    place.symlink_to(outside)
+    with pytest.raises(CrnplanError, match="symlink|has not made it"):
+        with opened(tmp_path / "desk") as front:
+            front.desk.add_file("a.csv", file_of(DEMAND, "a.csv")[0])
+    assert inside(outside) == set()
+
+
+@pytest.mark.parametrize("name", [STATE, "crnplan.toml", "kept/address"])
+def test_file_of_the_desk_replaces_a_symlink(tmp_path: Path, name: str) -> None:
+    """What a symlink leads to is not written."""
+    outside = tmp_path / "outside"
+    with opened(tmp_path / "desk"):
+        pass
+    place = tmp_path / "desk" / name
+    outside.write_bytes(place.read_bytes() if place.exists() else b"")
+    before = outside.read_bytes()
+    place.unlink(missing_ok=True)
+    place.symlink_to(outside)
+    with opened(tmp_path / "desk") as front:
+        front.desk.keep_words({"currency": "EUR"})
+        front.desk.add_file("a.csv", file_of(DEMAND, "a.csv")[0])
+        server.keep_address(front.desk.folder, "address")
+    assert outside.read_bytes() == before and not place.is_symlink()
+
+
+KEYS = {"files": [], "placed": [], "begun": None, "overrides": {}}
+BROKEN: list[object] = [
+    [],
+    None,
+    1,
+    {"x": 1},
+    {"files": 1},
+    KEYS | {"x": 1},
+    KEYS | {"files": [{}]},
+    KEYS | {"plans": ["../../elsewhere"]},
+    KEYS | {"plans": ["/elsewhere"]},
+    KEYS | {"files": [{"kind": "..", "name": "../x", "called": "x"}]},
+    KEYS | {"begun": {"kind": "plan", "out": "../x"}},
+    KEYS | {"begun": {"kind": "plan", "after": "/x"}},
+    KEYS | {"begun": {"kind": "plan", "test": "plans/../../x"}},
+]
+
+
+def test_whole_state_is_taken(tmp_path: Path) -> None:
+    with opened(tmp_path / "desk"):
+        pass
+    (tmp_path / "desk" / STATE).write_text(json.dumps(KEYS | {"next_file": 7}), "utf-8")
+    with opened(tmp_path / "desk") as front:
+        assert front.desk.state.next_file == 7
+
+
+@pytest.mark.parametrize("text", ["", "{", "\0", *map(json.dumps, BROKEN)])
+def test_damaged_state_is_refused_in_words(tmp_path: Path, text: str) -> None:
+    with opened(tmp_path / "desk"):
+        pass
+    (tmp_path / "desk" / STATE).write_text(text, "utf-8")
+    with pytest.raises(Refused, match="desk.json"):
+        with opened(tmp_path / "desk"):
+            pass
+    assert (tmp_path / "desk" / STATE).read_text("utf-8") == text
+
+
+BACKS = "https://example.com //example.com /\\example.com \\\\x javascript:1 /plan/stop x".split()
+
+
+@pytest.mark.parametrize("back", [*BACKS, "\r\nSet-Cookie: a=b", "/settings"])
+def test_answer_leads_to_a_page_of_the_desk(planner: Planner, back: str) -> None:
+    answer = planner.post("/plan/stop", {"back": back})
+    assert answer.status_code == 303
+    assert answer.location == ("/settings" if back == "/settings" else "/plan")
+
+
+VALUES = [
+    "../../etc/passwd",
+    "..",
+    "%2e%2e/",
+    "\0",
+    "/etc/passwd",
+    "-1",
+    "0",
+    "99999999999999999999999",
+    "1e999",
+    "nan",
+    "٣",
+    "<img src=x onerror=alert(1)>",
+    "' or 1=1 --",
+    "\u202e\ufffe",
+    "x" * 3_000,
+    "{{ 7*7 }}",
+]
+SOURCES = re.compile(
+    r"""(?:args|form|values)(?:\.get|\.getlist)?[\[(]\s*["']([\w-]+)["']"""
+)
+
+
+@pytest.fixture
+def full(front: Front, tmp_path: Path, monkeypatch: pytest.MonkeyPatch) -> Planner:
+    """Returns who asks a desk that has files and a plan, and begins no work."""
+    export = warehouses(tmp_path)
+    for path in (export.demand, export.masters):
+        with path.open("rb") as data:
+            front.desk.add_file(path.name, data)
+    for file, kind in zip([*front.desk.state.files], ("demand", "items")):
+        front.desk.set_file(file.name, kind, "", True)
+    add_made_plan(front, 12)
+    monkeypatch.setattr(front, "begin", lambda begun: None)
+    monkeypatch.setattr(server.os, "kill", lambda *words: None)
+    return Planner(front)
+
+
+def names_in(module: ModuleType) -> list[str]:
+    """Returns the names of queries and forms in a module of pages."""
+    text = Path(str(module.__file__)).read_text("utf-8")
+    shown = [rendered.__module__ and path.read_text("utf-8") for path in templates()]
+    fields = re.findall(r'name="([\w-]+)"', "".join(shown))
+    return sorted({*SOURCES.findall(text), *(it for it in fields if f'"{it}"' in text)})
+
+
+def templates() -> list[Path]:
+    folder = Path(str(server.__file__)).parents[1] / "show/templates/desk"
+    return sorted(folder.glob("*.html"))
+
+
+def asked_of(planner: Planner) -> Iterator[tuple[str, str, list[str]]]:
+    """Yields each method and path of the desk, hostile names in it, with the names of what may be asked or sent."""
+    modules = {module.pages.name: module for module in server.MODULES}
+    for rule in planner.client.application.url_map.iter_rules():
+        name = rule.endpoint.partition(".")[0]
+        if name in modules:
+            known = names_in(modules[name])
+            for method in {"GET", "POST"} & (rule.methods or set()):
+                yield method, rule.rule, known
+
+
+def test_values_are_refused_in_words(full: Planner) -> None:
+    """No value of a query, a form or a path is an internal error, whatever it names."""
+    faults = []
+    for method, rule, names in asked_of(full):
+        paths = [re.sub(r"<[^>]*>", "x", rule)]
+        if "<" in rule:
+            paths += [re.sub(r"<[^>]*>", part, rule) for part in ("%00", "..%2f", "-1")]
+        asked = [(path, {}) for path in paths]
+        asked += [(paths[0], {name: value}) for name in names for value in VALUES]
+        for path, fields in asked:
+            answer = (
+                full.get(path, **fields) if method == "GET" else full.post(path, fields)
+            )
+            if answer.status_code >= 500 or "root:" in answer.text:
+                faults.append((method, path, fields, answer.status_code))
+    assert faults == []
+    assert full.get(f"/{PAGES[0]}").status_code == 200
+
+
+def test_test_of_a_plan_is_a_known_one(planner: Planner) -> None:
+    answer = planner.post("/plan/begin", {"test": "../../elsewhere"})
+    assert answer.status_code == 400 and "no such test" in answer.text
