@@ -5,9 +5,10 @@ In FOLDER, by default dist, it makes two files of the last commit and of the pro
     crnplan-VERSION-py3-none-PLATFORM.whl    for pip
     crnsim_VERSION_amd64.deb                 for apt-get on Debian 12
 
-Each has crnsim and crnplan, their manual pages and completions, the planner's pages and the examples. VERSION ends with
-the time of the commit, and PLATFORM names the oldest C library that will do. A commit and a program make the same bytes
-each time. The program is stripped of its symbols. What is missing is set up and built first.
+Each has crnsim and crnplan, their manual pages and completions, the planner's pages and the examples. The Debian package
+has an entry in menus and an icon too. VERSION ends with the time of the commit, and PLATFORM names the oldest C library
+that will do. A commit and a program make the same bytes each time. The program is stripped of its symbols. What is
+missing is set up and built first.
 
     --program PATH    packs this program in place of the repository's
 """
@@ -83,6 +84,24 @@ COMMANDS = '[project.scripts]\ncrnsim = "crnplan.crnsim.command:main"\n'
 # Where Debian has Python's packages, and the completions of zsh that a package brings.
 DEBIAN_PYTHON = "lib/python3/dist-packages"
 DEBIAN_ZSH = "share/zsh/vendor-completions/_{}"
+# What of the package is at another place there, below /usr: the program, its pages, and the icon of the desk.
+ELSEWHERE = {
+    INSIDE: "bin/crnsim",
+    PAGES: PAGES,
+    "desk/static/icon.svg": "share/icons/hicolor/scalable/apps/crnplan.svg",
+}
+# The desk in menus.
+ENTRY = "share/applications/crnplan-desk.desktop"
+DESKTOP = """[Desktop Entry]
+Type=Application
+Name=crnplan
+Comment=Plan stocks, and order what is due today
+Exec=crnplan desk
+Icon=crnplan
+Terminal=false
+Categories=Office;
+Keywords=stock;inventory;demand;orders;
+"""
 CRNPLAN = """#!/usr/bin/python3
 import sys
 from crnplan.cli import main
@@ -104,7 +123,8 @@ Description: stock decisions from a history of demand by a proved simulator
  .
  crnplan leads a planner from a history of demand to a checked decision: it
  fits laws of demand and of lead times, finds the best policy of each item by
- theory, and checks it with crnsim. It is a command and a Python package.
+ theory, and checks it with crnsim. It is a command, pages in a browser, and a
+ Python package.
  .
  The planner's guide and examples are in /usr/{pages}.
 """
@@ -269,8 +289,8 @@ def debian_place(name):
     """Returns where a file of the wheel is on Debian, below /usr, or None if it is not there: the list of files is
     dpkg's."""
     path = name.removeprefix("crnplan/")
-    if path == INSIDE:
-        return "bin/crnsim"
+    if path in ELSEWHERE:
+        return ELSEWHERE[path]
     if path.startswith("share/"):
         zsh = re.fullmatch(COMPLETIONS["zsh"].format("(.*)"), path)
         return DEBIAN_ZSH.format(zsh[1]) if zsh else path
@@ -288,8 +308,9 @@ def stage_of(wheel, room):
                 place_bytes(stage / "usr" / place, packed.read(name))
     (stage / "usr/bin/crnsim").chmod(0o755)
     write(stage / "usr/bin/crnplan", CRNPLAN, 0o755)
-    # The package finds both where a wheel has them.
-    for inside, place in ((INSIDE, "bin/crnsim"), (PAGES, PAGES)):
+    write(stage / "usr" / ENTRY, DESKTOP)
+    # The package finds all where a wheel has them.
+    for inside, place in ELSEWHERE.items():
         link = stage / "usr" / DEBIAN_PYTHON / "crnplan" / inside
         link.parent.mkdir(parents=True, exist_ok=True)
         link.symlink_to(os.path.relpath(stage / "usr" / place, link.parent))

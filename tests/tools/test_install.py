@@ -104,6 +104,7 @@ def test_each_command_has_a_manual_page(installed: Machine) -> None:
         "crnsim.1",
         "crnsim-leg.1",
         "crnplan.1",
+        "crnplan-desk.1",
         "crnplan-why.1",
         "crnplan-suggest.1",
     } <= names

@@ -1,19 +1,26 @@
 """Tests tools/package on a copy with a history of its own: the files that it makes, and what they do when installed."""
 from __future__ import annotations
 
+import configparser
 import gzip
 import hashlib
+import os
 import re
 import shutil
 import signal
 import subprocess
 import sys
+import xml.etree.ElementTree
 import zipfile
 from pathlib import Path
+from urllib.parse import urljoin
+from urllib.request import HTTPCookieProcessor, ProxyHandler, build_opener
 
 import pytest
 
-from .machine import Machine, Ran, changed, write_script
+from crnplan.cli import COMMANDS
+
+from .machine import SECONDS, Machine, Ran, changed, write_script
 from .program import PROGRAM
 
 AUTHOR = "A Planner <a.planner@example.org>"
@@ -41,7 +48,11 @@ SHELLS = [
     "share/fish/vendor_completions.d/{}.fish",
     "share/zsh/vendor-completions/_{}",
 ]
+ENTRY = "share/applications/crnplan-desk.desktop"
+ICON = "share/icons/hicolor/scalable/apps/crnplan.svg"
+OWN_ICON = "planner/src/crnplan/desk/static/icon.svg"
 BESIDE = {
+    *(ENTRY, ICON),
     *(f"bin/{name}" for name in PAGES),
     *(place.format(name) for name in PAGES for place in SHELLS),
     *(
@@ -111,7 +122,7 @@ def check_commands(
     machine: Machine, commands: Path, inside: Path, pages: Path, room: Path, **more: str
 ) -> None:
     """Both commands of an installed package run: `where` finds all that came with it, though another crnsim is on PATH,
-    and an item of the examples is planned."""
+    an item of the examples is planned, and the desk opens."""
     machine.fake("crnsim", "exit 9")
 
     def printed(command: str, *words: str | Path, text: str = "") -> str:
@@ -130,6 +141,24 @@ def check_commands(
         "Below 12, order up to 31: cheaper than today's policy (15, 30)\n"
     )
     assert "Below 12" in (room / "plan/summary.html").read_text("utf-8")
+    check_desk(machine, commands / "crnplan", room / "desk", **more)
+
+
+def check_desk(machine: Machine, command: Path, folder: Path, **more: str) -> None:
+    """The desk says on its first line where it is, has there a page and its icon, and ends well when it is interrupted."""
+    words = [str(command), "desk", "--no-browser", str(folder)]
+    browser = build_opener(ProxyHandler({}), HTTPCookieProcessor())
+    with machine.start(*words, **more) as desk:
+        assert desk.stdout
+        try:
+            address = desk.stdout.readline().strip()
+            with browser.open(address, timeout=SECONDS) as page:
+                assert page.read().startswith(b"<!doctype html>")
+            with browser.open(urljoin(address, "/icon.svg"), timeout=SECONDS) as icon:
+                assert icon.read() == (machine.top / OWN_ICON).read_bytes()
+        finally:
+            desk.send_signal(signal.SIGINT)
+            assert desk.wait(SECONDS) == 0
 
 
 def files_below(folder: Path) -> set[str]:
@@ -262,6 +291,7 @@ def test_debian_package_in_a_bare_root(
     assert dpkg(packed, root, "--verify", "crnsim") == ""
     home = root / "usr/lib/python3/dist-packages"
     assert (home / "crnplan/__pycache__").is_dir()
+    assert {f"usr/{ENTRY}", f"usr/{ICON}"} <= files_below(root)
     inside, pages = home / "crnplan/crnsim/bin/crnsim", root / "usr/share/doc/crnsim"
     assert inside.resolve() == root / "usr/bin/crnsim"
     check_commands(
@@ -283,6 +313,24 @@ def test_lintian_has_nothing_to_say(packed: Machine) -> None:
     ran = packed.run("lintian", *words, made(packed, ".deb"))
     assert (ran.returncode, ran.stderr) == (0, "")
     assert set(ran.stdout.splitlines()) == set(KNOWN)
+
+
+def test_entry_in_menus(packed: Machine, top: Path, tmp_path: Path) -> None:
+    """It starts a command that crnplan has, without a terminal, and has the icon of the desk's pages."""
+    assert packed.run("dpkg-deb", "-x", made(packed, ".deb"), tmp_path).returncode == 0
+    judged = packed.run("desktop-file-validate", tmp_path / "usr" / ENTRY)
+    assert (judged.returncode, judged.stdout, judged.stderr) == (0, "", "")
+    read = configparser.ConfigParser(interpolation=None)
+    read.read(tmp_path / "usr" / ENTRY, "utf-8")
+    entry = read["Desktop Entry"]
+    program, command = entry["Exec"].split()
+    assert os.access(tmp_path / "usr/bin" / program, os.X_OK)
+    assert command in COMMANDS
+    assert entry["Terminal"] == "false"
+    picture = tmp_path / "usr" / Path(ICON).with_stem(entry["Icon"])
+    assert picture.read_bytes() == (top / OWN_ICON).read_bytes()
+    svg = xml.etree.ElementTree.parse(picture).getroot()
+    assert svg.tag == "{http://www.w3.org/2000/svg}svg"
 
 
 def test_pages_of_the_debian_package(packed: Machine, tmp_path: Path) -> None:
@@ -325,7 +373,8 @@ def test_files_of_the_debian_package(packed: Machine) -> None:
         f"{home}/crnplan-{VERSION}.dist-info/{it}"
         for it in ("METADATA", "entry_points.txt")
     }
-    links = {f"{home}/crnplan/{it}" for it in ("crnsim/bin/crnsim", "share/doc/crnsim")}
+    inside = "crnsim/bin/crnsim", "share/doc/crnsim", "desk/static/icon.svg"
+    links = {f"{home}/crnplan/{it}" for it in inside}
     built = {f"{home}/crnplan/crnsim/built.toml", *links}
     about = {f"share/doc/crnsim/{it}" for it in ("changelog.gz", "copyright")}
     assert set(modes) == wanted | infos | built | about | BESIDE

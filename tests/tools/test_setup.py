@@ -39,6 +39,7 @@ COMMANDS = [
     "git",
     "dpkg-deb",
     "lintian",
+    "desktop-file-validate",
 ]
 BASICS = [
     "awk",
@@ -225,7 +226,8 @@ def test_without_debian_missing_commands_are_named(machine: Machine) -> None:
     assert ran.stderr == (
         "tools/setup: these commands are missing (with Debian's packages that bring them): "
         "chromium (chromium), chromedriver (chromium-driver), pdftotext (poppler-utils), nm "
-        "(binutils), valgrind (valgrind), git (git), dpkg-deb (dpkg), lintian (lintian)\n"
+        "(binutils), valgrind (valgrind), git (git), dpkg-deb (dpkg), lintian (lintian), "
+        "desktop-file-validate (desktop-file-utils)\n"
         f"tools/setup: .venv has to be made, since there is none: {PIP}\n"
     )
     assert not (machine.top / ".venv").exists()
