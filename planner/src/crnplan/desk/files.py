@@ -162,6 +162,13 @@ def result_of(desk: Desk) -> dict[str, Any]:
         }
 
 
+def said_of(desk: Desk) -> list[str]:
+    """Returns why the files could not be read; nothing if they were, or were not tried."""
+    state = desk.state
+    is_refused = state.begun and state.begun.kind == READING and state.ended == REFUSED
+    return state.said if is_refused else []
+
+
 def shown(own: Front, file: Dropped, tree: Any) -> dict[str, Any]:
     """Returns what the page shows of a file."""
     look = own.once(
@@ -184,9 +191,7 @@ def files() -> str:
     own = front()
     desk, state = own.desk, own.desk.state
     tree = desk.tree
-    said, command = list[str](), ""
-    if state.begun and state.begun.kind == READING and state.ended == REFUSED:
-        said = state.said
+    said, command = said_of(desk), ""
     try:
         command = catalogue_command(desk, check=True)
     except Refused as why:

@@ -1,13 +1,153 @@
-"""The page Settings of the desk."""
+"""The page Settings: how the catalogue is planned, as a form over crnplan.toml."""
 from __future__ import annotations
 
-from flask import Blueprint
+from collections.abc import Mapping
+from typing import Any
 
-from .front import page
+from flask import Blueprint, redirect, request
+from werkzeug.datastructures import MultiDict
+from werkzeug.wrappers import Response as Redirect
+
+from ..arguments import KINDS
+from ..errors import Refused
+from ..options import PLAN, Option, option
+from ..plan.how import Settings as PlanSettings
+from ..read.told import made_from, words_from
+from ..show.lateness import lateness_of
+from .files import read_anew, said_of
+from .front import Front, front, page
+from .kept import Desk
 
 pages = Blueprint("settings", __name__)
+# The words of each part of the form.
+PARTS = {
+    "money": ("currency", "setup", "holding_rate"),
+    "service": ("fill", "service", "together", "at_least", "weigh", "correct"),
+    "time": (
+        "every",
+        "start",
+        "end",
+        "lead",
+        "lead_from",
+        "review",
+        "season",
+        "follow",
+    ),
+    "orders": ("order_min", "s_min", "max_coverage", "supplier_min"),
+    "rows": ("where", "net", "negate", "empty", "twice", "far"),
+}
+WORDS = {name: option(f"{PLAN}.{name}") for names in PARTS.values() for name in names}
+BY_NAME = "pairs", "shares"
+# Of what the names of values by name are, and what is said of where values are from.
+NAMES = {"service": "category", "together": "category", "supplier_min": "supplier"}
+ROLES = {
+    **{name: name for name in ("setup", "fill", "lead", "review")},
+    "holding_rate": "holding",
+    "service": "fill",
+}
+MOST_NAMES = 100
+
+
+def typed(form: MultiDict[str, str]) -> dict[str, Any]:
+    """Returns what stands in the fields of a form that are not empty."""
+    values = dict[str, Any]()
+    for name, word in WORDS.items():
+        texts = [text.strip() for text in form.getlist(name)]
+        values[name] = "".join(texts)
+        if word.kind in BY_NAME:
+            pairs = zip(form.getlist(f"{name} of"), texts)
+            values[name] = {key: text for key, text in pairs if text}
+        if word.kind == "texts":
+            values[name] = [*filter(None, map(str.strip, "".join(texts).splitlines()))]
+    return {name: value for name, value in values.items() if value}
+
+
+def meant(word: Option, value: Any) -> Any:
+    """Returns what crnplan.toml has for what was typed. Raises Refused for what can't be meant."""
+    if word.kind == "flag":
+        return True
+    if word.kind == "whole" and value.isdecimal():
+        value = int(value)
+    read = KINDS[word.kind](word, value)
+    return read if word.kind == "percent" else value
+
+
+def faults_of(desk: Desk, values: Mapping[str, Any]) -> dict[str, str]:
+    """Keeps what was typed, or returns what is wrong with it by the name of the field, and under no name with all of it."""
+    keys = {word.key for word in WORDS.values()}
+    tree = {key: value for key, value in desk.tree.items() if key not in keys}
+    faults = dict[str, str]()
+    for name, value in values.items():
+        try:
+            tree[WORDS[name].key] = meant(WORDS[name], value)
+        except Refused as why:
+            faults[name] = str(why)
+    try:
+        if not faults:
+            words_from(tree)
+            made_from(PlanSettings, tree)
+            desk.keep_words(tree)
+    except Refused as why:
+        faults[""] = str(why)
+    return faults
+
+
+def seen_of(desk: Desk) -> dict[str, Any]:
+    """Returns what was read that the form needs: names, where values are from, and how late suppliers are."""
+    catalogue = desk.catalogue
+    assert catalogue
+    with catalogue.opened() as read:
+        return {
+            "names": {
+                column: sorted({name for name, in read.values(column) if name})
+                for column in NAMES.values()
+            },
+            "sources": read.fact("sources"),
+            "lateness": lateness_of(read),
+        }
+
+
+def form_page(own: Front, values: Mapping[str, Any], faults: Mapping[str, str]) -> str:
+    """Returns the page with values in its fields, and what is wrong with them."""
+    desk, state = own.desk, own.desk.state
+    seen: Any = {"names": {}, "sources": {}, "lateness": None}
+    if state.read == state.changed and desk.catalogue:
+        seen = own.once("settings", state.read, lambda: seen_of(desk))
+    names = dict[str, list[str]]()
+    for name, column in NAMES.items():
+        rest = [""] * (name == "together") + seen["names"].get(column, [])
+        stated = values.get(name, {})
+        names[name] = [*dict.fromkeys([*stated, *rest[:MOST_NAMES]])]
+    return page(
+        "settings.html",
+        parts=PARTS,
+        words=WORDS,
+        values=values,
+        faults=faults,
+        said=said_of(desk),
+        names=names,
+        roles=ROLES,
+        sources=seen["sources"],
+        lateness=seen["lateness"],
+    )
 
 
 @pages.get("/settings")
 def settings() -> str:
-    return page("settings.html")
+    own = front()
+    tree = own.desk.tree
+    values = {name: tree[word.key] for name, word in WORDS.items() if word.key in tree}
+    if isinstance(values.get("together", {}), str):
+        values["together"] = {"": values["together"]}
+    return form_page(own, values, {})
+
+
+@pages.post("/settings")
+def save() -> tuple[str, int] | Redirect:
+    own = front()
+    values = typed(request.form)
+    faults = faults_of(own.desk, values)
+    if faults:
+        return form_page(own, values, faults), 400
+    read_anew(own)
+    return redirect("/settings", 303)
