@@ -28,12 +28,19 @@ def orders_by(
 
 @command()
 def today(
-    folder: Path, anyway: bool, table: str | None, out: Path | None, **asked: Any
+    folder: Path,
+    anyway: bool,
+    table: str | None,
+    out: Path | None,
+    xlsx: Path | None,
+    **asked: Any,
 ) -> int:
     orders = orders_by(folder, **asked)
     if out:
         with own_folder(out, TODAY) as kept:
             orders.write(kept)
+    if xlsx:
+        orders.to_excel(xlsx)
     click.echo(orders.tables[table].csv if table else orders.text, nl=False)
     return status_of([] if anyway else hardly_read(orders.today.counts))
 

@@ -184,6 +184,15 @@ class OrdersToday(Result):
             "lines", self._rows(standing for group in groups for standing in group.due)
         )
 
+    @property
+    def by_supplier(self) -> dict[int, tuple[str, DataTable]]:
+        """Returns each supplier with an order and the lines of that, by its place among all of the plan."""
+        return {
+            self.today.place(group.name): (group.name, self._lines([group]))
+            for group in self.today.suppliers
+            if group.due
+        }
+
     @cached_property
     def tables(self) -> dict[str, DataTable]:
         """Returns all tables by name."""
@@ -216,15 +225,31 @@ class OrdersToday(Result):
         for name, table in self.tables.items():
             folder.write(file_of(name), table.lines)
         orders = {
-            supplier_file(self.today.place(group.name)): group
-            for group in self.today.suppliers
-            if group.due
+            supplier_file(place): lines
+            for place, (_, lines) in self.by_supplier.items()
         }
         old = [name for name in folder.names if SUPPLIER_FILE.fullmatch(name)]
         folder.remove(*(name for name in old if name not in orders))
-        for name, group in orders.items():
-            folder.write(name, self._lines([group]).lines)
+        for name, lines in orders.items():
+            folder.write(name, lines.lines)
         folder.write(SUMMARY, self.text)
+
+    def to_excel(self, path: str | Path) -> None:
+        """Writes the orders as a workbook: a sheet with all lines, and one for each supplier with an order.
+
+        Parameters
+        ----------
+        path : str or Path
+            The file, which ends with .xlsx.
+
+        Raises
+        ------
+        Refused
+            If the file can't be written.
+        """
+        from .workbook import write_orders
+
+        write_orders(Path(path), self)
 
     @property
     def above(self) -> pd.DataFrame:

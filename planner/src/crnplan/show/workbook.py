@@ -1,10 +1,12 @@
-"""Writes a plan as a workbook for spreadsheets: a sheet for each table, a chart of the curve, and what columns mean.
+"""Writes a plan as a workbook for spreadsheets: a sheet for each table, a chart of the curve, and what columns mean; and the
+orders of a day with a sheet for each supplier.
 
 Texts are texts, so an item number keeps its zeros, and no cell is run. Numbers are unrounded, and shown as their
 columns are declared. The same plan with the same orders gives the same bytes.
 """
 from __future__ import annotations
 
+import contextlib
 import datetime
 import io
 import math
@@ -46,12 +48,17 @@ LEAST_WIDTH, MOST_WIDTH, MEANING_WIDTH, ROOM = (
 GRID = {"visible": True, "line": {"color": "#d9d9d9"}}
 MOST_ON_PAGE = 12  # columns of a sheet that is as wide as a printed page
 A4 = 9
-SUMMARY, CURVE = "Summary", "Curve"
+SUMMARY, CURVE, LINES = "Summary", "Curve", "Orders by supplier"
 SHEETS = {
     "Today": "orders",
     "At risk": "at_risk",
-    "Orders by supplier": "lines",
+    LINES: "lines",
 }  # of orders, with their tables
+# What no name of a sheet may have: signs, which are wide ones in some languages, and what XML or a reader can't show.
+UNNAMED = re.compile(
+    r"[\[\]:*?/\\［］：＊？／＼\x00-\x1f\x7f-\x9f\u2028-\u202e\u2066-\u2069\ud800-\udfff\ufffe\uffff]"
+)
+MOST_NAME = 31  # of a sheet, in units of UTF-16
 POLICIES = TODAY, CHOSEN
 SUM_COLUMNS, CLASS_COLUMNS, READ_ME_COLUMNS = (
     columns_of("show", "sums"),
@@ -144,7 +151,7 @@ def series_of(first: int, last: int, **style: object) -> dict[str, object]:
 class Book:
     """A workbook, which is written row by row."""
 
-    def __init__(self, file: io.BytesIO) -> None:
+    def __init__(self, file: io.BytesIO, title: str) -> None:
         import xlsxwriter
 
         self.book = xlsxwriter.Workbook(
@@ -156,7 +163,7 @@ class Book:
             },
         )
         self.book.set_properties(
-            {"title": "Plan", "author": "crnplan", "created": CREATED}
+            {"title": title, "author": "crnplan", "created": CREATED}
         )
         heading = {"bold": True, "bottom": 1}
         self.left = self.book.add_format({**heading, "align": "left", "indent": 1})
@@ -260,6 +267,17 @@ class Book:
         sheet.insert_chart(1, len(table.columns) + 1, chart)
 
 
+@contextlib.contextmanager
+def new_book(path: Path, title: str) -> Iterator[Book]:
+    """Gives a workbook, and writes it with what was added in the block."""
+    data = io.BytesIO()
+    book = Book(data, title)
+    yield book
+    book.book.close()
+    with named_bytes(path) as file:
+        file.write(data.getbuffer())
+
+
 def sums_of(folder: PlannedFolder, totals: Totals) -> Iterator[tuple[Sum, Column]]:
     """Yields what all items come to, today and chosen, and a column of such figures."""
     every = folder.every
@@ -354,14 +372,27 @@ def write_workbook(folder: Path, path: Path, orders: OrdersToday | None = None) 
     of the masters, if these have one. Raises Refused for a folder without a finished plan of the rows that were read
     last, for orders of another plan, and for a table with more rows than a sheet has.
     """
-    data = io.BytesIO()
     orders = orders or orders_by_masters(folder)
     with planned_folder(folder) as planned:
         planned.check()
         if orders:
             orders.check(planned)
-        book = Book(data)
-        fill_book(book, planned, orders)
-        book.book.close()
-    with named_bytes(path) as file:
-        file.write(data.getbuffer())
+        with new_book(path, "Plan") as book:
+            fill_book(book, planned, orders)
+
+
+def sheet_name(place: int, supplier: str) -> str:
+    """Returns the name of the sheet of a supplier: its place, by which no other sheet has that name, and as much of its own
+    name as a sheet may have."""
+    name = " ".join([f"{place:03}", *UNNAMED.sub(" ", supplier).split()])
+    short = name.encode("utf-16-le")[: 2 * MOST_NAME].decode("utf-16-le", "ignore")
+    return short.rstrip(" '")
+
+
+def write_orders(path: Path, orders: OrdersToday) -> None:
+    """Writes the orders of a day as a workbook: all lines, and a sheet for each supplier with an order. Raises Refused for
+    a file that can't be written, and for more lines than a sheet has."""
+    with new_book(path, f"Orders of {orders.today.day}") as book:
+        book.add(LINES, orders.tables["lines"])
+        for place, (supplier, lines) in orders.by_supplier.items():
+            book.add(sheet_name(place, supplier), lines)
