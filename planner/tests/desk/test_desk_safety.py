@@ -188,6 +188,7 @@ def test_each_page_says_what_it_may_do(planner: Planner) -> None:
     pages = [f"/{page}" for page in PAGES]
     for path in (*pages, "/style.css", "/script.js", "/icon.svg", "/no-page"):
         answer = planner.get(path)
+        assert answer.status_code == (404 if path == "/no-page" else 200)
         parts = answer.headers["Content-Security-Policy"].split("; ")
         policy = {name: {*words} for name, *words in map(str.split, parts)}
         assert policy == ALLOWED, path

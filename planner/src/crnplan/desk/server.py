@@ -57,7 +57,9 @@ def application(front: Front, hosts: set[str]) -> Flask:
 
     @app.get("/style.css")
     def style() -> Response:
-        return Response(rendered("desk/style.css", {}), mimetype="text/css")
+        # The table of a whole plan is on no page of the desk.
+        facts = {"columns": [], "rows_a_group": 1}
+        return Response(rendered("desk/style.css", facts), mimetype="text/css")
 
     @app.get("/script.js")
     def script() -> Response:
