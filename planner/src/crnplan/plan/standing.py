@@ -1,9 +1,10 @@
 """Says what an item of a plan stands at on a day: its position, whether it is ordered, and how long its stock lasts.
 
 The position of an item is its stock, less what is owed, plus all that is on order. If it is below s, the item is
-ordered up to S, unless its planner orders another quantity on that day. The chance of a shortage before delivery is that of the net demand of a lead time and one more period
-exceeding what is there by then. It assumes the laws of the plan, independent periods, and that what is on order comes
-when it is due; what has no date, or is overdue, comes in time.
+ordered up to S, unless its planner orders another quantity on that day. The chance of a shortage before delivery is
+that of the net demand of a lead time and one more period exceeding what is there by then. It assumes the laws of the
+plan, independent periods, and that what is on order comes when it is due; what has no date, or is overdue, comes in
+time.
 """
 from __future__ import annotations
 

@@ -65,8 +65,9 @@ class Arrival:
 @dataclass(frozen=True)
 class Holdings:
     """What tables say of today, by item. `on_hand` is None without a table of stock. `unread` are items with a row that
-    can't be read: what they have is not known. `quantities` are what a planner orders. `counts` say what became of the rows of each table, `controls` what they
-    come to, and `remarks` what is to be said of them."""
+    can't be read: what they have is not known. `quantities` are what a planner orders. `counts` say what became of the
+    rows of each table, `controls` what they come to, and `remarks` what is to be said of them.
+    """
 
     on_hand: Mapping[str, OnHand] | None
     arrivals: Mapping[str, Sequence[Arrival]]
