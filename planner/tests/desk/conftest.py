@@ -16,11 +16,21 @@ from crnplan.desk.kept import DESK, PLANS, Desk
 from crnplan.desk.safety import TOKEN, Secret
 from crnplan.desk.server import application, rooms_in
 from crnplan.store.files import own_folder
+from planner.tests.desk.monday import Export
 from planner.tests.show.made_catalogue import made_folder
 
 HOST = "localhost"
 ORIGIN = f"http://{HOST}"
 MADE_PLAN = "2026-11-27"
+# Words of crnplan.toml: how the American company of monday.py is planned, and that it takes seconds.
+WORDS = {
+    "where": ["Warehouse=Main", "Type=Sale"],
+    "currency": "USD",
+    "setup": 45,
+    "holding_rate": 0.2,
+    "fill": 0.95,
+}
+QUICK = {"periods": 256, "replications": 4}
 # A loaded machine may need this long for some work, in seconds.
 LONGEST = 100
 
@@ -91,6 +101,15 @@ def front(tmp_path: Path) -> Iterator[Front]:
 def planner(front: Front) -> Planner:
     """Returns who asks an empty desk."""
     return Planner(front)
+
+
+def add_export(front: Front, export: Export) -> None:
+    """Adds the files of a company to a desk, which says how they are planned in few replications."""
+    for kind, path in (("demand", export.demand), ("items", export.masters)):
+        with path.open("rb") as data:
+            file = front.desk.add_file(path.name, data)
+        front.desk.set_file(file.name, kind, "", True)
+    front.desk.keep_words({**QUICK, **WORDS})
 
 
 def add_made_plan(front: Front, items: int, **more: Any) -> Path:

@@ -1,13 +1,24 @@
 """Tests of the desk as a process: how it is opened and ended, what it leaves behind, and what bytes of others do to it."""
 from __future__ import annotations
 
+import html
+import re
+import shlex
 import signal
+import threading
 from collections.abc import Iterator
 from pathlib import Path
 
 import psutil
 import pytest
 
+from crnplan.desk import work
+from crnplan.read.catalogue_reading import CATALOGUE
+from crnplan.store.files import own_folder
+from planner.tests.conftest import Command
+from planner.tests.desk.conftest import LONGEST, add_export, wait_for
+from planner.tests.desk.conftest import opened as in_process
+from planner.tests.desk.monday import warehouses
 from planner.tests.desk.opened import Opened
 
 
@@ -57,6 +68,46 @@ def test_second_start_shows_the_first(opened: Opened) -> None:
     third.enter()
     assert third.get("/plan")[0] == 200
     third.close()
+
+
+def files_in(plan: Path) -> dict[str, bytes]:
+    """Returns what all files of a plan have that a user reads."""
+    return {path.name: path.read_bytes() for path in plan.iterdir() if path.is_file()}
+
+
+def test_killed_desk_goes_on(tmp_path: Path, program: Path, crnplan: Command) -> None:
+    """A desk that is killed while it plans leaves no process. The next one goes on by itself, and its plan has the bytes of
+    the command that the page shows. Meanwhile another browser sees the work, and begins no other.
+    """
+    with in_process(tmp_path / "desk") as front:
+        add_export(front, warehouses(tmp_path))
+    first = Opened(tmp_path, "--program", program)
+    first.enter()
+    assert first.post("/plan/begin", way="alone")[0] == 303
+    wait_for(lambda: '"total"' in first.get("/progress")[1])
+    first.enter()
+    assert 'data-kind="plan"' in first.get("/files")[1]
+    status, text = first.post("/plan/begin", way="alone")
+    assert status == 400 and "other work is under way" in text
+    processes = first.processes()
+    assert len(processes) > 1
+    first.process.kill()
+    first.process.wait()
+
+    second = Opened(tmp_path, "--program", program)
+    second.enter()
+    wait_for(lambda: second.get("/progress")[1].strip() == "{}")
+    assert not psutil.wait_procs(processes, timeout=60)[1]
+    (command,) = re.findall("(?s)<pre[^>]*>(.*?)</pre>", second.get("/plan")[1])
+    words = shlex.split(html.unescape(command))[1:]
+    (plan,) = (second.folder / "plans").iterdir()
+    assert words.index("--out") and words[words.index("--out") + 1] == str(plan)
+    words[words.index("--out") + 1] = str(tmp_path / "by command")
+    assert crnplan(*words, "--program", program).status == 0
+    assert files_in(plan) == files_in(tmp_path / "by command")
+    second.process.send_signal(signal.SIGINT)
+    assert second.ended() == (0, "")
+    assert leaves_nothing(second, [])
 
 
 PATHS = """/../../../../etc/passwd /%2e%2e/%2e%2e/%2e%2e/etc/passwd /..%2f..%2f..%2fetc/passwd /plan/../../etc/passwd
@@ -115,3 +166,15 @@ def test_bytes_of_others(opened: Opened) -> None:
     assert opened.get("/plan")[0] == 200
     assert {*opened.folder.rglob("*")} == inside
     assert opened.outside() == opened.before
+
+
+def test_work_waits_for_what_was_killed(tmp_path: Path) -> None:
+    """Work that begins while the last one still ends waits for that, and is not refused."""
+    waiting = threading.Thread(target=work.wait_for, args=[tmp_path])
+    with own_folder(tmp_path, CATALOGUE):
+        waiting.start()
+        waiting.join(0.3)
+        assert waiting.is_alive()
+    waiting.join(LONGEST)
+    assert not waiting.is_alive()
+    work.wait_for(tmp_path / "new")

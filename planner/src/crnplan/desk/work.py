@@ -5,6 +5,8 @@ is then at its end.
 """
 from __future__ import annotations
 
+import contextlib
+import fcntl
 import json
 import os
 import signal
@@ -20,7 +22,7 @@ import crnplan as crn
 from ..errors import CrnplanError, spelt
 from ..given import PlanWords, ReadingWords
 from ..read.catalogue_reading import CATALOGUE
-from ..store.files import own_folder
+from ..store.files import MARKER, own_folder
 from ..store.interrupts import heed_interrupt, heeding_interrupts
 from ..store.work import Progress, shown_by
 from .language import as_field
@@ -166,6 +168,12 @@ def test(asked: dict[str, Any], words: dict[str, Any]) -> None:
 WORK = {READING: read, PLANNING: plan, TESTING: test}
 
 
+def wait_for(folder: Path) -> None:
+    """Waits until nobody works in a folder: the process of a desk that was ended by force takes a moment to end."""
+    with contextlib.suppress(FileNotFoundError), (folder / MARKER).open() as marker:
+        fcntl.flock(marker, fcntl.LOCK_SH)
+
+
 def stop_with_desk(line: int) -> None:
     """Interrupts this process when the desk has ended, which nothing else says on this line."""
     os.read(line, 1)
@@ -182,6 +190,7 @@ def main() -> None:
             asked = json.loads(sys.stdin.readline())
             words = [sys.stdin.fileno()]
             threading.Thread(target=stop_with_desk, args=words, daemon=True).start()
+            wait_for(Path(asked["out"]))
             WORK[asked["kind"]](asked, words_in(read_config(asked["config"])))
             told(ended=DONE, said=[])
         except KeyboardInterrupt:
