@@ -84,6 +84,11 @@ class Placed:
     number: str
     added: str
 
+    @property
+    def key(self) -> str:
+        """Returns what names it in a form."""
+        return f"{self.number} {self.added} {self.item}"
+
 
 @dataclass(frozen=True)
 class Begun:

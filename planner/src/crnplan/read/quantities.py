@@ -5,7 +5,11 @@ import math
 from dataclasses import dataclass
 from fractions import Fraction
 
+from ..errors import Refused
+from ..money import exact
 from ..remarks import Remark
+from ..toml.documents import shown
+from ..words import message
 
 
 @dataclass(frozen=True)
@@ -37,3 +41,14 @@ def quantity_fault(quantity: Fraction, item: str, pack: int) -> Remark | None:
             "high": low + pack,
         },
     )
+
+
+def quantity_of(text: str, item: str, pack: int) -> int:
+    """Returns the quantity of an item that a planner writes. Raises Refused, with the next ones that can be ordered."""
+    quantity = exact(text)
+    if quantity is None:
+        raise Refused(f"{item}: {shown(text)} is no number", "write digits, as 12")
+    wrong = quantity_fault(quantity, item, pack)
+    if wrong:
+        raise Refused(message(wrong))
+    return int(quantity)

@@ -142,7 +142,7 @@ class OrdersToday(Result):
     def urgent(self) -> DataTable:
         """Returns the most urgent orders."""
         most = self.today.whole.due[:MOST_URGENT]
-        return self._table("orders", self._rows(most)).with_columns(URGENT)
+        return rows_of(self, most).with_columns(URGENT)
 
     def money(self, amount: Fraction | float) -> str:
         """Returns an amount of money with all its decimals."""
@@ -219,19 +219,22 @@ class OrdersToday(Result):
             "left_out": rejects_of(today.rejects, self.keys),
         }
 
+    @property
+    def files(self) -> dict[str, DataTable]:
+        """Returns all tables, and the order of each supplier, by the names of their files."""
+        files = {file_of(name): table for name, table in self.tables.items()}
+        for place, (_, lines) in self.by_supplier.items():
+            files[supplier_file(place)] = lines
+        return files
+
     def write(self, folder: Folder) -> None:
         """Writes all tables, the order of each supplier, and the text into a folder. The order of a supplier without
         one is removed."""
-        for name, table in self.tables.items():
-            folder.write(file_of(name), table.lines)
-        orders = {
-            supplier_file(place): lines
-            for place, (_, lines) in self.by_supplier.items()
-        }
+        files = self.files
         old = [name for name in folder.names if SUPPLIER_FILE.fullmatch(name)]
-        folder.remove(*(name for name in old if name not in orders))
-        for name, lines in orders.items():
-            folder.write(name, lines.lines)
+        folder.remove(*(name for name in old if name not in files))
+        for name, table in files.items():
+            folder.write(name, table.lines)
         folder.write(SUMMARY, self.text)
 
     def to_excel(self, path: str | Path) -> None:
@@ -346,6 +349,11 @@ class OrdersToday(Result):
                 ),
             },
         )
+
+
+def rows_of(orders: OrdersToday, standings: Iterable[Standing]) -> DataTable:
+    """Returns some items of a day as the table of its orders has them."""
+    return orders._table("orders", orders._rows(standings))
 
 
 def orders_today(
