@@ -112,6 +112,7 @@ def calls(
             {"table": SALES, "demand": "quantity", "date": "date", "every": "week"},
         ),
         "read_lead_times": (crn.read_lead_times, {"table": orders, "every": "week"}),
+        "read_config": (crn.read_config, {"path": plan.path / "found.toml"}),
     }
 
 
@@ -128,7 +129,7 @@ def names_of(function: Callable[..., Any], given: Mapping[str, Any]) -> list[str
 NAMES = "plan read_catalogue backtest open_plan plan_item exchange_curve curve item orders_today of changed fit_demand sweep"
 
 
-MORE = "doubt sensitivity check_keys trajectories run long_run report read_history read_lead_times"
+MORE = "doubt sensitivity check_keys trajectories run long_run report read_history read_lead_times read_config"
 
 
 @pytest.mark.parametrize("name", [*NAMES.split(), *MORE.split()])

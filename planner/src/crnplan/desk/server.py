@@ -42,18 +42,8 @@ def spelling(answers: Callable[..., Any]) -> Callable[..., Any]:
     return spelt_answers
 
 
-def application(front: Front, hosts: set[str]) -> Flask:
-    """Returns the application of a desk, which is asked under the name of some hosts."""
-    app = Flask(__name__, static_folder=None, template_folder=None)
-    app.extensions[FRONT] = front
-    setattr(app, "wsgi_app", spelling(app.wsgi_app))
-    guard(app, front.secret, hosts)
-    for module in MODULES:
-        app.register_blueprint(module.pages)
-
-    @app.get("/")
-    def first() -> Response:
-        return redirect("/today" if front.desk.state.plans else "/files", 303)
+def add_looks(app: Flask) -> None:
+    """Has an application show the style, the script and the icon of its pages."""
 
     @app.get("/style.css")
     def style() -> Response:
@@ -68,6 +58,21 @@ def application(front: Front, hosts: set[str]) -> Flask:
     @app.get("/icon.svg")
     def icon() -> Response:
         return Response(ICON.read_bytes(), mimetype="image/svg+xml")
+
+
+def application(front: Front, hosts: set[str]) -> Flask:
+    """Returns the application of a desk, which is asked under the name of some hosts."""
+    app = Flask(__name__, static_folder=None, template_folder=None)
+    app.extensions[FRONT] = front
+    setattr(app, "wsgi_app", spelling(app.wsgi_app))
+    guard(app, front.secret, hosts)
+    add_looks(app)
+    for module in MODULES:
+        app.register_blueprint(module.pages)
+
+    @app.get("/")
+    def first() -> Response:
+        return redirect("/today" if front.desk.state.plans else "/files", 303)
 
     @app.post("/close")
     def close() -> str:
