@@ -1,21 +1,26 @@
 """Joins a desk, its pages and the work that is under way."""
 from __future__ import annotations
 
+import contextlib
 import datetime
 import shlex
 import threading
-from collections.abc import Mapping
+from collections.abc import Iterator, Mapping
 from pathlib import Path
 from typing import Any, cast
 
-from flask import current_app, request
+from flask import Response, current_app, request, send_from_directory
 
-from ..errors import Refused
+from ..errors import CrnplanError, Refused, argument
+from ..plan.catalogue import ANSWERS, PlannedFolder, planned_folder
 from ..planned import Plan
+from ..read.catalogue_reading import CATALOGUE
 from ..show.page import rendered
+from ..store.files import read_folder
+from ..toml.documents import shown
 from .kept import LOOK, PLANNED, PLANS, TESTS, Begun, Desk
 from .language import ENGLISH, LANGUAGES, words_of
-from .safety import TOKEN, Secret
+from .safety import TOKEN, WHOLE_PAGE, Secret
 from .work import DONE, PLANNING, READING, Work
 
 FRONT = "front"  # of an application
@@ -29,13 +34,15 @@ class Front:
         self.desk, self.secret, self.program = desk, secret, program
         self.work: Work | None = None
         self.lock = threading.RLock()
+        self.reads = threading.RLock()  # held while a plan is read
         self.closes = False
-        # What pages have computed of a plan, by what it is and what it depends on.
+        # What pages have computed of a plan, by what it is and what it depends on, and who computes it.
         self.known: dict[str, tuple[object, Any]] = {}
+        self.turns: dict[str, threading.Lock] = {}
 
     def begin(self, begun: Begun) -> None:
-        """Begins work. Raises Refused if other work is under way, or if a file is missing."""
-        with self.lock:
+        """Begins work, once no plan is read. Raises Refused if other work is under way, or if a file is missing."""
+        with self.reads, self.lock:
             if self.work:
                 raise Refused("other work is under way", "wait for its end, or stop it")
             asked = self._asked(begun)
@@ -70,6 +77,15 @@ class Front:
                 if work.ended == DONE and state.begun:
                     self._done(state, state.begun)
             self.work = None
+        if work.kind == PLANNING and work.ended == DONE:
+            self._prepare()
+
+    def _prepare(self) -> None:
+        """Computes what the page Result has of the last plan, so that its planner need not wait."""
+        from .results import listed
+
+        with contextlib.suppress(CrnplanError):
+            listed(self, "")
 
     @staticmethod
     def _done(state: Any, begun: Begun) -> None:
@@ -125,14 +141,32 @@ class Front:
         path = self.desk.plan_path(name or plans[-1])
         return Plan(path, program=self.program)
 
+    def version(self, name: str) -> object:
+        """Returns what changes with a plan, by default the last one."""
+        answers = self.plan(name).path / ANSWERS
+        return answers, answers.stat().st_mtime_ns if answers.is_file() else 0
+
+    @contextlib.contextmanager
+    def reading(self, name: str) -> Iterator[PlannedFolder]:
+        """Opens a plan, by default the last one, in which no work begins meanwhile. Raises Refused if it is planned again
+        now."""
+        path = self.plan(name).path
+        begun = self.desk.state.begun
+        with self.reads:
+            if self.work and begun and self.desk.path / begun.out == path:
+                what = f"{path.name}: this plan is made again now"
+                raise Refused(what, "wait for the end of that, or stop it")
+            with read_folder(path, CATALOGUE), planned_folder(path) as planned:
+                yield planned
+
     def once(self, what: str, of: object, make: Any) -> Any:
         """Returns what was computed of something, or computes it: the last of each kind is kept."""
         with self.lock:
+            turn = self.turns.setdefault(what, threading.Lock())
+        with turn:
             known = self.known.get(what)
-        if known is None or known[0] != of:
-            known = of, make()
-            with self.lock:
-                self.known[what] = known
+            if known is None or known[0] != of:
+                known = self.known[what] = of, make()
         return known[1]
 
 
@@ -165,6 +199,25 @@ def page(template: str, **facts: Any) -> str:
         "desk": own.desk.path,
     }
     return rendered(f"desk/{template}", {**shared, **facts})
+
+
+def whole_of(name: str, low: int, high: int) -> int | None:
+    """Returns the whole number in a field of a form or a query; None if it is empty. Raises Refused for anything else."""
+    text = request.values.get(name, "").strip()
+    if not text:
+        return None
+    is_whole = text.isdecimal() and len(text) <= len(str(high))
+    if not is_whole or not low <= int(text) <= high:
+        what = f"{argument(name)}: {shown(text)} is no whole number from {low:,} to {high:,}"
+        raise Refused(what, "write one")
+    return int(text)
+
+
+def whole_page(folder: Path, name: str) -> Response:
+    """Returns a page that crnplan has written, which knows nothing of the desk."""
+    answer = send_from_directory(folder.absolute(), name)
+    answer.headers["Content-Security-Policy"] = WHOLE_PAGE
+    return answer
 
 
 def command_of(name: str, *words: object, **options: object) -> str:

@@ -64,6 +64,11 @@ class Override:
     reason: str = ""
 
     @property
+    def holds(self) -> bool:
+        """Returns whether something is set."""
+        return self.is_stopped or self.s is not None
+
+    @property
     def row(self) -> list[object]:
         """Returns the row of a table of overrides."""
         return [

@@ -1,13 +1,43 @@
-"""The page Past of the desk."""
+"""The page Past: how plans would have done on the past of the files."""
 from __future__ import annotations
 
-from flask import Blueprint
+from flask import Blueprint, Response, redirect
+from werkzeug.wrappers import Response as Redirect
 
-from .front import page
+from ..show.backtest_tables import PAGE, SUMMARY
+from .front import command_of, front, page, whole_page
+from .kept import LAST_TEST, PLANNED, Begun
+from .work import TESTING
 
 pages = Blueprint("past", __name__)
 
 
 @pages.get("/past")
 def past() -> str:
-    return page("past.html")
+    desk = front().desk
+    summary, tables = desk.path / LAST_TEST / SUMMARY, desk.tables(PLANNED)
+    tables.pop("laws", None)
+    first = [tables.pop(kind, f"{kind}.csv") for kind in ("demand", "items")]
+    begun = desk.state.begun
+    return page(
+        "past.html",
+        text=summary.read_text("utf-8") if summary.is_file() else "",
+        test=LAST_TEST,
+        is_last=begun is not None and begun.kind == TESTING,
+        command=command_of(
+            "backtest", *first, **tables, config=desk.config, out=desk.path / LAST_TEST
+        ),
+    )
+
+
+@pages.post("/past/begin")
+def begin() -> Redirect:
+    own = front()
+    own.begin(Begun(TESTING, LAST_TEST, changed=own.desk.state.changed))
+    return redirect("/past", 303)
+
+
+@pages.get(f"/past/{PAGE}")
+def whole() -> Response:
+    """Returns the page of the test as it is."""
+    return whole_page(front().desk.path / LAST_TEST, PAGE)

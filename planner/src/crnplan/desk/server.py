@@ -19,7 +19,7 @@ from ..errors import CrnplanError, Failed, Refused, spelt
 from ..show.page import rendered
 from ..store.files import IN_KEPT, Folder, own_folder
 from ..store.interrupts import heed_interrupt
-from . import files, orders, past, plans, results, settings
+from . import files, items, orders, past, plans, results, settings
 from .front import FRONT, Front, page
 from .kept import DESK, Desk
 from .language import as_field
@@ -29,7 +29,7 @@ LOCAL = "127.0.0.1"
 THREADS, MOST_CONNECTIONS = 4, 60
 ADDRESS = f"{IN_KEPT}address"  # of the desk that runs, for who opens it a second time
 ICON = Path(__file__).with_name("static") / "icon.svg"
-MODULES = files, settings, plans, results, orders, past
+MODULES = files, settings, plans, results, items, orders, past
 
 
 def spelling(answers: Callable[..., Any]) -> Callable[..., Any]:

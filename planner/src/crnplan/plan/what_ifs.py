@@ -18,6 +18,7 @@ from ..table import DataTable, Result
 from ..words import sentence
 from .answer import Figures
 from .choice import best_of
+from .prices import VALUE
 from .question import Terms, rates_of
 
 AS_IT_IS = "as it is"
@@ -147,3 +148,25 @@ def moves_of(terms: Terms, name: str, kept: Levels) -> Moves:
                 Remark("case refused", {"case": case.words, "reason": str(fault)})
             )
     return Moves(name, tuple(moves), tuple(notes))
+
+
+def what_if(
+    terms: Terms,
+    policies: Sequence[Levels],
+    lead: int | None = None,
+    share: float | None = None,
+) -> list[Figures]:
+    """Returns the figures of policies in boxes, and those of the best one last, if each lead time had so many periods, and
+    another share were wanted. An item of which a share is asked for is planned by itself. Raises Refused if there is no
+    best policy."""
+    case, settings = Case(""), terms.settings
+    if share is not None:
+        case = case_of_share(terms, share)
+        settings = dataclasses.replace(
+            settings, together={}, prices=None, at_least=None, weigh=VALUE
+        )
+    if lead is not None:
+        case = dataclasses.replace(case, laws={"lead": Law((lead,), (1,))})
+    asked = dataclasses.replace(terms, settings=settings)
+    _, (best, *others) = figures_in(case.of(asked), policies)
+    return [*others, best]

@@ -97,19 +97,23 @@ class ItemColumn(NamedTuple):
     is_optional: bool = False
     width: int = 0
 
+    @property
+    def title(self) -> str:
+        """Returns what stands above the column."""
+        return self.heading or self.name.replace("_", " ")
+
     def is_filled(self, rows: Sequence[Shown]) -> bool:
         return any(row.cells[self.name] for row in rows)
 
     def among(self, rows: Sequence[Shown]) -> ItemColumn:
         """Returns the column with its width in digits, with its padding: it has room for its texts up to a limit, and for
         each word of its heading with the sign of its order."""
-        heading = self.heading or self.name.replace("_", " ")
         longest = max((len(row.cells[self.name]) for row in rows), default=0)
         widths = [min(longest, MOST_DIGITS)]
         if self.letters:
             widths = [math.ceil(min(longest, self.letters) * LETTER)]
-        widths += (len(word) + 2 for word in heading.split())
-        return self._replace(heading=heading, width=PADDING + max(widths))
+        widths += (len(word) + 2 for word in self.title.split())
+        return self._replace(heading=self.title, width=PADDING + max(widths))
 
 
 ITEM_COLUMNS = [

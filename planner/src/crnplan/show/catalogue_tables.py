@@ -241,17 +241,17 @@ REJECT_COLUMNS = columns_of(
 )
 
 
+def decided(answers: Iterable[Decided]) -> Iterator[Decision]:
+    """Yields the decision on each item that is planned, or of which no order is."""
+    for item, answer in answers:
+        if isinstance(answer, Answer) or item.past in UNORDERED:
+            yield Decision.of(item, answer)
+
+
 def decisions_of(folder: PlannedFolder, answers: Iterable[Decided]) -> DataTable:
     """Returns the decisions of a folder: of its items with their answers a row for each that is planned, or of which no
     order is."""
-    return folder.table(
-        DECISION_COLUMNS,
-        (
-            Decision.of(item, answer)
-            for item, answer in answers
-            if isinstance(answer, Answer) or item.past in UNORDERED
-        ),
-    )
+    return folder.table(DECISION_COLUMNS, decided(answers))
 
 
 def exact_of(answers: Iterable[Decided]) -> DataTable:

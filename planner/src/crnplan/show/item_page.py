@@ -357,6 +357,11 @@ def item_summary(words: ItemWords) -> str:
 
 def item_page(words: ItemWords) -> str:
     """Returns the page of an item as HTML."""
+    return rendered("item.html", item_facts(words))
+
+
+def item_facts(words: ItemWords) -> dict[str, object]:
+    """Returns what the page of an item has."""
     depth, item, answer = words.depth, words.item, words.answer
     (decision,) = DataTable.of(
         DECISION_COLUMNS, [Decision.of(item, answer)], words.decimals
@@ -372,24 +377,21 @@ def item_page(words: ItemWords) -> str:
     for compared in words.coming.rows if words.coming else ():
         ends = compared.low, compared.high
         coming.append(Range(compared.policy, compared.diff, *ends, compared.verdict))
-    return rendered(
-        "item.html",
-        {
-            "words": words,
-            "scale_of": scale_of,
-            "decision": decision,
-            "exact": exact,
-            "doubted": doubted,
-            "regrets": regrets,
-            "decided": decided,
-            "coming": coming,
-            "laws": [*laws_of(words.question, depth.single).spelt(is_shown=True)],
-            "history_plot": history_plot(depth, words.period_names, words.every),
-            "season_plot": season_plot(depth, words.every),
-            "law_plot": law_plot(depth, words.every),
-            "stock_plot": stock_plot(depth, words.every),
-        },
-    )
+    return {
+        "words": words,
+        "scale_of": scale_of,
+        "decision": decision,
+        "exact": exact,
+        "doubted": doubted,
+        "regrets": regrets,
+        "decided": decided,
+        "coming": coming,
+        "laws": [*laws_of(words.question, depth.single).spelt(is_shown=True)],
+        "history_plot": history_plot(depth, words.period_names, words.every),
+        "season_plot": season_plot(depth, words.every),
+        "law_plot": law_plot(depth, words.every),
+        "stock_plot": stock_plot(depth, words.every),
+    }
 
 
 def scale_of(rows: Iterable[Range]) -> Scale:

@@ -1,0 +1,150 @@
+"""The page of an item: its plan, what other levels come to, and what its planner sets for it."""
+from __future__ import annotations
+
+from collections.abc import Mapping
+from dataclasses import replace
+from typing import NamedTuple
+from urllib.parse import urlencode
+
+from flask import Blueprint, redirect, request
+from markupsafe import Markup
+from werkzeug.wrappers import Response as Redirect
+
+from ..errors import CrnplanError, Refused, argument
+from ..formats import MOST_ITEMS, MOST_LEAD
+from ..plan.answer import CHOSEN, TODAY, Answer, Figures
+from ..plan.catalogue import PlannedFolder
+from ..plan.how import without_season
+from ..plan.question import Levels, rounded, terms_of
+from ..plan.what_ifs import what_if
+from ..read.amounts import share_of
+from ..read.defaults import read_argument
+from ..read.item import Item
+from ..show.catalogue_page import money_of
+from ..show.item_page import item_facts
+from ..show.page import rendered
+from .front import Front, command_of, front, page, whole_of
+from .kept import Override
+
+pages = Blueprint("items", __name__)
+TYPED, BEST = "typed", "best"
+FIELDS = "s", "S", "lead", "fill"
+
+
+class Drawn(NamedTuple):
+    """What is decided for an item and its pictures, as parts of a page; or why there are none."""
+
+    head: str = ""
+    figures: str = ""
+    why: str = ""
+
+
+def drawn(own: Front, plan: str, name: str) -> Drawn:
+    """Returns the parts of the page of an item, which are computed once."""
+
+    def make() -> Drawn:
+        try:
+            with own.reading(plan):
+                facts = item_facts(own.plan(plan).item(name).words)
+        except CrnplanError as why:
+            return Drawn(why=str(why))
+        head, figures = (
+            Markup(rendered(f"item_{part}.html", facts)) for part in ("head", "figures")
+        )
+        return Drawn(head, figures)
+
+    made: Drawn = own.once("item", (own.version(plan), name), make)
+    return made
+
+
+def levels_asked() -> tuple[int, int] | None:
+    """Returns s and S in the fields of a form; None if both are empty. Raises Refused if they can't be meant."""
+    s, S = (whole_of(name, 0, MOST_ITEMS) for name in ("s", "S"))
+    if s is None and S is None:
+        return None
+    if s is None or S is None or s > S:
+        raise Refused("s and S are no two levels", "write both, s at most S")
+    return s, S
+
+
+def asked_figures(
+    planned: PlannedFolder, item: Item, answer: Answer
+) -> Mapping[str, Figures]:
+    """Returns what policies come to as the form asks: the chosen one, today's, the one that is typed, and the best one."""
+    lead, text = whole_of("lead", 1, MOST_LEAD), request.args.get("fill", "").strip()
+    share = float(read_argument("fill", text, share_of)) if text else None
+    settings = replace(planned.settings, confidence=None)
+    terms = terms_of(without_season(item, settings)[0], answer.laws, settings)
+    boxes = dict[str, Levels]()
+    for name, levels in {
+        CHOSEN: answer.chosen.levels,
+        TODAY: item.levels,
+        TYPED: levels_asked(),
+    }.items():
+        in_boxes = rounded(levels, terms.item.box)
+        if in_boxes:
+            boxes[name] = in_boxes
+    figures = what_if(terms, [*boxes.values()], lead, share)
+    return dict(zip([*boxes, BEST], figures))
+
+
+def known_item(planned: PlannedFolder, own: Front, name: str) -> Answer | None:
+    """Returns the answer to an item; None if it has none. Raises Refused for an item that nobody knows."""
+    if planned.read.item(name) is None and name not in own.desk.state.overrides:
+        planned.item(name)  # says why
+    answer = planned.store.answer(name)
+    return answer if isinstance(answer, Answer) else None
+
+
+@pages.get("/item")
+def item() -> str:
+    own = front()
+    plan, name = request.args.get("plan", ""), request.args.get("item", "")
+    path = own.plan(plan).path
+    asked = {field: request.args.get(field, "") for field in FIELDS}
+    with own.reading(plan) as planned:
+        answer, every = known_item(planned, own, name), planned.every
+        money = money_of(planned).exact
+        figures: Mapping[str, Figures] = {}
+        if answer and any(asked.values()):
+            figures = asked_figures(planned, planned.item(name)[0], answer)
+    return page(
+        "item.html",
+        at="result",
+        plan=path.name,
+        name=name,
+        drawn=drawn(own, plan, name),
+        has_answer=answer is not None,
+        asked=asked,
+        figures=figures,
+        every=every,
+        money=money,
+        override=own.desk.state.overrides.get(name),
+        command=command_of("report", path, item=name),
+    )
+
+
+@pages.post("/item/override")
+def override() -> Redirect:
+    own, form = front(), request.form
+    plan, name = form.get("plan", ""), form.get("item", "")
+    reason = " ".join(form.get("reason", "").split())
+    with own.reading(plan) as planned:
+        known_item(planned, own, name)
+    if not reason:
+        raise Refused(f"{argument('reason')} is missing", "say why, for later")
+    match form.get("way"), levels_asked():
+        case "levels", (s, S):
+            stated = Override(name, s, S, reason=reason)
+        case "stop", None:
+            stated = Override(name, is_stopped=True, reason=reason)
+        case "end", None:
+            stated = Override(name, reason=reason)
+        case _:
+            raise Refused(
+                "the fields of the override do not go together",
+                "write s and S, or leave them empty and choose another way",
+            )
+    with own.desk.changing() as state:
+        state.overrides[name] = stated
+    return redirect(f"/item?{urlencode({'plan': plan, 'item': name})}#override", 303)
