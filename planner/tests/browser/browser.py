@@ -19,12 +19,13 @@ RULES = Path(__file__).with_name("rules.js").read_text("utf-8")
 COMMANDS = ("chromium", "chromedriver", "pdftotext")
 # A loaded machine may need this long for a page or a script, in seconds.
 LONGEST = 100
-# If the driver is killed, its pipe closes and the browser ends. No name is resolved, so nothing leaves the machine.
+# If the driver is killed, its pipe closes and the browser ends. No name is resolved, so nothing leaves the machine;
+# the desk is at an address of it.
 SWITCHES = """--headless=new --no-sandbox --disable-gpu --disable-dev-shm-usage --remote-debugging-pipe --no-first-run
     --no-default-browser-check --disable-extensions --disable-breakpad --disable-background-networking
     --disable-component-update --disable-default-apps --disable-domain-reliability --disable-sync --no-pings
     --hide-scrollbars --force-color-profile=srgb --lang=en-US""".split() + [
-    "--host-resolver-rules=MAP * ~NOTFOUND"
+    "--host-resolver-rules=MAP * ~NOTFOUND, EXCLUDE 127.0.0.1"
 ]
 
 
@@ -117,12 +118,16 @@ class Browser:
         )
 
     def open(self, page: Path, form: Form = WIDE) -> None:
-        """Loads a page in a form. What the page before has printed and requested is forgotten."""
+        """Loads a page in a form, as `visit` does."""
+        self.visit(page.as_uri(), form)
+
+    def visit(self, address: str, form: Form = WIDE) -> None:
+        """Loads what is at an address in a form. What the page before has printed and requested is forgotten."""
         self.driver.get("about:blank")
         self.show(form)
         self._read()
         self._messages, self._requests = [], []
-        self.driver.get(page.as_uri())
+        self.driver.get(address)
 
     def command(self, name: str, **values: Any) -> dict[str, Any]:
         """Runs a command of the Chrome DevTools Protocol and returns its result."""

@@ -138,7 +138,7 @@ const rules = (() => {
   }
 
   // Returns the elements with text that a picture places: those in it, and those with an absolute position.
-  function labels() {
+  function placed() {
     const isPlaced = (element) => element.closest("svg, figure, [role=img]")
       || getComputedStyle(element).position === "absolute";
     return withText().filter(isPlaced);
@@ -146,7 +146,7 @@ const rules = (() => {
 
   // Lines of text may come close, but no letters may meet.
   function overlaps() {
-    const boxes = labels().map((element) => {
+    const boxes = placed().map((element) => {
       const range = document.createRange();
       range.selectNodeContents(element);
       const box = range.getBoundingClientRect();
@@ -240,6 +240,27 @@ const rules = (() => {
 
   const isHidden = (element) => element.closest("[aria-hidden=true]");
 
+  // WCAG 1.3.1 and 3.3.2. A placeholder is gone once something is typed.
+  function labels() {
+    const isField = (it) => !["hidden", "submit", "button", "reset", "image"].includes(it.type);
+    const isLabelled = (it) => it.getAttribute("aria-labelledby") || (it.getAttribute("aria-label") ?? "").trim()
+      || [...it.labels].some((label) => spaced(label.textContent));
+    const fields = [...document.querySelectorAll("input, select, textarea")].filter(isField);
+    return named(fields.filter((it) => !isLabelled(it)).map((it) => `${place(it)} "${it.name}": it has no label`));
+  }
+
+  // What a label or a link names must be one element.
+  function ids() {
+    const seen = new Set();
+    const isTwice = (it) => seen.has(it.id) || !seen.add(it.id);
+    const referring = ["for", "aria-labelledby", "aria-describedby"];
+    const unknown = [...document.querySelectorAll(referring.map((it) => `[${it}]`).join())].flatMap((element) => referring
+      .flatMap((it) => (element.getAttribute(it) ?? "").split(/\s+/)).filter((it) => it && !document.getElementById(it))
+      .map((it) => `${place(element)}: there is no element ${it}`));
+    const twice = [...document.querySelectorAll("[id]")].filter(isTwice).map((it) => `${place(it)}: its id is not its own`);
+    return named([...twice, ...unknown]);
+  }
+
   // Returns the pictures and controls that a screen reader must name. A part of a picture needs no name.
   const toName = () => [
     ...all(DRAWN).filter((it) => !isHidden(it) && !it.parentElement.closest("[role=img]")),
@@ -273,6 +294,6 @@ const rules = (() => {
     return edges.size;
   }
 
-  return {place, overflow, clipped, overlaps, cards, contrast, tables, headings, page, policy, regions, toName, partsOfTables,
+  return {place, overflow, clipped, overlaps, cards, contrast, tables, headings, page, policy, regions, labels, ids, toName, partsOfTables,
     watch};
 })();

@@ -81,6 +81,8 @@ RULES: dict[str, Rule] = {
             "page",
             "policy",
             "regions",
+            "labels",
+            "ids",
         )
     },
 }
