@@ -272,7 +272,11 @@ const rules = (() => {
     ["columnheader", table.querySelector("th[scope=col]")], ["cell", table.querySelector("tbody td")],
   ]).filter(([, element]) => element && isShown(element));
 
-  const toReach = () => all(CONTROLS).filter((it) => it.tabIndex >= 0 && !it.disabled);
+  // Of a group of choices Tab reaches the chosen one, and arrows the others.
+  const isOther = (it) => it.type === "radio" && !it.checked
+    && [...document.getElementsByName(it.name)].some((other) => other.form === it.form && other.checked);
+
+  const toReach = () => all(CONTROLS).filter((it) => it.tabIndex >= 0 && !it.disabled && !isOther(it));
 
   // Returns how an element looks at its edge, which must change if it has the focus.
   function edge(element) {

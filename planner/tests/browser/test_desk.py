@@ -1,0 +1,114 @@
+"""Tests the pages of the desk in a browser: what each must hold in each form, and the way of a planner through them."""
+from __future__ import annotations
+
+import re
+from collections.abc import Callable, Iterable, Iterator
+from pathlib import Path
+from urllib.parse import parse_qs, urlsplit
+
+import pytest
+
+from crnplan.desk.kept import PLANS, Begun, Override, Placed
+from crnplan.desk.work import PLANNING
+from planner.tests.browser.browser import Browser, Form
+from planner.tests.browser.rules import RULES, faults_of
+from planner.tests.conftest import shared
+from planner.tests.desk.conftest import MADE_PLAN, add_export, opened, wait_for
+from planner.tests.desk.monday import warehouses
+from planner.tests.desk.opened import Opened
+
+FORMS = [Form(width, scheme) for scheme in ("light", "dark") for width in (1200, 390)]
+# Rules of pages that are files: the policy of the desk is in the head of its answers, and it loads its style and script.
+OF_FILES = "policy", "requests"
+# What a page links to that is no page of the desk: tables, workbooks, and the whole page of a plan.
+FILES = re.compile(r"\.(csv|xlsx|html|json|zip)$")
+MOST_ALIKE = 2  # pages that differ by the values of their query alone
+Check = Callable[[Iterable[tuple[str, object]]], None]
+
+
+def planned(folder: Path, program: Path) -> None:
+    """Makes a desk that has all that its pages show: files, a plan, what was set and placed by a planner."""
+    with opened(folder / "desk", program) as front:
+        export, desk = warehouses(folder), front.desk
+        add_export(front, export)
+        for kind, name in (("stock", "stock.csv"), ("on_order", "open.csv")):
+            with (folder / name).open("rb") as data:
+                file = desk.add_file(name, data)
+            desk.set_file(file.name, kind, "", True)
+        front.read()
+        wait_for(lambda: front.work is None)
+        changed = desk.state.changed
+        front.begin(Begun(PLANNING, f"{PLANS}/{MADE_PLAN}", changed=changed))
+        wait_for(lambda: front.work is None)
+        assert desk.state.said == [] and desk.state.plans == [MADE_PLAN]
+        with desk.changing() as state:
+            state.overrides["P-001"] = Override("P-001", 3, 9, reason="<b>shelf</b>")
+            state.placed.append(Placed("P-002", 6, "1", "2026-11-27 08:00:00"))
+
+
+@pytest.fixture
+def desk(tmp_path_factory: pytest.TempPathFactory, program: Path) -> Iterator[Opened]:
+    """Returns a desk that has a plan, in a process of its own."""
+    made = shared(tmp_path_factory, "desk", lambda folder: planned(folder, program))
+    desk = Opened(made, "--program", program)
+    desk.enter()
+    yield desk
+    desk.close()
+
+
+def pages_of(desk: Opened) -> list[str]:
+    """Returns the addresses of all pages to which links lead from the first one, few of those that are alike."""
+    found, waiting = dict[str, int](), ["/files"]
+    pages = list[str]()
+    while waiting:
+        page = waiting.pop(0)
+        parts = urlsplit(page)
+        alike = f"{parts.path} {sorted(parse_qs(parts.query))}"
+        if (
+            page in pages
+            or found.get(alike, 0) >= MOST_ALIKE
+            or FILES.search(parts.path)
+        ):
+            continue
+        found[alike] = found.get(alike, 0) + 1
+        pages.append(page)
+        status, text = desk.get(page)
+        assert status == 200, page
+        links = re.findall(r'href="(/[^"#]*)', text)
+        waiting += [link.replace("&amp;", "&") for link in links if link != "/icon.svg"]
+    return [page for page in pages if not page.endswith(".css")]
+
+
+def address(desk: Opened, page: str) -> str:
+    return f"http://{desk.host}{page}"
+
+
+def leaving(browser: Browser, desk: Opened) -> list[str]:
+    """Returns the requests of the page that go to anything but the desk. A browser draws its own fields by data."""
+    others = [it for it in browser.requests if not it.startswith("data:")]
+    return [it for it in others if urlsplit(it).netloc != desk.host]
+
+
+def faults(browser: Browser, desk: Opened, form: Form) -> list[str]:
+    """Returns the faults of the page that is shown."""
+    rules = [rule for rule in RULES if rule not in OF_FILES]
+    if form.scheme == "dark":
+        rules = ["console", "contrast", "keyboard"]
+    left = [f"requests: {it}" for it in leaving(browser, desk)]
+    return [*faults_of(browser, *rules), *left]
+
+
+def test_pages_have_no_fault(browser: Browser, desk: Opened, check_all: Check) -> None:
+    """Each page has labels, names, headings and contrasts, is reached by Tab, and does not run over its side."""
+    pages = pages_of(desk)
+    assert {urlsplit(page).path for page in pages} >= {"/files", "/settings", "/plan"}
+    browser.visit(desk.address)
+
+    def judged() -> Iterator[tuple[str, object]]:
+        for page in pages:
+            for form in FORMS:
+                browser.visit(address(desk, page), form)
+                found = faults(browser, desk, form)
+                yield f"{page} {form}", "; ".join(found) or True
+
+    check_all(judged())
