@@ -56,7 +56,7 @@ class Planner:
         self.client = application(front, {HOST}).test_client()
         self.token = front.secret.derived(TOKEN)
         self.languages = {"Accept-Language": language}
-        assert self.get(f"/enter/{front.secret.text}").status_code == 303
+        assert self.get(f"/enter/{front.secret.text}").status_code == 200
 
     def get(self, path: str, **query: Any) -> TestResponse:
         """Returns the answer to a page that is asked for."""

@@ -13,6 +13,9 @@ import psutil
 import pytest
 
 from crnplan.desk import work
+from crnplan.desk.kept import DESK
+from crnplan.desk.server import serve
+from crnplan.errors import Refused
 from crnplan.read.catalogue_reading import CATALOGUE
 from crnplan.store.files import own_folder
 from planner.tests.conftest import Command
@@ -178,3 +181,26 @@ def test_work_waits_for_what_was_killed(tmp_path: Path) -> None:
     waiting.join(LONGEST)
     assert not waiting.is_alive()
     work.wait_for(tmp_path / "new")
+
+
+def test_a_browser_is_led_by_a_file(opened: Opened) -> None:
+    """Only the owner of the desk reads its address and the page that leads there; so others don't see it in a list of
+    commands."""
+    own = opened.folder / "kept"
+    for name in ("address", "open.html"):
+        assert (own / name).stat().st_mode & 0o777 == 0o600
+    assert (own / "address").read_text("utf-8") == opened.address
+    assert f'url={opened.address}"' in (own / "open.html").read_text("utf-8")
+    assert opened.folder.stat().st_mode & 0o777 == 0o700
+
+
+@pytest.mark.parametrize(
+    "address", ["http://example.org/enter/" + 43 * "x", "--help", ""]
+)
+def test_no_other_address_is_shown(address: str, tmp_path: Path) -> None:
+    """A folder that says where else a desk is, is refused as one in which a run works."""
+    with own_folder(tmp_path, DESK) as folder:
+        folder.inner("kept")
+        (tmp_path / "kept/address").write_text(address, "utf-8")
+        with pytest.raises(Refused, match="another run of crnplan works"):
+            serve(tmp_path, opens=False)

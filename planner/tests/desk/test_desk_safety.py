@@ -124,7 +124,7 @@ def test_form_is_taken_of_its_planner_alone(
     assert is_refused(sent.having(**OTHER_FORMS[name]).answer(client), front)
 
 
-@pytest.mark.parametrize("token", [None, "", "0", Secret().derived(TOKEN), "\0", "é"])
+@pytest.mark.parametrize("token", [None, "", "0", 64 * "0", "\0", "é"])
 def test_form_needs_its_token(
     front: Front, client: Client, sent: Asked, token: str | None
 ) -> None:
@@ -167,7 +167,7 @@ def test_cookie_is_for_this_desk_alone(
     name, *traits = answer.headers["Set-Cookie"].split("; ")
     assert {*traits} == {"HttpOnly", "SameSite=Strict", "Path=/"}
     assert name.startswith(COOKIE) and front.secret.text not in name
-    assert answer.status_code == 303 and answer.location == "/"
+    assert answer.status_code == 200 and 'url=/"' in answer.text
     other = Secret()
     assert other.derived("session") not in name and other.text != front.secret.text
     assert len({front.secret.derived(use) for use in ("session", TOKEN, "")}) == 3

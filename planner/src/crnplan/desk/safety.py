@@ -12,9 +12,11 @@ from hmac import compare_digest
 from typing import NoReturn
 
 import werkzeug.formparser
-from flask import Flask, Request, Response, abort, redirect, request
+from flask import Flask, Request, Response, abort, request
 from werkzeug.exceptions import RequestEntityTooLarge
 from werkzeug.wrappers import Response as AnyResponse
+
+from ..show.page import rendered
 
 MOST_UPLOAD = 2_000_000_000  # bytes of a request
 MOST_FORM = 4_000_000  # bytes of the fields of a form that are no files
@@ -87,10 +89,10 @@ def guard(app: Flask, secret: Secret, hosts: set[str]) -> None:
     def check() -> AnyResponse | None:
         if request.host not in hosts or request.method not in METHODS:
             refuse()
-        if request.headers.get("Sec-Fetch-Site", "none") not in SITES:
-            refuse()
         if request.endpoint == "enter":
             return None
+        if request.headers.get("Sec-Fetch-Site", "none") not in SITES:
+            refuse()
         if not is_equal(request.cookies.get(cookie_name(), ""), session):
             refuse()
         if request.method == "POST":
@@ -101,10 +103,11 @@ def guard(app: Flask, secret: Secret, hosts: set[str]) -> None:
         return None
 
     @app.get("/enter/<given>")
-    def enter(given: str) -> AnyResponse:
+    def enter(given: str) -> Response:
         if not is_equal(given, secret.text):
             refuse()
-        answer = redirect("/", 303)
+        # A redirect would be a request of the page that has led here, which may be no page of the desk.
+        answer = Response(rendered("desk/way.html", {"address": "/"}))
         answer.set_cookie(cookie_name(), session, httponly=True, samesite="Strict")
         return answer
 

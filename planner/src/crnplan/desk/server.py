@@ -3,8 +3,10 @@ from __future__ import annotations
 
 import contextlib
 import os
+import re
 import signal
 import tempfile
+import threading
 import webbrowser
 from collections.abc import Callable, Iterator
 from pathlib import Path
@@ -15,9 +17,9 @@ from flask import Flask, redirect
 from werkzeug.exceptions import HTTPException
 from werkzeug.wrappers import Response
 
-from ..errors import CrnplanError, Failed, Refused, spelt
+from ..errors import CrnplanError, Failed, spelt
 from ..show.page import rendered
-from ..store.files import IN_KEPT, Folder, own_folder
+from ..store.files import IN_KEPT, Busy, Folder, own_folder
 from ..store.interrupts import heed_interrupt
 from . import files, items, orders, past, plans, results, settings
 from .front import FRONT, Front, page
@@ -27,7 +29,9 @@ from .safety import MOST_UPLOAD, Secret, guard
 
 LOCAL = "127.0.0.1"
 THREADS, MOST_CONNECTIONS = 4, 60
-ADDRESS = f"{IN_KEPT}address"  # of the desk that runs, for who opens it a second time
+# The address of the desk that runs, for who opens it a second time, and a page that leads there.
+ADDRESS, WAY = f"{IN_KEPT}address", f"{IN_KEPT}open.html"
+ADDRESS_FORM = re.compile(r"http://127\.0\.0\.1:[0-9]{1,5}/enter/[\w-]{43}", re.ASCII)
 ICON = Path(__file__).with_name("static") / "icon.svg"
 MODULES = files, settings, plans, results, items, orders, past
 
@@ -103,27 +107,62 @@ def rooms_in(room: Path) -> Iterator[None]:
         tempfile.tempdir = usual
 
 
-def address_of(path: Path) -> str:
-    """Returns the address of the desk that runs in a folder; empty if none is known."""
-    place = path / ADDRESS
-    return place.read_text("utf-8") if place.is_file() else ""
-
-
-def keep_address(folder: Folder, address: str) -> None:
-    """Keeps the address of this desk where its owner alone reads it."""
-    place = folder.path / ADDRESS
+def keep_private(folder: Folder, name: str, text: str) -> None:
+    """Keeps a text where its owner alone reads it."""
+    place = folder.path / name
     place.unlink(missing_ok=True)
     with open(
         place, "x", opener=lambda name, flags: os.open(name, flags, 0o600)
     ) as file:
-        file.write(address)
+        file.write(text)
 
 
-def show_address(address: str, opens: bool) -> None:
-    """Prints the address of a desk, and opens a browser there."""
+def show_address(path: Path, address: str, opens: bool) -> None:
+    """Prints the address of the desk in a folder, and opens a browser there, by a file: others see the words of its command."""
     print(address, flush=True)
     if opens:
-        webbrowser.open(address)
+        way = (path / WAY).absolute().as_uri()
+        threading.Thread(target=webbrowser.open, args=[way], daemon=True).start()
+
+
+def show_other(path: Path, opens: bool) -> bool:
+    """Shows the desk that runs in a folder. Returns whether its address is known."""
+    place = path / ADDRESS
+    address = place.read_text("utf-8") if place.is_file() else ""
+    is_one = ADDRESS_FORM.fullmatch(address) is not None
+    if is_one:
+        show_address(path, address, opens)
+    return is_one
+
+
+@contextlib.contextmanager
+def own_desk(path: Path) -> Iterator[Folder]:
+    """Gives the folder of a desk, which its owner alone reads."""
+    is_new = not path.exists()
+    with own_folder(path, DESK) as folder, rooms_in(folder.room()):
+        if is_new:
+            path.chmod(0o700)
+        try:
+            yield folder
+        finally:
+            for name in (ADDRESS, WAY):
+                (path / name).unlink(missing_ok=True)
+
+
+def server_of(front: Front, port: int) -> tuple[Any, str]:
+    """Returns the server of a desk and its address."""
+    hosts = set[str]()
+    server: Any = waitress.server.create_server(
+        application(front, hosts),
+        host=LOCAL,
+        port=port,
+        threads=THREADS,
+        connection_limit=MOST_CONNECTIONS,
+        max_request_body_size=MOST_UPLOAD,
+        ident=None,
+    )
+    hosts |= {f"{name}:{server.effective_port}" for name in (LOCAL, "localhost")}
+    return server, f"http://{LOCAL}:{server.effective_port}/enter/{front.secret.text}"
 
 
 def serve(
@@ -135,37 +174,19 @@ def serve(
     """
     with contextlib.ExitStack() as stack:
         try:
-            folder = stack.enter_context(own_folder(path, DESK))
-        except Refused:
-            address = address_of(path)
-            if not address:
-                raise
-            show_address(address, opens)
-            return
-        stack.enter_context(rooms_in(folder.room()))
-        front = stack.enter_context(
-            contextlib.closing(Front(Desk(folder), Secret(), program))
-        )
-        hosts = set[str]()
-        server: Any = waitress.server.create_server(
-            application(front, hosts),
-            host=LOCAL,
-            port=port,
-            threads=THREADS,
-            connection_limit=MOST_CONNECTIONS,
-            max_request_body_size=MOST_UPLOAD,
-            ident=None,
-        )
-        hosts |= {f"{name}:{server.effective_port}" for name in (LOCAL, "localhost")}
-        address = f"http://{LOCAL}:{server.effective_port}/enter/{front.secret.text}"
-        keep_address(folder, address)
-        front.go_on()
-        show_address(address, opens)
-        try:
+            folder = stack.enter_context(own_desk(path))
+        except Busy:
+            if show_other(path, opens):
+                return
+            raise
+        front = Front(Desk(folder), Secret(), program)
+        stack.enter_context(contextlib.closing(front))
+        server, address = server_of(front, port)
+        stack.callback(server.close)
+        stack.callback(heed_interrupt)
+        with contextlib.suppress(KeyboardInterrupt):
+            keep_private(folder, ADDRESS, address)
+            keep_private(folder, WAY, rendered("desk/way.html", {"address": address}))
+            front.go_on()
+            show_address(path, address, opens)
             server.run()
-        except KeyboardInterrupt:
-            pass
-        finally:
-            heed_interrupt()
-            (folder.path / ADDRESS).unlink(missing_ok=True)
-            server.close()

@@ -386,6 +386,10 @@ class Folder:
         self._keep()
 
 
+class Busy(Refused):
+    """A folder in which another run works."""
+
+
 @contextlib.contextmanager
 def read_folder(path: Path, kind: str) -> Iterator[None]:
     """Holds a folder of a kind while it is read, so that no run works in it. Nothing in it is written.
@@ -402,7 +406,7 @@ def read_folder(path: Path, kind: str) -> Iterator[None]:
             try:
                 fcntl.flock(marker, fcntl.LOCK_SH | fcntl.LOCK_NB)
             except BlockingIOError as fault:
-                raise Refused(
+                raise Busy(
                     f"{path}: another run of crnplan works in this folder; wait for its end"
                 ) from fault
             stack.callback(fcntl.flock, marker, fcntl.LOCK_UN)
@@ -436,7 +440,7 @@ def own_folder(path: Path, kind: str, names: Iterable[str] = ()) -> Iterator[Fol
             try:
                 fcntl.flock(marker, fcntl.LOCK_EX | fcntl.LOCK_NB)
             except BlockingIOError as fault:
-                raise Refused(
+                raise Busy(
                     f"{path}: another run of crnplan works in this folder; wait for its end, or name another "
                     "folder"
                 ) from fault
