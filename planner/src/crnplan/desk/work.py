@@ -128,7 +128,7 @@ def read(asked: dict[str, Any], words: dict[str, Any]) -> None:
 
 
 def plan(asked: dict[str, Any], words: dict[str, Any]) -> None:
-    """Plans the files of a desk into a folder."""
+    """Plans the files of a desk into a folder, and computes what would change the answer."""
     own = {name: words[name] for name in words if name in PlanWords.__annotations__}
     if not asked["after"]:
         own.pop("least_gain", None)
@@ -147,6 +147,7 @@ def plan(asked: dict[str, Any], words: dict[str, Any]) -> None:
         progress=True,
         **own,
     )
+    crn.report(asked["out"], program=asked["program"], progress=True)
 
 
 def test(asked: dict[str, Any], words: dict[str, Any]) -> None:
