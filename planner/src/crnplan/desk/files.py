@@ -1,7 +1,6 @@
 """The page Files: files are dropped, what they are is found or chosen, and what was read of them is shown."""
 from __future__ import annotations
 
-import copy
 from collections.abc import Mapping
 from dataclasses import replace
 from typing import Any
@@ -14,10 +13,10 @@ from ..read.amounts import AMOUNTS
 from ..read.blocks import DATES
 from ..read.columns import COUNTED, ROLES
 from ..read.encodings import USUAL
-from ..read.glance import Glance, glance, likeliest
+from ..read.glance import Glance, glance, likeliest, words_with
 from ..read.items import Words
 from ..read.told import words_from
-from ..read.workbooks import BOOKS, book_of
+from ..read.workbooks import sheets_of
 from ..show.catalogue_tables import REJECTS, reasons_of, rejects_of
 from ..show.control_tables import controls_of
 from .front import Front, front, page
@@ -34,9 +33,10 @@ UNITS = {
     for role in counted["roles"]
 }
 ENCODINGS = "utf-8", "latin-1", *USUAL
-DAY_FIRST = {"day": True, "month": False}
+# Whether the day comes first in a date, by its sign.
+FIRST = {"day": dict.fromkeys("/-", True), "month": dict.fromkeys("/-", False)}
 WRITTEN = "delimiter", "encoding"
-MOST_COLUMNS = 100  # of a file that the page shows
+MOST = 100  # columns of a file, and reasons, that the page shows
 
 
 def read_anew(own: Front) -> None:
@@ -46,120 +46,51 @@ def read_anew(own: Front) -> None:
     own.read()
 
 
-def sheets_of(own: Front, file: Dropped) -> list[str]:
-    """Returns the sheets of a workbook that has several."""
-    path = own.desk.path / file.place
-    if path.suffix not in BOOKS:
-        return []
-    names: list[str]
-    try:
-        names = own.once(f"sheets {file.name}", path, lambda: [*book_of(path).parts])
-    except Refused:
-        return []
-    return names if len(names) > 1 else []
+def looks_at(desk: Desk, file: Dropped, words: Words) -> list[Glance]:
+    """Returns what is seen of a file as a table of its kind, or of each kind if it is not known."""
+    kinds = KINDS if file.kind == UNKNOWN else (file.kind,)
+    table, room = desk.table_in(file), desk.folder.room()
+    return [glance(kind, table, words, room) for kind in kinds]
 
 
-def found(own: Front, file: Dropped, **written: str) -> tuple[Dropped, str]:
+def found(desk: Desk, file: Dropped, **written: str) -> tuple[Dropped, str]:
     """Returns a file with its kind, and the digest of its heading. Of several sheets it is one that another file has too,
     if none is chosen. Columns that are stated for other files are not looked for."""
-    words = replace(words_from(own.desk.tree), columns={}, **written)
-    known = {one.sheet for one in own.desk.state.files} & {*sheets_of(own, file)}
+    words = replace(words_from(desk.tree), columns={}, **written)
+    names = {*sheets_of(desk.path / file.place)}
+    known = names & {one.sheet for one in desk.state.files}
     for sheet in [file.sheet] if file.sheet else sorted(known) or [""]:
         one = replace(file, sheet=sheet)
-        look: Glance | None
-        look, *others = looks_at(own.desk, one, words)
-        if others:
-            look = likeliest([look, *others], own.desk.state.sources)
+        looks = looks_at(desk, one, words)
+        look = (
+            looks[0] if file.kind != UNKNOWN else likeliest(looks, desk.state.sources)
+        )
         if look:
             return replace(one, kind=look.kind), look.source
     return file, ""
 
 
-def looks_at(desk: Desk, file: Dropped, words: Words) -> list[Glance]:
-    """Returns what is seen of a file as a table of its kind, or of each if it is not known."""
-    kinds = KINDS if file.kind == UNKNOWN else (file.kind,)
-    room = desk.folder.room()
-    return [glance(kind, desk.table_in(file), words, room) for kind in kinds]
-
-
 def settle(desk: Desk, file: Dropped, source: str, replaces: bool) -> None:
     """Keeps what a file is, and that files with its heading are of its kind."""
     desk.set_file(file.name, file.kind, file.sheet, replaces)
-    if source and file.kind != UNKNOWN:
+    if source:
         with desk.changing() as state:
             state.sources[source] = file.kind
 
 
-def columns_of(
-    look: Glance, stated: Mapping[str, str], form: Mapping[str, str]
-) -> dict[str, str]:
-    """Returns the columns of roles that are not found by their names, as a form states them; an empty name for none. Raises
-    Refused for two of a role."""
-    chosen = dict[str, str]()
-    for place, name in enumerate(look.heading):
-        role = form.get(f"role-{place}")
-        if role in chosen:
-            raise Refused("two columns have one role", "choose one of them")
-        if role:
-            chosen[role] = name
-    asked = {role for place, role in look.roles.items() if f"role-{place}" in form}
-    names = {role: name for role, name in stated.items() if name in ("", *look.heading)}
-    names |= {**dict.fromkeys(asked, ""), **chosen}
-    usual = {role: one.name for role, one in look.columns.items() if one.is_guess}
-    return {role: name for role, name in names.items() if usual.get(role) != name}
-
-
-def put(table: dict[str, Any], key: str, value: Any) -> None:
-    """Keeps a value in a table. None changes nothing, and an empty one is removed."""
-    if value:
-        table[key] = value
-    elif value is not None:
-        table.pop(key, None)
-
-
-def filled(tree: Mapping[str, Any]) -> dict[str, Any]:
-    """Returns a table without empty ones in it."""
-    parts = {
-        name: filled(value) if isinstance(value, Mapping) else value
-        for name, value in tree.items()
-    }
-    return {name: value for name, value in parts.items() if value != {}}
-
-
-def words_with(tree: Any, look: Glance, form: Mapping[str, Any]) -> dict[str, Any]:
+def chosen_words(tree: Any, look: Glance, form: Mapping[str, str]) -> dict[str, Any]:
     """Returns what crnplan.toml is to say after a form on a file."""
-    kind = look.kind
-    tree = copy.deepcopy(tree)
-    units = tree.setdefault("units", {})
-    written = tree.setdefault("written", {}).setdefault(kind, {})
-    decimals = written.setdefault("decimal", {})
-    for place, role in look.roles.items():
-        if form.get(f"role-{place}", role) == role:
-            put(units, f"{kind}.{role}", form.get(f"unit-{place}"))
-            put(decimals, role, form.get(f"decimal-{place}"))
+
+    def by_place(field: str) -> dict[int, str]:
+        names = {place: f"{field}-{place}" for place in range(len(look.heading))}
+        return {place: form[name] for place, name in names.items() if name in form}
+
+    written: dict[str, Any] = {word: form[word] for word in WRITTEN if word in form}
     if look.heading:
-        tree[kind] = columns_of(look, tree.get(kind, {}), form)
-        first = DAY_FIRST.get(form.get("first", ""))
-        put(written, "day_first", {} if first is None else dict.fromkeys("/-", first))
-    for word in WRITTEN:
-        put(written, word, form.get(word))
-    return filled(tree)
-
-
-def result_of(desk: Desk) -> dict[str, Any]:
-    """Returns what the page shows of the files that were read."""
-    catalogue = desk.catalogue
-    assert catalogue
-    with catalogue.opened() as read:
-        return {
-            "said": catalogue.said,
-            "missing": catalogue.missing,
-            "counts": read.fact("counts"),
-            "reasons": reasons_of(read.rejects()),
-            "controls": controls_of(
-                read.controls(), read.fact("decimals"), read.fact("currency")
-            ),
-        }
+        written["day_first"] = FIRST.get(form.get("first", ""), {})
+    return words_with(
+        tree, look, by_place("role"), by_place("unit"), by_place("decimal"), written
+    )
 
 
 def said_of(desk: Desk) -> list[str]:
@@ -169,19 +100,35 @@ def said_of(desk: Desk) -> list[str]:
     return state.said if is_refused else []
 
 
+def result_of(desk: Desk) -> dict[str, Any]:
+    """Returns what the page shows of the files that were read."""
+    catalogue = desk.catalogue
+    assert catalogue
+    with catalogue.opened() as read:
+        decimals, currency = read.fact("decimals"), read.fact("currency")
+        return {
+            "said": catalogue.said,
+            "missing": catalogue.missing,
+            "counts": read.fact("counts"),
+            "reasons": reasons_of(read.rejects()),
+            "controls": controls_of(read.controls(), decimals, currency),
+        }
+
+
 def shown(own: Front, file: Dropped, tree: Any) -> dict[str, Any]:
     """Returns what the page shows of a file."""
-    look = own.once(
-        f"look {file.name}",
-        [file, tree],
-        lambda: looks_at(own.desk, file, words_from(tree))[0],
-    )
+
+    def seen() -> tuple[Glance, list[str]]:
+        look = looks_at(own.desk, file, words_from(tree))[0]
+        return look, sheets_of(own.desk.path / file.place)
+
+    look, sheets = own.once(f"look {file.name}", [file, tree], seen)
     faults = [*look.faults, *(() if file.kind == UNKNOWN else look.wrong)]
     return {
         "file": file,
         "look": look,
-        "faults": [worded(fault.what) for fault in faults],
-        "sheets": sheets_of(own, file),
+        "faults": [(fault.said, worded(fault.what)) for fault in faults],
+        "sheets": sheets,
         "written": tree.get("written", {}).get(file.kind, {}),
     }
 
@@ -189,34 +136,30 @@ def shown(own: Front, file: Dropped, tree: Any) -> dict[str, Any]:
 @pages.get("/files")
 def files() -> str:
     own = front()
-    desk, state = own.desk, own.desk.state
-    tree = desk.tree
+    desk, state, tree = own.desk, own.desk.state, own.desk.tree
     said, command = said_of(desk), ""
     try:
         command = catalogue_command(desk, check=True)
     except Refused as why:
         said = [str(why)]
     is_read = state.read == state.changed and desk.catalogue is not None
+    kinds = UNKNOWN, *KINDS
     return page(
         "files.html",
         files=[
-            shown(own, file, tree)
-            for kind in (UNKNOWN, *KINDS)
-            for file in desk.files_of(kind)
+            shown(own, file, tree) for kind in kinds for file in desk.files_of(kind)
         ],
         tree=tree,
         said=said,
         command=command,
-        read=own.once("files", state.read, lambda: result_of(desk))
-        if is_read
-        else None,
-        kinds=(UNKNOWN, *KINDS),
+        read=own.once("files", state.read, lambda: result_of(desk)) if is_read else {},
+        kinds=kinds,
         roles=ROLES,
         units=UNITS,
         amounts=AMOUNTS,
         dates=DATES,
         encodings=ENCODINGS,
-        most=MOST_COLUMNS,
+        most=MOST,
     )
 
 
@@ -227,10 +170,11 @@ def drop() -> Redirect:
     if not given:
         raise Refused("no file was chosen", "choose one or several")
     # Of several files of a kind the first one replaces those that were there before.
-    beside = {*KINDS} if request.form.get("way") == "beside" else set[str]()
+    beside = {UNKNOWN, *(KINDS if request.form.get("way") == "beside" else ())}
     for one in given:
-        file, source = found(own, own.desk.add_file(one.filename or "", one.stream))
-        settle(own.desk, file, source, file.kind not in {*beside, UNKNOWN})
+        file = own.desk.add_file(one.filename or "", one.stream)
+        file, source = found(own.desk, file)
+        settle(own.desk, file, source, file.kind not in beside)
         beside.add(file.kind)
     read_anew(own)
     return redirect("/files", 303)
@@ -242,15 +186,16 @@ def change(name: str) -> Redirect:
     desk = own.desk
     old = desk.file(name)
     kind, sheet = form.get("kind", ""), form.get("sheet", "")
-    if kind not in (UNKNOWN, *KINDS) or sheet not in ("", *sheets_of(own, old)):
+    sheets = sheets_of(desk.path / old.place)
+    if kind not in (UNKNOWN, *KINDS) or sheet not in ("", *sheets):
         raise Refused("there is no such kind or sheet", "choose from the lists")
     written = {word: form[word] for word in WRITTEN if form.get(word)}
-    new, source = found(own, replace(old, kind=kind, sheet=sheet), **written)
+    new, source = found(desk, replace(old, kind=kind, sheet=sheet), **written)
     if new.kind != UNKNOWN:
         look = Glance(new.kind)
         if new == old:
             (look,) = looks_at(desk, new, words_from(desk.tree))
-        desk.keep_words(words_with(desk.tree, look, form))
+        desk.keep_words(chosen_words(desk.tree, look, form))
     settle(desk, new, source, False)
     read_anew(own)
     return redirect(f"/files#file-{name}", 303)

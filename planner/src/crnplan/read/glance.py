@@ -1,13 +1,16 @@
-"""Looks at a file before it is read: as which tables it can be read, by which columns, and what is wrong with it.
+"""Looks at a file before it is read: as which tables it can be read, by which columns, and what is wrong with it; and states
+what a planner then chooses.
 
-Nothing is raised for that: who looks may then say what is meant.
+Nothing is raised for what is wrong: who looks may then say what is meant.
 """
 from __future__ import annotations
 
+import copy
 import itertools
 from collections.abc import Iterable, Iterator, Mapping, Sequence
 from dataclasses import dataclass, field
 from pathlib import Path
+from typing import Any
 
 from ..errors import Fault, Refused, RefusedFaults
 from ..remarks import Remark
@@ -20,6 +23,7 @@ from .opening import opened
 from .sources import Column, Sheet
 
 SEEN_ROWS = 5
+ONE_LIKELY = "likely encodings 1"  # the code of what is said of bytes in such a one
 # The roles that masters need, and that a planner may state for all items in place of a column.
 STATED = {"setup", "holding"}
 
@@ -57,10 +61,10 @@ class Glance:
 
     @property
     def likely(self) -> str:
-        """Returns the likeliest encoding of bytes that are not UTF-8; empty if there is none."""
+        """Returns the only likely encoding of bytes that are not UTF-8; empty if there is none, or several."""
         for fault in self.faults:
-            if isinstance(fault.said, Remark):
-                return str(fault.said.facts.get("encoding 1", ""))
+            if isinstance(fault.said, Remark) and fault.said.code == ONE_LIKELY:
+                return str(fault.said.facts["encoding 1"])
         return ""
 
     @property
@@ -124,3 +128,66 @@ def likeliest(glances: Iterable[Glance], known: Mapping[str, str]) -> Glance | N
         return None
     *others, best = fitting
     return None if others and others[-1].rank == best.rank else best
+
+
+def stated_roles(
+    look: Glance, stated: Mapping[str, str], roles: Mapping[int, str]
+) -> dict[str, str]:
+    """Returns which columns are to be stated: those that are not found by their names, if the columns at these places have
+    these roles, and an empty name for a role that none of them has any longer. Raises Refused for two of one role.
+    """
+    chosen = dict[str, str]()
+    for place, role in roles.items():
+        if role in chosen:
+            raise Refused(f"two columns are to be the {role}", "choose one of them")
+        if role:
+            chosen[role] = look.heading[place]
+    asked = {look.roles[place] for place in roles if place in look.roles}
+    known = ("", *look.heading)
+    names = {
+        role: name
+        for role, name in stated.items()
+        if role not in asked and name in known
+    }
+    usual = {role: one.name for role, one in look.columns.items() if one.is_guess}
+    names |= {**dict.fromkeys(asked & usual.keys(), ""), **chosen}
+    return {role: name for role, name in names.items() if usual.get(role) != name}
+
+
+def words_with(
+    tree: Mapping[str, Any],
+    look: Glance,
+    roles: Mapping[int, str],
+    units: Mapping[int, str],
+    decimals: Mapping[int, str],
+    written: Mapping[str, Any],
+) -> dict[str, Any]:
+    """Returns the table [catalogue] of crnplan.toml with what is chosen of a file: by the places of columns their roles,
+    units and decimal signs, and how the file is written. What is empty is left to the file. A column that gets another
+    role now gets neither unit nor sign. Raises Refused for two columns of one role."""
+    words: dict[str, Any] = {"units": {}, "written": {}, **copy.deepcopy(dict(tree))}
+    kept = {
+        place: role
+        for place, role in look.roles.items()
+        if roles.get(place, role) == role
+    }
+    own: dict[str, Any] = {"decimal": {}}
+    own |= {**words["written"].get(look.kind, {}), **written}
+    for place in kept.keys() & units.keys():
+        words["units"][f"{look.kind}.{kept[place]}"] = units[place]
+    for place in kept.keys() & decimals.keys():
+        own["decimal"][kept[place]] = decimals[place]
+    words["units"] = filled(words["units"])
+    words["written"] = filled({**words["written"], look.kind: own})
+    if look.heading:
+        words[look.kind] = stated_roles(look, words.get(look.kind, {}), roles)
+    return {name: value for name, value in words.items() if value != {}}
+
+
+def filled(tree: Mapping[str, Any]) -> dict[str, Any]:
+    """Returns a table without what is empty in it and in its tables."""
+    parts = {
+        name: filled(value) if isinstance(value, Mapping) else value
+        for name, value in tree.items()
+    }
+    return {name: value for name, value in parts.items() if value not in ("", {})}

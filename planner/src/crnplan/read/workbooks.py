@@ -268,6 +268,14 @@ def book_of(path: Path) -> Book:
     return book
 
 
+def sheets_of(path: Path) -> list[str]:
+    """Returns the names of the sheets with cells of a workbook; none of another file, or of one that can't be read."""
+    try:
+        return [*book_of(path).parts] if path.suffix in BOOKS else []
+    except RefusedFaults:
+        return []
+
+
 def read_book(path: Path) -> Book:
     """Reads a workbook without its cells."""
     from openpyxl.cell.read_only import ReadOnlyCell
