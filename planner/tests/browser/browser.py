@@ -17,6 +17,7 @@ from selenium.webdriver.chrome.service import Service
 
 RULES = Path(__file__).with_name("rules.js").read_text("utf-8")
 COMMANDS = ("chromium", "chromedriver", "pdftotext")
+SCRIPTS = "profile.managed_default_content_settings.javascript"
 # A loaded machine may need this long for a page or a script, in seconds.
 LONGEST = 100
 # If the driver is killed, its pipe closes and the browser ends. No name is resolved, so nothing leaves the machine;
@@ -70,13 +71,16 @@ def commands() -> dict[str, str]:
 class Browser:
     """A browser with one page, as `Form` says. Leave it by `close`."""
 
-    def __init__(self, folder: Path) -> None:
-        """Starts a browser that keeps its files in an empty folder. Raises FileNotFoundError without Chromium."""
+    def __init__(self, folder: Path, has_scripts: bool = True) -> None:
+        """Starts a browser that keeps its files in an empty folder, perhaps with scripts off. Raises FileNotFoundError
+        without Chromium."""
         paths = commands()
         options = Options()
         options.binary_location = paths["chromium"]
         for switch in (*SWITCHES, f"--user-data-dir={folder}"):
             options.add_argument(switch)
+        if not has_scripts:
+            options.add_experimental_option("prefs", {SCRIPTS: 2})
         options.set_capability(
             "goog:loggingPrefs", {"browser": "ALL", "performance": "ALL"}
         )

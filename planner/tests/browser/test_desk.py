@@ -4,7 +4,7 @@ from __future__ import annotations
 import re
 from collections.abc import Callable, Iterable, Iterator
 from pathlib import Path
-from urllib.parse import parse_qs, urlsplit
+from urllib.parse import urlsplit
 
 import pytest
 
@@ -63,14 +63,10 @@ def pages_of(desk: Opened) -> list[str]:
     while waiting:
         page = waiting.pop(0)
         parts = urlsplit(page)
-        alike = f"{parts.path} {sorted(parse_qs(parts.query))}"
-        if (
-            page in pages
-            or found.get(alike, 0) >= MOST_ALIKE
-            or FILES.search(parts.path)
-        ):
+        is_known = page in pages or found.get(parts.path, 0) >= MOST_ALIKE
+        if is_known or FILES.search(parts.path):
             continue
-        found[alike] = found.get(alike, 0) + 1
+        found[parts.path] = found.get(parts.path, 0) + 1
         pages.append(page)
         status, text = desk.get(page)
         assert status == 200, page

@@ -204,3 +204,22 @@ def test_no_other_address_is_shown(address: str, tmp_path: Path) -> None:
         (tmp_path / "kept/address").write_text(address, "utf-8")
         with pytest.raises(Refused, match="another run of crnplan works"):
             serve(tmp_path, opens=False)
+
+
+def test_work_is_stopped_at_once(tmp_path: Path) -> None:
+    """Work that has hardly begun is stopped as any other, and goes on; work that is killed says so."""
+    with in_process(tmp_path / "desk") as front:
+        add_export(front, warehouses(tmp_path))
+        front.read()
+        front.stop()
+        state = front.desk.state
+        assert (state.ended, state.said, state.read) == (work.STOPPED, [], -1)
+        front.read()
+        assert front.work
+        front.work.process.kill()
+        wait_for(lambda: front.work is None)
+        (said,) = front.desk.state.said
+        assert front.desk.state.ended == work.REFUSED and "status -9" in said
+        front.read()
+        wait_for(lambda: front.work is None)
+        assert front.desk.state.ended == work.DONE and front.desk.catalogue

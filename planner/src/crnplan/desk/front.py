@@ -126,12 +126,10 @@ class Front:
                 state.begun, state.ended, state.said = begun, "", []
 
     def new_name(self) -> str:
-        """Returns a name for a new plan: the day, and if there is one of this day already, a number."""
+        """Returns a name for a new plan: the day, and if one of this day is finished already, a number."""
         day = datetime.date.today().isoformat()
         names = [day, *(f"{day}-{number}" for number in range(2, 1000))]
-        return next(
-            name for name in names if not (self.desk.path / PLANS / name).exists()
-        )
+        return next(name for name in names if name not in self.desk.state.plans)
 
     def plan(self, name: str = "") -> Plan:
         """Returns a plan, by default the last one. Raises Refused if there is none."""

@@ -40,6 +40,7 @@ class Work:
         self.kind = asked["kind"]
         self.progress: dict[str, Any] = {}
         self.ended, self.said = "", list[str]()
+        self.is_stopped = False
         self._end = end
         self.process = subprocess.Popen(
             [sys.executable, "-P", "-m", __name__],
@@ -67,7 +68,9 @@ class Work:
             else:
                 self.progress = told
         status = self.process.wait()
-        if not said and ended == REFUSED:
+        if not said and ended == REFUSED and self.is_stopped:
+            ended = STOPPED  # before it could say so
+        elif not said and ended == REFUSED:
             said = [
                 f"the work has ended by itself, with status {status}; what was done is kept: begin it again"
             ]
@@ -76,6 +79,7 @@ class Work:
 
     def stop(self) -> None:
         """Has the process end within two seconds. What it has done is kept."""
+        self.is_stopped = True
         if self.process.poll() is None:
             self.process.send_signal(signal.SIGINT)
 
