@@ -218,6 +218,15 @@ class Today:
         """Returns the items of which the planner orders another quantity than the plan."""
         return [standing for standing in self.standings if standing.is_changed]
 
+    @cached_property
+    def lines(self) -> dict[str, list[Standing]]:
+        """Returns the items that are ordered, or that the planner leaves out, by supplier: the most urgent ones first."""
+        lines = defaultdict[str, list[Standing]](list)
+        for standing in self.standings:
+            if standing.is_due or standing.is_changed:
+                lines[standing.item.supplier].append(standing)
+        return dict(lines)
+
     @property
     def omitted(self) -> list[Standing]:
         """Returns those that the plan orders, and the planner does not."""

@@ -184,6 +184,11 @@ class OrdersToday(Result):
             "lines", self._rows(standing for group in groups for standing in group.due)
         )
 
+    @cached_property
+    def sellers(self) -> dict[str, GroupRow]:
+        """Returns the suppliers by name, each with what is ordered of it."""
+        return {row.group.name: row for row in self._groups(self.today.suppliers)}
+
     @property
     def by_supplier(self) -> dict[int, tuple[str, DataTable]]:
         """Returns each supplier with an order and the lines of that, by its place among all of the plan."""

@@ -1,0 +1,457 @@
+"""Tests of the page Today: sums by a loop of their own, tables as the command writes them, and what was placed."""
+from __future__ import annotations
+
+import copy
+import csv
+import html
+import io
+import math
+import random
+import re
+import shlex
+from collections import defaultdict
+from collections.abc import Iterator, Mapping
+from dataclasses import replace
+from fractions import Fraction
+from html.parser import HTMLParser
+from pathlib import Path
+from typing import Any, NamedTuple
+from urllib.parse import parse_qsl, urlsplit
+
+import openpyxl
+import pytest
+from werkzeug.test import TestResponse
+
+import crnplan as crn
+from crnplan.desk import kept, orders as module
+from crnplan.read.bounds import Bounds
+from planner.tests.conftest import Command
+from planner.tests.desk.conftest import MADE_PLAN, Planner, add_made_plan
+from planner.tests.show import made_catalogue
+
+DAY, PACK, PRICE, LEAST = MADE_PLAN, 6, Fraction(5, 2), 900
+RUN, TAG, TURNED = "=cmd|'/C calc'!A0", "<script>alert(1)</script>", "\u202egnp & Co"
+SUPPLIERS = RUN, TAG, TURNED
+NAMES = "=1+1", "<b>bold</b>", "\u202etxt.exe", "a\"b'c", "0017", "x,y;z", "{{7*7}}"
+ITEMS, OWED = 18, "P00008"
+made_pair = made_catalogue.made_pair
+
+
+def supplied(source: random.Random, name: str) -> made_catalogue.Pair:
+    """Returns a made item in packs of one of the suppliers, of which the second has a least value."""
+    item, answer = made_pair(source, name)
+    place = 1 if name[-1] in "1357" else 2
+    supplier = SUPPLIERS[len(name) % 2 if name in NAMES else place]
+    least = Fraction(LEAST) if supplier == TAG else None
+    more = {"supplier": supplier, "supplier_min": least, "price": PRICE}
+    return replace(item, bounds=Bounds(PACK), **more), answer
+
+
+class Form(NamedTuple):
+    """A form of a page: where it is sent to, and its fields in their order."""
+
+    action: str
+    fields: list[tuple[str, str]]
+
+    def values(self, name: str) -> list[str]:
+        """Returns the values of the fields of a name."""
+        return [value for own, value in self.fields if own == name]
+
+
+class Forms(HTMLParser):
+    """Reads the forms of a page as a browser sends them, with no button."""
+
+    def __init__(self, text: str) -> None:
+        super().__init__()
+        self.forms = list[Form]()
+        self.feed(text)
+        self.close()
+
+    def handle_starttag(self, tag: str, attrs: list[tuple[str, str | None]]) -> None:
+        its = {name: value or "" for name, value in attrs}
+        if tag == "form":
+            self.forms.append(Form(its["action"], []))
+        is_sent = its.get("type") != "checkbox" or "checked" in its
+        if tag == "input" and is_sent:
+            self.forms[-1].fields.append((its["name"], its.get("value", "")))
+
+
+class Shown:
+    """The page as a planner sees it."""
+
+    def __init__(self, planner: Planner, **query: Any) -> None:
+        self.planner = planner
+        self.answer = planner.get("/today", **{"day": DAY, **query})
+        assert self.answer.status_code == 200, self.answer.text
+        self.text = self.answer.text
+        self.forms = Forms(self.text).forms
+
+    @property
+    def cards(self) -> list[str]:
+        """Returns the sums at the top."""
+        return re.findall('<li class="card.*?"><b>(.*?)</b>', self.text)
+
+    @property
+    def lines(self) -> dict[str, int]:
+        """Returns the quantities of items with a tick."""
+        lines = dict[str, int]()
+        for form in self.forms:
+            amounts = zip(form.values("item"), form.values("quantity"))
+            ticked = form.values("ordered")
+            lines |= {item: int(text) for item, text in amounts if item in ticked}
+        return lines
+
+    def form(self, item: str) -> Form:
+        """Returns the form with an item."""
+        return next(form for form in self.forms if item in form.values("item"))
+
+    def ending(self) -> Form:
+        """Returns the form of what was placed."""
+        return next(form for form in self.forms if form.action == "/today/end")
+
+    def add(self, item: str, amount: str) -> TestResponse:
+        """Sends the form for any item."""
+        form = next(form for form in self.forms if form.values("alone"))
+        fields = {**dict(form.fields), "item": item, "quantity": amount}
+        return self.planner.post(form.action, fields)
+
+    def send(
+        self,
+        form: Form,
+        to: str = "",
+        change: Mapping[str, str] | None = None,
+        *more: tuple[str, str],
+        without: str = "",
+    ) -> TestResponse:
+        """Sends a form, perhaps elsewhere, with other quantities of items, more fields, and an item without a tick."""
+        fields, item = defaultdict[str, list[str]](list), ""
+        for name, value in [*form.fields, *more]:
+            if name == "item":
+                item = value
+            if name == "quantity":
+                value = (change or {}).get(item, value)
+            if (name, value) != ("ordered", without):
+                fields[name].append(value)
+        return self.planner.post(to or form.action, dict(fields))
+
+
+def refusal(answer: TestResponse) -> str:
+    """Returns what is said of a form that was refused."""
+    assert answer.status_code == 400, answer.text
+    return html.unescape(answer.text)
+
+
+def dropped(planner: Planner, kind: str, rows: Mapping[str, object]) -> None:
+    """Drops a file of today with a row for each item."""
+    text = io.StringIO()
+    amount = "stock" if kind == "stock" else "quantity"
+    csv.writer(text).writerows([["item", amount], *rows.items()])
+    data = io.BytesIO(text.getvalue().encode())
+    file = planner.desk.add_file(f"{TAG}.csv", data)
+    planner.desk.set_file(file.name, kind, "", True)
+
+
+@pytest.fixture
+def levels(
+    planner: Planner, monkeypatch: pytest.MonkeyPatch
+) -> dict[str, tuple[int, int]]:
+    """Returns s and S of the items of a plan of which the first ones, with hostile names, are below s, and of
+    one more some are owed."""
+    monkeypatch.setattr(made_catalogue, "made_pair", supplied)
+    path = add_made_plan(
+        planner.front, ITEMS, names=NAMES, has_curve=False, has_swings=False
+    )
+    table = crn.open_plan(path).decisions.set_index("item")
+    levels = {
+        name: (int(row.s_chosen), int(row.S_chosen)) for name, row in table.iterrows()
+    }
+    dropped(planner, "stock", stock_of(levels))
+    return levels
+
+
+def stock_of(levels: Mapping[str, tuple[int, int]]) -> dict[str, int]:
+    """Returns the stock of items: that of each hostile name is 10 below s, and some of one item are owed."""
+    stock = {name: s - 10 * (name in NAMES) for name, (s, _) in levels.items()}
+    return stock | {OWED: -2}
+
+
+def packed(amount: float) -> int:
+    """Returns an amount in whole packs."""
+    return math.ceil(amount / PACK) * PACK
+
+
+def expected(levels: Mapping[str, tuple[int, int]]) -> dict[str, int]:
+    """Returns what is to be ordered by a loop over all items."""
+    orders = {}
+    for name, stock in stock_of(levels).items():
+        s, S = levels[name]
+        if stock < s:
+            orders[name] = packed(S - stock)
+    return orders
+
+
+Levels = dict[str, tuple[int, int]]
+
+
+def test_sums_of_a_loop(planner: Planner, levels: Levels) -> None:
+    """Orders, their worth, and what is owed are those of a loop over all items; each line has its supplier's form."""
+    orders, shown = expected(levels), Shown(planner)
+    assert shown.lines == orders and {*NAMES} < {*orders}
+    owed = sum(stock < 0 for stock in stock_of(levels).values())
+    worth = f"{float(sum(orders.values()) * PRICE):,.2f}"
+    assert shown.cards[:3] == [str(len(orders)), worth, str(owed)]
+    for name in NAMES:
+        supplier = supplied(random.Random(1), name)[0].supplier
+        own = {other for other in NAMES if len(other) % 2 == len(name) % 2}
+        assert {*shown.form(name).values("item")} >= own
+        assert (
+            f"<bdi>{html.escape(supplier).replace('&#x27;', '&#39;')}</bdi></h3>"
+            in shown.text
+        )
+    german = planner.client.get(
+        "/today", query_string={"day": DAY}, headers={"Accept-Language": "de"}
+    )
+    assert Forms(german.text).forms == shown.forms
+
+
+@pytest.fixture
+def shown(planner: Planner, levels: Levels) -> Shown:
+    """Returns the page of the plan and its stock."""
+    return Shown(planner)
+
+
+def test_files_are_those_of_the_command(
+    planner: Planner, shown: Shown, crnplan: Command, tmp_path: Path
+) -> None:
+    """With quantities and orders that were placed, each file has the cells that the command of the page writes."""
+    shown.send(shown.form("<b>bold</b>"), "/today/place")
+    shown = Shown(planner)
+    shown.send(shown.form("=1+1"), change={"=1+1": "48"}, without="0017")
+    shown = Shown(planner)
+    (command,) = re.findall("<pre[^>]*>(crnplan.*?)</pre>", shown.text)
+    words = shlex.split(html.unescape(command))
+    assert {"--placed", "--quantities", "--stock"} < {*words}
+    ran = crnplan(*words[1:], "--out", tmp_path / "out")
+    assert ran.status == 0, ran.errors
+    files = {path.name: path.read_text("utf-8") for path in tmp_path.glob("out/*.csv")}
+    named = re.findall(r'href="/today/(\w+[.]csv)', shown.text)
+    assert {*named} < {*files} and sum("supplier_" in name for name in named) == 2
+    for name, text in files.items():
+        answer = planner.get(f"/today/{name}", day=DAY)
+        assert answer.headers["Content-Disposition"] == f"attachment; filename={name}"
+        assert answer.text == text, name
+    rows = [*csv.reader(io.StringIO(files["today_lines.csv"]))]
+    ordered = {row[4]: row[8] for row in rows[1:]}
+    assert ordered["'=1+1"] == "48" and "0017" not in ordered
+    book = planner.get("/today/today_orders.xlsx", day=DAY)
+    (sheet, *_) = openpyxl.load_workbook(io.BytesIO(book.data)).worksheets
+    cells = [[row[4].value, str(row[8].value)] for row in sheet.iter_rows()]
+    assert cells == [[row[4].removeprefix("'"), row[8]] for row in rows]
+
+
+@pytest.mark.parametrize(
+    "name", ["today.txt", "..%2fdesk.json", "today_supplier_009.csv", "\0"]
+)
+def test_other_files_are_refused(planner: Planner, shown: Shown, name: str) -> None:
+    assert planner.get(f"/today/{name}", day=DAY).status_code in (400, 404)
+
+
+def test_quantities_of_a_planner(planner: Planner, shown: Shown) -> None:
+    """Only what is not the plan's own is kept, on its day; a line that is left out keeps the plan's quantity beside it."""
+    orders, state = shown.lines, planner.desk.state
+    form = shown.form("0017")
+    sent = shown.send(form, change={"0017": "36"}, without="=1+1")
+    assert (sent.status_code, state.quantities) == (303, {"0017": 36, "=1+1": 0})
+    other = Shown(planner)
+    del orders["=1+1"]
+    assert other.lines == orders | {"0017": 36}
+    assert (
+        dict(
+            zip(
+                other.form("=1+1").values("item"), other.form("=1+1").values("quantity")
+            )
+        )["=1+1"]
+        == "30"
+    )
+    assert Shown(planner, day="2026-11-28").lines.keys() == orders.keys() | {"=1+1"}
+
+    added = other.add("P00010", "12")
+    assert added.status_code == 303
+    assert Shown(planner).lines == orders | {"0017": 36, "P00010": 12}
+    again = Shown(planner)
+    again.send(again.form("P00010"), without="P00010")
+    assert state.quantities.keys() == {"0017", "=1+1"}
+    again.send(Shown(planner).forms[1], "/today/forget")
+    assert Shown(planner).lines.keys() == orders.keys() | {"=1+1"}
+
+
+def test_additions(planner: Planner, shown: Shown) -> None:
+    """A supplier below its least value says what lacks and what may be added; a button adds that and keeps all else."""
+    form, orders = shown.form("<b>bold</b>"), shown.lines
+    lacking = LEAST - sum(orders[name] for name in orders if len(name) % 2) * PRICE
+    assert f"This order lacks {float(lacking):,.2f} of the supplier's" in html.unescape(
+        shown.text
+    )
+    may_be = [name for name in form.values("item") if name not in orders]
+    assert may_be and {name[0] for name in may_be} == {"P"}
+    more = ("ordered", may_be[0])
+    sent = shown.send(form, "", {"<b>bold</b>": "36"}, more)
+    assert sent.status_code == 303
+    after = Shown(planner).lines
+    # S of each made item is 18 above s, which is three packs.
+    assert after == orders | {"<b>bold</b>": 36, may_be[0]: 18}
+
+
+@pytest.mark.parametrize(
+    "text, said",
+    [
+        ("50", "50 of 0017 is not in packs of 6; write 48 or 54"),
+        ("-1", "-1 of 0017 is below 0; write 0 or 6"),
+        ("1.5", "1.5 of 0017 is not in packs of 6; write 0 or 6"),
+        ("", "0017: '' is no number; write digits, as 12"),
+        ("1e999999999", "is no number"),
+        ("6e300", "is not a number; write digits"),
+    ],
+)
+def test_wrong_quantities(planner: Planner, shown: Shown, text: str, said: str) -> None:
+    """A quantity that is no whole packs is refused with those beside it, and all is as before."""
+    before = copy.deepcopy(planner.desk.state)
+    sent = shown.send(shown.form("0017"), change={"0017": text, "=1+1": "36"})
+    assert said in refusal(sent)
+    assert planner.desk.state == before
+    assert Shown(planner).forms == shown.forms
+
+
+def test_unknown_items_are_refused(planner: Planner, shown: Shown) -> None:
+    """Neither an item that is not in the plan, nor packs that are wrong, are added."""
+    for item, amount, said in (
+        (TAG, "6", f"{TAG}: no item of this name"),
+        ("P00010", "7", "7 of P00010 is not in packs of 6; write 6 or 12"),
+    ):
+        assert said in refusal(shown.add(item, amount))
+    assert Shown(planner).forms == shown.forms
+    assert shown.send(shown.forms[1], "/today/other").status_code == 405
+    for query in ({"day": "x"}, {"day": "9999-12-31"}, {"supplier": TAG}):
+        assert planner.get("/today", **{"day": DAY, **query}).status_code == 400
+
+
+def test_placed_is_suggested_no_longer(planner: Planner, shown: Shown) -> None:
+    """What was placed is not ordered again on this day, also if it was less than the plan says; what is taken back is, and
+    what was received is, as it counts no longer."""
+    orders, own = shown.lines, shown.form("0017").values("item")
+    less, left, last = own
+    shown.send(shown.form("0017"), "/today/place", {less: "6"}, without=left)
+    assert [(it.item, it.quantity) for it in planner.desk.state.placed] == [
+        (less, 6),
+        (last, 30),
+    ]
+    (number,) = {order.number for order in planner.desk.state.placed}
+    assert re.fullmatch("20261127-[0-9]{3}", number)
+    assert Shown(planner).lines == {
+        name: orders[name] for name in orders.keys() - {*own}
+    }
+    tomorrow = Shown(planner, day="2026-11-28").lines
+    assert tomorrow[less] == orders[less] - 6
+    for order, way in zip([*planner.desk.state.placed], ("back", "received")):
+        other = Shown(planner)
+        other.send(other.ending(), "", None, ("order", order.key), ("way", way))
+    assert Shown(planner).lines == {
+        name: orders[name] for name in orders.keys() - {left}
+    }
+
+
+def test_all_orders_are_placed(planner: Planner, shown: Shown) -> None:
+    orders = shown.lines
+    shown.send(shown.forms[-2], "/today/place")
+    placed = {order.item: order.quantity for order in planner.desk.state.placed}
+    assert (placed, Shown(planner).lines) == (orders, {})
+
+
+def test_newer_file_takes_over(
+    planner: Planner, shown: Shown, monkeypatch: pytest.MonkeyPatch
+) -> None:
+    """What was placed counts until a file of what is on order is dropped later: then that has it, or has it not."""
+    orders, own = shown.lines, shown.form("0017").values("item")
+    clock = {"now": f"{DAY} 08:00:00"}
+    for place in (kept, module):
+        monkeypatch.setattr(place, "now", lambda: clock["now"])
+    dropped(planner, "on_order", {"P00010": 1})
+    shown = Shown(planner)
+    shown.send(shown.form("0017"), "/today/place")
+    assert Shown(planner).lines.keys() == orders.keys() - {*own}
+    clock["now"] = f"{DAY} 08:00:01"
+    dropped(planner, "on_order", {own[0]: orders[own[0]]})
+    shown = Shown(planner)
+    assert shown.lines.keys() == orders.keys() - {own[0]}
+    assert shown.text.count("is in the newer file") == len(own)
+    assert "--placed" not in shown.text
+    shown.send(shown.form(own[1]), "/today/place", without=own[2])
+    shown = Shown(planner)
+    assert shown.lines.keys() == orders.keys() - {*own}
+    assert shown.text.count("<td>counts as on order") == 1
+
+
+def test_two_browsers(planner: Planner, shown: Shown) -> None:
+    """What one planner does, the other sees; what the other sends by a page of before is refused."""
+    other = Shown(Planner(planner.front, "de"))
+    assert shown.send(shown.form("0017"), "/today/place").status_code == 303
+    for to in ("/today/place", "/today/save"):
+        sent = other.send(other.form("0017"), to)
+        assert "the orders have changed since this page was shown" in refusal(sent)
+    assert len(planner.desk.state.placed) == 3
+    assert Shown(other.planner).lines == Shown(planner).lines
+
+
+def test_what_counts_is_said(planner: Planner, levels: Levels) -> None:
+    """Without files that is said, with a link to Files, and without any stock nothing else is shown; a file that is older
+    than the day is named."""
+    dropped(planner, "on_order", {"0017": 99})
+    old = Shown(planner, day="2099-01-01")
+    assert old.text.count("is there a newer one?") == 2 and "0017" not in old.lines
+    for file in [*planner.desk.state.files]:
+        planner.desk.remove_file(file.name)
+    bare = Shown(planner)
+    assert (
+        "The stock of the masters counts" in bare.text and 'href="/files"' in bare.text
+    )
+    assert "Nothing counts as on order but" in bare.text
+    assert "no item has a stock in its masters" in bare.text and not bare.cards
+    assert len(bare.forms) == 2
+
+
+def test_quantities_that_no_longer_fit(planner: Planner, shown: Shown) -> None:
+    """If a new plan has other packs, the page says what does not fit, and leads back to the plan's quantities."""
+    shown.send(shown.form("0017"), change={"0017": "36"})
+    planner.desk.state.quantities["0017"] = 37
+    bare = Shown(planner)
+    assert "37 of 0017 is not in packs of 6; write 36 or 42" in bare.text
+    (form,) = [form for form in bare.forms if form.action == "/today/forget"]
+    assert bare.send(form).status_code == 303
+    assert Shown(planner).lines == shown.lines
+
+
+def test_many_lines_are_shown_in_parts(
+    planner: Planner, shown: Shown, monkeypatch: pytest.MonkeyPatch
+) -> None:
+    """Each line is on one part, and in the list of one supplier; a form goes back to its supplier."""
+    orders = shown.lines
+    monkeypatch.setattr(module, "MOST_LINES", 4)
+    parts = [Shown(planner, part=part).lines for part in range(1, 4)]
+    assert sum(map(len, parts)) == len(orders) and parts[2] == {}
+    assert parts[0] | parts[1] == orders
+    links = re.findall('supplier=([0-9-]+)"', Shown(planner).text)
+    own = [Shown(planner, supplier=number) for number in links]
+    assert sum(len(page.lines) for page in own) == len(orders) and len(own) == 3
+    sent = own[0].send(own[0].form(next(iter(own[0].lines))), "/today/place")
+    query = dict(parse_qsl(urlsplit(sent.location).query))
+    assert query == {"day": DAY, "supplier": links[0]}
+
+
+def test_hostile_names_are_texts(planner: Planner, shown: Shown) -> None:
+    """No name becomes a tag or a formula, and what turns the direction of writing ends with its name."""
+    assert TAG not in shown.text and "<b>bold</b>" not in shown.text
+    assert shown.text.count("\u202e") > 3
+    visible = re.sub('(value|aria-label)="[^"]*"', "", shown.text).split("<details")[0]
+    assert visible.count("\u202e") == visible.count("<bdi>\u202e")
+    table = planner.get("/today/today_orders.csv", day=DAY).text
+    assert "\n'=1+1," in table and f",'{RUN}," in table
