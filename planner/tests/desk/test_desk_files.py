@@ -221,6 +221,24 @@ def test_hostile_headings_and_names_stay_texts(planner: Planner) -> None:
     assert planner.desk.tree["demand"] == {"promotion": HOSTILE}
 
 
+def test_a_likely_encoding_is_offered(planner: Planner, tmp_path: Path) -> None:
+    """The only encoding in which SAP's masters are likely written is chosen in the list, and kept as soon as that is saved."""
+    dropped(planner, exported("sap", tmp_path / "made"))
+    page = planner.get("/files").text
+    _, _, masters = page.partition("Material.csv")
+    assert chosen_in(masters, "encoding") == "cp1252" and "Höchstbestand" in masters
+    assert "Likely it is cp1252" in page
+
+
+def test_rows_that_cannot_be_read_are_said(planner: Planner) -> None:
+    """A quote that is not closed is said beside the rows above it."""
+    table = b'item,date,quantity\nA,2026-01-05,1\nB,"2026-01-05"x,2\n'
+    planner.post("/files/drop", {"files": [file_of(table, "demand.csv")]})
+    page = planner.get("/files").text
+    assert kinds(planner) == {"demand.csv": "demand"}
+    assert '<td class="left data">A</td>' in page and "quote" in page
+
+
 def read_files(planner: Planner) -> None:
     """Drops demand of which a row is wrong, and masters; both are read."""
     rows = [f"A,2026-{month:02}-05,{month}" for month in range(1, 10)]

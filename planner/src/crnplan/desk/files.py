@@ -8,6 +8,7 @@ from typing import Any
 from flask import Blueprint, Response, redirect, request
 from werkzeug.wrappers import Response as Redirect
 
+from ..catalogues import Catalogue
 from ..errors import Refused, worded
 from ..read.amounts import AMOUNTS
 from ..read.blocks import DATES
@@ -19,6 +20,7 @@ from ..read.told import words_from
 from ..read.workbooks import sheets_of
 from ..show.catalogue_tables import REJECTS, reasons_of, rejects_of
 from ..show.control_tables import controls_of
+from ..show.lateness import lateness_of
 from .front import Front, front, page
 from .kept import PLANNED, TODAY, UNKNOWN, Desk, Dropped
 from .plans import catalogue_command
@@ -100,10 +102,8 @@ def said_of(desk: Desk) -> list[str]:
     return state.said if is_refused else []
 
 
-def result_of(desk: Desk) -> dict[str, Any]:
-    """Returns what the page shows of the files that were read."""
-    catalogue = desk.catalogue
-    assert catalogue
+def result_of(catalogue: Catalogue) -> dict[str, Any]:
+    """Returns what pages show of the files that were read."""
     with catalogue.opened() as read:
         decimals, currency = read.fact("decimals"), read.fact("currency")
         return {
@@ -112,7 +112,21 @@ def result_of(desk: Desk) -> dict[str, Any]:
             "counts": read.fact("counts"),
             "reasons": reasons_of(read.rejects()),
             "controls": controls_of(read.controls(), decimals, currency),
+            "sources": read.fact("sources"),
+            "lateness": lateness_of(read),
+            "category": sorted({*read.values("category")} - {("",), (None,)}),
+            "supplier": sorted({*read.values("supplier")} - {("",), (None,)}),
         }
+
+
+def read_last(own: Front) -> dict[str, Any]:
+    """Returns what pages show of the files, if they were read since the last change."""
+    state, catalogue = own.desk.state, own.desk.catalogue
+    if state.read != state.changed or catalogue is None:
+        return {}
+    known: dict[str, Any]
+    known = own.once("files", state.read, lambda: result_of(catalogue))
+    return known
 
 
 def shown(own: Front, file: Dropped, tree: Any) -> dict[str, Any]:
@@ -136,13 +150,12 @@ def shown(own: Front, file: Dropped, tree: Any) -> dict[str, Any]:
 @pages.get("/files")
 def files() -> str:
     own = front()
-    desk, state, tree = own.desk, own.desk.state, own.desk.tree
+    desk, tree = own.desk, own.desk.tree
     said, command = said_of(desk), ""
     try:
         command = catalogue_command(desk, check=True)
     except Refused as why:
         said = [str(why)]
-    is_read = state.read == state.changed and desk.catalogue is not None
     kinds = UNKNOWN, *KINDS
     return page(
         "files.html",
@@ -152,7 +165,7 @@ def files() -> str:
         tree=tree,
         said=said,
         command=command,
-        read=own.once("files", state.read, lambda: result_of(desk)) if is_read else {},
+        read=read_last(own),
         kinds=kinds,
         roles=ROLES,
         units=UNITS,

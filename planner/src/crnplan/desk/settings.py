@@ -13,8 +13,7 @@ from ..errors import Refused
 from ..options import PLAN, Option, option
 from ..plan.how import Settings as PlanSettings
 from ..read.told import made_from, words_from
-from ..show.lateness import lateness_of
-from .files import read_anew, said_of
+from .files import read_anew, read_last, said_of
 from .front import Front, front, page
 from .kept import Desk
 
@@ -56,7 +55,7 @@ def typed(form: MultiDict[str, str]) -> dict[str, Any]:
         values[name] = "".join(texts)
         if word.kind in BY_NAME:
             pairs = zip(form.getlist(f"{name} of"), texts)
-            values[name] = {key: text for key, text in pairs if text}
+            values[name] = {key.strip(): text for key, text in pairs if text}
         if word.kind == "texts":
             values[name] = [*filter(None, map(str.strip, "".join(texts).splitlines()))]
     return {name: value for name, value in values.items() if value}
@@ -92,43 +91,25 @@ def faults_of(desk: Desk, values: Mapping[str, Any]) -> dict[str, str]:
     return faults
 
 
-def seen_of(desk: Desk) -> dict[str, Any]:
-    """Returns what was read that the form needs: names, where values are from, and how late suppliers are."""
-    catalogue = desk.catalogue
-    assert catalogue
-    with catalogue.opened() as read:
-        return {
-            "names": {
-                column: sorted({name for name, in read.values(column) if name})
-                for column in NAMES.values()
-            },
-            "sources": read.fact("sources"),
-            "lateness": lateness_of(read),
-        }
-
-
 def form_page(own: Front, values: Mapping[str, Any], faults: Mapping[str, str]) -> str:
     """Returns the page with values in its fields, and what is wrong with them."""
-    desk, state = own.desk, own.desk.state
-    seen: Any = {"names": {}, "sources": {}, "lateness": None}
-    if state.read == state.changed and desk.catalogue:
-        seen = own.once("settings", state.read, lambda: seen_of(desk))
+    read = read_last(own)
     names = dict[str, list[str]]()
     for name, column in NAMES.items():
-        rest = [""] * (name == "together") + seen["names"].get(column, [])
-        stated = values.get(name, {})
-        names[name] = [*dict.fromkeys([*stated, *rest[:MOST_NAMES]])]
+        known = [one for one, in read.get(column, ())]
+        rest = [""] * (name == "together") + known[:MOST_NAMES]
+        names[name] = [*dict.fromkeys([*values.get(name, {}), *rest])]
     return page(
         "settings.html",
         parts=PARTS,
         words=WORDS,
         values=values,
         faults=faults,
-        said=said_of(desk),
+        said=said_of(own.desk),
         names=names,
         roles=ROLES,
-        sources=seen["sources"],
-        lateness=seen["lateness"],
+        sources=read.get("sources", {}),
+        lateness=read.get("lateness"),
     )
 
 
