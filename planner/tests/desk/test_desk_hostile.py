@@ -56,7 +56,7 @@ def test_file_of_the_desk_replaces_a_symlink(tmp_path: Path, name: str) -> None:
     with opened(tmp_path / "desk") as front:
         front.desk.keep_words({"currency": "EUR"})
         front.desk.add_file("a.csv", file_of(DEMAND, "a.csv")[0])
-        server.keep_address(front.desk.folder, "address")
+        server.keep_private(front.desk.folder, server.ADDRESS, "address")
     assert outside.read_bytes() == before and not place.is_symlink()
 
 

@@ -13,6 +13,8 @@ from crnplan.desk import language
 from crnplan.desk.language import ENGLISH, LANGUAGES, words_of
 
 DESK = Path(language.__file__).parent
+# Places of values that are English words, which another language may leave out.
+ENGLISH_VALUES = {"every", "period"}
 PAGES = DESK.parent / "show/templates/desk"
 
 
@@ -25,9 +27,9 @@ def flat(tree: Mapping[str, Any], before: str = "") -> Iterator[tuple[str, str]]
             yield f"{before}{name}", value
 
 
-def places(text: str) -> list[str]:
-    """Returns what stands in {} in a text, as often as it stands there."""
-    return sorted(name for _, name, *_ in string.Formatter().parse(text) if name)
+def places(text: str) -> set[str]:
+    """Returns what stands in {} in a text."""
+    return {name for _, name, *_ in string.Formatter().parse(text) if name}
 
 
 @pytest.mark.parametrize("other", [it for it in LANGUAGES if it != ENGLISH])
@@ -35,9 +37,9 @@ def test_languages_have_the_same_words(other: str) -> None:
     """Each name with the same places, none of them empty in one language alone, and no sentence left in English."""
     english, own = dict(flat(words_of(ENGLISH))), dict(flat(words_of(other)))
     assert {*english} == {*own}
-    assert {name: places(text) for name, text in english.items()} == {
-        name: places(text) for name, text in own.items()
-    }
+    for name, text in english.items():
+        assert places(own[name]) <= places(text), name
+        assert places(text) - places(own[name]) <= ENGLISH_VALUES, name
     assert [name for name in own if bool(own[name]) != bool(english[name])] == []
     sentences = {
         name for name, text in english.items() if " " in re.sub(r"\{\w*\}", "", text)
