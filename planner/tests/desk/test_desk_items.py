@@ -198,8 +198,6 @@ SET = {"item": "A", "way": "levels", "s": "30", "S": "70", "reason": "a fair"}
         {"s": "71"},
         {"S": "much"},
         {"s": "", "S": ""},
-        {"way": "stop"},
-        {"way": "end"},
         {"way": "x"},
         {"way": ""},
         {"item": "nobody"},
@@ -225,7 +223,7 @@ def test_override_is_ordered_by_once_planned_again(
     before = levels_today(buyer)
     fields = [
         SET,
-        {"item": "B", "way": "stop", "s": "", "S": "", "reason": "quality <stop>"},
+        {"item": "B", "way": "stop", "s": "7", "S": "9", "reason": "quality <stop>"},
     ]
     for sent in fields:
         answer = buyer.post("/item/override", sent)

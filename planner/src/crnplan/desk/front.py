@@ -5,9 +5,9 @@ import contextlib
 import datetime
 import shlex
 import threading
-from collections.abc import Iterator, Mapping
+from collections.abc import Callable, Iterator, Mapping
 from pathlib import Path
-from typing import Any, cast
+from typing import Any, TypeVar, cast
 
 from flask import Response, current_app, request, send_from_directory
 
@@ -23,6 +23,7 @@ from .language import ENGLISH, LANGUAGES, words_of
 from .safety import TOKEN, WHOLE_PAGE, Secret
 from .work import DONE, PLANNING, READING, Work
 
+Made = TypeVar("Made")
 FRONT = "front"  # of an application
 PAGES = "files", "settings", "plan", "result", "today", "past"
 
@@ -157,7 +158,7 @@ class Front:
             with read_folder(path, CATALOGUE), planned_folder(path) as planned:
                 yield planned
 
-    def once(self, what: str, of: object, make: Any) -> Any:
+    def once(self, what: str, of: object, make: Callable[[], Made]) -> Made:
         """Returns what was computed of something, or computes it: the last of each kind is kept."""
         with self.lock:
             turn = self.turns.setdefault(what, threading.Lock())
@@ -165,7 +166,8 @@ class Front:
             known = self.known.get(what)
             if known is None or known[0] != of:
                 known = self.known[what] = of, make()
-        return known[1]
+        made: Made = known[1]
+        return made
 
 
 def front() -> Front:

@@ -20,7 +20,6 @@ from ..plan.what_ifs import what_if
 from ..read.amounts import share_of
 from ..read.defaults import read_argument
 from ..read.item import Item
-from ..show.catalogue_page import money_of
 from ..show.item_page import item_facts
 from ..show.page import rendered
 from .front import Front, command_of, front, page, whole_of
@@ -43,18 +42,17 @@ def drawn(own: Front, plan: str, name: str) -> Drawn:
     """Returns the parts of the page of an item, which are computed once."""
 
     def make() -> Drawn:
-        try:
-            with own.reading(plan):
-                facts = item_facts(own.plan(plan).item(name).words)
-        except CrnplanError as why:
-            return Drawn(why=str(why))
+        with own.reading(plan):
+            facts = item_facts(own.plan(plan).item(name).words)
         head, figures = (
             Markup(rendered(f"item_{part}.html", facts)) for part in ("head", "figures")
         )
         return Drawn(head, figures)
 
-    made: Drawn = own.once("item", (own.version(plan), name), make)
-    return made
+    try:
+        return own.once("item", (own.version(plan), name), make)
+    except CrnplanError as why:
+        return Drawn(why=str(why))
 
 
 def levels_asked() -> tuple[int, int] | None:
@@ -104,7 +102,7 @@ def item() -> str:
     asked = {field: request.args.get(field, "") for field in FIELDS}
     with own.reading(plan) as planned:
         answer, every = known_item(planned, own, name), planned.every
-        money = money_of(planned).exact
+        currency = planned.currency
         figures: Mapping[str, Figures] = {}
         if answer and any(asked.values()):
             figures = asked_figures(planned, planned.item(name)[0], answer)
@@ -118,7 +116,7 @@ def item() -> str:
         asked=asked,
         figures=figures,
         every=every,
-        money=money,
+        currency=currency,
         override=own.desk.state.overrides.get(name),
         command=command_of("report", path, item=name),
     )
@@ -133,18 +131,15 @@ def override() -> Redirect:
         known_item(planned, own, name)
     if not reason:
         raise Refused(f"{argument('reason')} is missing", "say why, for later")
-    match form.get("way"), levels_asked():
-        case "levels", (s, S):
-            stated = Override(name, s, S, reason=reason)
-        case "stop", None:
+    match form.get("way"):
+        case "levels" if levels := levels_asked():
+            stated = Override(name, *levels, reason=reason)
+        case "stop":
             stated = Override(name, is_stopped=True, reason=reason)
-        case "end", None:
+        case "end":
             stated = Override(name, reason=reason)
         case _:
-            raise Refused(
-                "the fields of the override do not go together",
-                "write s and S, or leave them empty and choose another way",
-            )
+            raise Refused("nothing is set", "write s and S, or choose another way")
     with own.desk.changing() as state:
         state.overrides[name] = stated
     return redirect(f"/item?{urlencode({'plan': plan, 'item': name})}#override", 303)

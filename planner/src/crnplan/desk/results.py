@@ -5,7 +5,7 @@ import io
 import math
 import tempfile
 from collections import Counter
-from collections.abc import Iterator, Mapping, Sequence
+from collections.abc import Collection, Iterator, Mapping, Sequence
 from dataclasses import replace
 from pathlib import Path
 from typing import Any, NamedTuple
@@ -41,11 +41,10 @@ ASKED = "plan", "words", *FILTERS, "sort", "falls"
 
 
 class Row(NamedTuple):
-    """An item of the table: its cells, what sorts them, the text that is searched, and by what it is filtered."""
+    """An item of the table: its cells, what sorts them, and by what it is filtered."""
 
     cells: Sequence[str]
     values: Sequence[Cell]
-    text: str
     traits: Mapping[str, Sequence[str]]
 
 
@@ -58,7 +57,7 @@ class Listed(NamedTuple):
     choices: Mapping[str, Counter[str]]
 
 
-def traits_of(decision: Decision) -> dict[str, Sequence[str]]:
+def traits_of(decision: Decision) -> Mapping[str, Sequence[str]]:
     """Returns by what an item is filtered."""
     return {
         "class": [decision.item.category],
@@ -70,16 +69,13 @@ def traits_of(decision: Decision) -> dict[str, Sequence[str]]:
 
 def made_list(planned: PlannedFolder) -> Listed:
     """Looks once at all items of a plan for the page."""
-    survey, texts = Survey(planned), list[str]()
-    traits = list[Mapping[str, Sequence[str]]]()
+    survey, traits = Survey(planned), list[Mapping[str, Sequence[str]]]()
     choices = {name: Counter[str]() for name in FILTERS}
 
     def noted() -> Iterator[Decision]:
         for decision in decided(survey.seen(planned.answers())):
-            item, own = decision.item, traits_of(decision)
-            texts.append(f"{item.name}\n{item.description}".casefold())
-            traits.append(own)
-            for name, values in own.items():
+            traits.append(traits_of(decision))
+            for name, values in traits[-1].items():
                 choices[name].update(filter(None, values))
             yield decision
 
@@ -91,7 +87,7 @@ def made_list(planned: PlannedFolder) -> Listed:
     return Listed(
         Markup(rendered("board.html", board_facts(planned, survey))),
         [COLUMNS[name] for name in table.names],
-        [Row(*parts) for parts in zip(spelt, table.rows, texts, traits)],
+        [Row(*parts) for parts in zip(spelt, table.rows, traits)],
         choices,
     )
 
@@ -104,45 +100,42 @@ def listed(own: Front, name: str) -> Listed:
             planned.check()
             return made_list(planned)
 
-    made: Listed = own.once("listed", own.version(name), make)
-    return made
+    return own.once("listed", own.version(name), make)
 
 
-def unknown(name: str, value: str) -> Refused:
-    """Returns that a plan has no such value of a field."""
-    what = f"{argument(name)}: {shown(value)} is not in this plan"
-    return Refused(what, "choose one that is")
+def check(name: str, value: str, choices: Collection[str]) -> None:
+    """Raises Refused if the value of a field is none of the choices that a plan has."""
+    if value not in choices:
+        what = f"{argument(name)}: {shown(value)} is not in this plan"
+        raise Refused(what, "choose one that is")
 
 
 def in_order(rows: Sequence[Row], place: int, falls: bool) -> list[Row]:
     """Returns rows sorted by a column; those without a value in it come last."""
 
     def value_of(row: Row) -> Any:
-        return row.values[place]
+        value = row.values[place]
+        return None if is_missing(value) or value == "" else value
 
-    known, empty = list[Row](), list[Row]()
-    for row in rows:
-        value = value_of(row)
-        (empty if is_missing(value) or value == "" else known).append(row)
+    known = [row for row in rows if value_of(row) is not None]
+    empty = [row for row in rows if value_of(row) is None]
     return [*sorted(known, key=value_of, reverse=falls), *empty]
 
 
 def chosen_rows(found: Listed, asked: Mapping[str, str]) -> list[Row]:
     """Returns the rows that a query asks for, in its order. Raises Refused for a filter or a column that there is not."""
     words = asked["words"].casefold()
-    rows = [row for row in found.rows if words in row.text]
+    rows = [row for row in found.rows if words in "\n".join(row.cells[:2]).casefold()]
     for name in FILTERS:
         value = asked[name]
-        if value and value not in found.choices[name]:
-            raise unknown(name, value)
         if value:
+            check(name, value, found.choices[name])
             rows = [row for row in rows if value in row.traits[name]]
     names = [column.name for column in found.columns]
     sort, falls = asked["sort"], asked["falls"]
     if not sort:
         sort, falls = "saving", "1"
-    if sort not in names:
-        raise unknown("sort", sort)
+    check("sort", sort, names)
     return in_order(rows, names.index(sort), bool(falls))
 
 
@@ -179,19 +172,14 @@ def result() -> str:
     )
 
 
-@pages.get(f"/result/<any('{PAGE}', '{DECISIONS}', '{REJECTS}'):name>")
+@pages.get(f"/result/<any('{PAGE}', '{DECISIONS}', '{REJECTS}', '{WORKBOOK}'):name>")
 def file(name: str) -> Response:
-    """Returns a file of a plan: its page as it is, and tables to download."""
-    path = front().plan(request.args.get("plan", "")).path
-    if name == PAGE:
-        return whole_page(path, name)
-    return send_from_directory(path.absolute(), name, as_attachment=True)
-
-
-@pages.get(f"/result/{WORKBOOK}")
-def workbook() -> Response:
-    """Returns a plan as a workbook."""
+    """Returns a file of a plan: its page as it is, and tables and a workbook to download."""
     plan = front().plan(request.args.get("plan", ""))
+    if name == PAGE:
+        return whole_page(plan.path, name)
+    if name != WORKBOOK:
+        return send_from_directory(plan.path.absolute(), name, as_attachment=True)
     with tempfile.TemporaryDirectory() as room:
         path = Path(room) / WORKBOOK
         plan.to_excel(path)
