@@ -13,6 +13,9 @@ import crnplan as crn
 from crnplan.desk.kept import LAST_TEST, PLANS, Begun, Override
 from crnplan.desk.safety import WHOLE_PAGE
 from crnplan.desk.work import STOPPED, TESTING
+from crnplan.read.overrides import SET_LEVELS, Override as Stated
+from crnplan.read.overriding import read_overrides
+from crnplan.read.told import words_of
 from planner.tests.desk.conftest import (
     MADE_PLAN,
     Planner,
@@ -315,3 +318,16 @@ def test_past_that_has_not_ended_well(
     with planner.desk.changing() as state:
         state.begun, state.ended, state.said = Begun(TESTING, LAST_TEST), ended, said
     assert shown in planner.get("/past").text
+
+
+@pytest.mark.parametrize("words", [{}, {"encoding": "cp1252", "delimiter": ";"}])
+def test_what_is_set_is_read_whatever_the_files_are_like(
+    planner: Planner, words: dict[str, str]
+) -> None:
+    """The tables that the desk writes are read by the words for the files of its planner."""
+    planner.desk.keep_words(words)
+    with planner.desk.changing() as state:
+        state.overrides["Größe; 1"] = Override("Größe; 1", 7, 33, reason="größer")
+    table = planner.desk.overrides_table()
+    stated, _ = read_overrides(table, words_of(planner.desk.words))
+    assert stated == {"Größe; 1": Stated(SET_LEVELS, 7, 33, "größer")}

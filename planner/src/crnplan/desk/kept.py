@@ -5,6 +5,7 @@ Tables for calls and commands are written from it.
 """
 from __future__ import annotations
 
+import codecs
 import contextlib
 import csv
 import datetime
@@ -22,6 +23,7 @@ from ..errors import Refused
 from ..given import words_in
 from ..plan.settings import CONFIG, read_config
 from ..read.catalogue_reading import READ
+from ..read.sources import DELIMITERS
 from ..store.files import IN_KEPT, Folder, new_bytes
 
 DESK = "desk"  # the kind of the folder
@@ -313,12 +315,16 @@ class Desk:
     def table(
         self, name: str, heading: Sequence[str], rows: Sequence[Sequence[object]]
     ) -> str | None:
-        """Writes a table that calls and commands read, and returns its path; None if it has no rows."""
+        """Writes a table that calls and commands read by the words for the planner's files, and returns its path; None if
+        it has no rows. Its mark says its encoding, whatever that of the files is."""
         if not rows:
             self.folder.remove(name)
             return None
+        sign = DELIMITERS[self.tree.get("delimiter", ",")]
         with self.folder.writing(name) as file:
-            csv.writer(file, lineterminator="\n").writerows([heading, *rows])
+            file.write(codecs.BOM_UTF8.decode())
+            table = csv.writer(file, delimiter=sign, lineterminator="\n")
+            table.writerows([heading, *rows])
         return str(self.path / name)
 
     def overrides_table(self) -> str | None:
