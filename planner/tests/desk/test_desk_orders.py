@@ -331,7 +331,12 @@ def test_unknown_items_are_refused(planner: Planner, shown: Shown) -> None:
         assert said in refusal(shown.add(item, amount))
     assert Shown(planner).forms == shown.forms
     assert shown.send(shown.forms[1], "/today/other").status_code == 405
-    for query in ({"day": "x"}, {"day": "9999-12-31"}, {"supplier": TAG}):
+    for query in (
+        {"day": "x"},
+        {"day": "9999-12-31"},
+        {"supplier": TAG},
+        {"first": "-1"},
+    ):
         assert planner.get("/today", **{"day": DAY, **query}).status_code == 400
 
 
@@ -436,7 +441,7 @@ def test_many_lines_are_shown_in_parts(
     """Each line is on one part, and in the list of one supplier; a form goes back to its supplier."""
     orders = shown.lines
     monkeypatch.setattr(module, "MOST_LINES", 4)
-    parts = [Shown(planner, part=part).lines for part in range(1, 4)]
+    parts = [Shown(planner, first=first).lines for first in (0, 4, 8)]
     assert sum(map(len, parts)) == len(orders) and parts[2] == {}
     assert parts[0] | parts[1] == orders
     links = re.findall('supplier=([0-9-]+)"', Shown(planner).text)

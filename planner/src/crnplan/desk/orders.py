@@ -3,7 +3,6 @@ from __future__ import annotations
 
 import datetime
 import io
-from dataclasses import replace
 from itertools import groupby
 from typing import Any
 
@@ -11,21 +10,19 @@ from flask import Blueprint, Response, redirect, request, send_file, url_for
 from werkzeug.wrappers import Response as Redirect
 
 from ..errors import CrnplanError, Refused
-from ..plan.catalogue import planned_folder
-from ..plan.standing import Standing
 from ..read.observed import stated_day
 from ..read.quantities import quantity_of
 from ..read.told import words_from
 from ..show.today_tables import OrdersToday, orders_today, rows_of
 from ..store.digests import digest_of
-from .front import command_of, front, page
+from .front import command_of, front, page, whole_of
 from .kept import PLACED, QUANTITIES, TODAY, Desk, Placed, now
 
 pages = Blueprint("orders", __name__)
 ORDERS = "orders"  # what the front keeps of them
 HEADING = "item", "quantity"
 BOOK = "today_orders.xlsx"
-MOST_LINES, MOST_RISKS = 200, 15  # of a page
+MOST, MOST_LINES = 1_000_000, 200  # lines of all orders, and of a page
 Shown = tuple[str, dict[str, str | None], OrdersToday]
 
 
@@ -43,42 +40,27 @@ def coming(desk: Desk) -> list[Placed]:
 
 def shown_on(day: str) -> Shown:
     """Returns what the last plan says on a day: a sign of all that this depends on, the tables of the day, and the orders.
-    Nobody changes the desk meanwhile."""
+    No orders are changed meanwhile."""
     own = front()
-    desk, path = own.desk, own.plan().path
-    with desk.lock:
-        state = desk.state
-        with planned_folder(path) as folder:
-            digest = folder.digest
-        placed = [(it.item, it.quantity) for it in coming(desk)]
+    desk = own.desk
+    with own.reads:
+        state, placed = desk.state, [(it.item, it.quantity) for it in coming(desk)]
         quantities = [*state.quantities.items()] if state.day == day else []
-        sign = digest_of(digest, day, state.changed, placed, quantities)
+        sign = digest_of(own.version(""), day, state.changed, placed, quantities)
 
         def made() -> Shown:
             own.known.pop(ORDERS, None)  # Its tables are written anew.
-            tables = {
-                **desk.tables(TODAY),
-                "placed": desk.table(PLACED, HEADING, placed),
-                "quantities": desk.table(QUANTITIES, HEADING, quantities),
-            }
+            with desk.lock:
+                tables = {
+                    **desk.tables(TODAY),
+                    "placed": desk.table(PLACED, HEADING, placed),
+                    "quantities": desk.table(QUANTITIES, HEADING, quantities),
+                }
             words = words_from(desk.tree)
-            return sign, tables, orders_today(path, tables, words, day)
+            return sign, tables, orders_today(own.plan().path, tables, words, day)
 
         shown: Shown = own.once(ORDERS, sign, made)
         return shown
-
-
-def lines_of(orders: OrdersToday, number: str) -> list[Standing]:
-    """Returns the lines of all orders, or of the supplier with a number. Raises Refused if there is no such supplier."""
-    today = orders.today
-    if number and number not in map(today.number, today.sellers):
-        raise Refused(f"{number}: no supplier has this number")
-    return [
-        line
-        for supplier, lines in today.lines.items()
-        for line in lines
-        if not number or number == today.number(supplier)
-    ]
 
 
 @pages.get("/today")
@@ -93,20 +75,18 @@ def today() -> str:
         sign, tables, orders = shown_on(day)
     except CrnplanError as why:
         return page("today.html", said=str(why).splitlines(), **facts)
-    number, part = request.args.get("supplier", ""), request.args.get("part", 1, int)
-    lines, first = lines_of(orders, number), MOST_LINES * max(part - 1, 0)
-    some, risks = lines[first : first + MOST_LINES], orders.tables["at_risk"]
-    rows, plan = rows_of(orders, some).cells(is_shown=True), front().plan().path
+    number, first = request.args.get("supplier", ""), whole_of("first", 0, MOST) or 0
+    lines = orders.today.lines_of(number)
+    some, plan = lines[first : first + MOST_LINES], front().plan().path
+    rows = rows_of(orders, some).cells(is_shown=True)
     return page(
         "today.html",
         sign=sign,
         orders=orders,
         number=number,
-        part=part,
-        parts=range(1, -(-len(lines) // MOST_LINES) + 1),
-        lines=some,
+        first=first,
+        parts=range(0, len(lines), MOST_LINES),
         forms=groupby(zip(some, rows), lambda pair: pair[0].item.supplier),
-        risks=replace(risks, rows=[*risks.rows][:MOST_RISKS]),
         command=command_of("today", plan, **tables, date=day, config=desk.config),
         **facts,
     )
@@ -175,28 +155,25 @@ def end(day: str) -> None:
                 state.quantities.pop(order.item, None)
 
 
-def forget(day: str) -> None:
-    """Orders what the plan says."""
-    front().desk.state.quantities.clear()
-
-
-WAYS = {"save": keep, "place": place, "end": end, "forget": forget}
+WAYS = {"save": keep, "place": place, "end": end}
 
 
 @pages.post("/today/<any(save, place, end, forget):way>")
 def change(way: str) -> Redirect:
-    """Changes the orders of a day, unless they are not as the form's page has shown them, or can't be so: then all is as
-    before."""
-    day, form = asked_day(), request.form
-    with front().desk.changing() as state:
-        if way != "forget" and form.get("sign") != shown_on(day)[0]:
+    """Changes the orders of a day, or orders what the plan says. If they are not as the form's page has shown them, or can't
+    be as asked, all is as before."""
+    own, day, form = front(), asked_day(), request.form
+    with own.reads, own.lock, own.desk.changing() as state:
+        is_change = way in WAYS
+        if is_change and form.get("sign") != shown_on(day)[0]:
             raise Refused(
                 "the orders have changed since this page was shown",
                 "go back, and look at them again",
             )
-        if state.day != day:
+        if state.day != day or not is_change:
             state.day, state.quantities = day, {}
-        WAYS[way](day)
+        if is_change:
+            WAYS[way](day)
         shown_on(day)
     place = url_for("orders.today", day=day, supplier=form.get("supplier") or None)
     return redirect(place, 303)

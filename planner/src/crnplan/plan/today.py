@@ -219,13 +219,23 @@ class Today:
         return [standing for standing in self.standings if standing.is_changed]
 
     @cached_property
-    def lines(self) -> dict[str, list[Standing]]:
-        """Returns the items that are ordered, or that the planner leaves out, by supplier: the most urgent ones first."""
+    def _lines(self) -> dict[str, list[Standing]]:
+        """Returns the items that are ordered, or that the planner leaves out, by the number of the order."""
         lines = defaultdict[str, list[Standing]](list)
         for standing in self.standings:
             if standing.is_due or standing.is_changed:
-                lines[standing.item.supplier].append(standing)
-        return dict(lines)
+                lines[self.number(standing.item.supplier)].append(standing)
+        return lines
+
+    def lines_of(self, number: str) -> list[Standing]:
+        """Returns the lines of an order by its number, or with an empty one of all orders: those of the most urgent one
+        first. What its planner leaves out is among them. Raises Refused for a number of no supplier.
+        """
+        if not number:
+            return [*itertools.chain.from_iterable(self._lines.values())]
+        if number not in map(self.number, self.sellers):
+            raise Refused(f"{number}: no supplier has an order of this number")
+        return self._lines.get(number, [])
 
     @property
     def omitted(self) -> list[Standing]:

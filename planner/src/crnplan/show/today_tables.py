@@ -178,6 +178,11 @@ class OrdersToday(Result):
         """Returns the items that are late or at risk, what to expedite first before others."""
         return risks_of(self.today.standings)
 
+    @property
+    def expedited(self) -> DataTable:
+        """Returns what to expedite first of the items that are late or at risk."""
+        return self._table("at_risk", self.risks[:MOST_URGENT])
+
     def _lines(self, groups: Iterable[Group]) -> DataTable:
         """Returns the lines of the orders of suppliers, each with its most urgent item first."""
         return self._table(
