@@ -315,3 +315,42 @@ def test_words_of_the_page_fit_what_can_be_wrong(language: str) -> None:
         said = own[code] if isinstance(own[code], str) else " ".join(own[code])
         known = {*field.findall(said), "role", "name", "unit", "why"}
         assert {*field.findall(text)} <= known, code
+
+
+def test_a_heading_that_says_nothing_is_known_the_next_week(planner: Planner) -> None:
+    """Columns without usual names are chosen once: a file with the same heading is then of the same kind."""
+    table = b"c1;c2;c3\nA;2026-01-05;1\nB;2026-01-05;2\n"
+    planner.post("/files/drop", {"files": [file_of(table, "1.csv")]})
+    assert kinds(planner) == {"1.csv": "unknown"}
+    name = ours(planner, "1.csv")
+    roles = {"role-0": "item", "role-1": "date", "role-2": "quantity"}
+    for form in ({}, roles):
+        assert (
+            planner.post(f"/files/{name}", {"kind": "demand", **form}).status_code
+            == 303
+        )
+    assert planner.desk.tree["demand"] == {"item": "c1", "date": "c2", "quantity": "c3"}
+    planner.post("/files/drop", {"files": [file_of(table, "2.csv")]})
+    assert kinds(planner) == {"2.csv": "demand"}
+
+
+def test_another_system_is_known_beside_stated_columns(planner: Planner) -> None:
+    """Columns that were chosen of one system hide nothing of another one: its file is known, and what to choose is said."""
+    planner.desk.keep_words({"demand": {"quantity": "Picked"}})
+    table = b"item,date,quantity\nA,2026-01-05,1\n"
+    planner.post("/files/drop", {"files": [file_of(table, "other.csv")]})
+    assert kinds(planner) == {"other.csv": "demand"}
+    assert "The column Picked, which was chosen" in planner.get("/files").text
+    form = {"kind": "demand", "role-2": "quantity"}
+    planner.post(f"/files/{ours(planner, 'other.csv')}", form)
+    assert planner.desk.tree == {"demand": {"quantity": "quantity"}}
+
+
+def test_a_column_that_is_found_may_be_left(planner: Planner) -> None:
+    """A column with a usual name that is not used is stated as none, and stays so when the form is saved again."""
+    table = b"item,date,quantity,returned\nA,2026-01-05,1,0\n"
+    planner.post("/files/drop", {"files": [file_of(table, "demand.csv")]})
+    form = {"kind": "demand", "role-3": ""}
+    for _ in range(2):
+        planner.post(f"/files/{ours(planner, 'demand.csv')}", form)
+        assert planner.desk.tree == {"demand": {"returned": ""}}
