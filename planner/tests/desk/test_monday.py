@@ -80,3 +80,18 @@ def test_from_files_to_suppliers(
         assert row["value"] == pytest.approx(worth)
         assert row.supplier.endswith(str(place % SUPPLIERS))
     assert f"{MONDAY}: {len(due)} orders, worth {export.currency} " in said
+
+
+def test_words_of_a_plan_are_said_again(
+    crnplan: Command, program: Path, tmp_path: Path
+) -> None:
+    """A file of words has those of the plan too: files of the day need no column that only the plan's files have. Another
+    column is refused."""
+    export, config = EXPORTS["warehouses"](tmp_path), tmp_path / "words.toml"
+    said = ordered(export, tmp_path, crnplan, program)
+    day = [*export.today, "--date", str(MONDAY)]
+    words = ["today", tmp_path / "plan", *day, "--config", config]
+    config.write_text('[catalogue]\nwhere = ["Warehouse=Main", "Type=Sale"]\n')
+    assert crnplan(*words).output == said
+    config.write_text('[catalogue]\nwhere = ["Warehouse=Main", "Kind=Sale"]\n')
+    assert crnplan(*words).refuses("no table has the column 'Kind'")

@@ -374,10 +374,11 @@ def orders_today(
     with tempfile.TemporaryDirectory(prefix="crnplan-") as room, copied_folder(
         path, Path(room)
     ) as folder:
-        told = merged(folder.read.fact("told"), told_of(words))
+        planned = folder.read.fact("told")
+        told = merged(planned, told_of(words))
         kept = replace(
             words_from({**told, "every": folder.every}),
-            is_where_needed=bool(words.where),
+            is_where_needed=told.get("where") != planned.get("where"),
         )
         asked = stated_day("date", day) or datetime.date.today()
         today = today_of(
