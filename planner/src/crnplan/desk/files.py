@@ -3,6 +3,7 @@ from __future__ import annotations
 
 from collections.abc import Mapping
 from dataclasses import replace
+from functools import partial
 from typing import Any
 
 from flask import Blueprint, Response, redirect, request
@@ -125,7 +126,7 @@ def read_last(own: Front) -> dict[str, Any]:
     if state.read != state.changed or catalogue is None:
         return {}
     known: dict[str, Any]
-    known = own.once("files", state.read, lambda: result_of(catalogue))
+    known = own.once("files", state.read, partial(result_of, catalogue))
     return known
 
 
