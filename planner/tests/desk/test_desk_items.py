@@ -106,11 +106,29 @@ def test_item_has_what_its_page_has(buyer: Planner, tmp_path: Path) -> None:
     item = last_plan(buyer).item("A")
     whole = tmp_path / "whole.html"
     whole.write_text(item.page, "utf-8")
-    own, page = Page(whole), item_page_of(buyer, tmp_path, item="A")
+    own, page = Page(whole), item_page_of(buyer, tmp_path, item="A", drawn="1")
     assert page.parts["h1"] == own.parts["h1"]
     assert {*own.pictures.items()} <= {*page.pictures.items()}
     assert own.tables.items() <= page.tables.items()
     assert page.elements["h1"] == 1
+
+
+def test_item_is_there_before_its_pictures(buyer: Planner, tmp_path: Path) -> None:
+    """Its row of the table and the forms are shown at once. A link leads to the pictures, which stay then."""
+    buyer.front.known.pop("item", None)
+    first = item_page_of(buyer, tmp_path, item="A")
+    decisions = last_plan(buyer).decisions.set_index("item")
+    heading, (name, *cells) = first.tables["A"]
+    assert name == "A" and not first.pictures
+    levels = [f"{decisions.loc['A', column]:,}" for column in ("s_chosen", "S_chosen")]
+    assert [
+        cells[heading.index(column) - 1] for column in ("s chosen", "S chosen")
+    ] == levels
+    drawn = item_page_of(buyer, tmp_path, item="A", drawn="1")
+    assert drawn.pictures and "A" not in drawn.tables
+    again = item_page_of(buyer, tmp_path, item="A")
+    assert again.pictures == drawn.pictures
+    assert item_page_of(buyer, tmp_path, item="B").pictures == {}
 
 
 @pytest.mark.parametrize(

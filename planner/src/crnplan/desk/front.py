@@ -169,6 +169,11 @@ class Front:
         made: Made = known[1]
         return made
 
+    def recalled(self, what: str, of: object) -> Any:
+        """Returns what was computed of something; None if it was not, or if another thing was computed since."""
+        known = self.known.get(what)
+        return known[1] if known and known[0] == of else None
+
 
 def front() -> Front:
     """Returns the desk of the application that is asked."""

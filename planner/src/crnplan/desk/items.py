@@ -24,6 +24,7 @@ from ..show.item_page import item_facts
 from ..show.page import rendered
 from .front import Front, command_of, front, page, whole_of
 from .kept import Override
+from .results import listed
 
 pages = Blueprint("items", __name__)
 TYPED, BEST = "typed", "best"
@@ -38,8 +39,13 @@ class Drawn(NamedTuple):
     why: str = ""
 
 
-def drawn(own: Front, plan: str, name: str) -> Drawn:
-    """Returns the parts of the page of an item, which are computed once."""
+def drawn(own: Front, plan: str, name: str, is_asked: bool) -> Drawn | None:
+    """Returns the parts of the page of an item, which are computed once and only if they are asked for; None if they are not
+    computed yet, as that takes a second."""
+    of = own.version(plan), name
+    if not is_asked:
+        parts: Drawn | None = own.recalled("item", of)
+        return parts
 
     def make() -> Drawn:
         with own.reading(plan):
@@ -50,7 +56,7 @@ def drawn(own: Front, plan: str, name: str) -> Drawn:
         return Drawn(head, figures)
 
     try:
-        return own.once("item", (own.version(plan), name), make)
+        return own.once("item", of, make)
     except CrnplanError as why:
         return Drawn(why=str(why))
 
@@ -106,12 +112,16 @@ def item() -> str:
         figures: Mapping[str, Figures] = {}
         if answer and any(asked.values()):
             figures = asked_figures(planned, planned.item(name)[0], answer)
+    found = listed(own, path.name)
+    rows = [row.cells for row in found.rows if row.values[0] == name]
     return page(
         "item.html",
         at="result",
         plan=path.name,
         name=name,
-        drawn=drawn(own, plan, name),
+        columns=found.columns,
+        rows=rows,
+        drawn=drawn(own, plan, name, "drawn" in request.args or answer is None),
         has_answer=answer is not None,
         asked=asked,
         figures=figures,

@@ -16,3 +16,14 @@ async function look() {
   setTimeout(look, 700);
 }
 if (work) setTimeout(look, 400);
+
+// Shows the figures and pictures of an item as soon as they are computed. Without scripts a link leads to them.
+const draw = document.getElementById("draw");
+async function show() {
+  const answer = await fetch(draw.href);
+  const page = new DOMParser().parseFromString(await answer.text(), "text/html");
+  for (const part of ["head", "figures"]) {
+    document.getElementById(part).replaceWith(page.getElementById(part));
+  }
+}
+if (draw) show();
