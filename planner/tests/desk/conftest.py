@@ -60,7 +60,7 @@ class Planner:
 
     def get(self, path: str, **query: Any) -> TestResponse:
         """Returns the answer to a page that is asked for."""
-        return self.client.get(path, query_string=query, headers=self.languages)
+        return self.client.get(path, query_string=query or None, headers=self.languages)
 
     def post(self, path: str, fields: dict[str, Any]) -> TestResponse:
         """Returns the answer to a form that is sent. A file is a pair of bytes and a name, several are a list of such."""
