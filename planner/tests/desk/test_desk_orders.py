@@ -315,11 +315,15 @@ def test_additions(planner: Planner, shown: Shown) -> None:
 )
 def test_wrong_quantities(planner: Planner, shown: Shown, text: str, said: str) -> None:
     """A quantity that is no whole packs is refused with those beside it, and all is as before."""
+    shown.send(shown.form("=1+1"), change={"=1+1": "48"})
+    shown = Shown(planner)
     before = copy.deepcopy(planner.desk.state)
     sent = shown.send(shown.form("0017"), change={"0017": text, "=1+1": "36"})
     assert said in refusal(sent)
     assert planner.desk.state == before
     assert Shown(planner).forms == shown.forms
+    table = planner.desk.path / kept.QUANTITIES
+    assert table.read_text("utf-8-sig") == "item,quantity\n=1+1,48\n"
 
 
 def test_unknown_items_are_refused(planner: Planner, shown: Shown) -> None:
@@ -411,8 +415,11 @@ def test_what_counts_is_said(planner: Planner, levels: Levels) -> None:
     """Without files that is said, with a link to Files, and without any stock nothing else is shown; a file that is older
     than the day is named."""
     dropped(planner, "on_order", {"0017": 99})
-    old = Shown(planner, day="2099-01-01")
+    shown_now, old = Shown(planner).text, Shown(planner, day="2099-01-01")
     assert old.text.count("is there a newer one?") == 2 and "0017" not in old.lines
+    assert (
+        old.text.count('<li class="warn">') == 2 > shown_now.count('<li class="warn">')
+    )
     for file in [*planner.desk.state.files]:
         planner.desk.remove_file(file.name)
     bare = Shown(planner)
