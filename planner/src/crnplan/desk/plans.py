@@ -21,10 +21,11 @@ def changes_of(desk: Desk) -> list[dict[str, object]]:
     plans = []
     for name in reversed(desk.state.plans):
         with planned_folder(desk.plan_path(name)) as planned:
-            totals = planned.totals
+            totals, items = planned.totals, planned.counts["items"]
             facts = {
                 "name": name,
                 "items": totals.planned,
+                "left": items["named"] - items["ready"],
                 "saving": planned.currency.text(float(totals["saving"])),
                 "every": planned.every,
                 "changes": change_lines(planned),

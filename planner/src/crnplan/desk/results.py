@@ -30,6 +30,7 @@ from ..show.verdicts import VERDICTS
 from ..table import Cell, is_missing
 from ..toml.documents import shown
 from .front import Front, command_of, front, page, whole_of, whole_page
+from .language import ENGLISH, words_of
 
 pages = Blueprint("results", __name__)
 ROWS = 50  # of a page
@@ -79,13 +80,14 @@ def made_list(planned: PlannedFolder) -> Listed:
                 choices[name].update(filter(None, values))
             yield decision
 
+    past = words_of(ENGLISH)["result"]["past"]  # as all words of the first screen
     declared = {column.name: column for column in DECISION_COLUMNS}
     table = planned.table([declared[name] for name in COLUMNS], noted())
     table = replace(table, rows=[*table.rows], decimals=planned.currency.digits)
     table = table.without_empty(OPTIONAL)
     _, *spelt = table.spelt(is_shown=True)
     return Listed(
-        Markup(rendered("board.html", board_facts(planned, survey))),
+        Markup(rendered("board.html", board_facts(planned, survey) | {"past": past})),
         [COLUMNS[name] for name in table.names],
         [Row(*parts) for parts in zip(spelt, table.rows, traits)],
         choices,
