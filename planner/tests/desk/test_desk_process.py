@@ -101,13 +101,14 @@ def test_killed_desk_goes_on(tmp_path: Path, program: Path, crnplan: Command) ->
     second.enter()
     wait_for(lambda: second.get("/progress")[1].strip() == "{}")
     assert not psutil.wait_procs(processes, timeout=60)[1]
-    (command,) = re.findall("(?s)<pre[^>]*>(.*?)</pre>", second.get("/plan")[1])
-    words = shlex.split(html.unescape(command))[1:]
+    (commands,) = re.findall("(?s)<pre[^>]*>(.*?)</pre>", second.get("/plan")[1])
     (plan,) = (second.folder / "plans").iterdir()
-    assert words.index("--out") and words[words.index("--out") + 1] == str(plan)
-    words[words.index("--out") + 1] = str(tmp_path / "by command")
-    assert crnplan(*words, "--program", program).status == 0
-    assert files_in(plan) == files_in(tmp_path / "by command")
+    own = tmp_path / "by commands"
+    for command in html.unescape(commands).split(" &&\n"):
+        words = shlex.split(command)[1:]
+        words[words.index(str(plan))] = str(own)
+        assert crnplan(*words, "--program", program).status == 0
+    assert files_in(plan) == files_in(own)
     second.process.send_signal(signal.SIGINT)
     assert second.ended() == (0, "")
     assert leaves_nothing(second, [])

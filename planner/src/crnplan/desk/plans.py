@@ -41,15 +41,16 @@ def catalogue_command(desk: Desk, **options: object) -> str:
     return command_of("catalogue", *first, **tables, config=desk.config, **options)
 
 
-def asked_command(desk: Desk, out: str, after: str) -> str:
-    """Returns the command that plans as the desk does."""
+def asked_commands(desk: Desk, out: str, after: str) -> str:
+    """Returns the commands that plan as the desk does, and compute what would change the answer."""
     overrides = desk.path / OVERRIDES
-    return catalogue_command(
+    planning = catalogue_command(
         desk,
         overrides=overrides if overrides.is_file() else None,
         after=desk.path / after if after else None,
         out=desk.path / out,
     )
+    return f"{planning} &&\n{command_of('report', desk.path / out)}"
 
 
 @pages.get("/plan")
@@ -67,7 +68,7 @@ def plan() -> str:
         plans=own.once(
             "plans", [*desk.state.plans, desk.state.ended], lambda: changes_of(desk)
         ),
-        command=asked_command(desk, out, begun.after if begun else ""),
+        command=asked_commands(desk, out, begun.after if begun else ""),
         is_stopped=desk.state.ended == STOPPED
         and begun is not None
         and begun.kind == PLANNING,
