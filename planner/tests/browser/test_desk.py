@@ -1,6 +1,10 @@
 """Tests the pages of the desk in a browser: what each must hold in each form, and the way of a planner through them."""
 from __future__ import annotations
 
+import csv
+import datetime
+import html
+import itertools
 import re
 from collections.abc import Callable, Iterable, Iterator
 from pathlib import Path
@@ -10,10 +14,17 @@ import pytest
 
 from crnplan.desk.kept import PLANS, Begun, Override, Placed
 from crnplan.desk.work import PLANNING
-from planner.tests.browser.browser import Browser, Form
+from planner.tests.browser.browser import WIDE, Browser, Form
+from planner.tests.browser.conftest import HOSTILE, MARKUP
 from planner.tests.browser.rules import RULES, faults_of
 from planner.tests.conftest import shared
-from planner.tests.desk.conftest import MADE_PLAN, add_export, opened, wait_for
+from planner.tests.desk.conftest import (
+    MADE_PLAN,
+    QUICK,
+    add_export,
+    opened,
+    wait_for,
+)
 from planner.tests.desk.monday import warehouses
 from planner.tests.desk.opened import Opened
 
@@ -23,6 +34,8 @@ OF_FILES = "policy", "requests"
 # What a page links to that is no page of the desk: tables, workbooks, and the whole page of a plan.
 FILES = re.compile(r"\.(csv|xlsx|html|json|zip)$")
 MOST_ALIKE = 2  # pages that differ by the values of their query alone
+REFUSED = "the server responded with a status of 400"  # which a console says
+pytestmark = pytest.mark.timeout(600)
 Check = Callable[[Iterable[tuple[str, object]]], None]
 
 
@@ -79,6 +92,13 @@ def address(desk: Opened, page: str) -> str:
     return f"http://{desk.host}{page}"
 
 
+def show(browser: Browser, address: str, form: Form = WIDE) -> None:
+    """Shows a page, with the pictures that its script loads."""
+    browser.visit(address, form)
+    drawn = "return document.getElementById('draw') === null;"
+    wait_for(lambda: bool(browser.run(drawn)))
+
+
 def leaving(browser: Browser, desk: Opened) -> list[str]:
     """Returns the requests of the page that go to anything but the desk. A browser draws its own fields by data."""
     others = [it for it in browser.requests if not it.startswith("data:")]
@@ -89,7 +109,7 @@ def faults(browser: Browser, desk: Opened, form: Form) -> list[str]:
     """Returns the faults of the page that is shown."""
     rules = [rule for rule in RULES if rule not in OF_FILES]
     if form.scheme == "dark":
-        rules = ["console", "contrast", "keyboard"]
+        rules = ["console", "contrast", *["keyboard"] * (form.width > 390)]
     left = [f"requests: {it}" for it in leaving(browser, desk)]
     return [*faults_of(browser, *rules), *left]
 
@@ -103,8 +123,106 @@ def test_pages_have_no_fault(browser: Browser, desk: Opened, check_all: Check) -
     def judged() -> Iterator[tuple[str, object]]:
         for page in pages:
             for form in FORMS:
-                browser.visit(address(desk, page), form)
+                show(browser, address(desk, page), form)
                 found = faults(browser, desk, form)
                 yield f"{page} {form}", "; ".join(found) or True
 
     check_all(judged())
+
+
+def hostile(folder: Path, program: Path) -> None:
+    """Makes a desk whose files have markup in each text: names of items, suppliers, files, columns and settings."""
+    with opened(folder / "desk", program) as front:
+        desk, start = front.desk, datetime.date(2026, 1, 5)
+        days = [start + datetime.timedelta(weeks=week) for week in range(40)]
+        sales = [
+            (name, day, place % 4) for name in HOSTILE for place, day in enumerate(days)
+        ]
+        supplied = [
+            (name, f"{MARKUP} {name}", f"{MARKUP}{place % 2}", 45, 0.6, 9, 2, 6, 20)
+            for place, name in enumerate(HOSTILE)
+        ]
+        heading = "item description supplier setup holding backlog".split()
+        tables = {
+            "demand": [("item", "date", "quantity"), *sales],
+            "items": [(*heading, "lead (weeks)", "s", "S"), *supplied],
+            "stock": [
+                ("item", "stock", MARKUP),
+                *((name, 0, MARKUP) for name in HOSTILE),
+            ],
+        }
+        for kind, rows in tables.items():
+            path = folder / f"{kind}.csv"
+            with path.open("w", encoding="utf-8", newline="") as file:
+                csv.writer(file).writerows(rows)
+            with path.open("rb") as data:
+                dropped = desk.add_file(f"{MARKUP}{kind}.csv", data)
+            desk.set_file(dropped.name, kind, "", True)
+        desk.keep_words({**QUICK, "currency": "EUR"})
+        front.read()
+        wait_for(lambda: front.work is None)
+        changed = desk.state.changed
+        front.begin(Begun(PLANNING, f"{PLANS}/{MADE_PLAN}", changed=changed))
+        wait_for(lambda: front.work is None)
+        assert desk.state.said == [] and desk.state.plans == [MADE_PLAN]
+        with desk.changing() as state:
+            state.overrides[MARKUP] = Override(MARKUP, 3, 9, reason=MARKUP)
+            state.placed.append(Placed(MARKUP, 6, MARKUP, "2026-11-27 08:00:00"))
+
+
+def send_markup(browser: Browser, page: str, place: int) -> bool:
+    """Fills each field of a form of a page with markup, and sends it as a browser would. Returns whether there is one."""
+    browser.driver.get(page)
+    fills = """const forms = [...document.querySelectorAll("main form")];
+        const form = forms[arguments[0]];
+        if (!form) return false;
+        for (const field of form.querySelectorAll("input:not([type=hidden], [type=file], [type=radio]), textarea")) {
+          field.type = "text";
+          field.value = arguments[1];
+        }
+        form.noValidate = true;
+        form.requestSubmit(form.querySelector("button"));
+        return true;"""
+    return bool(browser.run(fills, place, MARKUP))
+
+
+def test_markup_stays_text(
+    browser: Browser,
+    tmp_path_factory: pytest.TempPathFactory,
+    program: Path,
+    check_all: Check,
+) -> None:
+    """Markup in files and in each field of each form runs no script, asks for nothing, and is shown as it is written."""
+    made = shared(tmp_path_factory, "markup", lambda folder: hostile(folder, program))
+    desk = Opened(made, "--program", program)
+    desk.enter()
+    browser.visit(desk.address)
+
+    def is_text(what: str) -> tuple[str, object]:
+        found = browser.run("return document.querySelectorAll('img[src=x]').length;")
+        said = [it for it in browser.messages if REFUSED not in it]
+        faults = [*said, *leaving(browser, desk)]
+        return what, not found and not faults or f"{found} elements, {faults}"
+
+    def judged() -> Iterator[tuple[str, object]]:
+        pages = pages_of(desk)
+        assert any("/item" in page for page in pages)
+        for page in pages:
+            show(browser, address(desk, page))
+            yield is_text(page)
+            if page in ("/files", "/result", "/today"):
+                assert html.escape(MARKUP) in desk.get(page)[1], page
+        # Forms of the last pages change what the first ones show, and those of the first remove files.
+        for page in reversed(pages):
+            for place in itertools.count():
+                if not send_markup(browser, address(desk, page), place):
+                    break
+                wait_for(
+                    lambda: bool(browser.run("return document.querySelector('h1');"))
+                )
+                yield is_text(f"{page}, form {place}")
+
+    try:
+        check_all(judged())
+    finally:
+        desk.close()

@@ -39,6 +39,7 @@ PRICES, OTHER = {"japanese": "単価", "warehouses": "Unit Cost"}, "X9"
 REASON = "<img src=x onerror=alert(1)> shelf"
 
 
+pytestmark = pytest.mark.timeout(600)
 # What is raised if a page is loaded anew while one looks at it.
 ANEW = NoSuchElementException, StaleElementReferenceException, StopIteration
 T = TypeVar("T")
