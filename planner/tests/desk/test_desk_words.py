@@ -125,6 +125,7 @@ def test_pages_have_no_english(front: Front, tmp_path: Path, other: str) -> None
     ]
     add_export(front, warehouses(tmp_path))
     report = (add_made_plan(front, 12) / "report.html").read_text("utf-8")
+    report += words_of(ENGLISH)["result"]["past"]  # stands beside that page's words
     front.read()
     planner.wait()
     pages += ["/item?item=P00001", "/result?words=bearing", "/no-page"]
