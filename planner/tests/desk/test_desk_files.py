@@ -1,6 +1,7 @@
 """Tests of the page Files: what exports are is found, corrected and kept for the next week, and hostile names stay texts."""
 from __future__ import annotations
 
+import gzip
 import re
 import tomllib
 from collections.abc import Sequence
@@ -11,6 +12,7 @@ import pytest
 import xlsxwriter
 
 from crnplan import words
+from crnplan.desk import kept
 from crnplan.desk.language import words_of
 from planner.tests.desk import exports, monday
 from planner.tests.desk.conftest import Planner, file_of
@@ -354,3 +356,27 @@ def test_a_column_that_is_found_may_be_left(planner: Planner) -> None:
     for _ in range(2):
         planner.post(f"/files/{ours(planner, 'demand.csv')}", form)
         assert planner.desk.tree == {"demand": {"returned": ""}}
+
+
+def test_packed_file_is_kept_unpacked(
+    planner: Planner, monkeypatch: pytest.MonkeyPatch
+) -> None:
+    """So each look at it reads its first rows alone. What is no such file, or unpacks to too much, is refused and leaves
+    nothing."""
+    rows = b"item,date,quantity\nA,2026-01-05,3\n"
+    sent = {"files": file_of(gzip.compress(rows), "sales.csv.gz")}
+    assert planner.post("/files/drop", sent).status_code == 303
+    (file,) = planner.desk.state.files
+    assert (file.kind, file.name, file.called) == ("demand", "0001.csv", "sales.csv.gz")
+    assert (planner.desk.path / file.place).read_bytes() == rows
+    monkeypatch.setattr(kept, "MOST_FILE", 1_000)
+    for data in (rows, gzip.compress(bytes(1_001)), gzip.compress(rows)[:-9]):
+        sent = {"files": file_of(data, "bomb.csv.gz")}
+        assert planner.post("/files/drop", sent).status_code == 400
+    assert planner.desk.state.files == [file]
+    left = [
+        path
+        for path in planner.desk.path.rglob("*")
+        if path.suffix in (".csv", ".part")
+    ]
+    assert left == [planner.desk.path / file.place]

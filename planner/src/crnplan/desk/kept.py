@@ -10,8 +10,8 @@ import contextlib
 import csv
 import datetime
 import glob
+import gzip
 import json
-import shutil
 import threading
 from collections.abc import Iterable, Iterator, Mapping, Sequence
 from dataclasses import asdict, dataclass, field, replace
@@ -23,6 +23,7 @@ from ..errors import Refused
 from ..given import words_in
 from ..plan.settings import CONFIG, read_config
 from ..read.catalogue_reading import READ
+from ..read.opening import copy_of
 from ..read.sources import DELIMITERS
 from ..store.files import IN_KEPT, Folder, new_bytes
 
@@ -35,6 +36,7 @@ UNKNOWN = "unknown"  # where files stand whose kind is not known
 PLANNED = "demand", "items", "orders", "out_of_stock", "laws"
 TODAY = "stock", "on_order"
 OVERRIDES, PLACED, QUANTITIES = "overrides.csv", "placed.csv", "quantities.csv"
+MOST_FILE = 2_000_000_000  # bytes of a file, unpacked
 SUFFIXES = ".csv", ".txt", ".tsv", ".gz", ".xlsx", ".xlsm"
 
 
@@ -217,18 +219,21 @@ class Desk:
             state.changed += 1
 
     def add_file(self, called: str, data: IO[bytes]) -> Dropped:
-        """Keeps a file that was dropped under a name of ours. Its kind is not known yet. Raises Refused for another ending."""
+        """Keeps a file that was dropped under a name of ours, a gzipped one unpacked. Its kind is not known yet. Raises Refused
+        for another ending, and for a file that can't be unpacked."""
         suffix = Path(called).suffix.lower()
         if suffix not in SUFFIXES:
             endings = ", ".join(SUFFIXES)
             raise Refused(f"{called}: its name does not end with one of {endings}")
-        ending = f".csv{suffix}" if suffix == ".gz" else suffix
+        is_packed = suffix == ".gz"
+        stream = gzip.open(data) if is_packed else data
+        ending = ".csv" if is_packed else suffix
         with self.changing() as state:
             name = f"{state.next_file:04}{ending}"
             file = Dropped(UNKNOWN, name, called, added=now())
             self._room_of(file)
             with new_bytes(self.path / file.place, self.folder.room()) as copy:
-                shutil.copyfileobj(data, copy)
+                copy_of(stream, copy, called, MOST_FILE)
             state.files.append(file)
             state.next_file += 1
             state.changed += 1

@@ -43,14 +43,14 @@ def text_sheet(path: Path, name: str, rules: Rules) -> TextSheet:
     return TextSheet(path, name, rules)
 
 
-def copy_of(stream: Any, copy: Any, name: str) -> None:
+def copy_of(stream: Any, copy: Any, name: str, most: int = MOST_UNPACKED) -> None:
     """Copies a stream to a file. Raises RefusedFaults if it can't be unpacked, or has too much."""
-    rest = MOST_UNPACKED
+    rest = most
     try:
         while data := stream.read(PIECE):
             rest -= len(data)
             if rest < 0:
-                raise refused("large table", name, most=MOST_UNPACKED)
+                raise refused("large table", name, most=most)
             copy.write(data)
     except (gzip.BadGzipFile, EOFError, zlib.error) as fault:
         raise refused("no gzip", name, fault=str(fault)) from fault
