@@ -135,7 +135,10 @@ def shared(
             place.mkdir()
             make(place)
             place.with_suffix(".made").touch()
-    return Path(shutil.copytree(place, factory.mktemp("copy") / "made", symlinks=True))
+    # What SQLite has beside a store while another test reads it may vanish meanwhile.
+    passing = shutil.ignore_patterns("*.sqlite-shm", "*.sqlite-wal")
+    copy = factory.mktemp("copy") / "made"
+    return Path(shutil.copytree(place, copy, symlinks=True, ignore=passing))
 
 
 def rows_of(

@@ -28,6 +28,7 @@ def catalogue(sales: Frame, masters: Frame) -> None:
     words, settings = crn.Reading(every="week"), crn.Settings(level=0.9, seed=7)
     assert_type(words, crn.Reading)
     assert_type(settings, crn.Settings)
+    assert_type(crn.read_config("crnplan.toml"), tuple[crn.Reading, crn.Settings])
     plan = crn.plan(sales, masters, out="plan", reading=words, settings=settings)
     assert_type(crn.plan(sales, masters, level=0.9, progress=True), crn.Plan)
     assert_type(plan, crn.Plan)

@@ -2,6 +2,7 @@
 from __future__ import annotations
 
 import io
+import os
 import subprocess
 import sys
 from collections.abc import Iterator
@@ -16,13 +17,22 @@ from tests.runs import TOP
 
 EXAMPLES = TOP / "examples"
 SECONDS = 200
+TIMEOUTS = [f"DASK_DISTRIBUTED__COMM__TIMEOUTS__{name}" for name in ("CONNECT", "TCP")]
 WEEKS = 200_000  # of a simulated policy
 
 
 def printed(script: str, *words: object) -> pd.DataFrame:
     """Returns the table that a script of the examples prints, under `python -W error`."""
     command = [sys.executable, "-W", "error", EXAMPLES / script, *map(str, words)]
-    run = subprocess.run(command, capture_output=True, text=True, timeout=SECONDS)
+    # On a loaded machine Dask may give up a connection sooner, and say so.
+    slow = dict.fromkeys(TIMEOUTS, f"{SECONDS}s")
+    run = subprocess.run(
+        command,
+        env={**os.environ, **slow},
+        capture_output=True,
+        text=True,
+        timeout=SECONDS,
+    )
     assert (run.returncode, run.stderr) == (0, "")
     return pd.read_fwf(io.StringIO(run.stdout))
 

@@ -145,7 +145,7 @@ def check_commands(
 
 
 def check_desk(machine: Machine, command: Path, folder: Path, **more: str) -> None:
-    """The desk says on its first line where it is, has there a page and its icon, and ends well when it is interrupted."""
+    """The desk says on its first line where it is, has there a page and its icon, and ends well when it is told to."""
     words = [str(command), "desk", "--no-browser", str(folder)]
     browser = build_opener(ProxyHandler({}), HTTPCookieProcessor())
     with machine.start(*words, **more) as desk:
@@ -157,7 +157,7 @@ def check_desk(machine: Machine, command: Path, folder: Path, **more: str) -> No
             with browser.open(urljoin(address, "/icon.svg"), timeout=SECONDS) as icon:
                 assert icon.read() == (machine.top / OWN_ICON).read_bytes()
         finally:
-            desk.send_signal(signal.SIGINT)
+            desk.terminate()
             assert desk.wait(SECONDS) == 0
 
 

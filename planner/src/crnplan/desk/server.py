@@ -81,7 +81,7 @@ def application(front: Front, hosts: set[str]) -> Flask:
     @app.post("/close")
     def close() -> str:
         front.closes = True
-        os.kill(os.getpid(), signal.SIGINT)
+        os.kill(os.getpid(), signal.SIGTERM)
         return page("closed.html")
 
     @app.errorhandler(CrnplanError)
@@ -182,6 +182,7 @@ def serve(
         front = Front(Desk(folder), Secret(), program)
         stack.enter_context(contextlib.closing(front))
         server, address = server_of(front, port)
+        signal.signal(signal.SIGTERM, signal.default_int_handler)
         stack.callback(server.close)
         stack.callback(heed_interrupt)
         with contextlib.suppress(KeyboardInterrupt):

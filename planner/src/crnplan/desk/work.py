@@ -190,6 +190,8 @@ def main() -> None:
     from ..given import words_in
     from ..plan.settings import read_config
 
+    # Who has started the desk may ignore interrupts, by which it stops this process.
+    signal.signal(signal.SIGINT, signal.default_int_handler)
     with heeding_interrupts(), shown_by(Shown()), spelt(as_field):
         try:
             asked = json.loads(sys.stdin.readline())

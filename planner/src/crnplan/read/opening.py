@@ -43,8 +43,10 @@ def text_sheet(path: Path, name: str, rules: Rules) -> TextSheet:
     return TextSheet(path, name, rules)
 
 
-def copy_of(stream: Any, copy: Any, name: str, most: int = MOST_UNPACKED) -> None:
-    """Copies a stream to a file. Raises RefusedFaults if it can't be unpacked, or has too much."""
+def copy_of(stream: Any, copy: Any, name: str, most: int | None = None) -> None:
+    """Copies a stream to a file. Raises RefusedFaults if it can't be unpacked, or has more than `most` bytes, by default
+    MOST_UNPACKED."""
+    most = most or MOST_UNPACKED
     rest = most
     try:
         while data := stream.read(PIECE):
