@@ -257,10 +257,16 @@ def readable(index: Path, room: Path) -> tuple[Path, bool]:
     logs = index.with_name(f"{index.name}-wal"), index.with_name(
         f"{index.name}-journal"
     )
-    left = [log for log in logs if log.is_file()]
-    if left and index.is_file():
-        return copied((index, *left), room), False
-    return index, True
+    while True:
+        left = [log for log in logs if log.is_file()]
+        if not left or not index.is_file():
+            return index, True
+        try:
+            return copied((index, *left), room), False
+        except Refused:
+            # Another reader of this process may have ended meanwhile, and SQLite has removed what stood beside the store.
+            if all(log.is_file() for log in left):
+                raise
 
 
 @contextlib.contextmanager
