@@ -36,7 +36,6 @@ class Front:
         self.work: Work | None = None
         self.lock = threading.RLock()
         self.reads = threading.RLock()  # held while a plan is read
-        self.closes = False
         # What pages have computed of a plan, by what it is and what it depends on, and who computes it.
         self.known: dict[str, tuple[object, Any]] = {}
         self.turns: dict[str, threading.Lock] = {}

@@ -80,7 +80,6 @@ def application(front: Front, hosts: set[str]) -> Flask:
 
     @app.post("/close")
     def close() -> str:
-        front.closes = True
         os.kill(os.getpid(), signal.SIGTERM)
         return page("closed.html")
 
